@@ -1,0 +1,4 @@
+pub mod Bounded
+pub mod Attained
+pub mod Truth
+pub mod Headline

@@ -1,0 +1,31 @@
+use Rattle.std.proofs.Common.{◌∙◌, subst}
+use Rattle.outside.specs.Sink.{AppendsFront}
+use Rattle.function_top.proofs.Truth.{usage_true}
+use Rattle.function_top.proofs.Headline.{front_written, nothing_written, settled_true, settled_ends}
+use Rattle.function_top.proofs.top.run.Goals as goal
+
+pub returns-then-words-gt1-clause-headline : goal.returns-then-words-gt1-clause-headline
+returns-then-words-gt1-clause-headline g c =
+    λ text before written names body read h told told'.
+    front_written _ body _ _ _ before written (usage_true _ body)
+    (subst (AppendsFront _ _) (c.as_bytes.ensures.value ∙ c.usage.ensures) c.write_all.ensures.front) told told'
+
+pub returns-in-Ok-Some-clause-headline : goal.returns-in-Ok-Some-clause-headline
+returns-in-Ok-Some-clause-headline g c =
+    let is_due = rw c.in-Ok-Some.field-0-is at c.in-Ok-Some.ensures.due in
+    λ text before written names body read h told told'.
+    settled_true c.a_text_is_one_program.ensures c.a_program_is_no_larger_than_its_text.ensures _ text names body _ _ _ _ _ _ before written
+    is_due c.settle.ensures read h told told'
+
+pub returns-in-Ok-Some-clause-ends : goal.returns-in-Ok-Some-clause-ends
+returns-in-Ok-Some-clause-ends g c =
+    let is_due = rw c.in-Ok-Some.field-0-is at c.in-Ok-Some.ensures.due in
+    settled_ends _ _ _ _ _ _ _ _ _ is_due c.settle.ensures
+
+pub returns-in-Ok-None-clause-headline : goal.returns-in-Ok-None-clause-headline
+returns-in-Ok-None-clause-headline g c =
+    λ text before written names body read h told told'. nothing_written _ body _ before written told told'
+
+pub returns-in-Err-clause-headline : goal.returns-in-Err-clause-headline
+returns-in-Err-clause-headline g c =
+    λ text before written names body read h told told'. nothing_written _ body _ before written told told'

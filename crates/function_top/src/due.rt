@@ -1,0 +1,12 @@
+// What is to be written for a source.
+
+/// What is to be written, built whole before its first byte is written.
+#[derive(Drop)]
+pub enum Due {
+    /// The report on a program of which every input is covered.
+    Covered(String),
+    /// The report on a program of which some input is not.
+    Open(String),
+    /// The line of a text that is refused.
+    Refused(String),
+}

@@ -1,0 +1,234 @@
+// Rows on `run`: texts with the bytes and the status that they give, and sources and sinks that fail.
+
+ghost use Rattle.std.specs.Prelude.{None};
+
+use crate::{Status, run};
+use outside::{Got, MemorySink, MemorySource, Source};
+use std::alloc::{AllocError, Global};
+use std::test::Fail;
+
+const EMPTY: &[u8] = b"int main() { }";
+
+const EMPTY_REPORT: &[u8] = b"proved:\nalways: within 0 steps\nunknown:\nverdict: all inputs\n";
+
+// The status and the bytes of a run over memory, with room for 1,000 bytes.
+fn outcome<S: Source>(
+    alloc: Global,
+    words: &[&str],
+    source: &mut S,
+) -> Result<(Status, Vec<u8>), AllocError> {
+    let mut sink = MemorySink::new(alloc, 1000, Vec::new(alloc))?;
+    let status = run(alloc, words, source, &mut sink);
+    Ok((status, sink.taken().to_vec(alloc)?))
+}
+
+// `front`, so many times `part`, and `back`.
+fn repeated(
+    alloc: Global,
+    front: &[u8],
+    part: &[u8],
+    times: u32,
+    back: &[u8],
+) -> Result<Vec<u8>, AllocError> {
+    let mut text = front.to_vec(alloc)?;
+    for _ in 0..times {
+        text.extend_from_slice(part)?;
+    }
+    text.extend_from_slice(back)?;
+    Ok(text)
+}
+
+#[test]
+fn texts_give_their_reports(rt: HostRuntime) -> Result<(), Fail> {
+    use Status::{AllInputs, Program};
+
+    let alloc = rt.alloc();
+    let rows: [(&[u8], Status, &[u8]); 8] = [
+        (EMPTY, AllInputs, EMPTY_REPORT),
+        (
+            b"int main() { int x; x = 7; }",
+            AllInputs,
+            b"proved:\nalways: within 1 step\nunknown:\nverdict: all inputs\n",
+        ),
+        (
+            b"int main() { int x; if (?) { x = 1; x = 2; } else ; }",
+            AllInputs,
+            b"proved:\nalways: within 3 steps\nunknown:\nverdict: all inputs\n",
+        ),
+        (
+            b"int main() { if (?) if (?) ; else { ; ; } }",
+            AllInputs,
+            b"proved:\nalways: within 4 steps\nunknown:\nverdict: all inputs\n",
+        ),
+        (
+            b"int main() { int x; while (x > 0) ; }",
+            Program,
+            b"program: 15 at 0\n",
+        ),
+        (b"int main() { x = 1; }", Program, b"program: 15 at 0\n"),
+        (b"int main() { @ }", Program, b"program: 15 at 0\n"),
+        (b"", Program, b"program: 15 at 0\n"),
+    ];
+    for (text, status, bytes) in rows {
+        let mut source = MemorySource::new(text.to_vec(alloc)?, Vec::new(alloc));
+        let (found, written) = outcome(alloc, &["function"], &mut source)?;
+        assert_eq!(rt; found, status);
+        assert_eq!(rt; written.as_slice(), bytes);
+    }
+    Ok(())
+}
+
+#[test]
+fn long_texts_and_deep_ones_are_read_up_to_the_limits(rt: HostRuntime) -> Result<(), Fail> {
+    use Status::{AllInputs, Program};
+
+    let alloc = rt.alloc();
+    let rows: [(&[u8], &[u8], u32, &[u8], Status, &[u8]); 8] = [
+        (EMPTY, b" ", 65_522, b"", AllInputs, EMPTY_REPORT),
+        (EMPTY, b" ", 65_523, b"", Program, b"program: 14 at 65536\n"),
+        (
+            b"int main() {",
+            b";",
+            65_000,
+            b"}",
+            AllInputs,
+            b"proved:\nalways: within 65000 steps\nunknown:\nverdict: all inputs\n",
+        ),
+        (
+            b"int main() {",
+            b"if (?) ;",
+            60,
+            b"}",
+            AllInputs,
+            b"proved:\nalways: within 120 steps\nunknown:\nverdict: all inputs\n",
+        ),
+        (
+            b"int main() { ",
+            b"if (?) ",
+            31,
+            b"; }",
+            AllInputs,
+            b"proved:\nalways: within 32 steps\nunknown:\nverdict: all inputs\n",
+        ),
+        (
+            b"int main() { ",
+            b"if (?) ",
+            62,
+            b"; }",
+            AllInputs,
+            b"proved:\nalways: within 63 steps\nunknown:\nverdict: all inputs\n",
+        ),
+        (
+            b"int main() { ",
+            b"if (?) ",
+            63,
+            b"; }",
+            Program,
+            b"program: 15 at 0\n",
+        ),
+        (
+            b"int main() ",
+            b"{",
+            65,
+            b"",
+            Program,
+            b"program: 15 at 0\n",
+        ),
+    ];
+    for (front, part, times, back, status, bytes) in rows {
+        let text = repeated(alloc, front, part, times, back)?;
+        let mut source = MemorySource::new(text, Vec::new(alloc));
+        let (found, written) = outcome(alloc, &["function"], &mut source)?;
+        assert_eq!(rt; found, status);
+        assert_eq!(rt; written.as_slice(), bytes);
+    }
+    let braces = repeated(alloc, b"int main() ", b"{", 64, b"")?;
+    let text = repeated(alloc, braces.as_slice(), b"}", 64, b"")?;
+    let mut source = MemorySource::new(text, Vec::new(alloc));
+    let (found, written) = outcome(alloc, &["function"], &mut source)?;
+    assert_eq!(rt; found, AllInputs);
+    assert_eq!(rt; written.as_slice(), EMPTY_REPORT);
+    Ok(())
+}
+
+// Gives one byte a call.
+#[derive(Drop)]
+struct Dripping(MemorySource);
+
+impl Source for Dripping {
+    ghost left = { λ source. ⟦<MemorySource as Source>⟧.left source.0 };
+
+    ghost faults = { λ source. ⟦<MemorySource as Source>⟧.faults source.0 };
+
+    fn read(&mut self, buffer: &mut [u8]) -> Got {
+        self.0.read(&mut buffer[..1])
+    }
+}
+
+// Never ends, and tells nothing.
+#[derive(Drop)]
+struct Endless;
+
+impl Source for Endless {
+    ghost left = { λ source. None };
+
+    ghost faults = { λ source. 0 };
+
+    fn read(&mut self, buffer: &mut [u8]) -> Got {
+        Got::Bytes(buffer.len())
+    }
+}
+
+#[test]
+fn sources_may_drip_fail_or_never_end(rt: HostRuntime) -> Result<(), Fail> {
+    let alloc = rt.alloc();
+    let words = ["function"];
+    let mut dripping = Dripping(MemorySource::new(EMPTY.to_vec(alloc)?, Vec::new(alloc)));
+    let (status, written) = outcome(alloc, &words, &mut dripping)?;
+    assert_eq!(rt; status, Status::AllInputs);
+    assert_eq!(rt; written.as_slice(), EMPTY_REPORT);
+    let (status, written) = outcome(alloc, &words, &mut Endless)?;
+    assert_eq!(rt; status, Status::Program);
+    assert_eq!(rt; written.as_slice(), b"program: 14 at 65536\n".as_slice());
+    for failing in [1u32, 2] {
+        let numbers = [failing].to_vec(alloc)?;
+        let mut source = MemorySource::new(EMPTY.to_vec(alloc)?, numbers);
+        let (status, written) = outcome(alloc, &words, &mut source)?;
+        assert_eq!(rt; status, Status::ReadFault);
+        assert_eq!(rt; written.len(), 0);
+    }
+    Ok(())
+}
+
+#[test]
+fn a_sink_takes_what_it_has_room_for(rt: HostRuntime) -> Result<(), Fail> {
+    let alloc = rt.alloc();
+    for room in 0u32..=60 {
+        let mut source = MemorySource::new(EMPTY.to_vec(alloc)?, Vec::new(alloc));
+        let mut sink = MemorySink::new(alloc, room, Vec::new(alloc))?;
+        let status = run(alloc, &["function"], &mut source, &mut sink);
+        let whole = sink.taken().len() == EMPTY_REPORT.len();
+        assert_eq!(rt; status == Status::AllInputs, whole, "with room for {room}");
+        assert_eq!(rt;
+            status == Status::WriteFault,
+            !whole,
+            "with room for {room}"
+        );
+        assert!(rt; EMPTY_REPORT.starts_with(sink.taken()));
+        assert_eq!(rt; sink.taken().len(), EMPTY_REPORT.len().min(room as usize));
+    }
+    Ok(())
+}
+
+#[test]
+fn more_than_one_word_is_refused(rt: HostRuntime) -> Result<(), Fail> {
+    let alloc = rt.alloc();
+    let mut source = MemorySource::new(EMPTY.to_vec(alloc)?, Vec::new(alloc));
+    let (status, written) = outcome(alloc, &["function", "--help"], &mut source)?;
+    assert_eq!(rt; status, Status::Words);
+    assert!(rt; written.starts_with(b"usage: function [--ctl TEXT]"));
+    assert!(rt; written.ends_with(b"[--demo N]\n"));
+    let (status, _) = outcome(alloc, &[], &mut source)?;
+    assert_eq!(rt; status, Status::AllInputs);
+    Ok(())
+}

@@ -1,0 +1,65 @@
+// The top call.
+
+ghost use Rattle.std.specs.Prelude.{◌≡◌, ◌≤◌, ◌<◌, ◌+◌, ◌↔◌, ℕ, length, if◌then◌else◌};
+ghost use Rattle.outside.specs.Source.{ConsumesUpTo};
+ghost use Rattle.function_top.specs.Answer.{EndsWith, Headline};
+ghost use Rattle.function_top.specs.Due.{Settles};
+
+use crate::answer::answer;
+use crate::due::Due;
+use crate::report::usage;
+use crate::status::Status;
+use outside::{Sink, Source, write_all};
+use source_parse::{a_program_is_no_larger_than_its_text, a_text_is_one_program};
+use std::alloc::Global;
+
+/// Does all that the program does: reads a program from the source, and writes the report on it to the sink.
+///
+/// `words` are the words of the command line, the program's name first; so far no other word is accepted. The order is: words, reading,
+/// program, writing, and the first refusal ends the run. The whole output is built before its first byte is written. After a refusal
+/// nothing was written but its line, or a front of that where the sink failed.
+pub fn run<S: Source, K: Sink>(
+    alloc: Global,
+    words: &[&str],
+    source: &mut S,
+    sink: &mut K,
+) -> Status
+    ensures headline { Headline (S.left source.old) (K.taken sink.old) (K.taken sink.new) }
+    ensures ends { EndsWith result (S.left source.old) (K.taken sink.old) (K.taken sink.new)
+        (S.faults source.old) (S.faults source.new) (K.faults sink.old) (K.faults sink.new) }
+    ensures words { (result ≡ Status.Words) ↔ (1 < length words.now) }
+    ensures stops { ConsumesUpTo (65536 + 1) (S.left source.old) (S.left source.new) }
+{
+    a_text_is_one_program();
+    a_program_is_no_larger_than_its_text();
+    if words.len() > 1 {
+        let _ = write_all(sink, usage().as_bytes());
+        return Status::Words;
+    }
+    match answer(alloc, source) {
+        Ok(Some(due)) => settle(sink, due),
+        Ok(None) => Status::ReadFault,
+        Err(_) => Status::NoMemory,
+    }
+}
+
+// Writes what is due, and answers the status that goes with it.
+fn settle<K: Sink>(sink: &mut K, due: Due) -> Status
+    ensures { Settles due result (K.taken sink.old) (K.taken sink.new) (K.faults sink.old) (K.faults sink.new) }
+{
+    match due {
+        Due::Covered(text) => reported(write_all(sink, text.as_bytes()), Status::AllInputs),
+        Due::Open(text) => reported(write_all(sink, text.as_bytes()), Status::SomeInputs),
+        Due::Refused(text) => {
+            let _ = write_all(sink, text.as_bytes());
+            Status::Program
+        }
+    }
+}
+
+// The status of a report, of which all was written or not.
+fn reported(written: bool, status: Status) -> Status
+    ensures { result ≡ (if written then status else Status.WriteFault) }
+{
+    if written { status } else { Status::WriteFault }
+}

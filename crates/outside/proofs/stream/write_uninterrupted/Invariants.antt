@@ -1,0 +1,6 @@
+-- A write that was interrupted handed over no byte.
+use Rattle.std.specs.Io.KnownBytes.{Keeps}
+use Rattle.outside.proofs.stream.write_uninterrupted.Given as goal
+
+abbrev pub invariant-loop : goal.invariant-loop
+invariant-loop g l = Keeps (g.W.Write.contents l.fn.writer) (g.W.Write.contents l.writer)

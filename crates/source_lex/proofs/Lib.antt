@@ -1,0 +1,9 @@
+pub mod ByteLemmas
+pub mod Moves
+pub mod SpellingLemmas
+pub mod Slash
+pub mod SpanLemmas
+pub mod Outcomes
+pub mod Readings
+pub mod Totality
+pub mod Reached

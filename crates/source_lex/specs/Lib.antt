@@ -1,0 +1,14 @@
+pub mod Bytes
+pub mod Signs
+pub mod Runs
+pub mod ByteClass
+pub mod Gaps
+pub mod Words
+pub mod Scans
+pub mod Lexemes
+pub mod Pieces
+pub mod Spellings
+pub mod Tokens
+pub mod Faults
+pub mod Spans
+pub mod Laws

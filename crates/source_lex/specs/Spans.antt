@@ -1,0 +1,13 @@
+-- Where the tokens of a text lie.
+use Rattle.std.specs.Prelude.{ℕ, ◌<◌, ◌≤◌, List, [], ◌∷◌, length}
+use Rattle.source_lex.specs.declared.token.Token.{Token}
+
+-- the token has at least one byte, and all its bytes are within the text
+pub record IsWithin (text : List ℕ) (token : Token) : Type 0 where
+  pub nonempty : token.start < token.end
+  pub inside : token.end ≤ length text
+
+-- the tokens lie one behind the other, from place i on
+abbrev pub InOrderFrom : ℕ → List Token → Type 0
+InOrderFrom i [] = Unit {0}
+InOrderFrom i (token ∷ tokens) = (i ≤ token.start) × InOrderFrom token.end tokens

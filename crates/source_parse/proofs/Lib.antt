@@ -1,0 +1,6 @@
+mod Unique
+mod Places
+mod Reading
+mod Declaring
+mod Whole
+mod Small

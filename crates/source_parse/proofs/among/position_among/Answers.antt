@@ -1,0 +1,12 @@
+use Rattle.std.proofs.Common.{below_more, vec_items}
+use Rattle.source_parse.proofs.Places.{found_at, another_at}
+use Rattle.source_parse.proofs.among.position_among.Goals as goal
+
+pub returns-then-eq-clause-found : goal.returns-then-eq-clause-found
+returns-then-eq-clause-found c =
+    found_at vec_items _ _ _ _ _ c.loop-index-test.true c.index-names-index.is c.as_slice.ensures.value c.if-eq.ensures c.loop-index.invariant
+
+pub loop-index-preserved : goal.loop-index-preserved
+loop-index-preserved c =
+    below_more _ _ c.loop-index.invariant
+    (another_at vec_items _ _ _ _ _ c.loop-index-test.true c.index-names-index.is c.as_slice.ensures.value c.if-eq.ensures)

@@ -1,0 +1,3 @@
+pub mod Progress
+mod Examples
+pub mod Lists

@@ -1,0 +1,236 @@
+-- Why no run of a valid program is stuck: each expression has an outcome, and each step keeps what is left to do valid.
+use Rattle.std.proofs.Common.{◌≡◌, ℕ, ℤ, pos, ◌+ℤ◌, ◌-ℤ◌, ◌*ℤ◌, neg_ℤ, ◌≤ℤ◌, ◌<ℤ◌, ◌≢◌, slice_set, Bool, true, false, not, ◌&&◌, ◌||◌, ◌↔◌, ◌⊎◌, inl, inr, IsTrue, List, [], ◌∷◌, ◌++◌, Option, None, Some, refl, sym, subst, append-nil, arith}
+use Rattle.std.specs.Int.Signed.{≤ℤ_refl}
+use Rattle.std.specs.Bool.{⊤}
+use Rattle.std.specs.Cmp.{int_ranks}
+use Rattle.std.specs.Ordering.{MatchOrdering, int_cmp}
+use Rattle.std.proofs.lemmas.Int.{ints}
+use Rattle.std.specs.declared.cmp.Ordering.{Ordering}
+use Rattle.std.specs.declared.cmp.Ordering.TheVariants.{Less as Below, Equal as Same, Greater as Above}
+use Rattle.step_meaning.specs.declared.expression.Op2.{Op2}
+use Rattle.step_meaning.specs.declared.expression.Op2.TheVariants.{Add, Sub, Mul, Less, LessEqual, Greater, GreaterEqual, Equal, NotEqual, And, Or}
+use Rattle.step_meaning.specs.Syntax.{Expression, number, variable, free, range, truth, negative, negation, pair, Statement, Statements, list_of, assign, skip, return, if_else, while_loop, do_while, empty, sequence}
+use Rattle.step_meaning.specs.Outcome.{Store, value_at, IsFrom, IsUpTo, May, MayTest, Compares}
+use Rattle.step_meaning.specs.Step.{Configuration, Step, StepsFrom, IsFinal, front, front_of_statement, front_of_list}
+use Rattle.step_meaning.specs.Run.{IsReachable, Reaches, here, by_step}
+use Rattle.step_meaning.specs.Valid.{IsInOrder, IsNumber, IsTest, IsStatement, IsBody}
+
+-- of two numbers the first is smaller, equal or greater
+ranked : (o : Ordering) {A B C : Type 0} → MatchOrdering o A B C → A ⊎ (B ⊎ C)
+ranked Below h = inl h
+ranked Same h = inr (inl h)
+ranked Above h = inr (inr h)
+
+pub trichotomy : (a b : ℤ) → (a <ℤ b) ⊎ ((a ≡ b) ⊎ (b <ℤ a))
+trichotomy a b = ranked (int_cmp a b) (int_ranks a b)
+
+-- a fact that holds, or that doesn't, has a truth value
+pub holds : {P : Type 0} → P → IsTrue true ↔ P
+holds p = ((λ _. p), (λ _. refl))
+
+pub fails : {P : Type 0} → ¬ P → IsTrue false ↔ P
+fails n = ((λ e. absurd (cc)), (λ p. absurd (n p)))
+
+-- each comparison of two numbers has a truth value
+less_or_not : (a b : ℤ) → (t : Bool) × (IsTrue t ↔ (a <ℤ b))
+less_or_not a b = elim (trichotomy a b) [
+  | inl lt ↦ (true, holds lt)
+  | inr (inl e) ↦ (false, fails (λ lt. omega (arith, ints)))
+  | inr (inr gt) ↦ (false, fails (λ lt. omega (arith, ints)))
+]
+
+at_most_or_not : (a b : ℤ) → (t : Bool) × (IsTrue t ↔ (a ≤ℤ b))
+at_most_or_not a b = elim (trichotomy a b) [
+  | inl lt ↦ (true, holds (omega (arith, ints)))
+  | inr (inl e) ↦ (true, holds (omega (arith, ints)))
+  | inr (inr gt) ↦ (false, fails (λ le. omega (arith, ints)))
+]
+
+equal_or_not : (a b : ℤ) → (t : Bool) × (IsTrue t ↔ (a ≡ b))
+equal_or_not a b = elim (trichotomy a b) [
+  | inl lt ↦ (false, fails (λ e. omega (arith, ints)))
+  | inr (inl e) ↦ (true, holds e)
+  | inr (inr gt) ↦ (false, fails (λ e. omega (arith, ints)))
+]
+
+different_or_not : (a b : ℤ) → (t : Bool) × (IsTrue t ↔ (a ≢ b))
+different_or_not a b = elim (trichotomy a b) [
+  | inl lt ↦ (true, holds (λ e. omega (arith, ints)))
+  | inr (inl e) ↦ (false, fails (λ ne. ne e))
+  | inr (inr gt) ↦ (true, holds (λ e. omega (arith, ints)))
+]
+
+-- a range whose ends are in order has a number
+range_has_number : (lo hi : Option ℤ) → IsInOrder lo hi → (v : ℤ) × (IsFrom lo v × IsUpTo hi v)
+range_has_number (Some lo) (Some hi) h = (lo, (≤ℤ_refl lo, h))
+range_has_number (Some lo) None h = (lo, (≤ℤ_refl lo, tt))
+range_has_number None (Some hi) h = (hi, (tt, ≤ℤ_refl hi))
+range_has_number None None h = (pos 0, (tt, tt))
+
+-- each number expression has an outcome
+pub number_has_outcome : (vars : ℕ) (s : Store) (e : Expression) → IsNumber vars e → (v : ℤ) × May e s v
+number_has_outcome vars s (number z) h = (z, refl)
+number_has_outcome vars s (variable x) h = (value_at s x, refl)
+number_has_outcome vars s free h = (pos 0, tt)
+number_has_outcome vars s (range lo hi) h = range_has_number lo hi h
+number_has_outcome vars s (negative e) h =
+    let a = number_has_outcome vars s e h in
+    (neg_ℤ a.0, (a.0, a.1, refl))
+number_has_outcome vars s (pair Add l r) h =
+    let a = number_has_outcome vars s l h.0 in
+    let b = number_has_outcome vars s r h.1 in
+    (a.0 +ℤ b.0, (a.0, b.0, a.1, b.1, refl))
+number_has_outcome vars s (pair Sub l r) h =
+    let a = number_has_outcome vars s l h.0 in
+    let b = number_has_outcome vars s r h.1 in
+    (a.0 -ℤ b.0, (a.0, b.0, a.1, b.1, refl))
+number_has_outcome vars s (pair Mul l r) h =
+    let a = number_has_outcome vars s l h.0 in
+    let b = number_has_outcome vars s r h.1 in
+    (a.0 *ℤ b.0, (a.0, b.0, a.1, b.1, refl))
+number_has_outcome vars s (pair _ l r) h = absurd h
+number_has_outcome vars s _ h = absurd h
+
+-- a comparison of two number expressions has an outcome, given the truth value for each two numbers
+compared : (vars : ℕ) (s : Store) (op : Op2) (l r : Expression) → ((a b : ℤ) → (t : Bool) × Compares op a b t)
+    → IsNumber vars l × IsNumber vars r → (t : Bool) × MayTest (pair op l r) s t
+compared vars s op l r decide h =
+    let a = number_has_outcome vars s l h.0 in
+    let b = number_has_outcome vars s r h.1 in
+    let t = decide a.0 b.0 in
+    (t.0, inl (a.0, b.0, a.1, b.1, t.1))
+
+-- each test has an outcome
+pub test_has_outcome : (vars : ℕ) (s : Store) (c : Expression) → IsTest vars c → (t : Bool) × MayTest c s t
+test_has_outcome vars s free h = (true, tt)
+test_has_outcome vars s (truth b) h = (b, refl)
+test_has_outcome vars s (negation c) h =
+    let b = test_has_outcome vars s c h in
+    (not b.0, (b.0, b.1, refl))
+test_has_outcome vars s (pair Less l r) h = compared vars s Less l r less_or_not h
+test_has_outcome vars s (pair LessEqual l r) h = compared vars s LessEqual l r at_most_or_not h
+test_has_outcome vars s (pair Greater l r) h = compared vars s Greater l r (λ a b. less_or_not b a) h
+test_has_outcome vars s (pair GreaterEqual l r) h = compared vars s GreaterEqual l r (λ a b. at_most_or_not b a) h
+test_has_outcome vars s (pair Equal l r) h = compared vars s Equal l r equal_or_not h
+test_has_outcome vars s (pair NotEqual l r) h = compared vars s NotEqual l r different_or_not h
+test_has_outcome vars s (pair And l r) h =
+    let a = test_has_outcome vars s l h.0 in
+    let b = test_has_outcome vars s r h.1 in
+    (a.0 && b.0, inr (a.0, b.0, a.1, b.1, refl))
+test_has_outcome vars s (pair Or l r) h =
+    let a = test_has_outcome vars s l h.0 in
+    let b = test_has_outcome vars s r h.1 in
+    (a.0 || b.0, inr (a.0, b.0, a.1, b.1, refl))
+test_has_outcome vars s (pair _ l r) h = absurd h
+test_has_outcome vars s _ h = absurd h
+
+-- each statement of a list is over `vars` variables
+abbrev AreStatements : ℕ → List Statement → Type 0
+AreStatements vars [] = ⊤
+AreStatements vars (first ∷ rest) = IsStatement vars first × AreStatements vars rest
+
+AreStatements-list_of : (vars : ℕ) (body : Statements) (rest : List Statement) → IsBody vars body → AreStatements vars rest
+    → AreStatements vars (list_of body ++ rest)
+AreStatements-list_of vars empty rest h k = k
+AreStatements-list_of vars (sequence first more) rest h k = (h.0, AreStatements-list_of vars more rest h.1 k)
+
+mutual
+  AreStatements-front_of_statement : (vars : ℕ) (first : Statement) (rest : List Statement) → IsStatement vars first
+      → AreStatements vars rest → AreStatements vars (front_of_statement first rest)
+  AreStatements-front_of_statement vars (do_while body c) rest h k =
+      AreStatements-front_of_list vars body (while_loop c body empty ∷ rest) h.0 ((h.1, h.0, tt), k)
+  AreStatements-front_of_statement vars (assign x e) rest h k = (h, k)
+  AreStatements-front_of_statement vars skip rest h k = (h, k)
+  AreStatements-front_of_statement vars return rest h k = (h, k)
+  AreStatements-front_of_statement vars (if_else c y n) rest h k = (h, k)
+  AreStatements-front_of_statement vars (while_loop c b s) rest h k = (h, k)
+
+  AreStatements-front_of_list : (vars : ℕ) (body : Statements) (rest : List Statement) → IsBody vars body
+      → AreStatements vars rest → AreStatements vars (front_of_list body rest)
+  AreStatements-front_of_list vars empty rest h k = k
+  AreStatements-front_of_list vars (sequence first more) rest h k =
+      AreStatements-front_of_statement vars first (list_of more ++ rest) h.0 (AreStatements-list_of vars more rest h.1 k)
+
+AreStatements-front : (vars : ℕ) (todo : List Statement) → AreStatements vars todo → AreStatements vars (front todo)
+AreStatements-front vars [] h = h
+AreStatements-front vars (first ∷ rest) h = AreStatements-front_of_statement vars first rest h.0 h.1
+
+-- what is left to do stays over `vars` variables
+stays : (vars : ℕ) (ahead : List Statement) (s : Store) (d : Configuration) → AreStatements vars ahead → StepsFrom ahead s d
+    → AreStatements vars d.todo
+stays vars [] s d h step = absurd step
+stays vars (assign x e ∷ rest) s d h step = subst (AreStatements vars) (sym step.0) h.1
+stays vars (skip ∷ rest) s d h step = subst (AreStatements vars) (sym step.0) h.1
+stays vars (return ∷ rest) s d h step = subst (AreStatements vars) (sym step.0) tt
+stays vars (if_else c y n ∷ rest) s d h step = elim step.0 [
+  | inl taken ↦ subst (AreStatements vars) (sym taken.1) (AreStatements-list_of vars y rest h.0.1 h.1)
+  | inr taken ↦ subst (AreStatements vars) (sym taken.1) (AreStatements-list_of vars n rest h.0.2 h.1)
+]
+stays vars (while_loop c b t ∷ rest) s d h step = elim step.0 [
+  | inl taken ↦
+      subst (AreStatements vars) (sym taken.1)
+      (AreStatements-list_of vars b (list_of t ++ (while_loop c b t ∷ rest)) h.0.1
+      (AreStatements-list_of vars t (while_loop c b t ∷ rest) h.0.2 h))
+  | inr taken ↦ subst (AreStatements vars) (sym taken.1) h.1
+]
+stays vars (do_while b c ∷ rest) s d h step = absurd step
+
+-- no `do` stands first
+abbrev IsReady : List Statement → Type 0
+IsReady (do_while body c ∷ rest) = ⊥
+IsReady _ = ⊤
+
+mutual
+  IsReady-front_of_statement : (first : Statement) (rest : List Statement) → IsReady (front_of_statement first rest)
+  IsReady-front_of_statement (do_while body c) rest = IsReady-front_of_list body (while_loop c body empty) rest tt
+  IsReady-front_of_statement (assign x e) rest = tt
+  IsReady-front_of_statement skip rest = tt
+  IsReady-front_of_statement return rest = tt
+  IsReady-front_of_statement (if_else c y n) rest = tt
+  IsReady-front_of_statement (while_loop c b s) rest = tt
+
+  IsReady-front_of_list : (body : Statements) (next : Statement) (rest : List Statement) → IsReady (next ∷ rest)
+      → IsReady (front_of_list body (next ∷ rest))
+  IsReady-front_of_list empty next rest h = h
+  IsReady-front_of_list (sequence first more) next rest h = IsReady-front_of_statement first (list_of more ++ (next ∷ rest))
+
+IsReady-front : (todo : List Statement) → IsReady (front todo)
+IsReady-front [] = tt
+IsReady-front (first ∷ rest) = IsReady-front_of_statement first rest
+
+-- a list that a front may be is empty or has a step
+unstuck : (vars : ℕ) (ahead : List Statement) (s : Store) → IsReady ahead → AreStatements vars ahead
+    → (ahead ≡ []) ⊎ ((d : Configuration) × StepsFrom ahead s d)
+unstuck vars [] s ready h = inl refl
+unstuck vars (assign x e ∷ rest) s ready h =
+    let v = number_has_outcome vars s e h.0.1 in
+    inr (record { todo = rest; store = slice_set s x v.0 }, (refl, (v.0, v.1, refl)))
+unstuck vars (skip ∷ rest) s ready h = inr (record { todo = rest; store = s }, (refl, refl))
+unstuck vars (return ∷ rest) s ready h = inr (record { todo = []; store = s }, (refl, refl))
+unstuck vars (if_else c y n ∷ rest) s ready h =
+    let t = test_has_outcome vars s c h.0.0 in
+    inr (elim t.0 as (λ b. MayTest c s b → (d : Configuration) × StepsFrom (if_else c y n ∷ rest) s d) [
+      | true ↦ λ m. (record { todo = list_of y ++ rest; store = s }, (inl (m, refl), refl))
+      | false ↦ λ m. (record { todo = list_of n ++ rest; store = s }, (inr (m, refl), refl))
+    ] t.1)
+unstuck vars (while_loop c b p ∷ rest) s ready h =
+    let t = test_has_outcome vars s c h.0.0 in
+    inr (elim t.0 as (λ u. MayTest c s u → (d : Configuration) × StepsFrom (while_loop c b p ∷ rest) s d) [
+      | true ↦ λ m. (record { todo = list_of b ++ (list_of p ++ (while_loop c b p ∷ rest)); store = s }, (inl (m, refl), refl))
+      | false ↦ λ m. (record { todo = rest; store = s }, (inr (m, refl), refl))
+    ] t.1)
+unstuck vars (do_while b c ∷ rest) s ready h = absurd ready
+
+-- whatever steps lead to is over `vars` variables too
+reached : (vars : ℕ) {c d : Configuration} → Reaches c d → AreStatements vars c.todo → AreStatements vars d.todo
+reached vars here h = h
+reached vars (by_step {c} {d} {e} step more) h =
+    reached vars more (stays vars (front c.todo) c.store d (AreStatements-front vars c.todo h) step)
+
+-- no configuration that a valid body reaches is stuck
+pub unstuck_from : (vars : ℕ) (body : Statements) → IsBody vars body → (c : Configuration) → IsReachable vars body c
+    → IsFinal c ⊎ ((d : Configuration) × Step c d)
+unstuck_from vars body valid c reachable =
+    let at_start : AreStatements vars (list_of body ++ []) = AreStatements-list_of vars body [] valid tt in
+    let h = reached vars reachable.2 (subst (AreStatements vars) (append-nil (list_of body)) at_start) in
+    unstuck vars (front c.todo) c.store (IsReady-front c.todo) (AreStatements-front vars c.todo h)

@@ -1,0 +1,6 @@
+pub mod Syntax
+pub mod Outcome
+pub mod Step
+pub mod Run
+pub mod Valid
+pub mod ValidOnce

@@ -1,0 +1,51 @@
+-- Runs of a program from its inputs, and how long they are.
+use Rattle.std.specs.Prelude.{◌≡◌, ℕ, zero, suc, ◌≤◌, ℤ, pos, negsuc, ◌⊎◌, List, ◌∷◌, length, Option, None, Some}
+use Rattle.step_meaning.specs.Syntax.{Statement, Statements, list_of, while_loop}
+use Rattle.step_meaning.specs.Outcome.{Store, value_at}
+use Rattle.step_meaning.specs.Step.{Configuration, Step, IsFinal, front}
+
+-- an input of a program of `vars` variables: 16 whole numbers, of which those past the variables are 0
+pub record IsInput (vars : ℕ) (input : Store) : Type 0 where
+  pub places : length input ≡ 16
+  pub zeros : (x : ℕ) → vars ≤ x → value_at input x ≡ pos 0
+
+-- where the runs of a program with this body begin
+abbrev pub start : Statements → Store → Configuration
+start body input = record { todo = list_of body; store = input }
+
+-- steps lead from `c` to `d`
+pub data Reaches : Configuration → Configuration → Type 0 where
+  here : {c : Configuration} → Reaches c c
+  by_step : {c d e : Configuration} → Step c d → Reaches d e → Reaches c e
+
+-- steps lead to `c` from some input of a program of `vars` variables with this body
+abbrev pub IsReachable : ℕ → Statements → Configuration → Type 0
+IsReachable vars body c = (input : Store) × IsInput vars input × Reaches (start body input) c
+
+-- every run from `c` ends within `n` steps: `c` is final, or some step is left and every successor ends within one step less
+abbrev pub EndsWithin : ℕ → Configuration → Type 0
+EndsWithin zero c = IsFinal c
+EndsWithin (suc n) c = IsFinal c ⊎ ((d : Configuration) → Step c d → EndsWithin n d)
+
+-- the same for a whole number; no run ends within fewer than 0 steps
+abbrev pub EndsWithinBound : ℤ → Configuration → Type 0
+EndsWithinBound (pos n) c = EndsWithin n c
+EndsWithinBound (negsuc n) c = ⊥
+
+-- the longest run from `c` has exactly `n` steps
+abbrev pub Longest : ℕ → Configuration → Type 0
+Longest zero c = EndsWithin zero c
+Longest (suc n) c = EndsWithin (suc n) c × ¬ EndsWithin n c
+
+-- how many loop tests are left behind the next step, of `tests` before it; `None` where that step is a loop test and none is left
+abbrev pub tests_after : ℕ → List Statement → Option ℕ
+tests_after zero (while_loop c body step ∷ rest) = None
+tests_after (suc tests) (while_loop c body step ∷ rest) = Some tests
+tests_after tests _ = Some tests
+
+-- every run from `c` ends within `n` steps, of which at most `tests` are tests of a loop
+abbrev pub EndsInTests : ℕ → ℕ → Configuration → Type 0
+EndsInTests tests zero c = IsFinal c
+EndsInTests tests (suc n) c =
+    IsFinal c
+    ⊎ ((left : ℕ) × (tests_after tests (front c.todo) ≡ Some left) × ((d : Configuration) → Step c d → EndsInTests left n d))

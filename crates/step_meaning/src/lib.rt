@@ -1,0 +1,16 @@
+// The syntax of programs and what they mean: what an expression may give, what a configuration may step to, and how long its runs
+// are. Every theorem of this product about a program speaks of these definitions, which stand in `specs/`; nothing here analyses.
+// The front door is `Program`; below it stands only the standard library.
+#![tactic(auto)]
+
+mod expression;
+mod laws;
+mod names;
+mod program;
+mod statement;
+
+pub use expression::{Expr, Op2};
+pub use laws::no_run_is_stuck;
+pub use names::Names;
+pub use program::Program;
+pub use statement::{Block, Stmt, StmtKind};
