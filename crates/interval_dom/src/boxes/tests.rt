@@ -1,0 +1,128 @@
+//! Tables of meets and joins, computed by hand, and a generic caller.
+use super::*;
+use std::test::Fail;
+
+/// A range of the place 0, and of the place 1.
+fn pair(first: (Option<i128>, Option<i128>), second: (Option<i128>, Option<i128>)) -> Bounds {
+    let mut ends = [(None, None); 16];
+    ends[0] = first;
+    ends[1] = second;
+    Bounds { ends }
+}
+
+/// The row of `x * x0 + y * x1 + constant >= 0`.
+fn row(x: i128, y: i128, constant: i128) -> Result<Row, &'static str> {
+    let mut coef = [0; 16];
+    coef[0] = x;
+    coef[1] = y;
+    match Row::of(Affine { coef, constant }) {
+        RowKind::Row(row) => Ok(row),
+        RowKind::Always => Err("always"),
+        RowKind::Never => Err("never"),
+    }
+}
+
+/// Every store that meets the rows, as far as the domain keeps it.
+fn met<D: NumDomain>(alloc: Global, rows: &[Row]) -> Result<D, AllocError> {
+    let mut set = D::top(alloc)?;
+    for row in rows {
+        set.meet_row(alloc, row)?;
+    }
+    Ok(set)
+}
+
+#[test]
+fn one_variable(rt: HostRuntime) -> Result<(), Fail> {
+    let (least, most) = (i128::MIN, i128::MAX);
+    let all = (None, None);
+    let table = [
+        (row(1, 0, -3)?, (Some(3), None)),
+        (row(-1, 0, 7)?, (None, Some(7))),
+        (row(2, 0, 5)?, (Some(-2), None)),
+        (row(-2, 0, 5)?, (None, Some(2))),
+        (row(1, 0, most)?, (Some(-most), None)),
+        (row(1, 0, least)?, all),
+        (row(-1, 0, least)?, (None, Some(least))),
+        (row(-1, 0, most)?, (None, Some(most))),
+    ];
+    for (row, first) in table {
+        let set: Boxes = met(rt.alloc(), [row].as_slice())?;
+        assert_eq!(rt; set.bounds(), pair(first, all));
+    }
+    Ok(())
+}
+
+#[test]
+fn several_variables(rt: HostRuntime) -> Result<(), Fail> {
+    // 1 <= x, y <= 10 and y - 2 * x >= 0: x is at most 5, y at least 2.
+    let rows = [row(1, 0, -1)?, row(0, -1, 10)?, row(-2, 1, 0)?];
+    let set: Boxes = met(rt.alloc(), rows.as_slice())?;
+    assert_eq!(rt; set.bounds(), pair((Some(1), Some(5)), (Some(2), Some(10))));
+    assert!(rt; !set.is_empty());
+    let mut none = set.copy(rt.alloc())?;
+    none.meet_row(rt.alloc(), &row(1, 0, -6)?)?;
+    assert!(rt; none.is_empty());
+    let listed = set.rows(rt.alloc())?;
+    let expected = [
+        row(1, 0, -1)?,
+        row(-1, 0, 5)?,
+        row(0, 1, -2)?,
+        row(0, -1, 10)?,
+    ];
+    assert_eq!(rt; listed.as_slice(), expected.as_slice());
+    Ok(())
+}
+
+#[test]
+fn joins_and_widenings(rt: HostRuntime) -> Result<(), Fail> {
+    let alloc = rt.alloc();
+    let low: Boxes = met(alloc, [row(1, 0, 0)?, row(-1, 0, 0)?].as_slice())?;
+    let high: Boxes = met(
+        alloc,
+        [row(1, 0, -4)?, row(-1, 0, 9)?, row(0, 1, -1)?].as_slice(),
+    )?;
+    let none: Boxes = met(alloc, [row(1, 0, -1)?, row(-1, 0, 0)?].as_slice())?;
+    let mut hull = low.copy(alloc)?;
+    hull.join(alloc, &high)?;
+    assert_eq!(rt; hull.bounds(), pair((Some(0), Some(9)), (None, None)));
+    let mut own = high.copy(alloc)?;
+    own.join(alloc, &none)?;
+    assert_eq!(rt; own.bounds(), high.bounds());
+    let mut other = none.copy(alloc)?;
+    other.join(alloc, &high)?;
+    assert_eq!(rt; other.bounds(), high.bounds());
+    let mut wide = low.copy(alloc)?;
+    wide.widen(alloc, &hull)?;
+    assert_eq!(rt; wide.bounds(), pair((Some(0), None), (None, None)));
+    Ok(())
+}
+
+#[test]
+fn assignments(rt: HostRuntime) -> Result<(), Fail> {
+    let alloc = rt.alloc();
+    let mut set: Boxes = met(alloc, [row(1, 0, -1)?, row(-1, 0, 5)?].as_slice())?;
+    // y = -3 * x + 2, plus 0 to 1
+    let mut coef = [0; 16];
+    coef[0] = -3;
+    let value = Linear {
+        affine: Affine { coef, constant: 2 },
+        lo: Some(0),
+        hi: Some(1),
+    };
+    set.assign(alloc, 1, &value)?;
+    assert_eq!(rt;
+        set.bounds(),
+        pair((Some(1), Some(5)), (Some(-13), Some(0)))
+    );
+    set.assign(
+        alloc,
+        0,
+        &Linear {
+            affine: Affine::constant(i128::MAX),
+            lo: Some(1),
+            hi: Some(1),
+        },
+    )?;
+    assert_eq!(rt; set.bounds(), pair((None, None), (Some(-13), Some(0))));
+    Ok(())
+}

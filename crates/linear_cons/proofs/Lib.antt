@@ -1,0 +1,10 @@
+pub mod Dividing
+pub mod Ring
+pub mod Forms
+pub mod Outcomes
+pub mod Places
+pub mod RowKinds
+pub mod KindLaws
+pub mod RowLaws
+pub mod Sizes
+pub mod Sums

@@ -1,0 +1,34 @@
+-- Ends: bounds on a number, on each place of a store, and on what a function leaves out.
+use Rattle.std.specs.Prelude.{ℕ, ◌<◌, ℤ, ◌-ℤ◌, ◌≤ℤ◌, List, Option, None, Some, slice_index_or, ⊤}
+use Rattle.linear_cons.specs.declared.bounds.Bounds.{Bounds}
+use Rattle.linear_cons.specs.declared.bounds.Linear.{Linear}
+use Rattle.linear_cons.specs.Numbers.{number_at}
+use Rattle.linear_cons.specs.Functions.{value_at}
+
+-- the number is at least the end; no end asks nothing
+abbrev pub IsFrom : Option ℤ → ℤ → Type 0
+IsFrom None z = ⊤
+IsFrom (Some lo) z = lo ≤ℤ z
+
+-- the number is at most the end; no end asks nothing
+abbrev pub IsUpTo : Option ℤ → ℤ → Type 0
+IsUpTo None z = ⊤
+IsUpTo (Some hi) z = z ≤ℤ hi
+
+-- the lower and the upper end at a place; past the last there are none
+abbrev pub lower_end : Bounds → ℕ → Option ℤ
+lower_end bounds i = (slice_index_or bounds.ends i (None, None)).0
+
+abbrev pub upper_end : Bounds → ℕ → Option ℤ
+upper_end bounds i = (slice_index_or bounds.ends i (None, None)).1
+
+-- the store's number at each place is between the ends there
+pub record LiesIn (bounds : Bounds) (store : List ℤ) : Type 0 where
+  pub lower : (i : ℕ) → i < 16 → IsFrom (lower_end bounds i) (number_at store i)
+  pub upper : (i : ℕ) → i < 16 → IsUpTo (upper_end bounds i) (number_at store i)
+
+-- the number may be a value of the linear expression at the store: it is the affine function's value
+-- plus a number between the two ends
+pub record Covers (linear : Linear) (store : List ℤ) (z : ℤ) : Type 0 where
+  pub lower : IsFrom linear.lo (z -ℤ value_at linear.affine store)
+  pub upper : IsUpTo linear.hi (z -ℤ value_at linear.affine store)

@@ -1,0 +1,41 @@
+-- Rows: normalised constraints `e >= 0`, and where stores and points meet them.
+use Rattle.std.specs.Prelude.{ℤ, pos, ◌+ℤ◌, ◌≤ℤ◌, ◌<ℤ◌, List, All, ⊤}
+use Rattle.linear_cons.specs.declared.affine.Affine.{Affine}
+use Rattle.linear_cons.specs.declared.row.Row.{Row}
+use Rattle.linear_cons.specs.declared.row.RowKind.{RowKind}
+use Rattle.linear_cons.specs.declared.row.RowKind.TheVariants.{Always, Never, Row as Kept}
+use Rattle.linear_cons.specs.Functions.{HasNegatives, IsConstant, IsQuotient, form_at}
+
+-- the point num / den, with den above 0, meets the row: the value there, times den, is at least 0
+abbrev pub PointMeets : List ℤ → ℤ → Row → Type 0
+PointMeets num den row = pos 0 ≤ℤ form_at row.affine num den
+
+-- the store meets the row: the value there is at least 0
+abbrev pub Meets : List ℤ → Row → Type 0
+Meets store row = PointMeets store (pos 1) row
+
+-- the point meets every row
+abbrev pub PointMeetsAll : List ℤ → ℤ → List Row → Type 0
+PointMeetsAll num den rows = All (λ row. PointMeets num den row) rows
+
+-- the store meets every row
+abbrev pub MeetsAll : List ℤ → List Row → Type 0
+MeetsAll store rows = All (λ row. Meets store row) rows
+
+-- what is asked of a store: nothing, the impossible, or the row
+abbrev pub MeetsKind : List ℤ → RowKind → Type 0
+MeetsKind store Always = ⊤
+MeetsKind store Never = ⊥
+MeetsKind store (Kept row) = Meets store row
+
+-- what `a >= 0` is as a row: its truth where no variable occurs, and else the quotient by
+-- the greatest common divisor of the coefficients, which leaves 1 for theirs
+abbrev pub IsRowOf : Affine → RowKind → Type 0
+IsRowOf a Always = IsConstant a × (pos 0 ≤ℤ a.constant)
+IsRowOf a Never = IsConstant a × (a.constant <ℤ pos 0)
+IsRowOf a (Kept row) = IsQuotient a row.affine
+
+-- the linear parts are negatives of each other and the constants sum below 0, so no point meets both rows
+pub record AreOpposed (row other : Row) : Type 0 where
+  pub negatives : HasNegatives row.affine other.affine
+  pub constants : (row.affine.constant +ℤ other.affine.constant) <ℤ pos 0

@@ -1,0 +1,45 @@
+//! Greatest common divisors, and division that rounds down.
+ghost use Rattle.std.specs.Prelude.{◌≡◌, ◌<◌, pos, ◌+ℤ◌, ◌*ℤ◌, ◌≤ℤ◌, ◌<ℤ◌};
+ghost use Rattle.std.specs.Int.{IsGcd};
+ghost use Rattle.linear_cons.specs.Divisor.{IsDivisorOf};
+
+/// The greatest common divisor by Euclid's algorithm; that of 0 and `b` is `b`.
+fn common_divisor(a: u128, b: u128) -> u128
+    ensures { IsGcd a b result }
+{
+    let mut x = a;
+    let mut y = b;
+    while y != 0 {
+        let rest = x % y;
+        x = y;
+        y = rest;
+    }
+    x
+}
+
+/// The greatest common divisor of sixteen numbers, 0 where all are 0.
+pub(crate) fn divisor_of(numbers: &[i128; 16]) -> u128
+    ensures { IsDivisorOf numbers.now result }
+{
+    let mut divisor = 0;
+    for number in numbers {
+        divisor = common_divisor(number.unsigned_abs(), divisor);
+        if divisor == 1 {
+            return 1;
+        }
+    }
+    divisor
+}
+
+/// The greatest number whose product with `by` is at most `number`.
+pub fn floor_quotient(number: i128, by: u128) -> i128
+    requires { 0 < by }
+    ensures at_most { (pos by *ℤ result) ≤ℤ number }
+    ensures below_next { number <ℤ (pos by *ℤ (result +ℤ pos 1)) }
+{
+    if number < 0 {
+        !((!number as u128 / by) as i128)
+    } else {
+        (number as u128 / by) as i128
+    }
+}

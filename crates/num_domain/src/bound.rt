@@ -1,0 +1,92 @@
+//! Ends of ranges that may be missing.
+ghost use Rattle.std.specs.Prelude.{◌≡◌, ◌+ℤ◌, ◌*ℤ◌, Some};
+ghost use Rattle.num_domain.specs.Ends.{IsExactEnd, end_of, both_ends, some_end};
+
+use num_traits::{CheckedAdd, CheckedMul};
+
+/// One end of a range of whole numbers, which may be missing. An end that leaves the type `T` is
+/// missing: the range is then wider, never narrower.
+#[derive(Clone, Copy, PartialEq, Eq, Debug)]
+pub enum Bound<T> {
+    Without,
+    At(T),
+}
+
+impl<T: Copy> Bound<T> {
+    /// The end at the number, where there is one.
+    pub fn of(end: Option<T>) -> Bound<T>
+        ensures { some_end result ≡ end }
+    {
+        match end {
+            None => Bound::Without,
+            Some(number) => Bound::At(number),
+        }
+    }
+
+    /// The number at the end.
+    pub fn end(self) -> Option<T>
+        ensures { result ≡ some_end self }
+    {
+        match self {
+            Bound::Without => None,
+            Bound::At(number) => Some(number),
+        }
+    }
+}
+
+impl<T: CheckedAdd> Bound<T> {
+    /// The sum of two ends: missing where one of them is, or where the sum leaves the type.
+    pub fn plus(&self, other: &Bound<T>) -> Bound<T>
+        ensures { IsExactEnd T.value T.fits (both_ends ◌+ℤ◌ (end_of T.value self.now) (end_of T.value other.now)) result }
+    {
+        match (self, other) {
+            (Bound::At(left), Bound::At(right)) => match left.checked_add(right) {
+                Some(sum) => Bound::At(sum),
+                None => Bound::Without,
+            },
+            _ => Bound::Without,
+        }
+    }
+}
+
+impl<T: CheckedMul> Bound<T> {
+    /// The end times a number: missing where the end is, or where the product leaves the type.
+    pub fn times(&self, factor: &T) -> Bound<T>
+        ensures { IsExactEnd T.value T.fits (both_ends ◌*ℤ◌ (end_of T.value self.now) (Some (T.value factor.now))) result }
+    {
+        match self {
+            Bound::At(end) => match end.checked_mul(factor) {
+                Some(product) => Bound::At(product),
+                None => Bound::Without,
+            },
+            Bound::Without => Bound::Without,
+        }
+    }
+}
+
+#[cfg(test)]
+mod tests {
+    use super::*;
+
+    #[test]
+    fn ends_that_leave_the_type(rt: HostRuntime) {
+        let table = [
+            (Bound::At(2i128), Bound::At(-5), Bound::At(-3)),
+            (Bound::At(i128::MAX), Bound::At(1), Bound::Without),
+            (Bound::At(i128::MIN), Bound::At(-1), Bound::Without),
+            (Bound::At(i128::MIN), Bound::At(i128::MAX), Bound::At(-1)),
+            (Bound::Without, Bound::At(1), Bound::Without),
+            (Bound::At(1), Bound::Without, Bound::Without),
+        ];
+        for (left, right, sum) in table {
+            assert_eq!(rt; left.plus(&right), sum);
+        }
+        assert_eq!(rt; Bound::At(-7i128).times(&3), Bound::At(-21));
+        assert_eq!(rt; Bound::At(i128::MIN).times(&-1), Bound::Without);
+        assert_eq!(rt; Bound::Without.times(&0i128), Bound::Without);
+        assert_eq!(rt; Bound::of(Some(4i128)), Bound::At(4));
+        assert_eq!(rt; Bound::of(None::<i128>), Bound::Without);
+        assert_eq!(rt; Bound::At(4i128).end(), Some(4));
+        assert_eq!(rt; Bound::<i128>::Without.end(), None);
+    }
+}
