@@ -51,7 +51,7 @@ due_true unique small text names body (Covered report) h d =
 due_true unique small text names body (Open report) h d = subst (IsTrueText (length names) body) (sym d.1.4) (unknown_true (length names) body)
 due_true unique small text names body (Refused line) h (inl d) =
     subst (IsTrueText (length names) body) (sym d.1) (fault_true (length names) body 14 65536 (omega arith) (omega arith))
-due_true unique small text names body (Refused line) h (inr d) = absurd (d.0 names body h)
+due_true unique small text names body (Refused line) h (inr d) = absurd (d.1 names body h)
 
 -- what the sink took in the call is what was appended
 written_is : (taken taken' : Option (List ℕ)) (before written bytes : List ℕ) → taken ≡ Some before → taken' ≡ Some (before ++ written)

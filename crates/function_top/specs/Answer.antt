@@ -24,10 +24,10 @@ IsOpenReport text report =
     (length text ≤ 65536)
     × ((names : List (List ℕ)) × (body : Statements) × IsTextOf text names body × HasLoop body × (report ≡ unknown_report))
 
--- this is the line of the fault of a text: it has more than 65,536 bytes, or it is no program
+-- this is the line of the fault of a text: it has more than 65,536 bytes, or it has no more and is no program
 abbrev pub IsFaultLine : List ℕ → List ℕ → Type 0
 IsFaultLine text line =
-    ((65536 < length text) × (line ≡ fault_text 14 65536)) ⊎ (DerivesNone text × (line ≡ fault_text 15 0))
+    ((65536 < length text) × (line ≡ fault_text 14 65536)) ⊎ ((length text ≤ 65536) × DerivesNone text × (line ≡ fault_text 15 0))
 
 -- What a run ended with, by its status, where the source told the bytes `left` and its count of faults went from `reads` to `reads'`, and
 -- where the sink's bytes went from `taken` to `taken'` and its count of faults from `writes` to `writes'`.

@@ -16,6 +16,7 @@ use std::alloc::{AllocError, Global};
 pub fn answer<S: Source>(alloc: Global, source: &mut S) -> Result<Option<Due>, AllocError>
     ensures due { IfOk result (λ outcome. MatchOption outcome (Rose (S.faults source.old) (S.faults source.new)) (IsDue (S.left source.old))) }
     ensures stops { ConsumesUpTo (65536 + 1) (S.left source.old) (S.left source.new) }
+    ensures never_falls { S.faults source.old ≤ S.faults source.new }
 {
     match read_program(alloc, source)? {
         ReadEnd::Text(text) => Ok(Some(answer_to(alloc, &text)?)),

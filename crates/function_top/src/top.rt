@@ -28,7 +28,10 @@ pub fn run<S: Source, K: Sink>(
     ensures ends { EndsWith result (S.left source.old) (K.taken sink.old) (K.taken sink.new)
         (S.faults source.old) (S.faults source.new) (K.faults sink.old) (K.faults sink.new) }
     ensures words { (result ≡ Status.Words) ↔ (1 < length words.now) }
+    ensures unread { 1 < length words.now → source.new ≡ source.old }
     ensures stops { ConsumesUpTo (65536 + 1) (S.left source.old) (S.left source.new) }
+    ensures reads_never_fall { S.faults source.old ≤ S.faults source.new }
+    ensures writes_never_fall { K.faults sink.old ≤ K.faults sink.new }
 {
     a_text_is_one_program();
     a_program_is_no_larger_than_its_text();
@@ -45,7 +48,8 @@ pub fn run<S: Source, K: Sink>(
 
 // Writes what is due, and answers the status that goes with it.
 fn settle<K: Sink>(sink: &mut K, due: Due) -> Status
-    ensures { Settles due result (K.taken sink.old) (K.taken sink.new) (K.faults sink.old) (K.faults sink.new) }
+    ensures settles { Settles due result (K.taken sink.old) (K.taken sink.new) (K.faults sink.old) (K.faults sink.new) }
+    ensures never_falls { K.faults sink.old ≤ K.faults sink.new }
 {
     match due {
         Due::Covered(text) => reported(write_all(sink, text.as_bytes()), Status::AllInputs),

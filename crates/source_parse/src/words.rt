@@ -2,7 +2,6 @@
 // doesn't stand there.
 
 ghost use Rattle.std.specs.Prelude.{◌≡◌, ◌≢◌, ◌∷◌, ◌<◌, ◌≤◌, ℤ, List, MatchOption, IfSome, length};
-ghost use Rattle.std.specs.Bool.{OnFalse};
 ghost use Rattle.source_parse.specs.Word.{Word, symbol, number};
 ghost use Rattle.source_parse.specs.Spelled.{words_from, IsBehind};
 
@@ -20,13 +19,6 @@ pub fn after(words: &[Lexeme<'_>], at: usize, wanted: Symbol) -> Option<usize>
         Reading::Symbol(found) if found == wanted => Some(at + 1),
         _ => None,
     }
-}
-
-/// Whether this symbol stands here.
-pub fn stands(words: &[Lexeme<'_>], at: usize, wanted: Symbol) -> bool
-    ensures { OnFalse result ((rest : List Word) → words_from words.now at ≢ symbol wanted ∷ rest) }
-{
-    after(words, at, wanted).is_some()
 }
 
 /// A number, and the place behind it.

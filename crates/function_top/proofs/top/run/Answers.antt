@@ -15,12 +15,12 @@ returns-in-Ok-Some-clause-headline g c =
     let is_due = rw c.in-Ok-Some.field-0-is at c.in-Ok-Some.ensures.due in
     λ text before written names body read h told told'.
     settled_true c.a_text_is_one_program.ensures c.a_program_is_no_larger_than_its_text.ensures _ text names body _ _ _ _ _ _ before written
-    is_due c.settle.ensures read h told told'
+    is_due c.settle.ensures.settles read h told told'
 
 pub returns-in-Ok-Some-clause-ends : goal.returns-in-Ok-Some-clause-ends
 returns-in-Ok-Some-clause-ends g c =
     let is_due = rw c.in-Ok-Some.field-0-is at c.in-Ok-Some.ensures.due in
-    settled_ends _ _ _ _ _ _ _ _ _ is_due c.settle.ensures
+    settled_ends _ _ _ _ _ _ _ _ _ is_due c.settle.ensures.settles
 
 pub returns-in-Ok-None-clause-headline : goal.returns-in-Ok-None-clause-headline
 returns-in-Ok-None-clause-headline g c =

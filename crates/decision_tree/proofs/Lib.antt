@@ -1,0 +1,4 @@
+mod Unwinding
+mod Ways
+mod Paths
+mod Standing

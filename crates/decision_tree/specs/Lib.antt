@@ -1,0 +1,9 @@
+pub mod Trend
+pub mod Alternatives
+pub mod AffineRanks
+pub mod Plans
+pub mod Evaluation
+pub mod AffineLaws
+pub mod Paths
+pub mod Seeking
+pub mod Families

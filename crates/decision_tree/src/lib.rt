@@ -1,0 +1,24 @@
+//! Decision trees over the stores of sixteen whole numbers: rows at the inner nodes, ranks at the
+//! leaves.
+//!
+//! It stands on `linear_cons`. A tree divides the stores by the sides of its rows; each defined leaf
+//! says why it stands and how many steps it promises. The front door: `Tree` with `leaf_at` and
+//! `path`, the trait `Rank` with its laws, and `AffineRank`.
+#![tactic(auto)]
+
+mod affine_rank;
+mod family;
+pub mod laws;
+mod path;
+mod rank;
+mod reason;
+#[cfg(test)]
+mod tests;
+mod tree;
+
+pub use affine_rank::AffineRank;
+pub use family::{Family, TreeList};
+pub use path::PathFault;
+pub use rank::{Alternatives, Rank};
+pub use reason::{Cause, Pick, Why};
+pub use tree::Tree;

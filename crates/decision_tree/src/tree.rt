@@ -1,0 +1,182 @@
+//! Trees of rows with ranks at their leaves.
+ghost use Rattle.std.specs.Prelude.{◌≡◌, ◌-◌, ◌^◌, ◌↔◌, min, IsOk, IfOk, IfErr};
+ghost use Rattle.linear_cons.specs.Exact.{IsOutside};
+ghost use Rattle.decision_tree.specs.Evaluation.{WayFits, eval};
+ghost use Rattle.decision_tree.specs.Plans.{bottom, leaf, leaves_of, node, plan_of, size_of, top};
+
+use crate::rank::Rank;
+use crate::reason::{Cause, Why};
+use linear_cons::{Row, Wide};
+use std::alloc::{AllocError, Global};
+use std::mem;
+
+/// A tree that divides the stores by the sides of its rows.
+pub enum Tree<R: Rank> {
+    /// No claim.
+    Bottom,
+    /// No claim, and what it was given up for.
+    Top(Cause),
+    /// A claim, with its reason and its rank.
+    Leaf {
+        why: Why,
+        rank: R,
+    },
+    /// The side `yes` holds where the row's value is at least 0, `no` where it is below.
+    Node {
+        row: Row,
+        yes: Box<Tree<R>>,
+        no: Box<Tree<R>>,
+    },
+}
+
+impl<R: Rank> Drop for Tree<R> {
+    // A loop, since a tree may be a long line: while the yes side of the root has sides of its own,
+    // it moves to the no side, in the box that it has. The yes side that is dropped is a leaf.
+    #[cycle(drop_trees)]
+    fn drop(mut self) {
+        loop {
+            match self {
+                Tree::Bottom | Tree::Top(_) => return,
+                Tree::Leaf { why: _, rank: _ } => return,
+                Tree::Node { row, mut yes, no } => {
+                    if let Tree::Node { no: inner, .. } = &mut *yes {
+                        let next = mem::replace(inner, no);
+                        self = Tree::Node {
+                            row,
+                            yes: next,
+                            no: yes,
+                        };
+                    } else {
+                        self = Box::into_inner(no);
+                    }
+                }
+            }
+        }
+    }
+}
+
+impl<R: Rank> Tree<R> {
+    /// The number of nodes, leaves included, or the type's last value where that is less.
+    pub fn size(&self) -> u64
+        ensures { result ≡ min (size_of (plan_of self.now)) (2 ^ 64 - 1) }
+    {
+        match self {
+            Tree::Bottom | Tree::Top(_) | Tree::Leaf { .. } => 1,
+            Tree::Node { row: _, yes, no } => yes
+                .size()
+                .saturating_add(no.size())
+                .saturating_add(1),
+        }
+    }
+
+    /// The number of leaves, or the type's last value where that is less.
+    pub fn leaves(&self) -> u64
+        ensures { result ≡ min (leaves_of (plan_of self.now)) (2 ^ 64 - 1) }
+    {
+        match self {
+            Tree::Bottom | Tree::Top(_) | Tree::Leaf { .. } => 1,
+            Tree::Node { row: _, yes, no } => yes.leaves().saturating_add(no.leaves()),
+        }
+    }
+
+    /// The leaf at which the store stands. `Wide` comes exactly where the value of a row on the way
+    /// to it, or a number that the value is summed up from, lies outside `i128`.
+    pub fn leaf_at(&self, store: &[i128; 16]) -> Result<&Tree<R>, Wide>
+        ensures leaf { IfOk result (λ leaf. plan_of leaf.now ≡ eval (plan_of self.now) store.now) }
+        ensures fits { IsOk result ↔ WayFits (plan_of self.now) store.now }
+        ensures wide { IfErr result IsOutside }
+    {
+        let mut at = self;
+        while let Tree::Node { row, yes, no } = at {
+            let value = row.affine.value(store)?;
+            at = if value < 0 { no } else { yes };
+        }
+        Ok(at)
+    }
+
+    /// An equal tree.
+    pub fn copy(&self, alloc: Global) -> Result<Tree<R>, AllocError>
+        ensures { IfOk result (λ twin. plan_of twin ≡ plan_of self.now) }
+    {
+        let twin = self.boxed(alloc)?;
+        Ok(Box::into_inner(twin))
+    }
+
+    // The recursion holds boxes alone, and each tree is made in a call of its own: so a level takes
+    // a few words of stack, and a tree of 65,536 levels is copied on a stack of eight megabytes.
+    /// An equal tree in a box.
+    fn boxed(&self, alloc: Global) -> Result<Box<Tree<R>>, AllocError>
+        ensures { IfOk result (λ twin. plan_of twin.value ≡ plan_of self.now) }
+    {
+        match self {
+            Tree::Bottom => Tree::boxed_bottom(alloc),
+            Tree::Top(cause) => Tree::boxed_top(alloc, cause),
+            Tree::Leaf { why, rank } => Tree::boxed_leaf(alloc, why, rank),
+            Tree::Node { row, yes, no } => {
+                let yes = yes.boxed(alloc)?;
+                match no.boxed(alloc) {
+                    Ok(no) => Tree::boxed_node(alloc, row, yes, no),
+                    Err(error) => {
+                        Tree::discard(yes);
+                        Err(error)
+                    }
+                }
+            }
+        }
+    }
+
+    /// Drops the tree.
+    #[inline(never)]
+    fn discard(_tree: Box<Tree<R>>) {}
+
+    #[inline(never)]
+    fn boxed_bottom(alloc: Global) -> Result<Box<Tree<R>>, AllocError>
+        ensures { IfOk result (λ tree. plan_of tree.value ≡ bottom) }
+    {
+        let tree = Box::new(alloc, Tree::Bottom)?;
+        Ok(tree)
+    }
+
+    #[inline(never)]
+    fn boxed_top(alloc: Global, cause: &Cause) -> Result<Box<Tree<R>>, AllocError>
+        ensures { IfOk result (λ tree. plan_of tree.value ≡ top cause.now) }
+    {
+        let tree = Box::new(alloc, Tree::Top(*cause))?;
+        Ok(tree)
+    }
+
+    #[inline(never)]
+    fn boxed_leaf(alloc: Global, why: &Why, rank: &R) -> Result<Box<Tree<R>>, AllocError>
+        ensures { IfOk result (λ tree. plan_of tree.value ≡ leaf why.now rank.now) }
+    {
+        let tree = Tree::Leaf {
+            why: *why,
+            rank: *rank,
+        };
+        let tree = Box::new(alloc, tree)?;
+        Ok(tree)
+    }
+
+    #[inline(never)]
+    fn boxed_node(
+        alloc: Global,
+        row: &Row,
+        yes: Box<Tree<R>>,
+        no: Box<Tree<R>>,
+    ) -> Result<Box<Tree<R>>, AllocError>
+        ensures { IfOk result (λ tree. plan_of tree.value ≡ node row.now (plan_of yes.value) (plan_of no.value)) }
+    {
+        let row = *row;
+        let tree = Box::new(alloc, Tree::Node { row, yes, no })?;
+        Ok(tree)
+    }
+
+    /// The tree with the row at its root and the two sides.
+    pub fn node(alloc: Global, row: Row, yes: Tree<R>, no: Tree<R>) -> Result<Tree<R>, AllocError>
+        ensures { IfOk result (λ tree. plan_of tree ≡ node row (plan_of yes) (plan_of no)) }
+    {
+        let yes = Box::new(alloc, yes)?;
+        let no = Box::new(alloc, no)?;
+        Ok(Tree::Node { row, yes, no })
+    }
+}

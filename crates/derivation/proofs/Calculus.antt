@@ -1,0 +1,237 @@
+-- How one reading follows from another.
+use Rattle.std.proofs.Common.{◌≡◌, ◌≢◌, ℕ, List, [], ◌∷◌, ◌++◌, Option, None, Some, inl, inr, refl, sym, ap, ◌∙◌, subst, append_assoc}
+use Rattle.std.specs.Bool.{IsFalse}
+use Rattle.derivation.specs.declared.rule.Rule.{Rule}
+use Rattle.derivation.specs.declared.rule.Rule.TheVariants.{Expected, Nesting, Operators}
+use Rattle.derivation.specs.Word.{Word}
+use Rattle.derivation.specs.Pieces.{Token, Look, no_operator, no_else, sees, Piece, token, look, spelling, first, first_before, FitsBefore, Fits}
+use Rattle.derivation.specs.Limits.{IsWithin, AllWithin, count_behind, count_on, BreaksLimit}
+use Rattle.derivation.specs.Comes.{Phrase, IsQuiet, MayStandFor, Comes, Cause, Breaks}
+
+-- pieces one behind the other
+pub spelling-append : (xs ys : List Piece) → spelling (xs ++ ys) ≡ spelling xs ++ spelling ys
+spelling-append [] ys = refl
+spelling-append (token t ∷ xs) ys = ap (λ ws. t.word ∷ ws) (spelling-append xs ys)
+spelling-append (look l ∷ xs) ys = spelling-append xs ys
+
+pub first_before-append : (xs ys : List Piece) (o : Option Word) → first_before (xs ++ ys) o ≡ first_before xs (first_before ys o)
+first_before-append [] ys o = refl
+first_before-append (token t ∷ xs) ys o = refl
+first_before-append (look l ∷ xs) ys o = first_before-append xs ys o
+
+pub first_spelling : (xs : List Piece) → first (spelling xs) ≡ first_before xs None
+first_spelling [] = refl
+first_spelling (token t ∷ xs) = refl
+first_spelling (look l ∷ xs) = first_spelling xs
+
+pub first_between : (xs : List Piece) (ws : List Word) → first (spelling xs ++ ws) ≡ first_before xs (first ws)
+first_between [] ws = refl
+first_between (token t ∷ xs) ws = refl
+first_between (look l ∷ xs) ws = first_between xs ws
+
+pub within-append : (xs ys : List Piece) (c : ℕ) → AllWithin c xs → AllWithin (count_behind c xs) ys → AllWithin c (xs ++ ys)
+within-append [] ys c h k = k
+within-append (token t ∷ xs) ys c h k = (h.0, within-append xs ys (count_on c t.counting) h.1 k)
+within-append (look l ∷ xs) ys c h k = within-append xs ys c h k
+
+pub count_behind-append : (xs ys : List Piece) (c : ℕ) → count_behind c (xs ++ ys) ≡ count_behind (count_behind c xs) ys
+count_behind-append [] ys c = refl
+count_behind-append (token t ∷ xs) ys c = count_behind-append xs ys (count_on c t.counting)
+count_behind-append (look l ∷ xs) ys c = count_behind-append xs ys c
+
+pub fits-append : (xs ys : List Piece) (o : Option Word) → FitsBefore xs (first_before ys o) → FitsBefore ys o → FitsBefore (xs ++ ys) o
+fits-append [] ys o h k = k
+fits-append (token t ∷ xs) ys o h k = fits-append xs ys o h k
+fits-append (look l ∷ xs) ys o h k =
+    (subst (λ next. IsFalse (sees l next)) (sym (first_before-append xs ys o)) h.0, fits-append xs ys o h.1 k)
+
+pub fits-behind : (xs ys : List Piece) (o : Option Word) → FitsBefore (xs ++ ys) o → FitsBefore ys o
+fits-behind [] ys o h = h
+fits-behind (token t ∷ xs) ys o h = fits-behind xs ys o h
+fits-behind (look l ∷ xs) ys o h = fits-behind xs ys o h.1
+
+quiet_for : (next : Option Word) → IsQuiet next → (l : Look) → IsFalse (sees l next)
+quiet_for next h no_operator = h.0
+quiet_for next h no_else = h.1
+
+-- a next word may be exchanged for one that may stand for it
+pub fits-for : (xs : List Piece) (other next : Option Word) → MayStandFor next other → FitsBefore xs other → FitsBefore xs next
+fits-for xs other next (inl e) h = subst (FitsBefore xs) (sym e) h
+fits-for xs other next (inr quiet) h = before xs h
+  where
+    kept : (l : Look) (ys : List Piece) → IsFalse (sees l (first_before ys other)) → IsFalse (sees l (first_before ys next))
+    kept l [] f = quiet_for next quiet l
+    kept l (token t ∷ ys) f = f
+    kept l (look m ∷ ys) f = kept l ys f
+
+    before : (ys : List Piece) → FitsBefore ys other → FitsBefore ys next
+    before [] k = tt
+    before (token t ∷ ys) k = before ys k
+    before (look l ∷ ys) k = (kept l ys k.0, before ys k.1)
+
+-- and then the first word of the pieces before it too
+pub stands-before : (xs : List Piece) (other next : Option Word) → MayStandFor next other → MayStandFor (first_before xs next) (first_before xs other)
+stands-before [] other next h = h
+stands-before (token t ∷ xs) other next h = inl refl
+stands-before (look l ∷ xs) other next h = stands-before xs other next h
+
+cancel : (xs : List Word) {ys zs : List Word} → xs ++ ys ≡ xs ++ zs → ys ≡ zs
+cancel [] e = e
+cancel (x ∷ xs) e = cancel xs (cc)
+
+-- reading has come to where it is
+pub here : (c : ℕ) (A : Phrase) (from : List Word) → Comes c A from c A from (λ g. g)
+here c A from = record {
+  front = [];
+  parted = refl;
+  within = tt;
+  counted = refl;
+  fits = tt;
+  spells = λ g. refl;
+  only = λ f fits rest e next. (f, refl);
+}
+
+-- what spells both fronts is what the second leads to
+behind : (A B : Phrase) (F : B.Tree → A.Tree) (c d : ℕ) (a b : List Word) → (x : Comes c A a d B b F) → (more : List Piece) (to : List Word)
+    → b ≡ spelling more ++ to → (f : A.Tree) → Fits (A.pieces f) → (rest : List Word)
+    → spelling (A.pieces f) ≡ spelling (x.front ++ more) ++ rest → first rest ≡ first to
+    → (g : B.Tree) × (f ≡ F g) × Fits (B.pieces g) × (spelling (B.pieces g) ≡ spelling more ++ rest)
+behind A B F c d a b x more to parted f fits rest e next =
+    let split : spelling (A.pieces f) ≡ spelling x.front ++ (spelling more ++ rest) =
+    e ∙ ap (λ ws. ws ++ rest) (spelling-append x.front more) ∙ append_assoc (spelling x.front) (spelling more) rest in
+    let same : first (spelling more ++ rest) ≡ first b =
+    first_between more rest ∙ ap (first_before more) next ∙ sym (first_between more to) ∙ ap first (sym parted) in
+    let found = x.only f fits (spelling more ++ rest) split same in
+    let pieces : A.pieces f ≡ x.front ++ B.pieces found.0 = ap A.pieces found.1 ∙ x.spells found.0 in (
+      found.0,
+      found.1,
+      fits-behind x.front (B.pieces found.0) None (subst Fits pieces fits),
+      cancel (spelling x.front) (sym (ap spelling pieces ∙ spelling-append x.front (B.pieces found.0)) ∙ split),
+    )
+
+-- one reading behind another
+pub over : {c d e : ℕ} {A B C : Phrase} {a b x : List Word} {F : B.Tree → A.Tree} {G : C.Tree → B.Tree}
+    → Comes c A a d B b F → Comes d B b e C x G → Comes c A a e C x (λ g. F (G g))
+over {c} {d} {e} {A} {B} {C} {a} {b} {x} {F} {G} p q = record {
+  front = p.front ++ q.front;
+  parted = p.parted ∙ ap (λ ws. spelling p.front ++ ws) q.parted ∙ sym (append_assoc (spelling p.front) (spelling q.front) x)
+      ∙ ap (λ ws. ws ++ x) (sym (spelling-append p.front q.front));
+  within = within-append p.front q.front c p.within (subst (λ n. AllWithin n q.front) p.counted q.within);
+  counted = q.counted ∙ ap (λ n. count_behind n q.front) p.counted ∙ sym (count_behind-append p.front q.front c);
+  fits = fits-append p.front q.front (first x)
+      (subst (FitsBefore p.front) (ap first q.parted ∙ first_between q.front x) p.fits) q.fits;
+  spells = λ g. p.spells (G g) ∙ ap (λ ps. p.front ++ ps) (q.spells g) ∙ sym (append_assoc p.front q.front (C.pieces g));
+  only = λ f fits rest e next.
+      let found = behind A B F c d a b p q.front x q.parted f fits rest e next in
+      let last = q.only found.0 found.2 rest found.3 next in
+      (last.0, found.1 ∙ ap F last.1);
+}
+
+limit_behind : (m n : ℕ) → m ≡ n → (t : Token) → (r : Rule) → BreaksLimit m t r → BreaksLimit n t r
+limit_behind m n e t r h = subst (λ k. BreaksLimit k t r) e h
+
+why : {c d : ℕ} {A B : Phrase} {a b : List Word} {F : B.Tree → A.Tree} → (p : Comes c A a d B b F) → (more rest : List Piece) → (x : List Word)
+    → b ≡ spelling more ++ x → (r : Rule) → Cause d B r more rest (first x) → Cause c A r (p.front ++ more) rest (first x)
+why {c} {d} {A} {B} {a} {b} {F} p more rest x parted Expected k = λ f fits behind_words e next.
+    let found = behind A B F c d a b p more x parted f fits behind_words e next in
+    k found.0 found.2 behind_words found.3 next
+why {c} {d} {A} {B} {a} {b} {F} p more rest x parted Nesting k =
+    (k.0, k.1, k.2, k.3, limit_behind _ _ (ap (λ n. count_behind n more) p.counted ∙ sym (count_behind-append p.front more c)) k.0 Nesting k.4)
+why {c} {d} {A} {B} {a} {b} {F} p more rest x parted Operators k =
+    (k.0, k.1, k.2, k.3, limit_behind _ _ (ap (λ n. count_behind n more) p.counted ∙ sym (count_behind-append p.front more c)) k.0 Operators k.4)
+
+-- a fault behind a reading
+pub fails : {c d : ℕ} {A B : Phrase} {a b x : List Word} {F : B.Tree → A.Tree} {rule : Rule}
+    → Comes c A a d B b F → Breaks d B b rule x → Breaks c A a rule x
+fails {c} {d} {A} {B} {a} {b} {x} {F} {rule} p q =
+    let stands : MayStandFor (first_before (B.pieces q.tree) None) (first b) =
+    subst (λ o. MayStandFor o (first b)) (sym (ap (λ ps. first_before ps None) q.begins ∙ first_before-append q.front q.rest None))
+    (subst (MayStandFor (first_before q.front (first_before q.rest None))) (sym (ap first q.parted ∙ first_between q.front x))
+    (stands-before q.front (first x) (first_before q.rest None) q.stands)) in
+    record {
+      front = p.front ++ q.front;
+      rest = q.rest;
+      parted = p.parted ∙ ap (λ ws. spelling p.front ++ ws) q.parted ∙ sym (append_assoc (spelling p.front) (spelling q.front) x)
+          ∙ ap (λ ws. ws ++ x) (sym (spelling-append p.front q.front));
+      within = within-append p.front q.front c p.within (subst (λ n. AllWithin n q.front) p.counted q.within);
+      tree = F q.tree;
+      fits = subst Fits (sym (p.spells q.tree))
+          (fits-append p.front (B.pieces q.tree) None
+          (fits-for p.front (first b) (first_before (B.pieces q.tree) None) stands p.fits) q.fits);
+      begins = p.spells q.tree ∙ ap (λ ps. p.front ++ ps) q.begins ∙ sym (append_assoc p.front q.front q.rest);
+      stands = q.stands;
+      cause = why p q.front q.rest x q.parted rule q.cause;
+    }
+
+-- What is still to be read is something else where the next word opens it so: each tree of the one is a tree of the other, with the same
+-- pieces behind `front`, which has no words, and the next word tells which trees are.
+pub opens : {Opening : Type 0} → (A B : Phrase) → (c : ℕ) → (from : List Word) → (classify : Option Word → Opening) → (o : Opening)
+    → (front : List Piece) → (fill : B.Tree → A.Tree)
+    → (spelling front ≡ []) → AllWithin c front → (c ≡ count_behind c front) → FitsBefore front (first from)
+    → ((g : B.Tree) → A.pieces (fill g) ≡ front ++ B.pieces g)
+    → ((f : A.Tree) → Fits (A.pieces f) → classify (first_before (A.pieces f) None) ≡ o → (g : B.Tree) × (f ≡ fill g))
+    → classify (first from) ≡ o → Comes c A from c B from fill
+opens A B c from classify o front fill empty within counted fits spells view is = record {
+  front = front;
+  parted = ap (λ ws. ws ++ from) (sym empty);
+  within = within;
+  counted = counted;
+  fits = fits;
+  spells = spells;
+  only = λ f f_fits rest e next.
+      view f f_fits
+      (ap classify (sym (first_spelling (A.pieces f)) ∙ ap first (e ∙ ap (λ ws. ws ++ rest) empty) ∙ next) ∙ is);
+}
+
+-- a token stands where it has to
+pub reads : (A B : Phrase) → (c : ℕ) → (from to : List Word) → (t : Token) → (fill : B.Tree → A.Tree) → from ≡ t.word ∷ to → IsWithin c t
+    → ((g : B.Tree) → A.pieces (fill g) ≡ token t ∷ B.pieces g)
+    → ((f : A.Tree) → Fits (A.pieces f) → first_before (A.pieces f) None ≡ Some t.word → (g : B.Tree) × (f ≡ fill g))
+    → Comes c A from (count_on c t.counting) B to fill
+reads A B c from to t fill e within spells view = record {
+  front = token t ∷ [];
+  parted = e;
+  within = (within, tt);
+  counted = refl;
+  fits = tt;
+  spells = spells;
+  only = λ f fits rest same next. view f fits (sym (first_spelling (A.pieces f)) ∙ ap first same);
+}
+
+-- no tree goes on with the next word
+pub sticks : {Opening : Type 0} → (A : Phrase) → (c : ℕ) → (from : List Word) → (classify : Option Word → Opening) → (o : Opening)
+    → (tree : A.Tree) → Fits (A.pieces tree) → IsQuiet (first_before (A.pieces tree) None)
+    → ((f : A.Tree) → Fits (A.pieces f) → classify (first_before (A.pieces f) None) ≢ o)
+    → classify (first from) ≡ o → Breaks c A from Expected from
+sticks A c from classify o tree fits quiet never is = record {
+  front = [];
+  rest = A.pieces tree;
+  parted = refl;
+  within = tt;
+  tree = tree;
+  fits = fits;
+  begins = refl;
+  stands = inr quiet;
+  cause = λ f f_fits behind_words e next.
+      never f f_fits (ap classify (sym (first_spelling (A.pieces f)) ∙ ap first e ∙ next) ∙ is);
+}
+
+-- the next word is one that breaks a limit
+pub exceeds : (A : Phrase) → (c : ℕ) → (from : List Word) → (t : Token) → (more : List Piece) → (rule : Rule) → (tree : A.Tree) → Fits (A.pieces tree)
+    → A.pieces tree ≡ token t ∷ more → first from ≡ Some t.word → (rule ≢ Expected) → BreaksLimit c t rule → Breaks c A from rule from
+exceeds A c from t more rule tree fits begins next limit breaks = record {
+  front = [];
+  rest = A.pieces tree;
+  parted = refl;
+  within = tt;
+  tree = tree;
+  fits = fits;
+  begins = refl;
+  stands = inl (ap (λ ps. first_before ps None) begins ∙ sym next);
+  cause = cause rule limit breaks;
+}
+  where
+    cause : (r : Rule) → r ≢ Expected → BreaksLimit c t r → Cause c A r [] (A.pieces tree) (first from)
+    cause Expected h k = absurd (h refl)
+    cause Nesting h k = (t, more, begins, next, k)
+    cause Operators h k = (t, more, begins, next, k)

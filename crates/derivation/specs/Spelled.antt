@@ -1,0 +1,27 @@
+-- The words that the parser's own lexemes are.
+use Rattle.std.specs.Prelude.{ℕ, ◌<◌, ◌≤◌, List, map, drop, length}
+use Rattle.derivation.specs.declared.lexeme.Lexeme.{Lexeme}
+use Rattle.derivation.specs.declared.lexeme.Reading.{Reading}
+use Rattle.derivation.specs.declared.lexeme.Reading.TheVariants.{Symbol, Name, Number, Unknown}
+use Rattle.derivation.specs.Word.{Word, symbol, name, number, unknown}
+
+abbrev pub word_read : Reading → Word
+word_read (Symbol s) = symbol s
+word_read (Name bytes) = name bytes.now
+word_read (Number value) = number value
+word_read Unknown = unknown
+
+abbrev pub spelled : Lexeme → Word
+spelled lexeme = word_read lexeme.reading
+
+abbrev pub all_spelled : List Lexeme → List Word
+all_spelled lexemes = map spelled lexemes
+
+-- the words from a place on
+abbrev pub words_from : List Lexeme → ℕ → List Word
+words_from lexemes at = all_spelled (drop at lexemes)
+
+-- the second place is behind the first, and no farther than the end
+pub record IsBehind (lexemes : List Lexeme) (at next : ℕ) : Type 0 where
+  pub forward : at < next
+  pub inside : next ≤ length lexemes

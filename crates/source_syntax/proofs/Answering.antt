@@ -1,0 +1,88 @@
+-- The readers' answers as steps of the calculus.
+use Rattle.std.proofs.Common.{◌≡◌, ℕ, ◌≤◌, List, ◌∷◌, Some, Result, Ok, Err, refl, sym, ap, ◌∙◌, subst, arith, IfErr}
+use Rattle.std.specs.Result.{IsErr, IsErrAnd}
+use Rattle.derivation.specs.declared.rule.Rule.{Rule}
+use Rattle.derivation.specs.declared.rule.Rule.TheVariants.{Expected, Nesting, Operators}
+use Rattle.derivation.specs.declared.symbol.Symbol.{Symbol}
+use Rattle.derivation.specs.declared.lexeme.Lexeme.{Lexeme}
+use Rattle.derivation.specs.Word.{Word, symbol, name as named}
+use Rattle.derivation.specs.Spelled.{words_from}
+use Rattle.derivation.specs.Pieces.{Token}
+use Rattle.derivation.specs.Comes.{IsQuiet}
+use Rattle.source_syntax.specs.declared.fault.Fault.{Fault}
+use Rattle.source_syntax.specs.Spelling.{sign, leading, opening, leading_opening}
+use Rattle.source_syntax.specs.Pending.{Pending, exactly, a_name}
+use Rattle.source_syntax.specs.Leads.{Leads, Stops}
+use Rattle.source_syntax.specs.Reads.{MissesSign, MissesOpening, MissesName}
+use Rattle.source_syntax.proofs.Expressions.{token_read, token_missed, token_too_deep, name_read, name_missed}
+
+-- a fault that is handed on
+pub handed_on : {X : Type 0} (r : Result X Fault) (f : Fault) (P : Fault → Type 0) → IsErr r × IsErrAnd r (λ e. e ≡ f) → P f → IfErr r P
+handed_on (Ok x) f P h k = tt
+handed_on (Err e) f P h k = subst P (sym h.1) k
+
+module _ {c : ℕ} {S : List Pending} {from to : List Word} where
+  pub sign_reads : (s : Symbol) (quiet : IsQuiet (Some (symbol s))) → from ≡ symbol s ∷ to
+      → Leads c ((exactly (sign s) quiet ∷ S)) from c S to (λ g. (tt, g))
+  sign_reads s quiet e = token_read c (sign s) quiet S from to e (omega arith, tt)
+
+  pub leading_reads : (s : Symbol) (quiet : IsQuiet (Some (symbol s))) → from ≡ symbol s ∷ to
+      → Leads c ((exactly (leading s) quiet ∷ S)) from 0 S to (λ g. (tt, g))
+  leading_reads s quiet e = token_read c (leading s) quiet S from to e (omega arith, tt)
+
+  pub opening_reads : (s : Symbol) (level : ℕ) (quiet : IsQuiet (Some (symbol s))) → from ≡ symbol s ∷ to → level ≤ 64
+      → Leads c ((exactly (opening s level) quiet ∷ S)) from c S to (λ g. (tt, g))
+  opening_reads s level quiet e shallow = token_read c (opening s level) quiet S from to e (shallow, tt)
+
+  pub leading_opening_reads : (s : Symbol) (level : ℕ) (quiet : IsQuiet (Some (symbol s))) → from ≡ symbol s ∷ to → level ≤ 64
+      → Leads c ((exactly (leading_opening s level) quiet ∷ S)) from 0 S to (λ g. (tt, g))
+  leading_opening_reads s level quiet e shallow = token_read c (leading_opening s level) quiet S from to e (shallow, tt)
+
+  pub name_reads : {x : List ℕ} → from ≡ named x ∷ to → Leads c (a_name ∷ S) from c S to (λ g. (x, g))
+  name_reads {x} e = name_read c S from x to e
+
+-- the same for faults
+missed : (c : ℕ) (t : Token) (quiet : IsQuiet (Some t.word)) (S : List Pending) (from : List Word) (s : Symbol) (rule : Rule) → t.word ≡ symbol s
+    → MissesSign from s rule → Stops c ((exactly t quiet ∷ S)) from rule from
+missed c t quiet S from s Expected e h = token_missed c t quiet S from (λ to same. h to (same ∙ ap (λ w. w ∷ to) e))
+missed c t quiet S from s Nesting e h = absurd h
+missed c t quiet S from s Operators e h = absurd h
+
+missed_opening : (c : ℕ) (t : Token) (quiet : IsQuiet (Some t.word)) (S : List Pending) (from : List Word) (s : Symbol) (rule : Rule) → t.word ≡ symbol s
+    → MissesOpening from s t.level rule → Stops c ((exactly t quiet ∷ S)) from rule from
+missed_opening c t quiet S from s Expected e h = token_missed c t quiet S from (λ to same. h to (same ∙ ap (λ w. w ∷ to) e))
+missed_opening c t quiet S from s Nesting e h = token_too_deep c t quiet S from h.0.0 (h.0.1 ∙ ap (λ w. w ∷ h.0.0) (sym e)) h.1
+missed_opening c t quiet S from s Operators e h = absurd h
+
+there : (c : ℕ) (lexemes : List Lexeme) (at : ℕ) (fault : Fault) (A : List Pending) → fault.at ≡ at
+    → Stops c A (words_from lexemes at) fault.rule (words_from lexemes at) → Stops c A (words_from lexemes at) fault.rule (words_from lexemes fault.at)
+there c lexemes at fault A e h = subst (λ n. Stops c A (words_from lexemes at) fault.rule (words_from lexemes n)) (sym e) h
+
+module _ {c : ℕ} {S : List Pending} (lexemes : List Lexeme) (at : ℕ) (fault : Fault) where
+  pub sign_refused : (s : Symbol) (quiet : IsQuiet (Some (symbol s))) → MissesSign (words_from lexemes at) s fault.rule × (fault.at ≡ at)
+      → Stops c ((exactly (sign s) quiet ∷ S)) (words_from lexemes at) fault.rule (words_from lexemes fault.at)
+  sign_refused s quiet h = there c lexemes at fault (exactly (sign s) quiet ∷ S) h.1 (missed c (sign s) quiet S (words_from lexemes at) s fault.rule refl h.0)
+
+  pub leading_refused : (s : Symbol) (quiet : IsQuiet (Some (symbol s))) → MissesSign (words_from lexemes at) s fault.rule × (fault.at ≡ at)
+      → Stops c ((exactly (leading s) quiet ∷ S)) (words_from lexemes at) fault.rule (words_from lexemes fault.at)
+  leading_refused s quiet h = there c lexemes at fault (exactly (leading s) quiet ∷ S) h.1 (missed c (leading s) quiet S (words_from lexemes at) s fault.rule refl h.0)
+
+  pub opening_refused : (s : Symbol) (level : ℕ) (quiet : IsQuiet (Some (symbol s))) → MissesOpening (words_from lexemes at) s level fault.rule × (fault.at ≡ at)
+      → Stops c ((exactly (opening s level) quiet ∷ S)) (words_from lexemes at) fault.rule (words_from lexemes fault.at)
+  opening_refused s level quiet h =
+      there c lexemes at fault (exactly (opening s level) quiet ∷ S) h.1 (missed_opening c (opening s level) quiet S (words_from lexemes at) s fault.rule refl h.0)
+
+  pub leading_opening_refused : (s : Symbol) (level : ℕ) (quiet : IsQuiet (Some (symbol s))) → MissesOpening (words_from lexemes at) s level fault.rule × (fault.at ≡ at)
+      → Stops c ((exactly (leading_opening s level) quiet ∷ S)) (words_from lexemes at) fault.rule (words_from lexemes fault.at)
+  leading_opening_refused s level quiet h =
+      there c lexemes at fault (exactly (leading_opening s level) quiet ∷ S) h.1
+      (missed_opening c (leading_opening s level) quiet S (words_from lexemes at) s fault.rule refl h.0)
+
+  pub name_refused : MissesName (words_from lexemes at) fault.rule × (fault.at ≡ at)
+      → Stops c ((a_name ∷ S)) (words_from lexemes at) fault.rule (words_from lexemes fault.at)
+  name_refused h = there c lexemes at fault (a_name ∷ S) h.1 (by_rule fault.rule h.0)
+    where
+      by_rule : (rule : Rule) → MissesName (words_from lexemes at) rule → Stops c ((a_name ∷ S)) (words_from lexemes at) rule (words_from lexemes at)
+      by_rule Expected h = name_missed c S (words_from lexemes at) h
+      by_rule Nesting h = absurd h
+      by_rule Operators h = absurd h

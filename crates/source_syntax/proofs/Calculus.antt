@@ -1,0 +1,50 @@
+-- The steps of the calculus, for lists of things to be read.
+use Rattle.std.proofs.Common.{◌≡◌, ◌≢◌, ℕ, List, [], ◌∷◌, ◌++◌, Option, None, Some}
+use Rattle.derivation.specs.declared.rule.Rule.{Rule}
+use Rattle.derivation.specs.declared.rule.Rule.TheVariants.{Expected}
+use Rattle.derivation.specs.Word.{Word}
+use Rattle.derivation.specs.Pieces.{Token, Piece, token, spelling, first, first_before, FitsBefore, Fits}
+use Rattle.derivation.specs.Limits.{IsWithin, AllWithin, count_behind, count_on, BreaksLimit}
+use Rattle.derivation.specs.Comes.{IsQuiet}
+use Rattle.derivation.proofs.Calculus as calculus
+use Rattle.source_syntax.specs.Pending.{Pending, Trees, pieces, phrase}
+use Rattle.source_syntax.specs.Leads.{Leads, Stops}
+
+pub over : {c d e : ℕ} {A B C : List Pending} {a b x : List Word} {F : Trees B → Trees A} {G : Trees C → Trees B}
+    → Leads c A a d B b F → Leads d B b e C x G → Leads c A a e C x (λ g. F (G g))
+over p q = record { comes = calculus.over p.comes q.comes }
+
+pub stay : (c : ℕ) (A : List Pending) (from : List Word) → Leads c A from c A from (λ g. g)
+stay c A from = record { comes = calculus.here c (phrase A) from }
+
+pub fails : {c d : ℕ} {A B : List Pending} {a b x : List Word} {F : Trees B → Trees A} {rule : Rule}
+    → Leads c A a d B b F → Stops d B b rule x → Stops c A a rule x
+fails p q = record { breaks = calculus.fails p.comes q.breaks }
+
+pub opens : {Opening : Type 0} → (A B : List Pending) → (c : ℕ) → (from : List Word) → (classify : Option Word → Opening) → (o : Opening)
+    → (front : List Piece) → (fill : Trees B → Trees A)
+    → (spelling front ≡ []) → AllWithin c front → (c ≡ count_behind c front) → FitsBefore front (first from)
+    → ((g : Trees B) → pieces A (fill g) ≡ front ++ pieces B g)
+    → ((f : Trees A) → Fits (pieces A f) → classify (first_before (pieces A f) None) ≡ o → (g : Trees B) × (f ≡ fill g))
+    → classify (first from) ≡ o → Leads c A from c B from fill
+opens A B c from classify o front fill empty within counted fits spells view is =
+    record { comes = calculus.opens (phrase A) (phrase B) c from classify o front fill empty within counted fits spells view is }
+
+pub reads : (A B : List Pending) → (c : ℕ) → (from to : List Word) → (t : Token) → (fill : Trees B → Trees A) → from ≡ t.word ∷ to → IsWithin c t
+    → ((g : Trees B) → pieces A (fill g) ≡ token t ∷ pieces B g)
+    → ((f : Trees A) → Fits (pieces A f) → first_before (pieces A f) None ≡ Some t.word → (g : Trees B) × (f ≡ fill g))
+    → Leads c A from (count_on c t.counting) B to fill
+reads A B c from to t fill e within spells view =
+    record { comes = calculus.reads (phrase A) (phrase B) c from to t fill e within spells view }
+
+pub sticks : {Opening : Type 0} → (A : List Pending) → (c : ℕ) → (from : List Word) → (classify : Option Word → Opening) → (o : Opening)
+    → (tree : Trees A) → Fits (pieces A tree) → IsQuiet (first_before (pieces A tree) None)
+    → ((f : Trees A) → Fits (pieces A f) → classify (first_before (pieces A f) None) ≢ o)
+    → classify (first from) ≡ o → Stops c A from Expected from
+sticks A c from classify o tree fits quiet never is =
+    record { breaks = calculus.sticks (phrase A) c from classify o tree fits quiet never is }
+
+pub exceeds : (A : List Pending) → (c : ℕ) → (from : List Word) → (t : Token) → (more : List Piece) → (rule : Rule) → (tree : Trees A) → Fits (pieces A tree)
+    → pieces A tree ≡ token t ∷ more → first from ≡ Some t.word → (rule ≢ Expected) → BreaksLimit c t rule → Stops c A from rule from
+exceeds A c from t more rule tree fits begins next limit breaks =
+    record { breaks = calculus.exceeds (phrase A) c from t more rule tree fits begins next limit breaks }

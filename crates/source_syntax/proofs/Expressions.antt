@@ -1,0 +1,370 @@
+-- How the reading of expressions goes on, by the next word.
+use Rattle.std.proofs.Common.{◌≡◌, ◌≢◌, ℕ, ◌+◌, ◌<◌, ◌≤◌, ℤ, List, [], ◌∷◌, Option, None, Some, Bool, true, false, refl, sym, ap, ◌∙◌, subst, arith}
+use Rattle.std.specs.Bool.{IsFalse}
+use Rattle.step_meaning.specs.declared.expression.Op2.{Op2}
+use Rattle.derivation.specs.declared.rule.Rule.TheVariants.{Expected, Nesting, Operators}
+use Rattle.derivation.specs.declared.symbol.Symbol.TheVariants as Sym
+use Rattle.derivation.specs.Word.{Word, symbol, name as named, number as numbered, unknown as unreadable}
+use Rattle.derivation.specs.Pieces.{Token, look, no_operator, sees, first, first_before, Fits}
+use Rattle.derivation.specs.Limits.{IsWithin}
+use Rattle.derivation.specs.Comes.{IsQuiet}
+use Rattle.source_syntax.specs.Leads.{Leads, Stops}
+use Rattle.source_syntax.proofs.Calculus.{opens, reads, sticks, exceeds}
+use Rattle.source_syntax.specs.declared.opening.Prefix.{Prefix}
+use Rattle.source_syntax.specs.declared.opening.OperandOpening.{OperandOpening}
+use Rattle.source_syntax.specs.declared.opening.SizeOpening.{SizeOpening}
+use Rattle.source_syntax.specs.Openings.{opening_of_operand, binary_operator, size_opening, negative_follows}
+use Rattle.source_syntax.specs.Trees.{Operand, number, name, truth, unknown, call, signed, parentheses, range, Tail, ended, further}
+use Rattle.source_syntax.specs.Spelling.{plain, sign, opening, operator, sign_of, prefix_sign, truth_word}
+use Rattle.source_syntax.specs.Pending.{Pending, exactly, a_name, a_number, a_size, an_end, an_operand, a_tail, an_expression, Trees, pieces}
+use Rattle.source_syntax.proofs.Completions.{complete, completes}
+
+abbrev pub Same : (all : List Pending) → Trees all → Trees all → Type 0
+Same all x y = x ≡ y
+
+-- a token that has to stand here does, doesn't, or breaks the limit of nesting
+module _ (c : ℕ) (t : Token) (quiet : IsQuiet (Some t.word)) (S : List Pending) (from : List Word) where
+  pub token_read : (to : List Word) → from ≡ t.word ∷ to → IsWithin c t
+      → Leads c ((exactly t quiet ∷ S)) from (Rattle.derivation.specs.Limits.count_on c t.counting) S to (λ g. (tt, g))
+  token_read to e within =
+      reads ((exactly t quiet ∷ S)) S c from to t (λ g. (tt, g)) e within (λ g. refl) (λ f fits next. (f.1, refl))
+
+  pub token_missed : ((to : List Word) → from ≢ t.word ∷ to) → Stops c ((exactly t quiet ∷ S)) from Expected from
+  token_missed h =
+      sticks ((exactly t quiet ∷ S)) c from (λ next. next) (first from) (complete (exactly t quiet ∷ S))
+      (completes (exactly t quiet ∷ S)).0 (completes (exactly t quiet ∷ S)).1 (λ f fits e. absurd (missed from h (sym e))) refl
+    where
+      missed : (ws : List Word) → ((to : List Word) → ws ≢ t.word ∷ to) → first ws ≢ Some t.word
+      missed [] k e = cc
+      missed (w ∷ ws) k e = k ws (let same : w ≡ t.word = cc in ap (λ x. x ∷ ws) same)
+
+  pub token_too_deep : (to : List Word) → from ≡ t.word ∷ to → 64 < t.level → Stops c ((exactly t quiet ∷ S)) from Nesting from
+  token_too_deep to e deep =
+      exceeds ((exactly t quiet ∷ S)) c from t (pieces S (complete S)) Nesting (complete (exactly t quiet ∷ S))
+      (completes (exactly t quiet ∷ S)).0 refl (ap first e) (λ e. cc) deep
+
+-- names and numbers
+module _ (c : ℕ) (S : List Pending) (from : List Word) where
+  pub name_read : (x : List ℕ) (to : List Word) → from ≡ named x ∷ to
+      → Leads c ((a_name ∷ S)) from c S to (λ g. (x, g))
+  name_read x to e =
+      reads ((a_name ∷ S)) S c from to (plain (named x)) (λ g. (x, g)) e (omega arith, tt) (λ g. refl)
+      (λ f fits next. (f.1, let same : f.0 ≡ x = cc in ap (λ y. (y, f.1)) same))
+
+  pub name_missed : ((x : List ℕ) (to : List Word) → from ≢ named x ∷ to) → Stops c ((a_name ∷ S)) from Expected from
+  name_missed h =
+      sticks ((a_name ∷ S)) c from (λ next. next) (first from) (complete (a_name ∷ S))
+      (completes (a_name ∷ S)).0 (completes (a_name ∷ S)).1 (λ f fits e. absurd (missed from f.0 (h f.0) (sym e))) refl
+    where
+      missed : (ws : List Word) → (x : List ℕ) → ((to : List Word) → ws ≢ named x ∷ to) → first ws ≢ Some (named x)
+      missed [] x k e = cc
+      missed (w ∷ ws) x k e = k ws (let same : w ≡ named x = cc in ap (λ y. y ∷ ws) same)
+
+  pub number_read : (z : ℤ) (to : List Word) → from ≡ numbered z ∷ to
+      → Leads c ((a_number ∷ S)) from c S to (λ g. (z, g))
+  number_read z to e =
+      reads ((a_number ∷ S)) S c from to (plain (numbered z)) (λ g. (z, g)) e (omega arith, tt) (λ g. refl)
+      (λ f fits next. (f.1, let same : f.0 ≡ z = cc in ap (λ y. (y, f.1)) same))
+
+-- the end of a range
+abbrev pub size_rest : SizeOpening → List Pending → List Pending
+size_rest SizeOpening.Number S = a_number ∷ S
+size_rest SizeOpening.Infinite S = exactly (sign Sym.Infinite) (refl, refl) ∷ S
+size_rest SizeOpening.Nothing S = a_size ∷ S
+
+abbrev pub size_tree : (o : SizeOpening) → (S : List Pending) → Trees (size_rest o S) → Trees (a_size ∷ S)
+size_tree SizeOpening.Number S g = (Some g.0, g.1)
+size_tree SizeOpening.Infinite S g = (None, g.1)
+size_tree SizeOpening.Nothing S g = g
+
+abbrev pub end_rest : Bool → List Pending → List Pending
+end_rest true S = an_end ∷ S
+end_rest false S = a_size ∷ S
+
+abbrev pub end_tree : (b : Bool) → (S : List Pending) → Trees (end_rest b S) → Trees (an_end ∷ S)
+end_tree true S g = g
+end_tree false S g = (record { negative = false; size = g.0 }, g.1)
+
+module _ (c : ℕ) (S : List Pending) (from : List Word) where
+  pub size_goes : (o : SizeOpening) → o ≡ size_opening (first from)
+      → Leads c ((a_size ∷ S)) from c ((size_rest o S)) from (size_tree o S)
+  size_goes o e =
+      opens ((a_size ∷ S)) ((size_rest o S)) c from size_opening o [] (size_tree o S) refl tt refl tt (spells o) view (sym e)
+    where
+      spells : (o : SizeOpening) → (g : Trees (size_rest o S)) → pieces (a_size ∷ S) (size_tree o S g) ≡ pieces (size_rest o S) g
+      spells SizeOpening.Number g = refl
+      spells SizeOpening.Infinite g = refl
+      spells SizeOpening.Nothing g = refl
+
+      view : (f : Trees (a_size ∷ S)) → Fits (pieces (a_size ∷ S) f) → size_opening (first_before (pieces (a_size ∷ S) f) None) ≡ o
+          → (g : Trees (size_rest o S)) × (f ≡ size_tree o S g)
+      view (Some z, rest) fits e = subst (λ o. (g : Trees (size_rest o S)) × Same (a_size ∷ S) (Some z, rest) (size_tree o S g)) e ((z, rest), refl)
+      view (None, rest) fits e = subst (λ o. (g : Trees (size_rest o S)) × Same (a_size ∷ S) (None, rest) (size_tree o S g)) e ((tt, rest), refl)
+
+  pub size_sticks : SizeOpening.Nothing ≡ size_opening (first from) → Stops c ((a_size ∷ S)) from Expected from
+  size_sticks e =
+      sticks ((a_size ∷ S)) c from size_opening SizeOpening.Nothing (complete (a_size ∷ S))
+      (completes (a_size ∷ S)).0 (completes (a_size ∷ S)).1 never (sym e)
+    where
+      never : (f : Trees (a_size ∷ S)) → Fits (pieces (a_size ∷ S) f) → size_opening (first_before (pieces (a_size ∷ S) f) None) ≢ SizeOpening.Nothing
+      never (Some z, rest) fits e = cc
+      never (None, rest) fits e = cc
+
+  pub end_goes : (b : Bool) → b ≡ negative_follows (first from)
+      → Leads c ((an_end ∷ S)) from c ((end_rest b S)) from (end_tree b S)
+  end_goes b e =
+      opens ((an_end ∷ S)) ((end_rest b S)) c from negative_follows b [] (end_tree b S) refl tt refl tt (spells b) view (sym e)
+    where
+      spells : (b : Bool) → (g : Trees (end_rest b S)) → pieces (an_end ∷ S) (end_tree b S g) ≡ pieces (end_rest b S) g
+      spells true g = refl
+      spells false g = refl
+
+      split : (negative : Bool) (size : Option ℤ) (rest : Trees S) → (b : Bool)
+          → negative_follows (first_before (pieces (an_end ∷ S) (record { negative = negative; size = size }, rest)) None) ≡ b
+          → (g : Trees (end_rest b S)) × Same (an_end ∷ S) (record { negative = negative; size = size }, rest) (end_tree b S g)
+      split true size rest b e =
+          subst (λ b. (g : Trees (end_rest b S)) × Same (an_end ∷ S) (record { negative = true; size = size }, rest) (end_tree b S g)) e
+          ((record { negative = true; size = size }, rest), refl)
+      split false (Some z) rest b e =
+          subst (λ b. (g : Trees (end_rest b S)) × Same (an_end ∷ S) (record { negative = false; size = Some z }, rest) (end_tree b S g)) e ((Some z, rest), refl)
+      split false None rest b e =
+          subst (λ b. (g : Trees (end_rest b S)) × Same (an_end ∷ S) (record { negative = false; size = None }, rest) (end_tree b S g)) e ((None, rest), refl)
+
+      view : (f : Trees (an_end ∷ S)) → Fits (pieces (an_end ∷ S) f) → negative_follows (first_before (pieces (an_end ∷ S) f) None) ≡ b
+          → (g : Trees (end_rest b S)) × (f ≡ end_tree b S g)
+      view f fits e = split f.0.negative f.0.size f.1 b e
+
+  -- behind the `-` of an end
+  pub minus_read : (to : List Word) → from ≡ symbol Sym.Minus ∷ to
+      → Leads c ((an_end ∷ S)) from c ((a_size ∷ S)) to (λ g. (record { negative = true; size = g.0 }, g.1))
+  minus_read to e =
+      reads ((an_end ∷ S)) ((a_size ∷ S)) c from to (sign Sym.Minus) (λ g. (record { negative = true; size = g.0 }, g.1)) e
+      (omega arith, tt) (λ g. refl) (λ f fits next. view f.0.negative f.0.size f.1 next)
+    where
+      view : (negative : Bool) (size : Option ℤ) (rest : Trees S)
+          → first_before (pieces (an_end ∷ S) (record { negative = negative; size = size }, rest)) None ≡ Some (symbol Sym.Minus)
+          → (g : Trees (a_size ∷ S)) × Same (an_end ∷ S) (record { negative = negative; size = size }, rest) (record { negative = true; size = g.0 }, g.1)
+      view true size rest e = ((size, rest), refl)
+      view false (Some z) rest e = absurd (cc)
+      view false None rest e = absurd (cc)
+
+-- an operand
+pub truth_quiet : (b : Bool) → IsQuiet (Some (symbol (truth_word b)))
+truth_quiet true = (refl, refl)
+truth_quiet false = (refl, refl)
+
+module _ (n : ℕ) where
+  abbrev pub operand_rest : OperandOpening → List Pending → List Pending
+  operand_rest OperandOpening.Number S = a_number ∷ S
+  operand_rest OperandOpening.Name S = a_name ∷ S
+  operand_rest (OperandOpening.Truth b) S = exactly (sign (truth_word b)) (truth_quiet b) ∷ S
+  operand_rest OperandOpening.Unknown S = exactly (sign Sym.Question) (refl, refl) ∷ S
+  operand_rest OperandOpening.Call S =
+      exactly (sign Sym.Nondeterministic) (refl, refl) ∷ exactly (opening Sym.OpenParenthesis (n + 1)) (refl, refl)
+      ∷ exactly (sign Sym.CloseParenthesis) (refl, refl) ∷ S
+  operand_rest (OperandOpening.Signed prefix) S = an_operand n ∷ S
+  operand_rest OperandOpening.Parenthesis S =
+      exactly (opening Sym.OpenParenthesis (n + 1)) (refl, refl) ∷ an_expression (n + 1) ∷ exactly (sign Sym.CloseParenthesis) (refl, refl) ∷ S
+  operand_rest OperandOpening.Bracket S =
+      exactly (sign Sym.OpenBracket) (refl, refl) ∷ an_end ∷ exactly (sign Sym.Comma) (refl, refl) ∷ an_end
+      ∷ exactly (sign Sym.CloseBracket) (refl, refl) ∷ S
+  operand_rest OperandOpening.Nothing S = an_operand n ∷ S
+
+  abbrev pub operand_tree : (o : OperandOpening) → (S : List Pending) → Trees (operand_rest o S) → Trees (an_operand n ∷ S)
+  operand_tree OperandOpening.Number S g = (number g.0, g.1)
+  operand_tree OperandOpening.Name S g = (name g.0, g.1)
+  operand_tree (OperandOpening.Truth b) S g = (truth b, g.1)
+  operand_tree OperandOpening.Unknown S g = (unknown, g.1)
+  operand_tree OperandOpening.Call S g = (call, g.1.1.1)
+  operand_tree (OperandOpening.Signed prefix) S g = g
+  operand_tree OperandOpening.Parenthesis S g = (parentheses g.1.0.operand g.1.0.tail, g.1.1.1)
+  operand_tree OperandOpening.Bracket S g = (range g.1.0 g.1.1.1.0, g.1.1.1.1.1)
+  operand_tree OperandOpening.Nothing S g = g
+
+  module _ (c : ℕ) (S : List Pending) (from : List Word) where
+    pub operand_goes : (o : OperandOpening) → o ≡ opening_of_operand (first from)
+        → Leads c ((an_operand n ∷ S)) from c ((operand_rest o S)) from (operand_tree o S)
+    operand_goes o e =
+        opens ((an_operand n ∷ S)) ((operand_rest o S)) c from opening_of_operand o [] (operand_tree o S) refl tt refl tt (spells o)
+        view (sym e)
+      where
+        spells : (o : OperandOpening) → (g : Trees (operand_rest o S)) → pieces (an_operand n ∷ S) (operand_tree o S g) ≡ pieces (operand_rest o S) g
+        spells OperandOpening.Number g = refl
+        spells OperandOpening.Name g = refl
+        spells (OperandOpening.Truth b) g = refl
+        spells OperandOpening.Unknown g = refl
+        spells OperandOpening.Call g = refl
+        spells (OperandOpening.Signed prefix) g = refl
+        spells OperandOpening.Parenthesis g = refl
+        spells OperandOpening.Bracket g = refl
+        spells OperandOpening.Nothing g = refl
+
+        view : (f : Trees (an_operand n ∷ S)) → Fits (pieces (an_operand n ∷ S) f)
+            → opening_of_operand (first_before (pieces (an_operand n ∷ S) f) None) ≡ o
+            → (g : Trees (operand_rest o S)) × (f ≡ operand_tree o S g)
+        view (number z, rest) fits e = subst (λ o. (g : Trees (operand_rest o S)) × Same (an_operand n ∷ S) (number z, rest) (operand_tree o S g)) e ((z, rest), refl)
+        view (name x, rest) fits e = subst (λ o. (g : Trees (operand_rest o S)) × Same (an_operand n ∷ S) (name x, rest) (operand_tree o S g)) e ((x, rest), refl)
+        view (truth true, rest) fits e = subst (λ o. (g : Trees (operand_rest o S)) × Same (an_operand n ∷ S) (truth true, rest) (operand_tree o S g)) e ((tt, rest), refl)
+        view (truth false, rest) fits e = subst (λ o. (g : Trees (operand_rest o S)) × Same (an_operand n ∷ S) (truth false, rest) (operand_tree o S g)) e ((tt, rest), refl)
+        view (unknown, rest) fits e = subst (λ o. (g : Trees (operand_rest o S)) × Same (an_operand n ∷ S) (unknown, rest) (operand_tree o S g)) e ((tt, rest), refl)
+        view (call, rest) fits e = subst (λ o. (g : Trees (operand_rest o S)) × Same (an_operand n ∷ S) (call, rest) (operand_tree o S g)) e ((tt, (tt, (tt, rest))), refl)
+        view (signed Prefix.Plus t, rest) fits e =
+            subst (λ o. (g : Trees (operand_rest o S)) × Same (an_operand n ∷ S) (signed Prefix.Plus t, rest) (operand_tree o S g)) e ((signed Prefix.Plus t, rest), refl)
+        view (signed Prefix.Minus t, rest) fits e =
+            subst (λ o. (g : Trees (operand_rest o S)) × Same (an_operand n ∷ S) (signed Prefix.Minus t, rest) (operand_tree o S g)) e ((signed Prefix.Minus t, rest), refl)
+        view (signed Prefix.Not t, rest) fits e =
+            subst (λ o. (g : Trees (operand_rest o S)) × Same (an_operand n ∷ S) (signed Prefix.Not t, rest) (operand_tree o S g)) e ((signed Prefix.Not t, rest), refl)
+        view (parentheses t more, rest) fits e =
+            subst (λ o. (g : Trees (operand_rest o S)) × Same (an_operand n ∷ S) (parentheses t more, rest) (operand_tree o S g)) e
+            ((tt, (record { operand = t; tail = more }, (tt, rest))), refl)
+        view (range lo hi, rest) fits e =
+            subst (λ o. (g : Trees (operand_rest o S)) × Same (an_operand n ∷ S) (range lo hi, rest) (operand_tree o S g)) e ((tt, (lo, (tt, (hi, (tt, rest))))), refl)
+
+    pub operand_sticks : OperandOpening.Nothing ≡ opening_of_operand (first from) → Stops c ((an_operand n ∷ S)) from Expected from
+    operand_sticks e =
+        sticks ((an_operand n ∷ S)) c from opening_of_operand OperandOpening.Nothing (complete (an_operand n ∷ S))
+        (completes (an_operand n ∷ S)).0 (completes (an_operand n ∷ S)).1 never (sym e)
+      where
+        never : (f : Trees (an_operand n ∷ S)) → Fits (pieces (an_operand n ∷ S) f)
+            → opening_of_operand (first_before (pieces (an_operand n ∷ S) f) None) ≢ OperandOpening.Nothing
+        never (number z, rest) fits e = cc
+        never (name x, rest) fits e = cc
+        never (truth true, rest) fits e = cc
+        never (truth false, rest) fits e = cc
+        never (unknown, rest) fits e = cc
+        never (call, rest) fits e = cc
+        never (signed Prefix.Plus t, rest) fits e = cc
+        never (signed Prefix.Minus t, rest) fits e = cc
+        never (signed Prefix.Not t, rest) fits e = cc
+        never (parentheses t more, rest) fits e = cc
+        never (range lo hi, rest) fits e = cc
+
+    -- behind a sign, and at one that opens level 65
+    pub prefix_read : (prefix : Prefix) (to : List Word) → from ≡ symbol (prefix_sign prefix) ∷ to → n + 1 ≤ 64
+        → Leads c ((an_operand n ∷ S)) from c ((an_operand (n + 1) ∷ S)) to (λ g. (signed prefix g.0, g.1))
+    prefix_read prefix to e shallow =
+        reads ((an_operand n ∷ S)) ((an_operand (n + 1) ∷ S)) c from to (opening (prefix_sign prefix) (n + 1))
+        (λ g. (signed prefix g.0, g.1)) e (shallow, tt) (λ g. refl)
+        (λ f fits next. view f.0 f.1 (ap opening_of_operand next ∙ opening_of_prefix prefix))
+      where
+        opening_of_prefix : (p : Prefix) → opening_of_operand (Some (symbol (prefix_sign p))) ≡ OperandOpening.Signed p
+        opening_of_prefix Prefix.Plus = refl
+        opening_of_prefix Prefix.Minus = refl
+        opening_of_prefix Prefix.Not = refl
+
+        view : (t : Operand) (rest : Trees S) → opening_of_operand (first_before (pieces (an_operand n ∷ S) (t, rest)) None) ≡ OperandOpening.Signed prefix
+            → (g : Trees (an_operand (n + 1) ∷ S)) × Same (an_operand n ∷ S) (t, rest) (signed prefix g.0, g.1)
+        view (number z) rest e = absurd (cc)
+        view (name x) rest e = absurd (cc)
+        view (truth true) rest e = absurd (cc)
+        view (truth false) rest e = absurd (cc)
+        view unknown rest e = absurd (cc)
+        view call rest e = absurd (cc)
+        view (signed Prefix.Plus t) rest e = ((t, rest), let same : Prefix.Plus ≡ prefix = cc in ap (λ p. (signed p t, rest)) same)
+        view (signed Prefix.Minus t) rest e = ((t, rest), let same : Prefix.Minus ≡ prefix = cc in ap (λ p. (signed p t, rest)) same)
+        view (signed Prefix.Not t) rest e = ((t, rest), let same : Prefix.Not ≡ prefix = cc in ap (λ p. (signed p t, rest)) same)
+        view (parentheses t more) rest e = absurd (cc)
+        view (range lo hi) rest e = absurd (cc)
+
+    pub prefix_too_deep : (prefix : Prefix) (to : List Word) → from ≡ symbol (prefix_sign prefix) ∷ to → 64 < n + 1
+        → Stops c ((an_operand n ∷ S)) from Nesting from
+    prefix_too_deep prefix to e deep =
+        exceeds ((an_operand n ∷ S)) c from (opening (prefix_sign prefix) (n + 1)) (pieces (an_operand (n + 1) ∷ S) (complete (an_operand (n + 1) ∷ S)))
+        Nesting (signed prefix (complete (an_operand (n + 1) ∷ S)).0, complete S) (completes (an_operand (n + 1) ∷ S)).0 refl (ap first e) (λ e. cc) deep
+
+-- the operators and operands behind the first operand
+abbrev pub operator_at : Option Word → Option Op2
+operator_at = binary_operator
+
+unseen : (next : Option Word) → IsFalse (sees no_operator next) → binary_operator next ≡ None
+unseen None h = refl
+unseen (Some (named x)) h = refl
+unseen (Some (numbered z)) h = refl
+unseen (Some unreadable) h = refl
+unseen (Some (symbol Sym.Plus)) h = absurd (cc)
+unseen (Some (symbol Sym.Minus)) h = absurd (cc)
+unseen (Some (symbol Sym.Times)) h = absurd (cc)
+unseen (Some (symbol Sym.Less)) h = absurd (cc)
+unseen (Some (symbol Sym.LessEqual)) h = absurd (cc)
+unseen (Some (symbol Sym.Greater)) h = absurd (cc)
+unseen (Some (symbol Sym.GreaterEqual)) h = absurd (cc)
+unseen (Some (symbol Sym.Equal)) h = absurd (cc)
+unseen (Some (symbol Sym.NotEqual)) h = absurd (cc)
+unseen (Some (symbol Sym.And)) h = absurd (cc)
+unseen (Some (symbol Sym.Or)) h = absurd (cc)
+unseen (Some (symbol _)) h = refl
+
+seen : (next : Option Word) → binary_operator next ≡ None → IsFalse (sees no_operator next)
+seen None h = refl
+seen (Some (named x)) h = refl
+seen (Some (numbered z)) h = refl
+seen (Some unreadable) h = refl
+seen (Some (symbol Sym.Plus)) h = absurd (cc)
+seen (Some (symbol Sym.Minus)) h = absurd (cc)
+seen (Some (symbol Sym.Times)) h = absurd (cc)
+seen (Some (symbol Sym.Less)) h = absurd (cc)
+seen (Some (symbol Sym.LessEqual)) h = absurd (cc)
+seen (Some (symbol Sym.Greater)) h = absurd (cc)
+seen (Some (symbol Sym.GreaterEqual)) h = absurd (cc)
+seen (Some (symbol Sym.Equal)) h = absurd (cc)
+seen (Some (symbol Sym.NotEqual)) h = absurd (cc)
+seen (Some (symbol Sym.And)) h = absurd (cc)
+seen (Some (symbol Sym.Or)) h = absurd (cc)
+seen (Some (symbol _)) h = refl
+
+reads_back : (op : Op2) → binary_operator (Some (symbol (sign_of op))) ≡ Some op
+reads_back Op2.Add = refl
+reads_back Op2.Sub = refl
+reads_back Op2.Mul = refl
+reads_back Op2.Less = refl
+reads_back Op2.LessEqual = refl
+reads_back Op2.Greater = refl
+reads_back Op2.GreaterEqual = refl
+reads_back Op2.Equal = refl
+reads_back Op2.NotEqual = refl
+reads_back Op2.And = refl
+reads_back Op2.Or = refl
+
+module _ (n c : ℕ) (S : List Pending) (from : List Word) where
+  -- where no operator follows, the expression has ended
+  pub tail_ends : None ≡ binary_operator (first from)
+      → Leads c ((a_tail n ∷ S)) from c S from (λ g. (ended, g))
+  tail_ends e =
+      opens ((a_tail n ∷ S)) S c from binary_operator None (look no_operator ∷ []) (λ g. (ended, g)) refl tt refl
+      (seen (first from) (sym e), tt) (λ g. refl) (λ f fits none. view f.0 f.1 none) (sym e)
+    where
+      view : (t : Tail) (rest : Trees S) → binary_operator (first_before (pieces (a_tail n ∷ S) (t, rest)) None) ≡ None
+          → (g : Trees S) × Same (a_tail n ∷ S) (t, rest) (ended, g)
+      view ended rest none = (rest, refl)
+      view (further op t more) rest none = absurd (let both = sym (reads_back op) ∙ none in cc)
+
+  pub operator_read : (op : Op2) (to : List Word) → from ≡ symbol (sign_of op) ∷ to → c + 1 ≤ 256
+      → Leads c ((a_tail n ∷ S)) from (c + 1) ((an_operand n ∷ a_tail n ∷ S)) to (λ g. (further op g.0 g.1.0, g.1.1))
+  operator_read op to e few =
+      reads ((a_tail n ∷ S)) ((an_operand n ∷ a_tail n ∷ S)) c from to (operator op) (λ g. (further op g.0 g.1.0, g.1.1)) e
+      (omega arith, few) (λ g. refl) (λ f fits next. view f.0 f.1 fits (ap binary_operator next ∙ reads_back op))
+    where
+      view : (t : Tail) (rest : Trees S) → Fits (pieces (a_tail n ∷ S) (t, rest))
+          → binary_operator (first_before (pieces (a_tail n ∷ S) (t, rest)) None) ≡ Some op
+          → (g : Trees (an_operand n ∷ a_tail n ∷ S)) × Same (a_tail n ∷ S) (t, rest) (further op g.0 g.1.0, g.1.1)
+      view ended rest fits found = absurd (let none = unseen (first_before (pieces S rest) None) fits.0 in let both = sym none ∙ found in cc)
+      view (further other t more) rest fits found = (
+        (t, (more, rest)),
+        let both : Some other ≡ Some op = sym (reads_back other) ∙ found in
+            let same : other ≡ op = cc in ap (λ o. (further o t more, rest)) same,
+      )
+
+  pub operator_too_many : (op : Op2) (to : List Word) → from ≡ symbol (sign_of op) ∷ to → 256 < c + 1
+      → Stops c ((a_tail n ∷ S)) from Operators from
+  operator_too_many op to e many =
+      exceeds ((a_tail n ∷ S)) c from (operator op) (pieces (an_operand n ∷ a_tail n ∷ S) (complete (an_operand n ∷ a_tail n ∷ S))) Operators
+      (further op (complete (an_operand n ∷ a_tail n ∷ S)).0 (complete (an_operand n ∷ a_tail n ∷ S)).1.0, complete S)
+      (completes (an_operand n ∷ a_tail n ∷ S)).0 refl (ap first e) (λ e. cc) (omega arith, many)
+
+  -- an expression is an operand and what stands behind it
+  pub expression_goes : Leads c ((an_expression n ∷ S)) from c ((an_operand n ∷ a_tail n ∷ S)) from
+      (λ g. (record { operand = g.0; tail = g.1.0 }, g.1.1))
+  expression_goes =
+      opens ((an_expression n ∷ S)) ((an_operand n ∷ a_tail n ∷ S)) c from (λ next. true) true []
+      (λ g. (record { operand = g.0; tail = g.1.0 }, g.1.1)) refl tt refl tt (λ g. refl)
+      (λ f fits e. ((f.0.operand, (f.0.tail, f.1)), refl)) refl

@@ -1,0 +1,9 @@
+pub mod Calculus
+pub mod Completions
+pub mod Expressions
+pub mod Statements
+pub mod Words
+pub mod Answering
+pub mod Reading
+pub mod Loops
+pub mod Whole

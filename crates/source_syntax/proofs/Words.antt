@@ -1,0 +1,108 @@
+-- The word that stands at a place, by how it opens.
+use Rattle.std.proofs.Common.{◌≡◌, ℕ, suc, ◌+◌, ◌<◌, ◌≤◌, ℤ, ◌⊎◌, inl, inr, List, [], ◌∷◌, Option, None, Some, true, length, drop, get_or, drop-cons, refl, sym, ap, ◌∙◌, subst, add-one}
+use Rattle.std.proofs.lemmas.Bool.{cases_lt}
+use Rattle.std.proofs.lemmas.List.{drop_all}
+use Rattle.step_meaning.specs.declared.expression.Op2.{Op2}
+use Rattle.derivation.specs.declared.lexeme.Lexeme.{Lexeme}
+use Rattle.derivation.specs.declared.symbol.Symbol.TheVariants as Sym
+use Rattle.derivation.specs.Word.{Word, symbol, name as named, number as numbered, unknown as unreadable}
+use Rattle.derivation.specs.Spelled.{spelled, all_spelled, words_from}
+use Rattle.derivation.specs.Pieces.{first}
+use Rattle.source_syntax.specs.declared.opening.OperandOpening.{OperandOpening}
+use Rattle.source_syntax.specs.declared.opening.SizeOpening.{SizeOpening}
+use Rattle.source_syntax.specs.Openings.{opening_of_operand, binary_operator, size_opening, negative_follows, else_follows}
+use Rattle.source_syntax.specs.Spelling.{sign_of, prefix_sign, truth_word}
+
+-- where a word stands, there is room for it, and the others stand behind
+pub stands_at : (lexemes : List Lexeme) (at : ℕ) (w : Word) (rest : List Word) → words_from lexemes at ≡ w ∷ rest
+    → (at < length lexemes) × (words_from lexemes (at + 1) ≡ rest)
+stands_at lexemes at w rest e = by_place (cases_lt at (length lexemes))
+  where
+    behind : (x : Lexeme) → drop at lexemes ≡ x ∷ drop (suc at) lexemes → words_from lexemes (at + 1) ≡ rest
+    behind x split =
+        let whole : spelled x ∷ all_spelled (drop (suc at) lexemes) ≡ w ∷ rest = sym (ap all_spelled split) ∙ e in
+        let tails : all_spelled (drop (suc at) lexemes) ≡ rest = cc in
+        rw add-one tails
+
+    some : (ls : List Lexeme) → all_spelled ls ≡ w ∷ rest → Lexeme
+    some [] h = absurd (cc)
+    some (x ∷ xs) h = x
+
+    by_place : (at < length lexemes) ⊎ (length lexemes ≤ at) → (at < length lexemes) × (words_from lexemes (at + 1) ≡ rest)
+    by_place (inl inside) =
+        let x = some (drop at lexemes) e in
+        (inside, behind (get_or lexemes at x) (drop-cons lexemes at x inside))
+    by_place (inr outside) =
+        absurd (let none : [] ≡ w ∷ rest = sym (ap all_spelled (drop_all at lexemes outside)) ∙ e in cc)
+
+abbrev pub WordFor : OperandOpening → List Word → Type 0
+WordFor OperandOpening.Number ws = (z : ℤ) × (rest : List Word) × (ws ≡ numbered z ∷ rest)
+WordFor OperandOpening.Name ws = (x : List ℕ) × (rest : List Word) × (ws ≡ named x ∷ rest)
+WordFor (OperandOpening.Truth b) ws = (rest : List Word) × (ws ≡ symbol (truth_word b) ∷ rest)
+WordFor OperandOpening.Unknown ws = (rest : List Word) × (ws ≡ symbol Sym.Question ∷ rest)
+WordFor (OperandOpening.Signed prefix) ws = (rest : List Word) × (ws ≡ symbol (prefix_sign prefix) ∷ rest)
+WordFor _ ws = Unit {0}
+
+pub operand_word : (ws : List Word) (o : OperandOpening) → o ≡ opening_of_operand (first ws) → WordFor o ws
+operand_word [] o e = subst (λ o. WordFor o []) (sym e) tt
+operand_word (named x ∷ ws) o e = subst (λ o. WordFor o (named x ∷ ws)) (sym e) (x, ws, refl)
+operand_word (numbered z ∷ ws) o e = subst (λ o. WordFor o (numbered z ∷ ws)) (sym e) (z, ws, refl)
+operand_word (unreadable ∷ ws) o e = subst (λ o. WordFor o (unreadable ∷ ws)) (sym e) tt
+operand_word (symbol Sym.True ∷ ws) o e = subst (λ o. WordFor o (symbol Sym.True ∷ ws)) (sym e) (ws, refl)
+operand_word (symbol Sym.False ∷ ws) o e = subst (λ o. WordFor o (symbol Sym.False ∷ ws)) (sym e) (ws, refl)
+operand_word (symbol Sym.Question ∷ ws) o e = subst (λ o. WordFor o (symbol Sym.Question ∷ ws)) (sym e) (ws, refl)
+operand_word (symbol Sym.Plus ∷ ws) o e = subst (λ o. WordFor o (symbol Sym.Plus ∷ ws)) (sym e) (ws, refl)
+operand_word (symbol Sym.Minus ∷ ws) o e = subst (λ o. WordFor o (symbol Sym.Minus ∷ ws)) (sym e) (ws, refl)
+operand_word (symbol Sym.Not ∷ ws) o e = subst (λ o. WordFor o (symbol Sym.Not ∷ ws)) (sym e) (ws, refl)
+operand_word (symbol s ∷ ws) o e = subst (λ o. WordFor o (symbol s ∷ ws)) (sym e) tt
+
+abbrev pub WordForSize : SizeOpening → List Word → Type 0
+WordForSize SizeOpening.Number ws = (z : ℤ) × (rest : List Word) × (ws ≡ numbered z ∷ rest)
+WordForSize SizeOpening.Infinite ws = (rest : List Word) × (ws ≡ symbol Sym.Infinite ∷ rest)
+WordForSize SizeOpening.Nothing ws = Unit {0}
+
+pub size_word : (ws : List Word) (o : SizeOpening) → o ≡ size_opening (first ws) → WordForSize o ws
+size_word [] o e = subst (λ o. WordForSize o []) (sym e) tt
+size_word (named x ∷ ws) o e = subst (λ o. WordForSize o (named x ∷ ws)) (sym e) tt
+size_word (numbered z ∷ ws) o e = subst (λ o. WordForSize o (numbered z ∷ ws)) (sym e) (z, ws, refl)
+size_word (unreadable ∷ ws) o e = subst (λ o. WordForSize o (unreadable ∷ ws)) (sym e) tt
+size_word (symbol Sym.Infinite ∷ ws) o e = subst (λ o. WordForSize o (symbol Sym.Infinite ∷ ws)) (sym e) (ws, refl)
+size_word (symbol s ∷ ws) o e = subst (λ o. WordForSize o (symbol s ∷ ws)) (sym e) tt
+
+abbrev pub WordForOperator : Option Op2 → List Word → Type 0
+WordForOperator (Some op) ws = (rest : List Word) × (ws ≡ symbol (sign_of op) ∷ rest)
+WordForOperator None ws = Unit {0}
+
+pub operator_word : (ws : List Word) (o : Option Op2) → o ≡ binary_operator (first ws) → WordForOperator o ws
+operator_word [] o e = subst (λ o. WordForOperator o []) (sym e) tt
+operator_word (named x ∷ ws) o e = subst (λ o. WordForOperator o (named x ∷ ws)) (sym e) tt
+operator_word (numbered z ∷ ws) o e = subst (λ o. WordForOperator o (numbered z ∷ ws)) (sym e) tt
+operator_word (unreadable ∷ ws) o e = subst (λ o. WordForOperator o (unreadable ∷ ws)) (sym e) tt
+operator_word (symbol Sym.Plus ∷ ws) o e = subst (λ o. WordForOperator o (symbol Sym.Plus ∷ ws)) (sym e) (ws, refl)
+operator_word (symbol Sym.Minus ∷ ws) o e = subst (λ o. WordForOperator o (symbol Sym.Minus ∷ ws)) (sym e) (ws, refl)
+operator_word (symbol Sym.Times ∷ ws) o e = subst (λ o. WordForOperator o (symbol Sym.Times ∷ ws)) (sym e) (ws, refl)
+operator_word (symbol Sym.Less ∷ ws) o e = subst (λ o. WordForOperator o (symbol Sym.Less ∷ ws)) (sym e) (ws, refl)
+operator_word (symbol Sym.LessEqual ∷ ws) o e = subst (λ o. WordForOperator o (symbol Sym.LessEqual ∷ ws)) (sym e) (ws, refl)
+operator_word (symbol Sym.Greater ∷ ws) o e = subst (λ o. WordForOperator o (symbol Sym.Greater ∷ ws)) (sym e) (ws, refl)
+operator_word (symbol Sym.GreaterEqual ∷ ws) o e = subst (λ o. WordForOperator o (symbol Sym.GreaterEqual ∷ ws)) (sym e) (ws, refl)
+operator_word (symbol Sym.Equal ∷ ws) o e = subst (λ o. WordForOperator o (symbol Sym.Equal ∷ ws)) (sym e) (ws, refl)
+operator_word (symbol Sym.NotEqual ∷ ws) o e = subst (λ o. WordForOperator o (symbol Sym.NotEqual ∷ ws)) (sym e) (ws, refl)
+operator_word (symbol Sym.And ∷ ws) o e = subst (λ o. WordForOperator o (symbol Sym.And ∷ ws)) (sym e) (ws, refl)
+operator_word (symbol Sym.Or ∷ ws) o e = subst (λ o. WordForOperator o (symbol Sym.Or ∷ ws)) (sym e) (ws, refl)
+operator_word (symbol s ∷ ws) o e = subst (λ o. WordForOperator o (symbol s ∷ ws)) (sym e) tt
+
+pub minus_word : (ws : List Word) → true ≡ negative_follows (first ws) → (rest : List Word) × (ws ≡ symbol Sym.Minus ∷ rest)
+minus_word [] e = absurd (cc)
+minus_word (named x ∷ ws) e = absurd (cc)
+minus_word (numbered z ∷ ws) e = absurd (cc)
+minus_word (unreadable ∷ ws) e = absurd (cc)
+minus_word (symbol Sym.Minus ∷ ws) e = (ws, refl)
+minus_word (symbol s ∷ ws) e = absurd (cc)
+
+pub else_word : (ws : List Word) → true ≡ else_follows (first ws) → (rest : List Word) × (ws ≡ symbol Sym.Else ∷ rest)
+else_word [] e = absurd (cc)
+else_word (named x ∷ ws) e = absurd (cc)
+else_word (numbered z ∷ ws) e = absurd (cc)
+else_word (unreadable ∷ ws) e = absurd (cc)
+else_word (symbol Sym.Else ∷ ws) e = (ws, refl)
+else_word (symbol s ∷ ws) e = absurd (cc)

@@ -1,0 +1,14 @@
+use Rattle.std.proofs.Common.{◌-◌, ◌+◌, ◌≤◌, length}
+use Rattle.derivation.specs.Spelled.{words_from}
+use Rattle.source_syntax.specs.Reads.{ComesToParts}
+use Rattle.source_syntax.proofs.declaration.declaration.Given as goal
+
+-- reading a declaration has come to reading its further parts from here
+abbrev pub invariant-parts : goal.invariant-parts
+invariant-parts l = record {
+  forward : l.at + 1 ≤ l.here;
+  comes : ComesToParts l.levels (words_from l.words l.at) (words_from l.words l.here);
+}
+
+abbrev pub decreases-parts : goal.decreases-parts
+decreases-parts l = length l.words - l.here

@@ -1,0 +1,95 @@
+-- What is still to be read: a list of things, each with its trees.
+use Rattle.std.specs.Prelude.{ℕ, ℤ, Bool, Option, Some, List, [], ◌∷◌}
+use Rattle.derivation.specs.declared.symbol.Symbol.TheVariants as S
+use Rattle.derivation.specs.Word.{name as named, number as numbered}
+use Rattle.derivation.specs.Pieces.{Token, Piece, token}
+use Rattle.derivation.specs.Comes.{Phrase, IsQuiet}
+use Rattle.source_syntax.specs.Trees.{End, Operand, Tail, Expression, Action, Simple, Part, Declaration, Start, Statement, Otherwise, Items, Program}
+use Rattle.source_syntax.specs.Spelling.{plain, sign, size_pieces, end_pieces, operand_pieces, tail_pieces, expression_pieces, optional_pieces, action_pieces, simple_pieces, initialiser_pieces, parts_pieces, declaration_pieces, start_pieces, finish_pieces, test_pieces, statement_pieces, otherwise_pieces, items_pieces, void_pieces, program_pieces}
+
+-- Something to be read, where so many levels are open. Some take the sign behind them along, by which the next word tells their end:
+-- an optional expression its `;`, the parts of a declaration their `;`, the start of a `for` its `;`, its last part the `)`, and items
+-- the `}`.
+pub data Pending : Type 0 where
+  exactly : (t : Token) → IsQuiet (Some t.word) → Pending
+  a_name : Pending
+  a_number : Pending
+  a_size : Pending
+  an_end : Pending
+  an_operand : ℕ → Pending
+  a_tail : ℕ → Pending
+  an_expression : ℕ → Pending
+  an_optional : ℕ → Pending
+  a_test : ℕ → Pending
+  an_action : ℕ → Pending
+  a_simple : ℕ → Pending
+  a_part_end : ℕ → Pending
+  parts : ℕ → Pending
+  a_declaration : ℕ → Pending
+  a_start : ℕ → Pending
+  a_finish : ℕ → Pending
+  a_statement : ℕ → Pending
+  an_otherwise : ℕ → Pending
+  items : ℕ → Pending
+  a_void : Pending
+  a_program : Pending
+
+abbrev pub TreeOf : Pending → Type 0
+TreeOf (exactly t quiet) = Unit {0}
+TreeOf a_name = List ℕ
+TreeOf a_number = ℤ
+TreeOf a_size = Option ℤ
+TreeOf an_end = End
+TreeOf (an_operand n) = Operand
+TreeOf (a_tail n) = Tail
+TreeOf (an_expression n) = Expression
+TreeOf (an_optional n) = Option Expression
+TreeOf (a_test n) = Expression
+TreeOf (an_action n) = Action
+TreeOf (a_simple n) = Simple
+TreeOf (a_part_end n) = Option Expression × List Part
+TreeOf (parts n) = List Part
+TreeOf (a_declaration n) = Declaration
+TreeOf (a_start n) = Start
+TreeOf (a_finish n) = Option Simple
+TreeOf (a_statement n) = Statement
+TreeOf (an_otherwise n) = Otherwise
+TreeOf (items n) = Items
+TreeOf a_void = Bool
+TreeOf a_program = Program
+
+abbrev pub pieces_of : (p : Pending) → TreeOf p → List Piece → List Piece
+pieces_of (exactly t quiet) tree behind = token t ∷ behind
+pieces_of a_name x behind = token (plain (named x)) ∷ behind
+pieces_of a_number z behind = token (plain (numbered z)) ∷ behind
+pieces_of a_size size behind = size_pieces size behind
+pieces_of an_end end behind = end_pieces end behind
+pieces_of (an_operand n) e behind = operand_pieces n e behind
+pieces_of (a_tail n) tail behind = tail_pieces n tail behind
+pieces_of (an_expression n) e behind = expression_pieces n e behind
+pieces_of (an_optional n) e behind = optional_pieces n e (token (sign S.Semicolon) ∷ behind)
+pieces_of (a_test n) e behind = test_pieces n e behind
+pieces_of (an_action n) action behind = action_pieces n action behind
+pieces_of (a_simple n) s behind = simple_pieces n s behind
+pieces_of (a_part_end n) end behind = initialiser_pieces n end.0 (parts_pieces n end.1 behind)
+pieces_of (parts n) more behind = parts_pieces n more behind
+pieces_of (a_declaration n) d behind = declaration_pieces n d behind
+pieces_of (a_start n) start behind = start_pieces n start behind
+pieces_of (a_finish n) step behind = finish_pieces n step behind
+pieces_of (a_statement n) s behind = statement_pieces n s behind
+pieces_of (an_otherwise n) other behind = otherwise_pieces n other behind
+pieces_of (items n) all behind = items_pieces n all (token (sign S.CloseBrace) ∷ behind)
+pieces_of a_void void behind = void_pieces void behind
+pieces_of a_program p behind = program_pieces p behind
+
+-- trees of all that is to be read, and their pieces
+abbrev pub Trees : List Pending → Type 0
+Trees [] = Unit {0}
+Trees (p ∷ more) = TreeOf p × Trees more
+
+abbrev pub pieces : (all : List Pending) → Trees all → List Piece
+pieces [] trees = []
+pieces (p ∷ more) trees = pieces_of p trees.0 (pieces more trees.1)
+
+abbrev pub phrase : List Pending → Phrase
+phrase all = record { Tree = Trees all; pieces = pieces all }

@@ -1,0 +1,202 @@
+-- The pieces that a tree spells before others, where `levels` levels of nesting are open.
+use Rattle.std.specs.Prelude.{ℕ, ◌+◌, ℤ, Bool, true, false, Option, None, Some, List, [], ◌∷◌}
+use Rattle.step_meaning.specs.declared.expression.Op2.{Op2}
+use Rattle.derivation.specs.declared.symbol.Symbol.{Symbol}
+use Rattle.derivation.specs.declared.symbol.Symbol.TheVariants as S
+use Rattle.derivation.specs.Word.{Word, symbol, name as named, number as numbered}
+use Rattle.derivation.specs.Pieces.{Token, keeps, one_more, anew, Piece, token, look, no_operator, no_else}
+use Rattle.source_syntax.specs.declared.opening.Prefix.{Prefix}
+use Rattle.source_syntax.specs.declared.opening.Assignment.{Assignment}
+use Rattle.source_syntax.specs.declared.opening.Step.{Step}
+use Rattle.source_syntax.specs.Trees.{End, Operand, number, name, truth, unknown, call, signed, parentheses, range, Tail, ended, further, Expression, Action, assigns, steps, Simple, acts, steps_before, Part, Declaration, Start, starts_with_nothing, starts_with, declares, Statement, simple, skip, braces, conditional, while_loop, do_loop, for_loop, return, Otherwise, without, otherwise, Items, none, declaration, statement, Prelude, extern_call, typedef_bool, Program}
+
+-- a token that opens no level
+abbrev pub plain : Word → Token
+plain word = record { word = word; level = 0; counting = keeps }
+
+abbrev pub sign : Symbol → Token
+sign s = plain (symbol s)
+
+-- one behind which an expression may begin
+abbrev pub leading : Symbol → Token
+leading s = record { word = symbol s; level = 0; counting = anew }
+
+-- one that opens a level
+abbrev pub opening : Symbol → ℕ → Token
+opening s level = record { word = symbol s; level = level; counting = keeps }
+
+-- one that opens a level, and behind which an expression begins
+abbrev pub leading_opening : Symbol → ℕ → Token
+leading_opening s level = record { word = symbol s; level = level; counting = anew }
+
+-- how an operator is written
+abbrev pub sign_of : Op2 → Symbol
+sign_of Op2.Add = S.Plus
+sign_of Op2.Sub = S.Minus
+sign_of Op2.Mul = S.Times
+sign_of Op2.Less = S.Less
+sign_of Op2.LessEqual = S.LessEqual
+sign_of Op2.Greater = S.Greater
+sign_of Op2.GreaterEqual = S.GreaterEqual
+sign_of Op2.Equal = S.Equal
+sign_of Op2.NotEqual = S.NotEqual
+sign_of Op2.And = S.And
+sign_of Op2.Or = S.Or
+
+abbrev pub operator : Op2 → Token
+operator op = record { word = symbol (sign_of op); level = 0; counting = one_more }
+
+abbrev pub prefix_sign : Prefix → Symbol
+prefix_sign Prefix.Plus = S.Plus
+prefix_sign Prefix.Minus = S.Minus
+prefix_sign Prefix.Not = S.Not
+
+abbrev pub assignment_sign : Assignment → Symbol
+assignment_sign Assignment.Assign = S.Assign
+assignment_sign Assignment.Add = S.AddAssign
+assignment_sign Assignment.Subtract = S.SubtractAssign
+assignment_sign Assignment.Multiply = S.MultiplyAssign
+
+abbrev pub step_sign : Step → Symbol
+step_sign Step.Increment = S.Increment
+step_sign Step.Decrement = S.Decrement
+
+abbrev pub truth_word : Bool → Symbol
+truth_word true = S.True
+truth_word false = S.False
+
+abbrev pub size_pieces : Option ℤ → List Piece → List Piece
+size_pieces (Some z) behind = token (plain (numbered z)) ∷ behind
+size_pieces None behind = token (sign S.Infinite) ∷ behind
+
+abbrev pub minus_pieces : Bool → List Piece → List Piece
+minus_pieces true behind = token (sign S.Minus) ∷ behind
+minus_pieces false behind = behind
+
+abbrev pub end_pieces : End → List Piece → List Piece
+end_pieces end behind = minus_pieces end.negative (size_pieces end.size behind)
+
+-- A sign before an operand, a `(` and the `(` of a call each open a level. Behind the last operand of an expression no binary operator
+-- follows.
+abbrev mutual
+  pub operand_pieces : ℕ → Operand → List Piece → List Piece
+  operand_pieces levels (number z) behind = token (plain (numbered z)) ∷ behind
+  operand_pieces levels (name x) behind = token (plain (named x)) ∷ behind
+  operand_pieces levels (truth b) behind = token (sign (truth_word b)) ∷ behind
+  operand_pieces levels unknown behind = token (sign S.Question) ∷ behind
+  operand_pieces levels call behind =
+      token (sign S.Nondeterministic) ∷ token (opening S.OpenParenthesis (levels + 1)) ∷ token (sign S.CloseParenthesis) ∷ behind
+  operand_pieces levels (signed prefix e) behind = token (opening (prefix_sign prefix) (levels + 1)) ∷ operand_pieces (levels + 1) e behind
+  operand_pieces levels (parentheses e more) behind =
+      token (opening S.OpenParenthesis (levels + 1))
+      ∷ operand_pieces (levels + 1) e (tail_pieces (levels + 1) more (token (sign S.CloseParenthesis) ∷ behind))
+  operand_pieces levels (range lo hi) behind =
+      token (sign S.OpenBracket)
+      ∷ end_pieces lo (token (sign S.Comma) ∷ end_pieces hi (token (sign S.CloseBracket) ∷ behind))
+
+  pub tail_pieces : ℕ → Tail → List Piece → List Piece
+  tail_pieces levels ended behind = look no_operator ∷ behind
+  tail_pieces levels (further op e more) behind = token (operator op) ∷ operand_pieces levels e (tail_pieces levels more behind)
+
+abbrev pub expression_pieces : ℕ → Expression → List Piece → List Piece
+expression_pieces levels e behind = operand_pieces levels e.operand (tail_pieces levels e.tail behind)
+
+abbrev pub optional_pieces : ℕ → Option Expression → List Piece → List Piece
+optional_pieces levels (Some e) behind = expression_pieces levels e behind
+optional_pieces levels None behind = behind
+
+abbrev pub action_pieces : ℕ → Action → List Piece → List Piece
+action_pieces levels (assigns assignment e) behind = token (leading (assignment_sign assignment)) ∷ expression_pieces levels e behind
+action_pieces levels (steps step) behind = token (sign (step_sign step)) ∷ behind
+
+abbrev pub simple_pieces : ℕ → Simple → List Piece → List Piece
+simple_pieces levels (acts x action) behind = token (plain (named x)) ∷ action_pieces levels action behind
+simple_pieces levels (steps_before step x) behind = token (sign (step_sign step)) ∷ token (plain (named x)) ∷ behind
+
+abbrev pub initialiser_pieces : ℕ → Option Expression → List Piece → List Piece
+initialiser_pieces levels (Some e) behind = token (leading S.Assign) ∷ expression_pieces levels e behind
+initialiser_pieces levels None behind = behind
+
+abbrev pub part_pieces : ℕ → Part → List Piece → List Piece
+part_pieces levels part behind = token (plain (named part.declared)) ∷ initialiser_pieces levels part.initialiser behind
+
+-- further parts of a declaration, and its `;`, behind which a `for` has an expression
+abbrev pub parts_pieces : ℕ → List Part → List Piece → List Piece
+parts_pieces levels [] behind = token (leading S.Semicolon) ∷ behind
+parts_pieces levels (part ∷ more) behind = token (sign S.Comma) ∷ part_pieces levels part (parts_pieces levels more behind)
+
+abbrev pub declaration_pieces : ℕ → Declaration → List Piece → List Piece
+declaration_pieces levels d behind = token (sign S.Int) ∷ part_pieces levels d.part (parts_pieces levels d.more behind)
+
+abbrev pub start_pieces : ℕ → Start → List Piece → List Piece
+start_pieces levels starts_with_nothing behind = token (leading S.Semicolon) ∷ behind
+start_pieces levels (starts_with s) behind = simple_pieces levels s (token (leading S.Semicolon) ∷ behind)
+start_pieces levels (declares d) behind = declaration_pieces levels d behind
+
+-- the last part of a `for` and the `)` behind it
+abbrev pub finish_pieces : ℕ → Option Simple → List Piece → List Piece
+finish_pieces levels (Some s) behind = simple_pieces levels s (token (sign S.CloseParenthesis) ∷ behind)
+finish_pieces levels None behind = token (sign S.CloseParenthesis) ∷ behind
+
+-- the test of an `if` or a loop, in its parentheses
+abbrev pub test_pieces : ℕ → Expression → List Piece → List Piece
+test_pieces levels test behind =
+    token (leading_opening S.OpenParenthesis (levels + 1)) ∷ expression_pieces (levels + 1) test (token (sign S.CloseParenthesis) ∷ behind)
+
+-- `{`, `if`, `else`, `while`, `do` and `for` open a level for as long as their statement lasts; so does the `(` before a test. The
+-- `while` that ends a `do` and the `(` of a `for` open none. An `else` belongs to the nearest `if`: where an `if` has none, none follows.
+abbrev mutual
+  pub statement_pieces : ℕ → Statement → List Piece → List Piece
+  statement_pieces levels (simple s) behind = simple_pieces levels s (token (sign S.Semicolon) ∷ behind)
+  statement_pieces levels skip behind = token (sign S.Semicolon) ∷ behind
+  statement_pieces levels (braces items) behind =
+      token (opening S.OpenBrace (levels + 1)) ∷ items_pieces (levels + 1) items (token (sign S.CloseBrace) ∷ behind)
+  statement_pieces levels (conditional test part other) behind =
+      token (opening S.If (levels + 1)) ∷ test_pieces (levels + 1) test (statement_pieces (levels + 1) part (otherwise_pieces (levels + 1) other behind))
+  statement_pieces levels (while_loop test body) behind =
+      token (opening S.While (levels + 1)) ∷ test_pieces (levels + 1) test (statement_pieces (levels + 1) body behind)
+  statement_pieces levels (do_loop body test) behind =
+      token (opening S.Do (levels + 1))
+      ∷ statement_pieces (levels + 1) body
+      (token (sign S.While) ∷ test_pieces (levels + 1) test (token (sign S.Semicolon) ∷ behind))
+  statement_pieces levels (for_loop start test step body) behind =
+      token (opening S.For (levels + 1)) ∷ token (sign S.OpenParenthesis)
+      ∷ start_pieces (levels + 1) start
+      (optional_pieces (levels + 1) test
+      (token (sign S.Semicolon) ∷ finish_pieces (levels + 1) step (statement_pieces (levels + 1) body behind)))
+  statement_pieces levels (return value) behind =
+      token (leading S.Return) ∷ optional_pieces levels value (token (sign S.Semicolon) ∷ behind)
+
+  pub otherwise_pieces : ℕ → Otherwise → List Piece → List Piece
+  otherwise_pieces levels without behind = look no_else ∷ behind
+  otherwise_pieces levels (otherwise part) behind = token (opening S.Else (levels + 1)) ∷ statement_pieces (levels + 1) part behind
+
+  -- items, without the `}` behind them
+  pub items_pieces : ℕ → Items → List Piece → List Piece
+  items_pieces levels none behind = behind
+  items_pieces levels (declaration d more) behind = declaration_pieces levels d (items_pieces levels more behind)
+  items_pieces levels (statement s more) behind = statement_pieces levels s (items_pieces levels more behind)
+
+abbrev pub void_pieces : Bool → List Piece → List Piece
+void_pieces true behind = token (sign S.Void) ∷ token (sign S.CloseParenthesis) ∷ behind
+void_pieces false behind = token (sign S.CloseParenthesis) ∷ behind
+
+abbrev pub prelude_pieces : Prelude → List Piece → List Piece
+prelude_pieces (extern_call void) behind =
+    token (sign S.Extern) ∷ token (sign S.Int) ∷ token (sign S.Nondeterministic) ∷ token (sign S.OpenParenthesis)
+    ∷ void_pieces void (token (sign S.Semicolon) ∷ behind)
+prelude_pieces typedef_bool behind =
+    token (sign S.Typedef) ∷ token (sign S.Enum) ∷ token (sign S.OpenBrace) ∷ token (sign S.False) ∷ token (sign S.Comma)
+    ∷ token (sign S.True) ∷ token (sign S.CloseBrace) ∷ token (sign S.Bool) ∷ token (sign S.Semicolon) ∷ behind
+
+abbrev pub preludes_pieces : List Prelude → List Piece → List Piece
+preludes_pieces [] behind = behind
+preludes_pieces (prelude ∷ more) behind = prelude_pieces prelude (preludes_pieces more behind)
+
+-- a program's pieces: the brace of `main` opens level 1
+abbrev pub program_pieces : Program → List Piece → List Piece
+program_pieces p behind =
+    preludes_pieces p.preludes
+    (token (sign S.Int) ∷ token (sign S.Main) ∷ token (sign S.OpenParenthesis)
+    ∷ void_pieces p.void
+    (token (opening S.OpenBrace 1) ∷ items_pieces 1 p.items (token (sign S.CloseBrace) ∷ behind)))

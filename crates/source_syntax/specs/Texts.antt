@@ -1,0 +1,45 @@
+-- Which texts are programs by their syntax, and the first fault of those that aren't.
+use Rattle.std.specs.Prelude.{◌≡◌, ℕ, ◌<◌, List, [], length, map, drop, slice_index_or, ⊤}
+use Rattle.derivation.specs.declared.rule.Rule.{Rule}
+use Rattle.derivation.specs.declared.rule.Rule.TheVariants.{Expected, Nesting, Operators}
+use Rattle.derivation.specs.Word.{words}
+use Rattle.derivation.specs.Comes.{Phrase, FirstFault, IsSpelledBy}
+use Rattle.source_lex.specs.Tokens.{TokensOf}
+use Rattle.source_lex.specs.Faults.{FirstFault as FirstLexFault}
+use Rattle.source_lex.specs.declared.token.Token.{Token}
+use Rattle.source_syntax.specs.declared.fault.SyntaxFault.{SyntaxFault}
+use Rattle.source_syntax.specs.declared.fault.SyntaxFault.TheVariants.{Lex, Expected as ExpectedAt, Limit, Memory}
+use Rattle.source_syntax.specs.declared.fault.Which.TheVariants as Which
+use Rattle.source_syntax.specs.Trees.{Program}
+use Rattle.source_syntax.specs.Spelling.{program_pieces}
+
+-- programs, with what they spell
+abbrev pub programs : Phrase
+programs = record { Tree = Program; pieces = λ tree. program_pieces tree [] }
+
+-- the text is what this tree spells
+pub record IsTextOf (text : List ℕ) (tree : Program) : Type 0 where
+  pub tokens : List Token
+  pub lexed : TokensOf text tokens
+  pub spelled : IsSpelledBy programs (words text tokens) tree
+
+-- the place in the text of the token of this number, counted from 0; the end is a token too, at the text's length
+abbrev pub place_in : List ℕ → List Token → ℕ → ℕ
+place_in text tokens number = slice_index_or (map (λ token. token.start) tokens) number (length text)
+
+-- the text has tokens, and its first fault breaks this rule at this place
+pub record HasFault (text : List ℕ) (rule : Rule) (at : ℕ) : Type 0 where
+  pub tokens : List Token
+  pub lexed : TokensOf text tokens
+  pub number : ℕ
+  pub fault : FirstFault programs (words text tokens) rule (drop number (words text tokens))
+  pub place : at ≡ place_in text tokens number
+
+-- what may be answered in place of Ok: the first fault of the text, or that memory ran out; of a count nothing is said but that it is
+-- above its limit
+abbrev pub IsFaultOf : List ℕ → SyntaxFault → Type 0
+IsFaultOf text (Lex fault) = FirstLexFault text fault
+IsFaultOf text (ExpectedAt at) = HasFault text Expected at
+IsFaultOf text (Limit Which.Nesting at count) = HasFault text Nesting at × (64 < count)
+IsFaultOf text (Limit Which.Operators at count) = HasFault text Operators at × (256 < count)
+IsFaultOf text (Memory _) = ⊤

@@ -1,0 +1,71 @@
+// Readers of single words. Each reads at a place of the list of words and answers the place behind.
+
+ghost use Rattle.std.specs.Prelude.{◌≡◌, ◌∷◌, ◌≤◌, IfOk, IfErr, ℕ, ℤ, List};
+ghost use Rattle.derivation.specs.Word.{symbol, name as named};
+ghost use Rattle.derivation.specs.Spelled.{words_from, IsBehind};
+ghost use Rattle.source_syntax.specs.Reads.{MissesSign, MissesOpening, MissesName};
+
+use crate::fault::Fault;
+use derivation::{Lexeme, Reading, Rule, Symbol, after};
+
+/// How many levels of nesting may be open at a word.
+pub const MOST_LEVELS: u32 = 64;
+
+/// The place behind a sign or reserved word that has to stand here.
+pub fn sign(words: &[Lexeme<'_>], at: usize, wanted: Symbol) -> Result<usize, Fault>
+    ensures read { IfOk result (λ next. (words_from words.now at ≡ symbol wanted ∷ words_from words.now next)) }
+    ensures forward { IfOk result (IsBehind words.now at) }
+    ensures missed { IfErr result (λ fault. MissesSign (words_from words.now at) wanted fault.rule × (fault.at ≡ at)) }
+{
+    match after(words, at, wanted) {
+        Some(next) => Ok(next),
+        None => Err(Fault {
+            rule: Rule::Expected,
+            at,
+        }),
+    }
+}
+
+/// The place behind a sign or reserved word that has to stand here and opens this level.
+pub fn opening(words: &[Lexeme<'_>], at: usize, wanted: Symbol, level: u32) -> Result<usize, Fault>
+    ensures read { IfOk result (λ next. (words_from words.now at ≡ symbol wanted ∷ words_from words.now next)) }
+    ensures shallow { IfOk result (λ _. level ≤ 64) }
+    ensures forward { IfOk result (IsBehind words.now at) }
+    ensures missed { IfErr result (λ fault. MissesOpening (words_from words.now at) wanted level fault.rule × (fault.at ≡ at)) }
+{
+    let next = match after(words, at, wanted) {
+        Some(next) => next,
+        None => {
+            return Err(Fault {
+                rule: Rule::Expected,
+                at,
+            });
+        }
+    };
+    if level > MOST_LEVELS {
+        return Err(Fault {
+            rule: Rule::Nesting,
+            at,
+        });
+    }
+    Ok(next)
+}
+
+/// A name that has to stand here, and the place behind it.
+pub fn name<'t>(words: &[Lexeme<'t>], at: usize) -> Result<(&'t [u8], usize), Fault>
+    ensures read { IfOk result (λ found. (words_from words.now at ≡ named found.0.now ∷ words_from words.now found.1)) }
+    ensures forward { IfOk result (λ found. IsBehind words.now at found.1) }
+    ensures missed { IfErr result (λ fault. MissesName (words_from words.now at) fault.rule × (fault.at ≡ at)) }
+{
+    let missing = Fault {
+        rule: Rule::Expected,
+        at,
+    };
+    let Some(word) = words.get(at) else {
+        return Err(missing);
+    };
+    match word.reading {
+        Reading::Name(bytes) => Ok((bytes, at + 1)),
+        _ => Err(missing),
+    }
+}
