@@ -2,3 +2,4 @@ mod Unwinding
 mod Ways
 mod Paths
 mod Standing
+mod Greatest

@@ -23,7 +23,7 @@ use Rattle.decision_tree.specs.Alternatives.{MeetsAny}
 use Rattle.decision_tree.specs.AffineRanks.{excess_of, only, trend_of}
 use Rattle.decision_tree.specs.Trend.{RunsWith, falling, rising, unmentioned}
 
-kind_met : (a : Affine) (kind : RowKind) → IsRowOf a kind → (store : List ℤ) → MeetsKind store kind ↔ (pos 0 ≤ℤ value_at a store)
+pub kind_met : (a : Affine) (kind : RowKind) → IsRowOf a kind → (store : List ℤ) → MeetsKind store kind ↔ (pos 0 ≤ℤ value_at a store)
 kind_met a Always is store = (λ always. rw (constant_value a store is.0) is.1, λ met. tt)
 kind_met a Never is store = (λ never. absurd never, λ met. let low = is.1 in let e = constant_value a store is.0 in omega (arith, ints))
 kind_met a (Kept row) is store = quotient_same_stores a row.affine is store
@@ -67,7 +67,7 @@ same_place : (i : ℕ) → eqb i i ≡ true
 same_place i = ⊎_elim (λ (same : (eqb i i ≡ true) × (i ≡ i)). same.0) (λ (apart : (eqb i i ≡ false) × (i ≢ i)). absurd (apart.1 refl)) (eqb_tells i i)
 
 -- the value with a number set at the place
-value_set : (a : Affine) (place : ℕ) (store : List ℤ) (z : ℤ) → place < 16 → length store ≡ 16 → value_at a (set store place z) ≡ value_at (without a place) store +ℤ coefficient a place *ℤ z
+pub value_set : (a : Affine) (place : ℕ) (store : List ℤ) (z : ℤ) → place < 16 → length store ≡ 16 → value_at a (set store place z) ≡ value_at (without a place) store +ℤ coefficient a place *ℤ z
 value_set a place store z low long =
     let inside : place < length store = omega arith in
     let none : coefficient (without a place) place ≡ pos 0 = number_at-clear a.coef place place ∙ ap (λ t. cond t (pos 0) (number_at a.coef place)) (same_place place) in

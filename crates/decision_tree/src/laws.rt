@@ -1,8 +1,11 @@
 //! Laws of the definitions, each the contract of a function that does nothing.
-ghost use Rattle.std.specs.Prelude.{◌≡◌, ℕ, ◌<◌, ◌↔◌, ℤ, List};
+ghost use Rattle.std.specs.Prelude.{◌≡◌, ℕ, ◌<◌, ◌↔◌, ℤ, List, Some, length, slice_set};
+ghost use Rattle.linear_cons.specs.Bounds.{Covers};
+ghost use Rattle.linear_cons.specs.declared.bounds.Linear.{Linear};
 ghost use Rattle.decision_tree.specs.Evaluation.{eval};
 ghost use Rattle.decision_tree.specs.Paths.{MeetsPath, leaf_numbered, number_met, path_of};
 ghost use Rattle.decision_tree.specs.Plans.{Plan, leaves_of};
+ghost use Rattle.decision_tree.specs.Trend.{greatest_of};
 
 use crate::rank::Rank;
 
@@ -11,4 +14,12 @@ pub fn stores_stand_where_they_meet_the_path<R: Rank>()
     ensures numbered { (plan : Plan R) (store : List ℤ) → number_met plan store < leaves_of plan }
     ensures leaf { (plan : Plan R) (store : List ℤ) → eval plan store ≡ leaf_numbered plan (number_met plan store) }
     ensures path { (plan : Plan R) (number : ℕ) (store : List ℤ) → number < leaves_of plan → (number_met plan store ≡ number) ↔ MeetsPath store (path_of plan number) }
+{}
+
+/// What `Rank::greatest` answers is exceeded nowhere in the range: the rank with a number that the
+/// range has at the store, put at the place, never exceeds the answer at that store.
+pub fn nothing_in_the_range_exceeds_the_greatest<R: Rank>()
+    ensures { (rank best : R) (place : ℕ) (range : Linear) (store : List ℤ) (z : ℤ) → place < 16 → length store ≡ 16
+        → greatest_of rank (R.trend rank place) range (R.substituted rank place) ≡ Some best → Covers range store z
+        → R.exceeds (R.rank_value rank (slice_set store place z)) (R.rank_value best store) → ⊥ }
 {}

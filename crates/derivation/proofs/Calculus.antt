@@ -6,7 +6,7 @@ use Rattle.derivation.specs.declared.rule.Rule.TheVariants.{Expected, Nesting, O
 use Rattle.derivation.specs.Word.{Word}
 use Rattle.derivation.specs.Pieces.{Token, Look, no_operator, no_else, sees, Piece, token, look, spelling, first, first_before, FitsBefore, Fits}
 use Rattle.derivation.specs.Limits.{IsWithin, AllWithin, count_behind, count_on, BreaksLimit}
-use Rattle.derivation.specs.Comes.{Phrase, IsQuiet, MayStandFor, Comes, Cause, Breaks}
+use Rattle.derivation.specs.Comes.{Phrase, IsQuiet, MayStandFor, Comes, AllBreak, Cause, Breaks}
 
 -- pieces one behind the other
 pub spelling-append : (xs ys : List Piece) → spelling (xs ++ ys) ≡ spelling xs ++ spelling ys
@@ -75,7 +75,7 @@ stands-before [] other next h = h
 stands-before (token t ∷ xs) other next h = inl refl
 stands-before (look l ∷ xs) other next h = stands-before xs other next h
 
-cancel : (xs : List Word) {ys zs : List Word} → xs ++ ys ≡ xs ++ zs → ys ≡ zs
+pub cancel : (xs : List Word) {ys zs : List Word} → xs ++ ys ≡ xs ++ zs → ys ≡ zs
 cancel [] e = e
 cancel (x ∷ xs) e = cancel xs (cc)
 
@@ -130,15 +130,67 @@ over {c} {d} {e} {A} {B} {C} {a} {b} {x} {F} {G} p q = record {
 limit_behind : (m n : ℕ) → m ≡ n → (t : Token) → (r : Rule) → BreaksLimit m t r → BreaksLimit n t r
 limit_behind m n e t r h = subst (λ k. BreaksLimit k t r) e h
 
+-- pieces that begin in two ways: the longer front begins with the shorter
+abbrev Cut : List Piece → List Piece → List Piece → List Piece → Token → Type 0
+Cut xs before after ys t = (more : List Piece) × (before ≡ xs ++ more) × (ys ≡ more ++ token t ∷ after)
+
+deeper : (x y : Piece) (xs before after ys : List Piece) (t : Token) → x ≡ y → Cut xs before after ys t → Cut (y ∷ xs) (x ∷ before) after ys t
+deeper x y xs before after ys t e h = (h.0, ap (λ ps. x ∷ ps) h.1 ∙ ap (λ z. z ∷ (xs ++ h.0)) e, h.2)
+
+cut : (xs before after ys : List Piece) (t : Token) (ws : List Word) → before ++ token t ∷ after ≡ xs ++ ys → spelling before ≡ spelling xs ++ ws
+    → Cut xs before after ys t
+cut [] before after ys t ws e words = (before, refl, sym e)
+cut (token s ∷ xs) [] after ys t ws e words = absurd (cc)
+cut (token s ∷ xs) (token r ∷ before) after ys t ws e words =
+    let tails : before ++ token t ∷ after ≡ xs ++ ys = cc in
+    let spelled : spelling before ≡ spelling xs ++ ws = cc in
+    let heads : token r ≡ token s = cc in
+    deeper (token r) (token s) xs before after ys t heads (cut xs before after ys t ws tails spelled)
+cut (token s ∷ xs) (look l ∷ before) after ys t ws e words = absurd (cc)
+cut (look m ∷ xs) [] after ys t ws e words = absurd (cc)
+cut (look m ∷ xs) (token r ∷ before) after ys t ws e words = absurd (cc)
+cut (look m ∷ xs) (look l ∷ before) after ys t ws e words =
+    let tails : before ++ token t ∷ after ≡ xs ++ ys = cc in
+    let heads : look l ≡ look m = cc in
+    deeper (look l) (look m) xs before after ys t heads (cut xs before after ys t ws tails words)
+
+-- what all trees of the rest break, all trees of the whole do
+all_break : {c d : ℕ} {A B : Phrase} {a b : List Word} {F : B.Tree → A.Tree} → (p : Comes c A a d B b F) → (more : List Piece) → (x : List Word)
+    → b ≡ spelling more ++ x → (r : Rule) → AllBreak d B r more (first x) → AllBreak c A r (p.front ++ more) (first x)
+all_break {c} {d} {A} {B} {a} {b} {F} p more x parted r k = λ f fits before after t split words next.
+    let spelled : spelling (A.pieces f) ≡ spelling (p.front ++ more) ++ (t.word ∷ spelling after) =
+    ap spelling split ∙ spelling-append before (token t ∷ after) ∙ ap (λ ws. ws ++ (t.word ∷ spelling after)) words in
+    let found = behind A B F c d a b p more x parted f fits (t.word ∷ spelling after) spelled next in
+    let whole : before ++ token t ∷ after ≡ p.front ++ B.pieces found.0 = sym split ∙ ap A.pieces found.1 ∙ p.spells found.0 in
+    let front : spelling before ≡ spelling p.front ++ spelling more = words ∙ spelling-append p.front more in
+    let h = cut p.front before after (B.pieces found.0) t (spelling more) whole front in
+    let inner : spelling h.0 ≡ spelling more =
+    cancel (spelling p.front) (sym (spelling-append p.front h.0) ∙ ap spelling (sym h.1) ∙ front) in
+    let count : count_behind d h.0 ≡ count_behind c before =
+    ap (λ n. count_behind n h.0) p.counted ∙ sym (count_behind-append p.front h.0 c) ∙ ap (count_behind c) (sym h.1) in
+    limit_behind _ _ count t r (k found.0 found.2 h.0 after t h.2 inner next)
+
 why : {c d : ℕ} {A B : Phrase} {a b : List Word} {F : B.Tree → A.Tree} → (p : Comes c A a d B b F) → (more rest : List Piece) → (x : List Word)
     → b ≡ spelling more ++ x → (r : Rule) → Cause d B r more rest (first x) → Cause c A r (p.front ++ more) rest (first x)
 why {c} {d} {A} {B} {a} {b} {F} p more rest x parted Expected k = λ f fits behind_words e next.
     let found = behind A B F c d a b p more x parted f fits behind_words e next in
     k found.0 found.2 behind_words found.3 next
-why {c} {d} {A} {B} {a} {b} {F} p more rest x parted Nesting k =
-    (k.0, k.1, k.2, k.3, limit_behind _ _ (ap (λ n. count_behind n more) p.counted ∙ sym (count_behind-append p.front more c)) k.0 Nesting k.4)
-why {c} {d} {A} {B} {a} {b} {F} p more rest x parted Operators k =
-    (k.0, k.1, k.2, k.3, limit_behind _ _ (ap (λ n. count_behind n more) p.counted ∙ sym (count_behind-append p.front more c)) k.0 Operators k.4)
+why {c} {d} {A} {B} {a} {b} {F} p more rest x parted Nesting k = (
+  k.0,
+  k.1,
+  k.2,
+  k.3,
+  limit_behind _ _ (ap (λ n. count_behind n more) p.counted ∙ sym (count_behind-append p.front more c)) k.0 Nesting k.4,
+  all_break p more x parted Nesting k.5,
+)
+why {c} {d} {A} {B} {a} {b} {F} p more rest x parted Operators k = (
+  k.0,
+  k.1,
+  k.2,
+  k.3,
+  limit_behind _ _ (ap (λ n. count_behind n more) p.counted ∙ sym (count_behind-append p.front more c)) k.0 Operators k.4,
+  all_break p more x parted Operators k.5,
+)
 
 -- a fault behind a reading
 pub fails : {c d : ℕ} {A B : Phrase} {a b x : List Word} {F : B.Tree → A.Tree} {rule : Rule}
@@ -216,10 +268,25 @@ sticks A c from classify o tree fits quiet never is = record {
       never f f_fits (ap classify (sym (first_spelling (A.pieces f)) ∙ ap first e ∙ next) ∙ is);
 }
 
--- the next word is one that breaks a limit
+-- behind no words the first word is the next token's
+first_behind : (before after : List Piece) (t : Token) → spelling before ≡ [] → first_before (before ++ token t ∷ after) None ≡ Some t.word
+first_behind [] after t none = refl
+first_behind (token s ∷ before) after t none = absurd (cc)
+first_behind (look l ∷ before) after t none = first_behind before after t none
+
+-- pieces that begin with a token have nothing before their first
+at_once : (c : ℕ) (rule : Rule) (before after more : List Piece) (t u : Token) → before ++ token t ∷ after ≡ token u ∷ more → spelling before ≡ []
+    → BreaksLimit c u rule → BreaksLimit (count_behind c before) t rule
+at_once c rule [] after more t u e none h = let same : u ≡ t = cc in subst (λ x. BreaksLimit c x rule) same h
+at_once c rule (token s ∷ before) after more t u e none h = absurd (cc)
+at_once c rule (look l ∷ before) after more t u e none h = absurd (cc)
+
+-- the next word is one that breaks a limit, whatever tree spells it
 pub exceeds : (A : Phrase) → (c : ℕ) → (from : List Word) → (t : Token) → (more : List Piece) → (rule : Rule) → (tree : A.Tree) → Fits (A.pieces tree)
-    → A.pieces tree ≡ token t ∷ more → first from ≡ Some t.word → (rule ≢ Expected) → BreaksLimit c t rule → Breaks c A from rule from
-exceeds A c from t more rule tree fits begins next limit breaks = record {
+    → A.pieces tree ≡ token t ∷ more → first from ≡ Some t.word → (rule ≢ Expected) → BreaksLimit c t rule
+    → ((f : A.Tree) → Fits (A.pieces f) → first_before (A.pieces f) None ≡ Some t.word → (rest : List Piece) × (A.pieces f ≡ token t ∷ rest))
+    → Breaks c A from rule from
+exceeds A c from t more rule tree fits begins next limit breaks view = record {
   front = [];
   rest = A.pieces tree;
   parted = refl;
@@ -228,10 +295,15 @@ exceeds A c from t more rule tree fits begins next limit breaks = record {
   fits = fits;
   begins = refl;
   stands = inl (ap (λ ps. first_before ps None) begins ∙ sym next);
-  cause = cause rule limit breaks;
+  cause = cause rule limit breaks all;
 }
   where
-    cause : (r : Rule) → r ≢ Expected → BreaksLimit c t r → Cause c A r [] (A.pieces tree) (first from)
-    cause Expected h k = absurd (h refl)
-    cause Nesting h k = (t, more, begins, next, k)
-    cause Operators h k = (t, more, begins, next, k)
+    all : AllBreak c A rule [] (first from)
+    all f f_fits before after u split words same =
+        let found = view f f_fits (ap (λ ps. first_before ps None) split ∙ first_behind before after u words ∙ same ∙ next) in
+        at_once c rule before after found.0 u t (sym split ∙ found.1) words breaks
+
+    cause : (r : Rule) → r ≢ Expected → BreaksLimit c t r → AllBreak c A r [] (first from) → Cause c A r [] (A.pieces tree) (first from)
+    cause Expected h k all = absurd (h refl)
+    cause Nesting h k all = (t, more, begins, next, k, all)
+    cause Operators h k all = (t, more, begins, next, k, all)

@@ -1,1 +1,2 @@
 pub mod Calculus
+pub mod Faults

@@ -33,13 +33,20 @@ pub record Comes (count : ℕ) (A : Phrase) (from : List Word) (now : ℕ) (B : 
   pub only : (f : A.Tree) → Fits (A.pieces f) → (rest : List Word) → spelling (A.pieces f) ≡ spelling front ++ rest → first rest ≡ first to
       → (g : B.Tree) × (f ≡ fill g)
 
+-- Whatever tree spells the front's words before this next word, that word's token breaks the limit.
+abbrev pub AllBreak : ℕ → Phrase → Rule → List Piece → Option Word → Type 0
+AllBreak count A rule front next =
+    (f : A.Tree) → Fits (A.pieces f) → (before after : List Piece) (t : Token) → A.pieces f ≡ before ++ token t ∷ after
+    → spelling before ≡ spelling front → Some t.word ≡ next → BreaksLimit (count_behind count before) t rule
+
 -- Why reading A can't go on behind a front of pieces: no tree spells the front's words before this next word, or one spells the front and
--- then a token that breaks a limit.
+-- then a token that breaks a limit, and so do all that spell these words.
 abbrev pub Cause : ℕ → Phrase → Rule → List Piece → List Piece → Option Word → Type 0
 Cause count A Expected front rest next =
     (f : A.Tree) → Fits (A.pieces f) → (behind : List Word) → spelling (A.pieces f) ≡ spelling front ++ behind → first behind ≢ next
 Cause count A rule front rest next =
     (t : Token) × (more : List Piece) × (rest ≡ token t ∷ more) × (next ≡ Some t.word) × BreaksLimit (count_behind count front) t rule
+    × AllBreak count A rule front next
 
 -- Reading A from `from`, behind `count` operators, breaks a rule at the first of `to`, and nothing before: the words before are within the
 -- limits and begin what a tree spells.
@@ -55,7 +62,8 @@ pub record Breaks (count : ℕ) (A : Phrase) (from : List Word) (rule : Rule) (t
   pub cause : Cause count A rule front rest (first to)
 
 -- The first fault of a list of words that has to be an A: they break the rule at the first of `to`. The words before are within the limits
--- and begin what some tree spells; and no tree spells them before this next word, or one spells them and then a token that breaks a limit.
+-- and begin what some tree spells; and no tree spells them before this next word, or one spells them and then a token that breaks a limit,
+-- as all do that spell these words.
 pub record FirstFault (A : Phrase) (all : List Word) (rule : Rule) (to : List Word) : Type 0 where
   pub front : List Piece
   pub rest : List Piece

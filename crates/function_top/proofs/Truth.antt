@@ -1,17 +1,31 @@
 -- What the command writes is true, line by line.
-use Rattle.std.proofs.Common.{◌≡◌, ℕ, zero, suc, ◌^◌, ◌<◌, Bool, true, false, not, ◌&&◌, ◌⊎◌, inl, inr, ◌==◌, if◌then◌else◌, List, [], ◌∷◌, ◌++◌, take, drop, codes, decimal, slice_index_or, Contains, refl, sym, ap, ◌∙◌, subst, append-nil, arith}
-use Rattle.std.specs.Str.Parse.{AllDigits, digits_value}
+use Rattle.std.proofs.Common.{◌≡◌, ◌≢◌, ℕ, zero, suc, ◌^◌, ◌<◌, pos, Bool, true, false, not, ◌&&◌, ◌⊎◌, inl, inr, ◌==◌, if◌then◌else◌, List, [], ◌∷◌, ◌++◌, length, take, drop, codes, decimal, All, Contains, None, refl, sym, ap, ◌∙◌, subst, arith}
 use Rattle.std.specs.Char.{digit_value}
+use Rattle.std.specs.List.{AllZip}
+use Rattle.std.specs.Str.Parse.{AllDigits}
 use Rattle.std.proofs.lemmas.Bool.Decides.{Decides-eqb}
 use Rattle.std.proofs.lemmas.Fmt.{decimal_is_IsNumeral}
-use Rattle.std.proofs.lemmas.List.{append_assoc, append_cancel_left, take-append-drop}
+use Rattle.std.proofs.lemmas.List.{append_assoc, take-append-drop}
+use Rattle.std.proofs.lemmas.List.Elements.{All-append, All-cons, All-contains, All-head, All-nil, All-tail, All-weaker}
+use Rattle.std.proofs.lemmas.List.Sorted.{All-permutation}
 use Rattle.step_meaning.specs.Syntax.{Statements}
 use Rattle.step_meaning.specs.Outcome.{Store}
-use Rattle.step_meaning.specs.Run.{IsInput, start, EndsWithin}
-use Rattle.function_top.specs.Lines.{lines_after}
-use Rattle.function_top.specs.Spells.{Condition, always, Claim, within, unknown, steps_word, Spells}
+use Rattle.step_meaning.specs.Run.{IsInput, start, EndsWithin, EndsWithinBound}
+use Rattle.linear_cons.specs.declared.affine.Affine.{Affine}
+use Rattle.linear_cons.specs.Functions.{constant_of}
+use Rattle.linear_cons.proofs.Forms.{value_constant}
+use Rattle.line_text.specs.declared.claim.Claim.{Claim}
+use Rattle.line_text.specs.declared.claim.Claim.TheVariants.{Within, Unknown}
+use Rattle.line_text.specs.LineText.{functions_of}
+use Rattle.line_text.specs.Spells.{EndsAsLine, Spells}
+use Rattle.report_text.specs.declared.line.Line.{Line}
+use Rattle.report_text.specs.declared.report.Header.TheVariants.{Absent}
+use Rattle.report_text.specs.Printed.{AreTextsOf, IsReportText, IsTextOf, ended_lines, report_lines, verdict_line}
+use Rattle.report_text.specs.Sections.{lines_after, whole_lines}
+use Rattle.report_text.proofs.Cutting.{whole_lines_are}
+use Rattle.function_top.specs.Report.{always, bounded_report, fault_text, plain_report, unknown_report, usage_text}
 use Rattle.function_top.specs.TrueLine.{IsTrueOf, IsTrueText}
-use Rattle.function_top.specs.Report.{usage_text, fault_text, bounded_report, unknown_report}
+use Rattle.function_top.proofs.Endings.{digit_last, other_last, t_before_last}
 
 abbrev Bytes : Type 0
 Bytes = List ℕ
@@ -42,184 +56,172 @@ front_lines begun (byte ∷ front) more line found =
       | false ↦ λ f. front_lines (begun ++ byte ∷ []) front more line f
     ] found
 
+-- ---- lines without a newline byte
+
+abbrev Lacks : Bytes → Type 0
+Lacks line = All (λ byte. byte ≢ 10) line
+
 -- no newline byte stands among the bytes
 abbrev has_no_newline : Bytes → Bool
 has_no_newline [] = true
 has_no_newline (byte ∷ more) = not (byte == 10) && has_no_newline more
 
--- such bytes go into the line
-lines_over : (bytes begun more : Bytes) → has_no_newline bytes ≡ true → lines_after begun (bytes ++ more) ≡ lines_after (begun ++ bytes) more
-lines_over [] begun more h = ap (λ b. lines_after b more) (sym (append-nil begun))
-lines_over (byte ∷ bytes) begun more h =
-    elim (byte == 10) as (λ t. (not t && has_no_newline bytes) ≡ true
-    → (if t then begun ∷ lines_after [] (bytes ++ more) else lines_after (begun ++ byte ∷ []) (bytes ++ more))
-    ≡ lines_after (begun ++ byte ∷ bytes) more) [
-      | true ↦ λ k. cc
-      | false ↦ λ k.
-          lines_over bytes (begun ++ byte ∷ []) more k ∙ ap (λ b. lines_after b more) (append_assoc begun (byte ∷ []) bytes)
-    ] h
+tested : (bytes : Bytes) → has_no_newline bytes ≡ true → Lacks bytes
+tested [] h = All-nil (λ byte. byte ≢ 10)
+tested (byte ∷ more) h =
+    elim (byte == 10) as (λ t. (byte == 10) ≡ t → (not t && has_no_newline more) ≡ true → Lacks (byte ∷ more)) [
+      | true ↦ λ e k. cc
+      | false ↦ λ e k. All-cons (λ b. b ≢ 10) byte more (λ same. let is = (Decides-eqb byte 10).1 same in cc) (tested more k)
+    ] refl h
 
--- a digit is no newline and no blank
-digit_no_newline : (byte : ℕ) → digit_value byte < 10 → not (byte == 10) ≡ true
-digit_no_newline byte h =
-    elim (byte == 10) as (λ t. (byte == 10) ≡ t → not t ≡ true) [
-      | true ↦ λ e. let same : byte ≡ 10 = (Decides-eqb byte 10).0 e in absurd (let bad : digit_value 10 < 10 = subst (λ b. digit_value b < 10) same h in omega arith)
-      | false ↦ λ e. refl
-    ] refl
+-- a digit is no newline byte
+digits_lack : (digits : Bytes) → AllDigits 10 digits → Lacks digits
+digits_lack [] h = All-nil (λ byte. byte ≢ 10)
+digits_lack (digit ∷ more) h =
+    All-cons (λ b. b ≢ 10) digit more (λ e. let bad : digit_value 10 < 10 = subst (λ b. digit_value b < 10) e h.0 in absurd (omega arith))
+    (digits_lack more h.1)
 
-digits_no_newline : (digits : Bytes) → AllDigits 10 digits → has_no_newline digits ≡ true
-digits_no_newline [] h = refl
-digits_no_newline (digit ∷ more) h = rw (digit_no_newline digit h.0) (digits_no_newline more h.1)
-
--- digits before a blank are cut at it in one way
-same_digits : (xs ys p q : Bytes) → AllDigits 10 xs → AllDigits 10 ys → xs ++ (32 ∷ p) ≡ ys ++ (32 ∷ q) → xs ≡ ys
-same_digits [] [] p q h k e = refl
-same_digits [] (y ∷ ys) p q h k e =
-    absurd (let same : y ≡ 32 = cc in let bad : digit_value 32 < 10 = subst (λ b. digit_value b < 10) same k.0 in omega arith)
-same_digits (x ∷ xs) [] p q h k e =
-    absurd (let same : x ≡ 32 = cc in let bad : digit_value 32 < 10 = subst (λ b. digit_value b < 10) same h.0 in omega arith)
-same_digits (x ∷ xs) (y ∷ ys) p q h k e =
-    let head : x ≡ y = cc in
-    let rest = same_digits xs ys p q h.1 k.1 (cc) in
-    ap (λ b. b ∷ xs) head ∙ ap (λ bs. y ∷ bs) rest
+both_lack : (xs ys : Bytes) → Lacks xs → Lacks ys → Lacks (xs ++ ys)
+both_lack = All-append (λ byte. byte ≢ 10)
 
 -- ---- what lines say
 
--- a line that says anything begins with an `a`
-says_always : (line : Bytes) (condition : Condition) (claim : Claim) → Spells line condition claim → slice_index_or line 0 0 ≡ 97
-says_always line always (within n) s = ap (λ l. slice_index_or l 0 0) s.3
-says_always line always unknown s = ap (λ l. slice_index_or l 0 0) s
+-- what is known of the lines over the names
+pub record KnownLines (names : List Bytes) : Type 0 where
+  pub newline : (line : Bytes) (condition : List Affine) (claim : Claim) → Spells names line condition claim → All (λ byte. byte ≢ 10) line
+  pub one : (line : Bytes) (condition other : List Affine) (claim claim' : Claim) → Spells names line condition claim
+      → Spells names line other claim' → (condition ≡ other) × (claim ≡ claim')
 
--- behind the number of steps stands a blank
-steps_blank : (n : ℕ) → (tail : Bytes) × (steps_word n ≡ 32 ∷ tail)
-steps_blank n = elim (n == 1) as (λ t. (tail : Bytes) × ((if t then codes " step" else codes " steps") ≡ 32 ∷ tail)) [
-  | true ↦ (codes "step", refl)
-  | false ↦ (codes "steps", refl)
-]
+-- a line that says anything ends as a claim
+abbrev pub EndAsLines : Type 0
+EndAsLines = (names : List Bytes) (line : Bytes) (condition : List Affine) (claim : Claim) → Spells names line condition claim → EndsAsLine line
 
-steps_no_newline : (n : ℕ) → has_no_newline (steps_word n) ≡ true
-steps_no_newline n = elim (n == 1) as (λ t. has_no_newline (if t then codes " step" else codes " steps") ≡ true) [ true ↦ refl | false ↦ refl ]
-
--- the line of a bound
-abbrev bound_line : ℕ → Bytes
-bound_line n = codes "always: within " ++ (decimal n ++ steps_word n)
-
--- it says this bound and no other
-bound_says : (n m : ℕ) → n < 2 ^ 64 → Spells (bound_line n) always (within m) → m ≡ n
-bound_says n m small s =
-    let printed = decimal_is_IsNumeral n small in
-    let rest = append_cancel_left (codes "always: within ") (decimal n ++ steps_word n) (s.0 ++ steps_word m) s.3 in
-    let mine = steps_blank n in
-    let its = steps_blank m in
-    let cut : decimal n ++ (32 ∷ mine.0) ≡ s.0 ++ (32 ∷ its.0) =
-    ap (λ w. decimal n ++ w) (sym mine.1) ∙ rest ∙ ap (λ w. s.0 ++ w) its.1
-    in
-    let same = same_digits (decimal n) s.0 mine.0 its.0 printed.0.1 s.1.1 cut in
-    sym s.2 ∙ ap (digits_value 10) (sym same) ∙ printed.1
-
--- ---- the texts
-
-module _ (vars : ℕ) (body : Statements) where
+module _ (names : List Bytes) (body : Statements) (ending : EndAsLines) where
   -- whatever the line says is true
   abbrev SaysTrue : Bytes → Type 0
-  SaysTrue line = (condition : Condition) (claim : Claim) → Spells line condition claim → IsTrueOf vars body condition claim
+  SaysTrue line = (condition : List Affine) (claim : Claim) → Spells names line condition claim → IsTrueOf names body condition claim
 
-  abbrev AllSayTrue : List Bytes → Type 0
-  AllSayTrue [] = Unit {0}
-  AllSayTrue (line ∷ lines) = SaysTrue line × AllSayTrue lines
+  -- a line that ends otherwise says nothing
+  silent : (line : Bytes) → (EndsAsLine line → ⊥) → SaysTrue line
+  silent line other condition claim s = absurd (other (ending names line condition claim s))
 
-  true_lines : (lines : List Bytes) → AllSayTrue lines → (line : Bytes) → Contains lines line → SaysTrue line
-  true_lines [] h line found = absurd (none_in_none line found)
-  true_lines (first ∷ more) h line found =
-      elim (first_or_later first more line found) [ inl e ↦ subst SaysTrue (sym e) h.0 | inr rest ↦ true_lines more h.1 line rest ]
+  -- the text is a line that says nothing false
+  record IsGood (line : Bytes) : Type 0 where
+    lacking : Lacks line
+    saying : SaysTrue line
 
-  -- a line that begins otherwise says nothing
-  silent : (line : Bytes) (first : ℕ) → slice_index_or line 0 0 ≡ first → ((first ≡ 97) → ⊥) → SaysTrue line
-  silent line first at other condition claim s = absurd (other (sym at ∙ says_always line condition claim s))
+  good_silent : (line : Bytes) → Lacks line → (EndsAsLine line → ⊥) → IsGood line
+  good_silent line lacking other = record { lacking = lacking; saying = silent line other }
 
-  silent_proved : SaysTrue (codes "proved:")
-  silent_proved = silent (codes "proved:") 112 refl (λ k. omega arith)
+  -- a text of such lines is true
+  good_true : (lines : List Bytes) (text : Bytes) → All IsGood lines → text ≡ ended_lines lines → IsTrueText names body text
+  good_true lines text all is line condition claim whole =
+      let cut : whole_lines text ≡ lines = ap whole_lines is ∙ whole_lines_are lines (All-weaker IsGood Lacks (λ l good. good.lacking) lines all) in
+      (All-contains IsGood lines line all (subst (λ ls. Contains ls line) cut whole)).saying condition claim
 
-  silent_unknown : SaysTrue (codes "unknown:")
-  silent_unknown = silent (codes "unknown:") 117 refl (λ k. omega arith)
-
-  bounded_lines : (n : ℕ) → n < 2 ^ 64
-      → lines_after [] (bounded_report n) ≡ codes "proved:" ∷ bound_line n ∷ codes "unknown:" ∷ codes "verdict: all inputs" ∷ []
-  bounded_lines n small =
-      let printed = decimal_is_IsNumeral n small in
-      let tail : Bytes = codes "\nunknown:\nverdict: all inputs\n" in
-      let rest : List Bytes = codes "unknown:" ∷ codes "verdict: all inputs" ∷ [] in
-      ap (λ ls. codes "proved:" ∷ ls)
-      (lines_over (decimal n) (codes "always: within ") (steps_word n ++ tail) (digits_no_newline (decimal n) printed.0.1)
-      ∙ lines_over (steps_word n) (codes "always: within " ++ decimal n) tail (steps_no_newline n)
-      ∙ ap (λ l. l ∷ rest) (append_assoc (codes "always: within ") (decimal n) (steps_word n)))
-
-  bound_true : (n : ℕ) → n < 2 ^ 64 → ((input : Store) → IsInput vars input → EndsWithin n (start body input)) → SaysTrue (bound_line n)
-  bound_true n small ends always (within m) k =
-      record { holds = λ input is_input meets. subst (λ i. EndsWithin i (start body input)) (sym (bound_says n m small k)) (ends input is_input) }
-  bound_true n small ends always unknown k = record { holds = λ input is_input meets. tt }
-
-  pub bounded_true : (n : ℕ) → n < 2 ^ 64 → ((input : Store) → IsInput vars input → EndsWithin n (start body input))
-      → IsTrueText vars body (bounded_report n)
-  bounded_true n small ends line condition claim whole =
-      true_lines (codes "proved:" ∷ bound_line n ∷ codes "unknown:" ∷ codes "verdict: all inputs" ∷ []) (
-        silent_proved,
-        (
-          bound_true n small ends,
-          (
-            silent_unknown,
-            (silent (codes "verdict: all inputs") 118 refl (λ k. omega arith), tt),
-          ),
-        ),
-      )
-      line (subst (λ ls. Contains ls line) (bounded_lines n small) whole) condition claim
-
-  nothing_true : SaysTrue (codes "always: unknown")
-  nothing_true always (within m) k = absurd (let bad : 117 ≡ 119 = ap (λ l. slice_index_or l 8 0) k.3 in omega arith)
-  nothing_true always unknown k = record { holds = λ input is_input meets. tt }
-
-  pub unknown_true : IsTrueText vars body unknown_report
-  unknown_true line condition claim whole =
-      true_lines (codes "proved:" ∷ codes "unknown:" ∷ codes "always: unknown" ∷ codes "verdict: some inputs" ∷ []) (
-        silent_proved,
-        (
-          silent_unknown,
-          (
-            nothing_true,
-            (silent (codes "verdict: some inputs") 118 refl (λ k. omega arith), tt),
-          ),
-        ),
-      )
-      line whole condition claim
+  one_true : (line text : Bytes) → IsGood line → text ≡ ended_lines (line ∷ []) → IsTrueText names body text
+  one_true line text good = good_true (line ∷ []) text (All-cons IsGood line [] good (All-nil IsGood))
 
   abbrev usage_line : Bytes
   usage_line = codes "usage: function [--ctl TEXT] [--domain boxes|octagons|polyhedra] [--delay N] [--at TEXT] [--explain] [--demo N]"
 
-  pub usage_true : IsTrueText vars body usage_text
-  usage_true line condition claim whole =
-      true_lines (usage_line ∷ []) (silent usage_line 117 refl (λ k. omega arith), tt) line whole condition claim
+  pub usage_true : IsTrueText names body usage_text
+  usage_true =
+      one_true usage_line usage_text
+      (good_silent usage_line (tested usage_line refl) (other_last usage_line (λ e. omega arith) (λ e. omega arith) (λ e. omega arith))) refl
 
-  abbrev fault_line : ℕ → ℕ → Bytes
-  fault_line number place = codes "program: " ++ (decimal number ++ (codes " at " ++ decimal place))
+  abbrev fault_front : ℕ → Bytes
+  fault_front number = codes "program: " ++ (decimal number ++ codes " at ")
 
-  fault_lines : (number place : ℕ) → number < 2 ^ 64 → place < 2 ^ 64 → lines_after [] (fault_text number place) ≡ fault_line number place ∷ []
-  fault_lines number place small near =
-      let first = digits_no_newline (decimal number) (decimal_is_IsNumeral number small).0.1 in
-      let second = digits_no_newline (decimal place) (decimal_is_IsNumeral place near).0.1 in
-      lines_over (decimal number) (codes "program: ") (codes " at " ++ (decimal place ++ codes "\n")) first
-      ∙ lines_over (codes " at ") (codes "program: " ++ decimal number) (decimal place ++ codes "\n") refl
-      ∙ lines_over (decimal place) ((codes "program: " ++ decimal number) ++ codes " at ") (codes "\n") second
-      ∙ ap (λ l. l ∷ [])
-      (append_assoc (codes "program: " ++ decimal number) (codes " at ") (decimal place)
-      ∙ append_assoc (codes "program: ") (decimal number) (codes " at " ++ decimal place))
-
-  pub fault_true : (number place : ℕ) → number < 2 ^ 64 → place < 2 ^ 64 → IsTrueText vars body (fault_text number place)
-  fault_true number place small near line condition claim whole =
-      true_lines (fault_line number place ∷ []) (silent (fault_line number place) 112 refl (λ k. omega arith), tt)
-      line (subst (λ ls. Contains ls line) (fault_lines number place small near) whole) condition claim
+  pub fault_true : (number place : ℕ) → number < 2 ^ 64 → place < 2 ^ 64 → IsTrueText names body (fault_text number place)
+  fault_true number place small near =
+      let first = (decimal_is_IsNumeral number small).0 in
+      let second = (decimal_is_IsNumeral place near).0 in
+      let begins = both_lack (codes "program: ") (decimal number ++ codes " at ") (tested (codes "program: ") refl)
+      (both_lack (decimal number) (codes " at ") (digits_lack (decimal number) first.1) (tested (codes " at ") refl))
+      in
+      let lacking = both_lack (fault_front number) (decimal place) begins (digits_lack (decimal place) second.1) in
+      let is : fault_text number place ≡ ended_lines ((fault_front number ++ decimal place) ∷ []) = simp append_assoc in
+      one_true (fault_front number ++ decimal place) (fault_text number place)
+      (good_silent (fault_front number ++ decimal place) lacking (digit_last (fault_front number) (decimal place) second.0 second.1)) is
 
   -- a front of a true text is true
-  pub front_true : (text : Bytes) (n : ℕ) → IsTrueText vars body text → IsTrueText vars body (take n text)
+  pub front_true : (text : Bytes) (n : ℕ) → IsTrueText names body text → IsTrueText names body (take n text)
   front_true text n h line condition claim whole =
       h line condition claim
       (subst (λ t. Contains (lines_after [] t) line) (take-append-drop n text) (front_lines [] (take n text) (drop n text) line whole))
+
+  -- ---- reports
+
+  good_proved : IsGood (codes "proved:")
+  good_proved =
+      good_silent (codes "proved:") (tested (codes "proved:") refl)
+      (other_last (codes "proved:") (λ e. omega arith) (λ e. omega arith) (λ e. omega arith))
+
+  good_unknown : IsGood (codes "unknown:")
+  good_unknown =
+      good_silent (codes "unknown:") (tested (codes "unknown:") refl)
+      (other_last (codes "unknown:") (λ e. omega arith) (λ e. omega arith) (λ e. omega arith))
+
+  good_verdict : (unknown : List Bytes) → IsGood (verdict_line unknown)
+  good_verdict [] =
+      good_silent (codes "verdict: all inputs") (tested (codes "verdict: all inputs") refl) (t_before_last (codes "verdict: all inputs") refl)
+  good_verdict (line ∷ more) =
+      good_silent (codes "verdict: some inputs") (tested (codes "verdict: some inputs") refl) (t_before_last (codes "verdict: some inputs") refl)
+
+  good_lines : (proved unknown : List Bytes) → All IsGood proved → All IsGood unknown → All IsGood (report_lines Absent [] proved unknown None)
+  good_lines proved unknown first second =
+      let last = All-cons IsGood (verdict_line unknown) [] (good_verdict unknown) (All-nil IsGood) in
+      let behind = All-append IsGood unknown (verdict_line unknown ∷ []) second last in
+      All-cons IsGood (codes "proved:") (proved ++ (codes "unknown:" ∷ (unknown ++ (verdict_line unknown ∷ [])))) good_proved
+      (All-append IsGood proved (codes "unknown:" ∷ (unknown ++ (verdict_line unknown ∷ []))) first
+      (All-cons IsGood (codes "unknown:") (unknown ++ (verdict_line unknown ∷ [])) good_unknown behind))
+
+  module _ (known : KnownLines names) where
+    -- the claim is true whatever the input
+    abbrev IsAlwaysTrue : Line → Type 0
+    IsAlwaysTrue line = (condition : List Affine) → IsTrueOf names body condition line.claim
+
+    good_text : (line : Line) (text : Bytes) → IsAlwaysTrue line → IsTextOf names line text → IsGood text
+    good_text line text h is = record {
+      lacking = known.newline text (functions_of is.condition) line.claim is.spells;
+      saying = λ condition claim s.
+          subst (λ k. IsTrueOf names body condition k) (known.one text (functions_of is.condition) condition line.claim claim is.spells s).1 (h condition);
+    }
+
+    good_zipped : (lines : List Line) (texts : List Bytes) → All IsAlwaysTrue lines → AllZip (λ line text. IsTextOf names line text) lines texts
+        → All IsGood texts
+    good_zipped [] [] h zipped = All-nil IsGood
+    good_zipped [] (text ∷ texts) h zipped = absurd zipped
+    good_zipped (line ∷ lines) [] h zipped = absurd zipped
+    good_zipped (line ∷ lines) (text ∷ texts) h zipped =
+        All-cons IsGood text texts (good_text line text (All-head IsAlwaysTrue line lines h) zipped.0)
+        (good_zipped lines texts (All-tail IsAlwaysTrue line lines h) zipped.1)
+
+    good_texts : (lines : List Line) (texts : List Bytes) → All IsAlwaysTrue lines → AreTextsOf names lines texts → All IsGood texts
+    good_texts lines texts h are = All-permutation IsGood are.unsorted texts are.same (good_zipped lines are.unsorted h are.each)
+
+    -- a report without an exact part and an explanation is true where its claims are true whatever the input
+    report_true : (proved unknown : List Line) (text : Bytes) → All IsAlwaysTrue proved → All IsAlwaysTrue unknown
+        → IsReportText names (plain_report proved unknown) text → IsTrueText names body text
+    report_true proved unknown text first second printed =
+        good_true (report_lines Absent [] printed.proved printed.unknown None) text
+        (good_lines printed.proved printed.unknown (good_texts proved printed.proved first printed.proved_are)
+        (good_texts unknown printed.unknown second printed.unknown_are))
+        printed.is
+
+    pub bounded_true : (n : ℕ) (text : Bytes) → ((input : Store) → IsInput (length names) input → EndsWithin n (start body input))
+        → IsReportText names (bounded_report n) text → IsTrueText names body text
+    bounded_true n text ends =
+        report_true (always (Within (constant_of (pos n))) ∷ []) [] text
+        (All-cons IsAlwaysTrue (always (Within (constant_of (pos n)))) []
+        (λ condition. record {
+          holds = λ input is_input meets. subst (λ bound. EndsWithinBound bound (start body input)) (sym (value_constant (pos n) input)) (ends input is_input);
+        })
+        (All-nil IsAlwaysTrue))
+        (All-nil IsAlwaysTrue)
+
+    pub unknown_true : (text : Bytes) → IsReportText names unknown_report text → IsTrueText names body text
+    unknown_true text =
+        report_true [] (always Unknown ∷ []) text (All-nil IsAlwaysTrue)
+        (All-cons IsAlwaysTrue (always Unknown) [] (λ condition. record { holds = λ input is_input meets. tt }) (All-nil IsAlwaysTrue))

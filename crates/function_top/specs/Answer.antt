@@ -4,7 +4,10 @@ use Rattle.std.specs.Io.KnownBytes.{Appends, Keeps}
 use Rattle.outside.specs.Faults.{Rose}
 use Rattle.outside.specs.Sink.{AppendsFront}
 use Rattle.step_meaning.specs.Syntax.{Statements}
+use Rattle.source_parse.specs.declared.fault.ParseFault.{ParseFault}
 use Rattle.source_parse.specs.Derives.{IsTextOf, DerivesNone}
+use Rattle.source_parse.specs.Faults.{IsFaultOf, numbered}
+use Rattle.report_text.specs.Printed.{IsReportText}
 use Rattle.function_top.specs.declared.status.Status.{Status}
 use Rattle.function_top.specs.declared.status.Status.TheVariants.{AllInputs, SomeInputs, Words, Program, Formula, ReadFault, WriteFault, NoMemory}
 use Rattle.function_top.specs.LongestPath.{HasNoLoop, HasLoop, longest_path}
@@ -16,18 +19,21 @@ abbrev pub IsCoveringReport : List ℕ → List ℕ → Type 0
 IsCoveringReport text report =
     (length text ≤ 65536)
     × ((names : List (List ℕ)) × (body : Statements) × IsTextOf text names body × HasNoLoop body
-    × (report ≡ bounded_report (longest_path body)))
+    × IsReportText names (bounded_report (longest_path body)) report)
 
 -- this is the report on a text of at most 65,536 bytes that is a program with a loop: nothing is known of it
 abbrev pub IsOpenReport : List ℕ → List ℕ → Type 0
 IsOpenReport text report =
     (length text ≤ 65536)
-    × ((names : List (List ℕ)) × (body : Statements) × IsTextOf text names body × HasLoop body × (report ≡ unknown_report))
+    × ((names : List (List ℕ)) × (body : Statements) × IsTextOf text names body × HasLoop body
+    × IsReportText names unknown_report report)
 
--- this is the line of the fault of a text: it has more than 65,536 bytes, or it has no more and is no program
+-- this is the line of the first fault of a text: it has more than 65,536 bytes, or it has no more and is no program
 abbrev pub IsFaultLine : List ℕ → List ℕ → Type 0
 IsFaultLine text line =
-    ((65536 < length text) × (line ≡ fault_text 14 65536)) ⊎ ((length text ≤ 65536) × DerivesNone text × (line ≡ fault_text 15 0))
+    ((65536 < length text) × (line ≡ fault_text 14 65536))
+    ⊎ ((length text ≤ 65536) × DerivesNone text
+    × ((fault : ParseFault) × (number : ℕ) × (at : ℕ) × IsFaultOf text fault × (numbered fault ≡ Some (number, at)) × (line ≡ fault_text number at)))
 
 -- What a run ended with, by its status, where the source told the bytes `left` and its count of faults went from `reads` to `reads'`, and
 -- where the sink's bytes went from `taken` to `taken'` and its count of faults from `writes` to `writes'`.
@@ -51,4 +57,4 @@ EndsWith NoMemory left taken taken' reads reads' writes writes' = Keeps taken ta
 abbrev pub Headline : (left taken taken' : Option (List ℕ)) → Type 0
 Headline left taken taken' =
     (text before written : List ℕ) (names : List (List ℕ)) (body : Statements) → left ≡ Some text → IsTextOf text names body
-    → taken ≡ Some before → taken' ≡ Some (before ++ written) → IsTrueText (length names) body written
+    → taken ≡ Some before → taken' ≡ Some (before ++ written) → IsTrueText names body written

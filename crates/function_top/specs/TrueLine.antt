@@ -1,27 +1,35 @@
 -- When a printed line is true.
-use Rattle.std.specs.Prelude.{ℕ, List, ⊤}
+use Rattle.std.specs.Prelude.{ℕ, ℤ, pos, negsuc, List, length, ⊤}
 use Rattle.step_meaning.specs.Syntax.{Statements}
 use Rattle.step_meaning.specs.Outcome.{Store}
 use Rattle.step_meaning.specs.Step.{Configuration}
-use Rattle.step_meaning.specs.Run.{IsInput, start, EndsWithin}
-use Rattle.function_top.specs.Lines.{IsWholeLine}
-use Rattle.function_top.specs.Spells.{Condition, always, Claim, within, unknown, Spells}
+use Rattle.step_meaning.specs.Run.{IsInput, start, EndsWithin, EndsWithinBound, Longest}
+use Rattle.linear_cons.specs.declared.affine.Affine.{Affine}
+use Rattle.linear_cons.specs.Functions.{value_at}
+use Rattle.line_text.specs.declared.claim.Claim.{Claim}
+use Rattle.line_text.specs.declared.claim.Claim.TheVariants.{Exactly, Within, Holds, Unknown}
+use Rattle.line_text.specs.Spells.{MeetsCondition, Spells}
+use Rattle.report_text.specs.Sections.{IsWholeLine}
 
--- the input meets the condition
-abbrev pub Meets : Store → Condition → Type 0
-Meets input always = ⊤
+-- the longest run from `c` has exactly that many steps; none has fewer than 0
+abbrev pub IsLongest : ℤ → Configuration → Type 0
+IsLongest (pos n) c = Longest n c
+IsLongest (negsuc n) c = ⊥
 
--- the claim holds of the runs from a configuration
-abbrev pub Holds : Claim → Configuration → Type 0
-Holds (within n) c = EndsWithin n c
-Holds unknown c = ⊤
+-- The claim is true of the runs from `c`, where they begin with this input: the longest of them has exactly so many steps; each ends within
+-- as many steps as the function's value at the input; the formula, which so far is that each run ends, holds; or nothing is claimed.
+abbrev pub IsTrueAt : Claim → Store → Configuration → Type 0
+IsTrueAt (Exactly number) input c = IsLongest number c
+IsTrueAt (Within bound) input c = EndsWithinBound (value_at bound input) c
+IsTrueAt Holds input c = (n : ℕ) × EndsWithin n c
+IsTrueAt Unknown input c = ⊤
 
--- for every input of a program of `vars` variables with this body that meets the condition, the claim holds of where its runs begin
-pub record IsTrueOf (vars : ℕ) (body : Statements) (condition : Condition) (claim : Claim) : Type 0 where
-  pub holds : (input : Store) → IsInput vars input → Meets input condition → Holds claim (start body input)
+-- for every input of a program of these names with this body that meets the condition, the claim is true of where its runs begin
+pub record IsTrueOf (names : List (List ℕ)) (body : Statements) (condition : List Affine) (claim : Claim) : Type 0 where
+  pub holds : (input : Store) → IsInput (length names) input → MeetsCondition input condition → IsTrueAt claim input (start body input)
 
--- whatever a whole line of the text says is true of the program
-abbrev pub IsTrueText : ℕ → Statements → List ℕ → Type 0
-IsTrueText vars body text =
-    (line : List ℕ) (condition : Condition) (claim : Claim) → IsWholeLine text line → Spells line condition claim
-    → IsTrueOf vars body condition claim
+-- whatever a whole line of the text says over the names is true of the program
+abbrev pub IsTrueText : List (List ℕ) → Statements → List ℕ → Type 0
+IsTrueText names body text =
+    (line : List ℕ) (condition : List Affine) (claim : Claim) → IsWholeLine text line → Spells names line condition claim
+    → IsTrueOf names body condition claim

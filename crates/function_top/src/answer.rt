@@ -7,9 +7,9 @@ ghost use Rattle.function_top.specs.Due.{IsDue, IsDueFor};
 
 use crate::due::Due;
 use crate::path::longest;
-use crate::report::{bounded, fault, unknown};
+use crate::report::{bounded, fault as fault_line, unknown};
 use outside::{ReadEnd, Source, read_program};
-use source_parse::{ParseFault, parse};
+use source_parse::{a_program_has_no_fault, parse};
 use std::alloc::{AllocError, Global};
 
 /// Reads the source, and answers what is to be written for it, or `None` where a read failed. The only error is want of memory.
@@ -20,7 +20,7 @@ pub fn answer<S: Source>(alloc: Global, source: &mut S) -> Result<Option<Due>, A
 {
     match read_program(alloc, source)? {
         ReadEnd::Text(text) => Ok(Some(answer_to(alloc, &text)?)),
-        ReadEnd::TooLong => Ok(Some(Due::Refused(fault(alloc, 14, 65_536)?))),
+        ReadEnd::TooLong => Ok(Some(Due::Refused(fault_line(alloc, 14, 65_536)?))),
         ReadEnd::Failed => Ok(None),
     }
 }
@@ -30,12 +30,15 @@ fn answer_to(alloc: Global, text: &[u8]) -> Result<Due, AllocError>
     requires { length text.now ≤ 65536 }
     ensures { IfOk result (IsDueFor text.now) }
 {
+    a_program_has_no_fault();
     match parse(alloc, text) {
         Ok(program) => match longest(&program.body) {
-            Some(steps) => Ok(Due::Covered(bounded(alloc, steps)?)),
-            None => Ok(Due::Open(unknown(alloc)?)),
+            Some(steps) => Ok(Due::Covered(bounded(alloc, steps, &program.names)?)),
+            None => Ok(Due::Open(unknown(alloc, &program.names)?)),
         },
-        Err(ParseFault::NotYet { at }) => Ok(Due::Refused(fault(alloc, 15, at)?)),
-        Err(ParseFault::Memory(error)) => Err(error),
+        Err(fault) => match fault.numbered() {
+            Some((number, at)) => Ok(Due::Refused(fault_line(alloc, number, at)?)),
+            None => Err(AllocError),
+        },
     }
 }

@@ -4,9 +4,9 @@
 #[derive(Drop)]
 pub enum Due {
     /// The report on a program of which every input is covered.
-    Covered(String),
+    Covered(Vec<u8>),
     /// The report on a program of which some input is not.
-    Open(String),
+    Open(Vec<u8>),
     /// The line of a text that is refused.
     Refused(String),
 }

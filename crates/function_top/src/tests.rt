@@ -11,6 +11,10 @@ const EMPTY: &[u8] = b"int main() { }";
 
 const EMPTY_REPORT: &[u8] = b"proved:\nalways: within 0 steps\nunknown:\nverdict: all inputs\n";
 
+const ONE_STEP: &[u8] = b"proved:\nalways: within 1 step\nunknown:\nverdict: all inputs\n";
+
+const NOTHING_KNOWN: &[u8] = b"proved:\nunknown:\nalways: unknown\nverdict: some inputs\n";
+
 // The status and the bytes of a run over memory, with room for 1,000 bytes.
 fn outcome<S: Source>(
     alloc: Global,
@@ -40,20 +44,22 @@ fn repeated(
 
 #[test]
 fn texts_give_their_reports(rt: HostRuntime) -> Result<(), Fail> {
-    use Status::{AllInputs, Program};
+    use Status::{AllInputs, SomeInputs};
 
     let alloc = rt.alloc();
-    let rows: [(&[u8], Status, &[u8]); 8] = [
+    let rows: [(&[u8], Status, &[u8]); 9] = [
         (EMPTY, AllInputs, EMPTY_REPORT),
+        (b"int main() { int x; x = 7; }", AllInputs, ONE_STEP),
         (
-            b"int main() { int x; x = 7; }",
+            b"int main() { int x; x = 9223372036854775807; }",
             AllInputs,
-            b"proved:\nalways: within 1 step\nunknown:\nverdict: all inputs\n",
+            ONE_STEP,
         ),
+        (b"int main() { int x = 1; { int y; } }", AllInputs, ONE_STEP),
         (
-            b"int main() { int x; if (?) { x = 1; x = 2; } else ; }",
+            b"int main() { int x; if (x > 0) x = 1; }",
             AllInputs,
-            b"proved:\nalways: within 3 steps\nunknown:\nverdict: all inputs\n",
+            b"proved:\nalways: within 2 steps\nunknown:\nverdict: all inputs\n",
         ),
         (
             b"int main() { if (?) if (?) ; else { ; ; } }",
@@ -61,13 +67,20 @@ fn texts_give_their_reports(rt: HostRuntime) -> Result<(), Fail> {
             b"proved:\nalways: within 4 steps\nunknown:\nverdict: all inputs\n",
         ),
         (
-            b"int main() { int x; while (x > 0) ; }",
-            Program,
-            b"program: 15 at 0\n",
+            b"int main() { int x; if (x == 0) return 1; x += 2; ; }",
+            AllInputs,
+            b"proved:\nalways: within 3 steps\nunknown:\nverdict: all inputs\n",
         ),
-        (b"int main() { x = 1; }", Program, b"program: 15 at 0\n"),
-        (b"int main() { @ }", Program, b"program: 15 at 0\n"),
-        (b"", Program, b"program: 15 at 0\n"),
+        (
+            b"int main() { int x; while (x > 0) x = x - 1; }",
+            SomeInputs,
+            NOTHING_KNOWN,
+        ),
+        (
+            b"int main() { for (int i = 0; i < 9; i++) ; }",
+            SomeInputs,
+            NOTHING_KNOWN,
+        ),
     ];
     for (text, status, bytes) in rows {
         let mut source = MemorySource::new(text.to_vec(alloc)?, Vec::new(alloc));
@@ -79,13 +92,58 @@ fn texts_give_their_reports(rt: HostRuntime) -> Result<(), Fail> {
 }
 
 #[test]
+fn texts_that_are_no_programs_give_their_faults(rt: HostRuntime) -> Result<(), Fail> {
+    let alloc = rt.alloc();
+    let rows: [(&[u8], &[u8]); 11] = [
+        (b"int main() { @ }", b"program: 1 at 13\n"),
+        (
+            b"int main() { int x; x = 9223372036854775808; }",
+            b"program: 2 at 24\n",
+        ),
+        (b"int main() { } /*", b"program: 3 at 15\n"),
+        (b"int main() { int x; while (x > 0", b"program: 4 at 32\n"),
+        (b"", b"program: 4 at 0\n"),
+        (b"int main() { x = 1; }", b"program: 5 at 13\n"),
+        (b"int main() { int x; int x; }", b"program: 6 at 24\n"),
+        (
+            b"int main() { int a, b, c; if (a < b < c) ; }",
+            b"program: 7 at 30\n",
+        ),
+        (b"int main() { int x; x = [3, 2]; }", b"program: 8 at 24\n"),
+        (
+            b"int main() { int a, b, c, d, e, f, g, h, i, j, k, l, m, n, o, p; }",
+            b"program: 9 at 62\n",
+        ),
+        (
+            b"int main() { int x; x = (1 < 2) + y; }",
+            b"program: 7 at 24\n",
+        ),
+    ];
+    for (text, bytes) in rows {
+        let mut source = MemorySource::new(text.to_vec(alloc)?, Vec::new(alloc));
+        let (found, written) = outcome(alloc, &["function"], &mut source)?;
+        assert_eq!(rt; found, Status::Program);
+        assert_eq!(rt; written.as_slice(), bytes);
+    }
+    Ok(())
+}
+
+#[test]
 fn long_texts_and_deep_ones_are_read_up_to_the_limits(rt: HostRuntime) -> Result<(), Fail> {
     use Status::{AllInputs, Program};
 
     let alloc = rt.alloc();
-    let rows: [(&[u8], &[u8], u32, &[u8], Status, &[u8]); 8] = [
+    let rows: [(&[u8], &[u8], u32, &[u8], Status, &[u8]); 10] = [
         (EMPTY, b" ", 65_522, b"", AllInputs, EMPTY_REPORT),
         (EMPTY, b" ", 65_523, b"", Program, b"program: 14 at 65536\n"),
+        (
+            b"int main() { }/*",
+            b"x",
+            65_518,
+            b"*/",
+            AllInputs,
+            EMPTY_REPORT,
+        ),
         (
             b"int main() {",
             b";",
@@ -93,22 +151,6 @@ fn long_texts_and_deep_ones_are_read_up_to_the_limits(rt: HostRuntime) -> Result
             b"}",
             AllInputs,
             b"proved:\nalways: within 65000 steps\nunknown:\nverdict: all inputs\n",
-        ),
-        (
-            b"int main() {",
-            b"if (?) ;",
-            60,
-            b"}",
-            AllInputs,
-            b"proved:\nalways: within 120 steps\nunknown:\nverdict: all inputs\n",
-        ),
-        (
-            b"int main() { ",
-            b"if (?) ",
-            31,
-            b"; }",
-            AllInputs,
-            b"proved:\nalways: within 32 steps\nunknown:\nverdict: all inputs\n",
         ),
         (
             b"int main() { ",
@@ -124,7 +166,7 @@ fn long_texts_and_deep_ones_are_read_up_to_the_limits(rt: HostRuntime) -> Result
             63,
             b"; }",
             Program,
-            b"program: 15 at 0\n",
+            b"program: 10 at 450\n",
         ),
         (
             b"int main() ",
@@ -132,7 +174,31 @@ fn long_texts_and_deep_ones_are_read_up_to_the_limits(rt: HostRuntime) -> Result
             65,
             b"",
             Program,
-            b"program: 15 at 0\n",
+            b"program: 10 at 75\n",
+        ),
+        (
+            b"int main() { int x; x = 1",
+            b"+1",
+            256,
+            b"; }",
+            AllInputs,
+            ONE_STEP,
+        ),
+        (
+            b"int main() { int x; x = 1",
+            b"+1",
+            257,
+            b"; }",
+            Program,
+            b"program: 11 at 537\n",
+        ),
+        (
+            b"int main() { int x; x = 1; }//",
+            b"/",
+            60_000,
+            b"",
+            AllInputs,
+            ONE_STEP,
         ),
     ];
     for (front, part, times, back, status, bytes) in rows {

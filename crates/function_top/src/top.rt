@@ -9,8 +9,9 @@ use crate::answer::answer;
 use crate::due::Due;
 use crate::report::usage;
 use crate::status::Status;
+use line_text::laws::{a_line_spells_at_most_one_claim, lines_have_their_own_form};
 use outside::{Sink, Source, write_all};
-use source_parse::{a_program_is_no_larger_than_its_text, a_text_is_one_program};
+use source_parse::{a_text_is_one_program, names_are_spelled_as_names};
 use std::alloc::Global;
 
 /// Does all that the program does: reads a program from the source, and writes the report on it to the sink.
@@ -34,7 +35,9 @@ pub fn run<S: Source, K: Sink>(
     ensures writes_never_fall { K.faults sink.old ≤ K.faults sink.new }
 {
     a_text_is_one_program();
-    a_program_is_no_larger_than_its_text();
+    names_are_spelled_as_names();
+    lines_have_their_own_form();
+    a_line_spells_at_most_one_claim();
     if words.len() > 1 {
         let _ = write_all(sink, usage().as_bytes());
         return Status::Words;
@@ -52,8 +55,8 @@ fn settle<K: Sink>(sink: &mut K, due: Due) -> Status
     ensures never_falls { K.faults sink.old ≤ K.faults sink.new }
 {
     match due {
-        Due::Covered(text) => reported(write_all(sink, text.as_bytes()), Status::AllInputs),
-        Due::Open(text) => reported(write_all(sink, text.as_bytes()), Status::SomeInputs),
+        Due::Covered(text) => reported(write_all(sink, &text), Status::AllInputs),
+        Due::Open(text) => reported(write_all(sink, &text), Status::SomeInputs),
         Due::Refused(text) => {
             let _ = write_all(sink, text.as_bytes());
             Status::Program

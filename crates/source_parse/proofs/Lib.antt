@@ -1,6 +1,5 @@
-mod Unique
-mod Places
-mod Reading
-mod Declaring
-mod Whole
+mod Spelled
 mod Small
+mod Parsed
+mod Faulty
+mod Named

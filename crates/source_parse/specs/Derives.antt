@@ -1,27 +1,17 @@
 -- Which program a text is.
-use Rattle.std.specs.Prelude.{◌≡◌, ℕ, List}
-use Rattle.step_meaning.specs.Syntax.{Statements, of_list, statements}
+use Rattle.std.specs.Prelude.{ℕ, List}
+use Rattle.step_meaning.specs.Syntax.{Statements, statements}
 use Rattle.step_meaning.specs.declared.program.Program.{Program}
-use Rattle.source_lex.specs.Tokens.{TokensOf}
-use Rattle.source_lex.specs.declared.token.Token.{Token}
-use Rattle.source_parse.specs.Word.{Word, words}
-use Rattle.source_parse.specs.Grammar.{ProgramTree, declared_names, program_words}
-use Rattle.source_parse.specs.Fits.{FitsProgram}
-use Rattle.source_parse.specs.Stands.{statements_for_all}
+use Rattle.concrete_syntax.specs.Trees.{Program as Tree}
+use Rattle.source_syntax.specs.Texts.{IsTextOf as IsSyntaxOf}
+use Rattle.elaboration.specs.Elaborates.{StandsFor}
 
--- the words are the program of these names and this body: a tree that fits spells them, and stands for it
-pub record IsProgram (all : List Word) (names : List (List ℕ)) (body : Statements) : Type 0 where
-  pub tree : ProgramTree
-  pub spelled : all ≡ program_words tree
-  pub fits : FitsProgram tree
-  pub declares : names ≡ declared_names tree.declarations
-  pub stands : body ≡ of_list (statements_for_all names tree.body)
-
--- the text is the program of these names and this body: its tokens are
+-- the text is the program of these names and this body: its tokens are what some concrete tree spells, within the limits, and that tree has
+-- no fault of names and sorts and stands for them
 pub record IsTextOf (text : List ℕ) (names : List (List ℕ)) (body : Statements) : Type 0 where
-  pub tokens : List Token
-  pub lexed : TokensOf text tokens
-  pub program : IsProgram (words text tokens) names body
+  pub tree : Tree
+  pub spelled : IsSyntaxOf text tree
+  pub stands : StandsFor tree names body
 
 -- the text is this program
 abbrev pub Derives : List ℕ → Program → Type 0

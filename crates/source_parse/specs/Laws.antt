@@ -1,7 +1,10 @@
 -- Laws of derivations.
-use Rattle.std.specs.Prelude.{◌≡◌, ℕ, ◌≤◌, List, length}
+use Rattle.std.specs.Prelude.{◌≡◌, ℕ, ◌≤◌, List, length, Some, All}
+use Rattle.source_lex.specs.Spellings.{SpellsName}
 use Rattle.step_meaning.specs.Syntax.{Statements, size_of}
+use Rattle.source_parse.specs.declared.fault.ParseFault.{ParseFault}
 use Rattle.source_parse.specs.Derives.{IsTextOf}
+use Rattle.source_parse.specs.Faults.{IsFaultOf, IsMemory, numbered}
 
 -- a text is at most one program
 abbrev pub TextsAreUnique : Type 0
@@ -9,7 +12,24 @@ TextsAreUnique =
     (text : List ℕ) (names others : List (List ℕ)) (body other : Statements) → IsTextOf text names body → IsTextOf text others other
     → (names ≡ others) × (body ≡ other)
 
+-- a text that is a program has no fault
+abbrev pub ProgramsHaveNoFault : Type 0
+ProgramsHaveNoFault =
+    (text : List ℕ) (names : List (List ℕ)) (body : Statements) (fault : ParseFault) → IsTextOf text names body → IsFaultOf text fault
+    → IsMemory fault
+
+-- a text has at most one first fault: one number at one place
+abbrev pub FaultsAgree : Type 0
+FaultsAgree =
+    (text : List ℕ) (fault other : ParseFault) (found there : ℕ × ℕ) → IsFaultOf text fault → IsFaultOf text other
+    → numbered fault ≡ Some found → numbered other ≡ Some there → found ≡ there
+
 -- a program has at most as many statements as its text has bytes
 abbrev pub ProgramsAreSmall : Type 0
 ProgramsAreSmall =
     (text : List ℕ) (names : List (List ℕ)) (body : Statements) → IsTextOf text names body → size_of body ≤ length text
+
+-- the names of a program are spelled as names: a letter or `_`, and then letters, digits and `_`
+abbrev pub NamesAreNames : Type 0
+NamesAreNames =
+    (text : List ℕ) (names : List (List ℕ)) (body : Statements) → IsTextOf text names body → All SpellsName names

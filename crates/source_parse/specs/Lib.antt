@@ -1,12 +1,3 @@
-pub mod Symbols
-pub mod Word
-pub mod Spelled
-pub mod Grammar
-pub mod Fits
-pub mod Stands
-pub mod Opens
-pub mod Reads
-pub mod Declares
 pub mod Derives
-pub mod ParseFaults
+pub mod Faults
 pub mod Laws

@@ -1,56 +1,111 @@
 // The parser's front door.
 
-ghost use Rattle.std.specs.Prelude.{◌≤◌, ℕ, List, length, All, IfOk, IfErr, MatchOption};
-ghost use Rattle.source_lex.specs.Spans.{IsWithin};
+ghost use Rattle.std.specs.Prelude.{◌≡◌, ◌≤◌, ◌<◌, ℕ, List, length, IfOk, IfErr};
+ghost use Rattle.source_lex.specs.Tokens.{TokensOf};
+ghost use Rattle.concrete_syntax.specs.Mirror.{program as program_tree};
 ghost use Rattle.step_meaning.specs.Syntax.{Statements, statements, size_of};
-ghost use Rattle.source_parse.specs.Word.{words};
-ghost use Rattle.source_parse.specs.Derives.{Derives, IsProgram};
-ghost use Rattle.source_parse.specs.ParseFaults.{IsFaultAnswer};
+ghost use Rattle.concrete_syntax.specs.Trees.{Program as Concrete};
+ghost use Rattle.elaboration.specs.Elaborates.{HasFirstFault, StandsFor};
+ghost use Rattle.source_syntax.specs.Texts.{IsTextOf as IsSyntaxOf, IsFaultOf as IsSyntaxFaultOf, place_in};
+ghost use Rattle.source_parse.specs.Derives.{Derives};
+ghost use Rattle.source_parse.specs.Faults.{IsFaultOf, limit_of};
 
-use crate::fault::ParseFault;
-use crate::lexeme::lexemes;
-use crate::main_function::program;
-use source_lex::{
-    LexFault, Token, lex, tokens_are_in_order, tokens_are_unique, tokens_exclude_faults,
-};
-use std::alloc::{AllocError, Global};
+use crate::fault::{ParseFault, Which};
+use crate::laws::a_program_is_no_larger_than_its_text;
+use concrete_syntax::Program as Tree;
+use elaboration::{Fault, Refusal, Rule, elaborate};
+use source_lex::{Token, tokens_are_in_order};
+use source_syntax::{SyntaxFault, Which as SyntaxWhich, read_syntax};
+use std::alloc::Global;
 use step_meaning::Program;
 
-/// The program that the text is, or its fault. The text has at most 65,536 bytes. Time is linear in the text.
+/// The program that the text is, or its first fault. The text has at most 65,536 bytes. Time is linear in the text.
 ///
-/// Faults: `NotYet` at 0 exactly where the text is no program of the grammar within the limits on variables (15), nesting (64) and
-/// literals (2^63 - 1); `Memory` where memory runs out.
+/// Faults, in their order: `Lex`, the first of its kinds by its place; `Expected` and `Limit` of `Nesting` and `Operators`, the first by its
+/// place, and `Expected` where a token is both; `Unknown`, `Twice`, `Mixed`, `BadRange` and `Limit` of `Variables`, the first by its place,
+/// and at one place the first in this order. `Memory` where memory runs out.
 pub fn parse(alloc: Global, text: &[u8]) -> Result<Program, ParseFault>
     requires { length text.now ≤ 65536 }
     ensures program { IfOk result (Derives text.now) }
-    ensures fault { IfErr result (IsFaultAnswer text.now) }
+    ensures fault { IfErr result (IsFaultOf text.now) }
     ensures size { IfOk result (λ program. size_of (statements program.body) ≤ length text.now) }
 {
-    tokens_are_unique();
-    tokens_exclude_faults();
-    tokens_are_in_order();
-    let tokens = match lex(alloc, text) {
-        Ok(tokens) => tokens,
-        Err(LexFault::Memory(error)) => return Err(ParseFault::Memory(error)),
-        Err(_) => return Err(ParseFault::NotYet { at: 0 }),
+    a_program_is_no_larger_than_its_text();
+    let syntax = match read_syntax(alloc, text) {
+        Ok(syntax) => syntax,
+        Err(fault) => return Err(of_syntax(fault)),
     };
-    match read(alloc, text, &tokens) {
-        Ok(Some(program)) => Ok(program),
-        Ok(None) => Err(ParseFault::NotYet { at: 0 }),
-        Err(error) => Err(ParseFault::Memory(error)),
+    let program = program(alloc, text, &syntax.tree, &syntax.tokens)?;
+    Ok(program)
+}
+
+// The program that the concrete tree of a text stands for.
+fn program(alloc: Global, text: &[u8], tree: &Tree, tokens: &[Token]) -> Result<Program, ParseFault>
+    requires short { length text.now ≤ 65536 }
+    requires lexed { TokensOf text.now tokens.now }
+    requires spelled { IsSyntaxOf text.now (program_tree tree.now) }
+    ensures program { IfOk result (λ program. StandsFor (program_tree tree.now) program.names (statements program.body)) }
+    ensures fault { IfErr result (IsFaultOf text.now) }
+{
+    tokens_are_in_order();
+    match elaborate(alloc, tree, tokens) {
+        Ok(program) => Ok(program),
+        Err(Refusal::Fault(fault)) => Err(of_names(text, tokens, fault)),
+        Err(Refusal::Memory(error)) => Err(ParseFault::Memory(error)),
     }
 }
 
-// The program that these tokens of the text are.
-fn read(alloc: Global, text: &[u8], tokens: &[Token]) -> Result<Option<Program>, AllocError>
-    requires { All (IsWithin text.now) tokens.now }
-    ensures { IfOk result (λ outcome. MatchOption outcome
-        ((names : List (List ℕ)) (body : Statements) → ¬ IsProgram (words text.now tokens.now) names body)
-        (λ program. IsProgram (words text.now tokens.now) program.names (statements program.body))) }
+// The fault of a text that is no program by its syntax.
+fn of_syntax(fault: SyntaxFault) -> ParseFault
+    ensures { (text : List ℕ) → IsSyntaxFaultOf text fault → IsFaultOf text result }
 {
-    let words = lexemes(alloc, text, tokens)?;
-    match program(alloc, &words)? {
-        Some(program) => Ok(Some(program)),
-        None => Ok(None),
+    match fault {
+        SyntaxFault::Lex(fault) => ParseFault::Lex(fault),
+        SyntaxFault::Expected { at } => ParseFault::Expected { at },
+        SyntaxFault::Limit { which, at, count } => ParseFault::Limit {
+            which: which_of(which),
+            at,
+            count,
+        },
+        SyntaxFault::Memory(error) => ParseFault::Memory(error),
+    }
+}
+
+fn which_of(which: SyntaxWhich) -> Which
+    ensures { result ≡ limit_of which }
+{
+    match which {
+        SyntaxWhich::Nesting => Which::Nesting,
+        SyntaxWhich::Operators => Which::Operators,
+    }
+}
+
+// The fault of a text whose tree has one of names and sorts.
+fn of_names(text: &[u8], tokens: &[Token], fault: Fault) -> ParseFault
+    requires { length text.now ≤ 65536 }
+    ensures { (tree : Concrete) → TokensOf text.now tokens.now → IsSyntaxOf text.now tree → HasFirstFault tree fault → IsFaultOf text.now result }
+{
+    let at = place(text, tokens, fault.token);
+    match fault.rule {
+        Rule::Unknown => ParseFault::Unknown { at },
+        Rule::Twice => ParseFault::Twice { at },
+        Rule::Mixed => ParseFault::Mixed { at },
+        Rule::BadRange => ParseFault::BadRange { at },
+        Rule::Variables => ParseFault::Limit {
+            which: Which::Variables,
+            at,
+            count: 16,
+        },
+    }
+}
+
+// The place in the text of a token by its number.
+fn place(text: &[u8], tokens: &[Token], number: usize) -> u32
+    requires { length text.now ≤ 65536 }
+    ensures { result ≡ place_in text.now tokens.now number }
+{
+    match tokens.get(number) {
+        Some(token) => token.start,
+        None => text.len() as u32,
     }
 }

@@ -1,14 +1,35 @@
 // Laws of derivations, each the contract of a function that does nothing.
 
-ghost use Rattle.source_parse.specs.Laws.{TextsAreUnique, ProgramsAreSmall};
+ghost use Rattle.source_parse.specs.Laws.{TextsAreUnique, ProgramsHaveNoFault, FaultsAgree, ProgramsAreSmall, NamesAreNames};
 
-use source_lex::{tokens_are_in_order, tokens_are_unique};
+use source_lex::{tokens_are_in_order, tokens_are_unique, tokens_spell_their_kinds};
+use source_syntax::{
+    first_faults_agree, programs_have_no_fault as syntax_has_no_fault, trees_are_unique,
+};
 
 /// A text is at most one program.
 pub fn a_text_is_one_program()
     ensures { TextsAreUnique }
 {
+    trees_are_unique();
+}
+
+/// Of a text that is a program nothing but want of memory may be answered in its place.
+pub fn a_program_has_no_fault()
+    ensures { ProgramsHaveNoFault }
+{
+    trees_are_unique();
+    syntax_has_no_fault();
+}
+
+/// Two faults of one text have the same number and the same place.
+pub fn a_text_has_one_fault()
+    ensures { FaultsAgree }
+{
+    trees_are_unique();
     tokens_are_unique();
+    syntax_has_no_fault();
+    first_faults_agree();
 }
 
 /// A program has at most as many statements as its text has bytes.
@@ -16,4 +37,11 @@ pub fn a_program_is_no_larger_than_its_text()
     ensures { ProgramsAreSmall }
 {
     tokens_are_in_order();
+}
+
+/// The names of a program are spelled as names: a letter or `_`, and then letters, digits and `_`.
+pub fn names_are_spelled_as_names()
+    ensures { NamesAreNames }
+{
+    tokens_spell_their_kinds();
 }

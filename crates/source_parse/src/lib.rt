@@ -1,19 +1,17 @@
-// The parser: the program that a text is, or its fault.
-// Front door: `parse`. Stands on the tokens of `source_lex` and the syntax of `step_meaning`. The grammar and what a text derives stand in
-// `specs/`: the concrete trees and their words (Grammar), which trees fit (Fits), what they stand for (Stands), and both at a text (Derives).
+// The parser: the program that a text is, or its first fault.
+// Front door: `parse`. Stands on the concrete trees that `source_syntax` reads and on `elaboration`, which makes programs of them. What
+// a text derives, and which fault is its first, stands in `specs/` (Derives, Faults).
 #![tactic(auto)]
 
-mod among;
-mod declaration;
 mod fault;
 mod front;
 mod laws;
-mod lexeme;
-mod main_function;
-mod statement;
-mod symbol;
-mod words;
+#[cfg(test)]
+mod tests;
 
-pub use fault::ParseFault;
+pub use fault::{ParseFault, Which};
 pub use front::parse;
-pub use laws::{a_program_is_no_larger_than_its_text, a_text_is_one_program};
+pub use laws::{
+    a_program_has_no_fault, a_program_is_no_larger_than_its_text, a_text_has_one_fault,
+    a_text_is_one_program, names_are_spelled_as_names,
+};

@@ -1,16 +1,18 @@
 -- The readers' answers as steps of the calculus.
-use Rattle.std.proofs.Common.{◌≡◌, ℕ, ◌≤◌, List, ◌∷◌, Some, Result, Ok, Err, refl, sym, ap, ◌∙◌, subst, arith, IfErr}
+use Rattle.std.proofs.Common.{◌≡◌, ℕ, ◌≤◌, ℤ, List, ◌∷◌, Some, Result, Ok, Err, refl, sym, ap, ◌∙◌, subst, arith, IfErr}
 use Rattle.std.specs.Result.{IsErr, IsErrAnd}
 use Rattle.derivation.specs.declared.rule.Rule.{Rule}
 use Rattle.derivation.specs.declared.rule.Rule.TheVariants.{Expected, Nesting, Operators}
 use Rattle.derivation.specs.declared.symbol.Symbol.{Symbol}
 use Rattle.derivation.specs.declared.lexeme.Lexeme.{Lexeme}
-use Rattle.derivation.specs.Word.{Word, symbol, name as named}
+use Rattle.derivation.specs.Word.{Word, symbol, name as named, number as numbered}
 use Rattle.derivation.specs.Spelled.{words_from}
 use Rattle.derivation.specs.Pieces.{Token}
 use Rattle.derivation.specs.Comes.{IsQuiet}
 use Rattle.source_syntax.specs.declared.fault.Fault.{Fault}
-use Rattle.source_syntax.specs.Spelling.{sign, leading, opening, leading_opening}
+use Rattle.source_syntax.specs.declared.fault.Failure.{Failure}
+use Rattle.source_syntax.specs.Failures.{OnFault, IfFault}
+use Rattle.source_syntax.specs.Spelling.{plain, sign, leading, opening, leading_opening}
 use Rattle.source_syntax.specs.Pending.{Pending, exactly, a_name}
 use Rattle.source_syntax.specs.Leads.{Leads, Stops}
 use Rattle.source_syntax.specs.Reads.{MissesSign, MissesOpening, MissesName}
@@ -20,6 +22,19 @@ use Rattle.source_syntax.proofs.Expressions.{token_read, token_missed, token_too
 pub handed_on : {X : Type 0} (r : Result X Fault) (f : Fault) (P : Fault → Type 0) → IsErr r × IsErrAnd r (λ e. e ≡ f) → P f → IfErr r P
 handed_on (Ok x) f P h k = tt
 handed_on (Err e) f P h k = subst P (sym h.1) k
+
+-- the same where memory may run out instead
+pub failed_on : {X : Type 0} (r : Result X Failure) (f : Fault) (P : Fault → Type 0) → IsErr r × IsErrAnd r (λ e. e ≡ Failure.Fault f) → P f → IfFault r P
+failed_on (Ok x) f P h k = tt
+failed_on (Err (Failure.Fault g)) f P h k = let same : f ≡ g = cc in subst P same k
+failed_on (Err (Failure.Memory e)) f P h k = tt
+
+-- a failure that is handed on, with what its fault says of a part
+pub passed_on : {X : Type 0} (r : Result X Failure) (f : Failure) (P Q : Fault → Type 0) → IsErr r × IsErrAnd r (λ e. e ≡ f) → OnFault f P
+    → ((fault : Fault) → P fault → Q fault) → IfFault r Q
+passed_on (Ok x) f P Q h k turn = tt
+passed_on (Err (Failure.Memory e)) f P Q h k turn = tt
+passed_on (Err (Failure.Fault g)) f P Q h k turn = turn g (subst (λ f. OnFault f P) (sym h.1) k)
 
 module _ {c : ℕ} {S : List Pending} {from to : List Word} where
   pub sign_reads : (s : Symbol) (quiet : IsQuiet (Some (symbol s))) → from ≡ symbol s ∷ to
@@ -37,6 +52,9 @@ module _ {c : ℕ} {S : List Pending} {from to : List Word} where
   pub leading_opening_reads : (s : Symbol) (level : ℕ) (quiet : IsQuiet (Some (symbol s))) → from ≡ symbol s ∷ to → level ≤ 64
       → Leads c ((exactly (leading_opening s level) quiet ∷ S)) from 0 S to (λ g. (tt, g))
   leading_opening_reads s level quiet e shallow = token_read c (leading_opening s level) quiet S from to e (shallow, tt)
+
+  pub number_reads : {z : ℤ} → from ≡ numbered z ∷ to → Leads c ((exactly (plain (numbered z)) (refl, refl) ∷ S)) from c S to (λ g. (tt, g))
+  number_reads {z} e = token_read c (plain (numbered z)) (refl, refl) S from to e (omega arith, tt)
 
   pub name_reads : {x : List ℕ} → from ≡ named x ∷ to → Leads c (a_name ∷ S) from c S to (λ g. (x, g))
   name_reads {x} e = name_read c S from x to e

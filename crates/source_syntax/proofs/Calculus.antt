@@ -1,5 +1,5 @@
 -- The steps of the calculus, for lists of things to be read.
-use Rattle.std.proofs.Common.{◌≡◌, ◌≢◌, ℕ, List, [], ◌∷◌, ◌++◌, Option, None, Some}
+use Rattle.std.proofs.Common.{◌≡◌, ◌≢◌, ℕ, List, [], ◌∷◌, ◌++◌, Option, None, Some, sym, ap, ◌∙◌}
 use Rattle.derivation.specs.declared.rule.Rule.{Rule}
 use Rattle.derivation.specs.declared.rule.Rule.TheVariants.{Expected}
 use Rattle.derivation.specs.Word.{Word}
@@ -16,6 +16,21 @@ over p q = record { comes = calculus.over p.comes q.comes }
 
 pub stay : (c : ℕ) (A : List Pending) (from : List Word) → Leads c A from c A from (λ g. g)
 stay c A from = record { comes = calculus.here c (phrase A) from }
+
+-- trees made in another way, but the same trees
+pub refilled : {c d : ℕ} {A B : List Pending} {a b : List Word} {F G : Trees B → Trees A}
+    → ((g : Trees B) → F g ≡ G g) → Leads c A a d B b F → Leads c A a d B b G
+refilled {c} {d} {A} {B} {a} {b} {F} {G} same p = record {
+  comes = record {
+    front = p.comes.front;
+    parted = p.comes.parted;
+    within = p.comes.within;
+    counted = p.comes.counted;
+    fits = p.comes.fits;
+    spells = λ g. ap (pieces A) (sym (same g)) ∙ p.comes.spells g;
+    only = λ f fits rest e next. let found = p.comes.only f fits rest e next in (found.0, found.1 ∙ same found.0);
+  };
+}
 
 pub fails : {c d : ℕ} {A B : List Pending} {a b x : List Word} {F : Trees B → Trees A} {rule : Rule}
     → Leads c A a d B b F → Stops d B b rule x → Stops c A a rule x
@@ -45,6 +60,8 @@ sticks A c from classify o tree fits quiet never is =
     record { breaks = calculus.sticks (phrase A) c from classify o tree fits quiet never is }
 
 pub exceeds : (A : List Pending) → (c : ℕ) → (from : List Word) → (t : Token) → (more : List Piece) → (rule : Rule) → (tree : Trees A) → Fits (pieces A tree)
-    → pieces A tree ≡ token t ∷ more → first from ≡ Some t.word → (rule ≢ Expected) → BreaksLimit c t rule → Stops c A from rule from
-exceeds A c from t more rule tree fits begins next limit breaks =
-    record { breaks = calculus.exceeds (phrase A) c from t more rule tree fits begins next limit breaks }
+    → pieces A tree ≡ token t ∷ more → first from ≡ Some t.word → (rule ≢ Expected) → BreaksLimit c t rule
+    → ((f : Trees A) → Fits (pieces A f) → first_before (pieces A f) None ≡ Some t.word → (rest : List Piece) × (pieces A f ≡ token t ∷ rest))
+    → Stops c A from rule from
+exceeds A c from t more rule tree fits begins next limit breaks view =
+    record { breaks = calculus.exceeds (phrase A) c from t more rule tree fits begins next limit breaks view }

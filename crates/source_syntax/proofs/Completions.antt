@@ -2,9 +2,9 @@
 use Rattle.std.proofs.Common.{pos, List, [], ◌∷◌, None, Some, false, refl}
 use Rattle.derivation.specs.Pieces.{first_before, Fits}
 use Rattle.derivation.specs.Comes.{IsQuiet}
-use Rattle.source_syntax.specs.declared.opening.Step.TheVariants as Step
-use Rattle.source_syntax.specs.Trees.{number, ended, Expression, steps, steps_before, starts_with_nothing, skip, without, none}
-use Rattle.source_syntax.specs.Pending.{Pending, exactly, a_name, a_number, a_size, an_end, an_operand, a_tail, an_expression, an_optional, a_test, an_action, a_simple, a_part_end, parts, a_declaration, a_start, a_finish, a_statement, an_otherwise, items, a_void, a_program, TreeOf, Trees, pieces}
+use Rattle.concrete_syntax.specs.declared.sign.Step.TheVariants as Step
+use Rattle.concrete_syntax.specs.Trees.{number, ended, Expression, steps, steps_before, starts_with_nothing, skip, without, none}
+use Rattle.source_syntax.specs.Pending.{Pending, exactly, a_name, a_size, an_end, an_operand, a_tail, an_expression, an_optional, a_test, an_action, a_simple, a_part_end, parts, a_declaration, a_start, a_finish, a_statement, an_otherwise, items, a_void, a_program, TreeOf, Trees, pieces}
 
 abbrev zero_expression : Expression
 zero_expression = record { operand = number (pos 0); tail = ended }
@@ -13,7 +13,6 @@ zero_expression = record { operand = number (pos 0); tail = ended }
 abbrev pub short : (p : Pending) → TreeOf p
 short (exactly t quiet) = tt
 short a_name = []
-short a_number = pos 0
 short a_size = Some (pos 0)
 short an_end = record { negative = false; size = Some (pos 0) }
 short (an_operand n) = number (pos 0)
@@ -43,7 +42,6 @@ pub completes : (all : List Pending)
 completes [] = (tt, (refl, refl))
 completes (exactly t quiet ∷ more) = ((completes more).0, quiet)
 completes (a_name ∷ more) = ((completes more).0, (refl, refl))
-completes (a_number ∷ more) = ((completes more).0, (refl, refl))
 completes (a_size ∷ more) = ((completes more).0, (refl, refl))
 completes (an_end ∷ more) = ((completes more).0, (refl, refl))
 completes (an_operand n ∷ more) = ((completes more).0, (refl, refl))

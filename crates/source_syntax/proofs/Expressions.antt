@@ -10,13 +10,13 @@ use Rattle.derivation.specs.Limits.{IsWithin}
 use Rattle.derivation.specs.Comes.{IsQuiet}
 use Rattle.source_syntax.specs.Leads.{Leads, Stops}
 use Rattle.source_syntax.proofs.Calculus.{opens, reads, sticks, exceeds}
-use Rattle.source_syntax.specs.declared.opening.Prefix.{Prefix}
+use Rattle.concrete_syntax.specs.declared.sign.Prefix.{Prefix}
 use Rattle.source_syntax.specs.declared.opening.OperandOpening.{OperandOpening}
 use Rattle.source_syntax.specs.declared.opening.SizeOpening.{SizeOpening}
 use Rattle.source_syntax.specs.Openings.{opening_of_operand, binary_operator, size_opening, negative_follows}
-use Rattle.source_syntax.specs.Trees.{Operand, number, name, truth, unknown, call, signed, parentheses, range, Tail, ended, further}
+use Rattle.concrete_syntax.specs.Trees.{Operand, number, name, truth, unknown, call, signed, parentheses, range, Tail, ended, further}
 use Rattle.source_syntax.specs.Spelling.{plain, sign, opening, operator, sign_of, prefix_sign, truth_word}
-use Rattle.source_syntax.specs.Pending.{Pending, exactly, a_name, a_number, a_size, an_end, an_operand, a_tail, an_expression, Trees, pieces}
+use Rattle.source_syntax.specs.Pending.{Pending, exactly, a_name, a_size, an_end, an_operand, a_tail, an_expression, Trees, pieces}
 use Rattle.source_syntax.proofs.Completions.{complete, completes}
 
 abbrev pub Same : (all : List Pending) → Trees all → Trees all → Type 0
@@ -41,9 +41,9 @@ module _ (c : ℕ) (t : Token) (quiet : IsQuiet (Some t.word)) (S : List Pending
   pub token_too_deep : (to : List Word) → from ≡ t.word ∷ to → 64 < t.level → Stops c ((exactly t quiet ∷ S)) from Nesting from
   token_too_deep to e deep =
       exceeds ((exactly t quiet ∷ S)) c from t (pieces S (complete S)) Nesting (complete (exactly t quiet ∷ S))
-      (completes (exactly t quiet ∷ S)).0 refl (ap first e) (λ e. cc) deep
+      (completes (exactly t quiet ∷ S)).0 refl (ap first e) (λ e. cc) deep (λ f fits next. (pieces S f.1, refl))
 
--- names and numbers
+-- names
 module _ (c : ℕ) (S : List Pending) (from : List Word) where
   pub name_read : (x : List ℕ) (to : List Word) → from ≡ named x ∷ to
       → Leads c ((a_name ∷ S)) from c S to (λ g. (x, g))
@@ -60,20 +60,14 @@ module _ (c : ℕ) (S : List Pending) (from : List Word) where
       missed [] x k e = cc
       missed (w ∷ ws) x k e = k ws (let same : w ≡ named x = cc in ap (λ y. y ∷ ws) same)
 
-  pub number_read : (z : ℤ) (to : List Word) → from ≡ numbered z ∷ to
-      → Leads c ((a_number ∷ S)) from c S to (λ g. (z, g))
-  number_read z to e =
-      reads ((a_number ∷ S)) S c from to (plain (numbered z)) (λ g. (z, g)) e (omega arith, tt) (λ g. refl)
-      (λ f fits next. (f.1, let same : f.0 ≡ z = cc in ap (λ y. (y, f.1)) same))
-
 -- the end of a range
 abbrev pub size_rest : SizeOpening → List Pending → List Pending
-size_rest SizeOpening.Number S = a_number ∷ S
+size_rest (SizeOpening.Number z) S = exactly (plain (numbered z)) (refl, refl) ∷ S
 size_rest SizeOpening.Infinite S = exactly (sign Sym.Infinite) (refl, refl) ∷ S
 size_rest SizeOpening.Nothing S = a_size ∷ S
 
 abbrev pub size_tree : (o : SizeOpening) → (S : List Pending) → Trees (size_rest o S) → Trees (a_size ∷ S)
-size_tree SizeOpening.Number S g = (Some g.0, g.1)
+size_tree (SizeOpening.Number z) S g = (Some z, g.1)
 size_tree SizeOpening.Infinite S g = (None, g.1)
 size_tree SizeOpening.Nothing S g = g
 
@@ -92,13 +86,13 @@ module _ (c : ℕ) (S : List Pending) (from : List Word) where
       opens ((a_size ∷ S)) ((size_rest o S)) c from size_opening o [] (size_tree o S) refl tt refl tt (spells o) view (sym e)
     where
       spells : (o : SizeOpening) → (g : Trees (size_rest o S)) → pieces (a_size ∷ S) (size_tree o S g) ≡ pieces (size_rest o S) g
-      spells SizeOpening.Number g = refl
+      spells (SizeOpening.Number z) g = refl
       spells SizeOpening.Infinite g = refl
       spells SizeOpening.Nothing g = refl
 
       view : (f : Trees (a_size ∷ S)) → Fits (pieces (a_size ∷ S) f) → size_opening (first_before (pieces (a_size ∷ S) f) None) ≡ o
           → (g : Trees (size_rest o S)) × (f ≡ size_tree o S g)
-      view (Some z, rest) fits e = subst (λ o. (g : Trees (size_rest o S)) × Same (a_size ∷ S) (Some z, rest) (size_tree o S g)) e ((z, rest), refl)
+      view (Some z, rest) fits e = subst (λ o. (g : Trees (size_rest o S)) × Same (a_size ∷ S) (Some z, rest) (size_tree o S g)) e ((tt, rest), refl)
       view (None, rest) fits e = subst (λ o. (g : Trees (size_rest o S)) × Same (a_size ∷ S) (None, rest) (size_tree o S g)) e ((tt, rest), refl)
 
   pub size_sticks : SizeOpening.Nothing ≡ size_opening (first from) → Stops c ((a_size ∷ S)) from Expected from
@@ -134,19 +128,20 @@ module _ (c : ℕ) (S : List Pending) (from : List Word) where
           → (g : Trees (end_rest b S)) × (f ≡ end_tree b S g)
       view f fits e = split f.0.negative f.0.size f.1 b e
 
+  -- which ends begin with a `-`
+  pub minus_view : (negative : Bool) (size : Option ℤ) (rest : Trees S)
+      → first_before (pieces (an_end ∷ S) (record { negative = negative; size = size }, rest)) None ≡ Some (symbol Sym.Minus)
+      → (g : Trees (a_size ∷ S)) × Same (an_end ∷ S) (record { negative = negative; size = size }, rest) (record { negative = true; size = g.0 }, g.1)
+  minus_view true size rest e = ((size, rest), refl)
+  minus_view false (Some z) rest e = absurd (cc)
+  minus_view false None rest e = absurd (cc)
+
   -- behind the `-` of an end
   pub minus_read : (to : List Word) → from ≡ symbol Sym.Minus ∷ to
       → Leads c ((an_end ∷ S)) from c ((a_size ∷ S)) to (λ g. (record { negative = true; size = g.0 }, g.1))
   minus_read to e =
       reads ((an_end ∷ S)) ((a_size ∷ S)) c from to (sign Sym.Minus) (λ g. (record { negative = true; size = g.0 }, g.1)) e
-      (omega arith, tt) (λ g. refl) (λ f fits next. view f.0.negative f.0.size f.1 next)
-    where
-      view : (negative : Bool) (size : Option ℤ) (rest : Trees S)
-          → first_before (pieces (an_end ∷ S) (record { negative = negative; size = size }, rest)) None ≡ Some (symbol Sym.Minus)
-          → (g : Trees (a_size ∷ S)) × Same (an_end ∷ S) (record { negative = negative; size = size }, rest) (record { negative = true; size = g.0 }, g.1)
-      view true size rest e = ((size, rest), refl)
-      view false (Some z) rest e = absurd (cc)
-      view false None rest e = absurd (cc)
+      (omega arith, tt) (λ g. refl) (λ f fits next. minus_view f.0.negative f.0.size f.1 next)
 
 -- an operand
 pub truth_quiet : (b : Bool) → IsQuiet (Some (symbol (truth_word b)))
@@ -155,7 +150,7 @@ truth_quiet false = (refl, refl)
 
 module _ (n : ℕ) where
   abbrev pub operand_rest : OperandOpening → List Pending → List Pending
-  operand_rest OperandOpening.Number S = a_number ∷ S
+  operand_rest (OperandOpening.Number z) S = exactly (plain (numbered z)) (refl, refl) ∷ S
   operand_rest OperandOpening.Name S = a_name ∷ S
   operand_rest (OperandOpening.Truth b) S = exactly (sign (truth_word b)) (truth_quiet b) ∷ S
   operand_rest OperandOpening.Unknown S = exactly (sign Sym.Question) (refl, refl) ∷ S
@@ -171,7 +166,7 @@ module _ (n : ℕ) where
   operand_rest OperandOpening.Nothing S = an_operand n ∷ S
 
   abbrev pub operand_tree : (o : OperandOpening) → (S : List Pending) → Trees (operand_rest o S) → Trees (an_operand n ∷ S)
-  operand_tree OperandOpening.Number S g = (number g.0, g.1)
+  operand_tree (OperandOpening.Number z) S g = (number z, g.1)
   operand_tree OperandOpening.Name S g = (name g.0, g.1)
   operand_tree (OperandOpening.Truth b) S g = (truth b, g.1)
   operand_tree OperandOpening.Unknown S g = (unknown, g.1)
@@ -189,7 +184,7 @@ module _ (n : ℕ) where
         view (sym e)
       where
         spells : (o : OperandOpening) → (g : Trees (operand_rest o S)) → pieces (an_operand n ∷ S) (operand_tree o S g) ≡ pieces (operand_rest o S) g
-        spells OperandOpening.Number g = refl
+        spells (OperandOpening.Number z) g = refl
         spells OperandOpening.Name g = refl
         spells (OperandOpening.Truth b) g = refl
         spells OperandOpening.Unknown g = refl
@@ -202,7 +197,7 @@ module _ (n : ℕ) where
         view : (f : Trees (an_operand n ∷ S)) → Fits (pieces (an_operand n ∷ S) f)
             → opening_of_operand (first_before (pieces (an_operand n ∷ S) f) None) ≡ o
             → (g : Trees (operand_rest o S)) × (f ≡ operand_tree o S g)
-        view (number z, rest) fits e = subst (λ o. (g : Trees (operand_rest o S)) × Same (an_operand n ∷ S) (number z, rest) (operand_tree o S g)) e ((z, rest), refl)
+        view (number z, rest) fits e = subst (λ o. (g : Trees (operand_rest o S)) × Same (an_operand n ∷ S) (number z, rest) (operand_tree o S g)) e ((tt, rest), refl)
         view (name x, rest) fits e = subst (λ o. (g : Trees (operand_rest o S)) × Same (an_operand n ∷ S) (name x, rest) (operand_tree o S g)) e ((x, rest), refl)
         view (truth true, rest) fits e = subst (λ o. (g : Trees (operand_rest o S)) × Same (an_operand n ∷ S) (truth true, rest) (operand_tree o S g)) e ((tt, rest), refl)
         view (truth false, rest) fits e = subst (λ o. (g : Trees (operand_rest o S)) × Same (an_operand n ∷ S) (truth false, rest) (operand_tree o S g)) e ((tt, rest), refl)
@@ -239,44 +234,47 @@ module _ (n : ℕ) where
         never (parentheses t more, rest) fits e = cc
         never (range lo hi, rest) fits e = cc
 
+    -- which operands begin with a sign
+    pub opening_of_prefix : (p : Prefix) → opening_of_operand (Some (symbol (prefix_sign p))) ≡ OperandOpening.Signed p
+    opening_of_prefix Prefix.Plus = refl
+    opening_of_prefix Prefix.Minus = refl
+    opening_of_prefix Prefix.Not = refl
+
+    pub prefix_view : (prefix : Prefix) (t : Operand) (rest : Trees S) → opening_of_operand (first_before (pieces (an_operand n ∷ S) (t, rest)) None) ≡ OperandOpening.Signed prefix
+        → (g : Trees (an_operand (n + 1) ∷ S)) × Same (an_operand n ∷ S) (t, rest) (signed prefix g.0, g.1)
+    prefix_view prefix (number z) rest e = absurd (cc)
+    prefix_view prefix (name x) rest e = absurd (cc)
+    prefix_view prefix (truth true) rest e = absurd (cc)
+    prefix_view prefix (truth false) rest e = absurd (cc)
+    prefix_view prefix unknown rest e = absurd (cc)
+    prefix_view prefix call rest e = absurd (cc)
+    prefix_view prefix (signed Prefix.Plus t) rest e = ((t, rest), let same : Prefix.Plus ≡ prefix = cc in ap (λ p. (signed p t, rest)) same)
+    prefix_view prefix (signed Prefix.Minus t) rest e = ((t, rest), let same : Prefix.Minus ≡ prefix = cc in ap (λ p. (signed p t, rest)) same)
+    prefix_view prefix (signed Prefix.Not t) rest e = ((t, rest), let same : Prefix.Not ≡ prefix = cc in ap (λ p. (signed p t, rest)) same)
+    prefix_view prefix (parentheses t more) rest e = absurd (cc)
+    prefix_view prefix (range lo hi) rest e = absurd (cc)
+
     -- behind a sign, and at one that opens level 65
     pub prefix_read : (prefix : Prefix) (to : List Word) → from ≡ symbol (prefix_sign prefix) ∷ to → n + 1 ≤ 64
         → Leads c ((an_operand n ∷ S)) from c ((an_operand (n + 1) ∷ S)) to (λ g. (signed prefix g.0, g.1))
     prefix_read prefix to e shallow =
         reads ((an_operand n ∷ S)) ((an_operand (n + 1) ∷ S)) c from to (opening (prefix_sign prefix) (n + 1))
         (λ g. (signed prefix g.0, g.1)) e (shallow, tt) (λ g. refl)
-        (λ f fits next. view f.0 f.1 (ap opening_of_operand next ∙ opening_of_prefix prefix))
-      where
-        opening_of_prefix : (p : Prefix) → opening_of_operand (Some (symbol (prefix_sign p))) ≡ OperandOpening.Signed p
-        opening_of_prefix Prefix.Plus = refl
-        opening_of_prefix Prefix.Minus = refl
-        opening_of_prefix Prefix.Not = refl
-
-        view : (t : Operand) (rest : Trees S) → opening_of_operand (first_before (pieces (an_operand n ∷ S) (t, rest)) None) ≡ OperandOpening.Signed prefix
-            → (g : Trees (an_operand (n + 1) ∷ S)) × Same (an_operand n ∷ S) (t, rest) (signed prefix g.0, g.1)
-        view (number z) rest e = absurd (cc)
-        view (name x) rest e = absurd (cc)
-        view (truth true) rest e = absurd (cc)
-        view (truth false) rest e = absurd (cc)
-        view unknown rest e = absurd (cc)
-        view call rest e = absurd (cc)
-        view (signed Prefix.Plus t) rest e = ((t, rest), let same : Prefix.Plus ≡ prefix = cc in ap (λ p. (signed p t, rest)) same)
-        view (signed Prefix.Minus t) rest e = ((t, rest), let same : Prefix.Minus ≡ prefix = cc in ap (λ p. (signed p t, rest)) same)
-        view (signed Prefix.Not t) rest e = ((t, rest), let same : Prefix.Not ≡ prefix = cc in ap (λ p. (signed p t, rest)) same)
-        view (parentheses t more) rest e = absurd (cc)
-        view (range lo hi) rest e = absurd (cc)
+        (λ f fits next. prefix_view prefix f.0 f.1 (ap opening_of_operand next ∙ opening_of_prefix prefix))
 
     pub prefix_too_deep : (prefix : Prefix) (to : List Word) → from ≡ symbol (prefix_sign prefix) ∷ to → 64 < n + 1
         → Stops c ((an_operand n ∷ S)) from Nesting from
     prefix_too_deep prefix to e deep =
         exceeds ((an_operand n ∷ S)) c from (opening (prefix_sign prefix) (n + 1)) (pieces (an_operand (n + 1) ∷ S) (complete (an_operand (n + 1) ∷ S)))
         Nesting (signed prefix (complete (an_operand (n + 1) ∷ S)).0, complete S) (completes (an_operand (n + 1) ∷ S)).0 refl (ap first e) (λ e. cc) deep
+        (λ f fits next. let found = prefix_view prefix f.0 f.1 (ap opening_of_operand next ∙ opening_of_prefix prefix) in
+        (pieces (an_operand (n + 1) ∷ S) found.0, ap (pieces (an_operand n ∷ S)) found.1))
 
 -- the operators and operands behind the first operand
 abbrev pub operator_at : Option Word → Option Op2
 operator_at = binary_operator
 
-unseen : (next : Option Word) → IsFalse (sees no_operator next) → binary_operator next ≡ None
+pub unseen : (next : Option Word) → IsFalse (sees no_operator next) → binary_operator next ≡ None
 unseen None h = refl
 unseen (Some (named x)) h = refl
 unseen (Some (numbered z)) h = refl
@@ -312,7 +310,7 @@ seen (Some (symbol Sym.And)) h = absurd (cc)
 seen (Some (symbol Sym.Or)) h = absurd (cc)
 seen (Some (symbol _)) h = refl
 
-reads_back : (op : Op2) → binary_operator (Some (symbol (sign_of op))) ≡ Some op
+pub reads_back : (op : Op2) → binary_operator (Some (symbol (sign_of op))) ≡ Some op
 reads_back Op2.Add = refl
 reads_back Op2.Sub = refl
 reads_back Op2.Mul = refl
@@ -338,21 +336,22 @@ module _ (n c : ℕ) (S : List Pending) (from : List Word) where
       view ended rest none = (rest, refl)
       view (further op t more) rest none = absurd (let both = sym (reads_back op) ∙ none in cc)
 
+  -- which tails begin with an operator
+  pub operator_view : (op : Op2) (t : Tail) (rest : Trees S) → Fits (pieces (a_tail n ∷ S) (t, rest))
+      → binary_operator (first_before (pieces (a_tail n ∷ S) (t, rest)) None) ≡ Some op
+      → (g : Trees (an_operand n ∷ a_tail n ∷ S)) × Same (a_tail n ∷ S) (t, rest) (further op g.0 g.1.0, g.1.1)
+  operator_view op ended rest fits found = absurd (let none = unseen (first_before (pieces S rest) None) fits.0 in let both = sym none ∙ found in cc)
+  operator_view op (further other t more) rest fits found = (
+    (t, (more, rest)),
+    let both : Some other ≡ Some op = sym (reads_back other) ∙ found in
+        let same : other ≡ op = cc in ap (λ o. (further o t more, rest)) same,
+  )
+
   pub operator_read : (op : Op2) (to : List Word) → from ≡ symbol (sign_of op) ∷ to → c + 1 ≤ 256
       → Leads c ((a_tail n ∷ S)) from (c + 1) ((an_operand n ∷ a_tail n ∷ S)) to (λ g. (further op g.0 g.1.0, g.1.1))
   operator_read op to e few =
       reads ((a_tail n ∷ S)) ((an_operand n ∷ a_tail n ∷ S)) c from to (operator op) (λ g. (further op g.0 g.1.0, g.1.1)) e
-      (omega arith, few) (λ g. refl) (λ f fits next. view f.0 f.1 fits (ap binary_operator next ∙ reads_back op))
-    where
-      view : (t : Tail) (rest : Trees S) → Fits (pieces (a_tail n ∷ S) (t, rest))
-          → binary_operator (first_before (pieces (a_tail n ∷ S) (t, rest)) None) ≡ Some op
-          → (g : Trees (an_operand n ∷ a_tail n ∷ S)) × Same (a_tail n ∷ S) (t, rest) (further op g.0 g.1.0, g.1.1)
-      view ended rest fits found = absurd (let none = unseen (first_before (pieces S rest) None) fits.0 in let both = sym none ∙ found in cc)
-      view (further other t more) rest fits found = (
-        (t, (more, rest)),
-        let both : Some other ≡ Some op = sym (reads_back other) ∙ found in
-            let same : other ≡ op = cc in ap (λ o. (further o t more, rest)) same,
-      )
+      (omega arith, few) (λ g. refl) (λ f fits next. operator_view op f.0 f.1 fits (ap binary_operator next ∙ reads_back op))
 
   pub operator_too_many : (op : Op2) (to : List Word) → from ≡ symbol (sign_of op) ∷ to → 256 < c + 1
       → Stops c ((a_tail n ∷ S)) from Operators from
@@ -360,6 +359,8 @@ module _ (n c : ℕ) (S : List Pending) (from : List Word) where
       exceeds ((a_tail n ∷ S)) c from (operator op) (pieces (an_operand n ∷ a_tail n ∷ S) (complete (an_operand n ∷ a_tail n ∷ S))) Operators
       (further op (complete (an_operand n ∷ a_tail n ∷ S)).0 (complete (an_operand n ∷ a_tail n ∷ S)).1.0, complete S)
       (completes (an_operand n ∷ a_tail n ∷ S)).0 refl (ap first e) (λ e. cc) (omega arith, many)
+      (λ f fits next. let found = operator_view op f.0 f.1 fits (ap binary_operator next ∙ reads_back op) in
+      (pieces (an_operand n ∷ a_tail n ∷ S) found.0, ap (pieces (a_tail n ∷ S)) found.1))
 
   -- an expression is an operand and what stands behind it
   pub expression_goes : Leads c ((an_expression n ∷ S)) from c ((an_operand n ∷ a_tail n ∷ S)) from

@@ -7,3 +7,5 @@ pub mod Answering
 pub mod Reading
 pub mod Loops
 pub mod Whole
+pub mod OneTree
+pub mod FaultLaws

@@ -1,5 +1,6 @@
 -- The loops of the readers, and what `else` leads to.
-use Rattle.std.proofs.Common.{◌≡◌, ℕ, ◌+◌, ◌<◌, ◌≤◌, List, [], ◌∷◌, true, false, refl}
+use Rattle.std.proofs.Common.{◌≡◌, ℕ, ◌+◌, ◌<◌, ◌≤◌, List, [], ◌∷◌, ◌++◌, map, Bool, true, false, refl, sym, ap, ◌∙◌, subst, append_assoc}
+use Rattle.std.proofs.lemmas.List.{append-nil, map-append}
 use Rattle.derivation.specs.declared.rule.Rule.{Rule}
 use Rattle.derivation.specs.declared.rule.Rule.TheVariants.{Nesting}
 use Rattle.derivation.specs.declared.symbol.Symbol.TheVariants as Sym
@@ -9,39 +10,62 @@ use Rattle.derivation.specs.Spelled.{words_from}
 use Rattle.derivation.specs.Pieces.{first}
 use Rattle.source_syntax.specs.declared.opening.ItemOpening.TheVariants as ItemOpening
 use Rattle.source_syntax.specs.Openings.{opening_of_item, else_follows, comma_follows}
-use Rattle.source_syntax.specs.Trees.{none, declaration, statement, otherwise}
-use Rattle.source_syntax.specs.Pending.{Pending, a_declaration, a_statement, an_otherwise, items}
+use Rattle.concrete_syntax.specs.declared.statement.Item.{Item as RustItem}
+use Rattle.concrete_syntax.specs.declared.simple.Part.{Part as RustPart}
+use Rattle.concrete_syntax.specs.declared.program.Prelude.{Prelude as RustPrelude}
+use Rattle.concrete_syntax.specs.Trees.{Part, Declaration, Statement, Items, none, otherwise, Prelude}
+use Rattle.concrete_syntax.specs.Chains.{Item, declared, stated, items_of}
+use Rattle.concrete_syntax.specs.Mirror.{item, part, prelude}
+use Rattle.concrete_syntax.proofs.Chains.{items_of-append}
+use Rattle.source_syntax.specs.Pending.{Pending, a_declaration, a_statement, an_otherwise, items, a_program, TreeOf}
 use Rattle.source_syntax.specs.Leads.{Leads, Stops}
-use Rattle.source_syntax.specs.Reads.{Reads, ReadsLeading, Refuses, Continues, ReadsPart, RefusesPart, ComesToParts}
-use Rattle.source_syntax.proofs.Calculus.{over, fails, stay}
+use Rattle.source_syntax.specs.Reads.{Reads, ReadsLeading, Refuses, Continues, behind_preludes, ReadsPart, RefusesPart, ComesToParts}
+use Rattle.source_syntax.proofs.Calculus.{over, fails, stay, refilled}
 use Rattle.source_syntax.proofs.Statements.{items_goes, else_read, else_too_deep, declaration_goes, parts_goes}
 use Rattle.source_syntax.proofs.Words.{else_word}
 use Rattle.source_syntax.proofs.Reading.{next_of}
 use Rattle.source_syntax.proofs.Answering.{sign_reads, leading_reads}
 
-pub continues_from : (p : Pending) (start : List Word) → Continues p start start
-continues_from p start = record { whole = λ t. t; comes = λ count behind. (count, stay count (p ∷ behind) start) }
+-- a tree that is told by an equation
+pub told_reads : {p : Pending} {t u : TreeOf p} {from to : List Word} → t ≡ u → Reads p u from to → Reads p t from to
+told_reads {p} {t} {u} {from} {to} e r = subst (λ t. Reads p t from to) (sym e) r
+
+-- items
+pub items_from : (n : ℕ) (start : List Word) (list : List Item) → list ≡ [] → Continues (items n) (items_of list) start start
+items_from n start list empty =
+    subst (λ list. Continues (items n) (items_of list) start start) (sym empty) (record { comes = λ count behind. (count, stay count (items n ∷ behind) start) })
 
 module _ (n : ℕ) (start here : List Word) where
-  pub items_declaration : (to : List Word) → Continues (items n) start here → ItemOpening.Declaration ≡ opening_of_item (first here)
-      → ReadsLeading (a_declaration n) here to → Continues (items n) start to
-  items_declaration to h e r = record {
-    whole = λ more. h.whole (declaration r.tree more);
-    comes = λ count behind. (_, over (h.comes count behind).1 (over (items_goes n _ behind here ItemOpening.Declaration e) (r.comes _ (items n ∷ behind))));
+  pub items_declaration : (to : List Word) (list more : List Item) (d : Declaration) → more ≡ list ++ declared d ∷ []
+      → Continues (items n) (items_of list) start here → ItemOpening.Declaration ≡ opening_of_item (first here)
+      → ReadsLeading (a_declaration n) d here to → Continues (items n) (items_of more) start to
+  items_declaration to list more d pushed h e r = record {
+    comes = λ count behind. (
+      _,
+      refilled (λ trees. ap (λ all. (all, trees.1)) (sym (ap (λ l. items_of l trees.0) pushed ∙ items_of-append list (declared d ∷ []) trees.0)))
+          (over (h.comes count behind).1 (over (items_goes n _ behind here ItemOpening.Declaration e) (r.comes _ (items n ∷ behind)))),
+    );
   }
 
-  pub items_statement : (to : List Word) → Continues (items n) start here → ItemOpening.Statement ≡ opening_of_item (first here)
-      → Reads (a_statement n) here to → Continues (items n) start to
-  items_statement to h e r = record {
-    whole = λ more. h.whole (statement r.tree more);
-    comes = λ count behind. (_, over (h.comes count behind).1 (over (items_goes n _ behind here ItemOpening.Statement e) (r.comes _ (items n ∷ behind)).1));
+  pub items_statement : (to : List Word) (list more : List Item) (s : Statement) → more ≡ list ++ stated s ∷ []
+      → Continues (items n) (items_of list) start here → ItemOpening.Statement ≡ opening_of_item (first here)
+      → Reads (a_statement n) s here to → Continues (items n) (items_of more) start to
+  items_statement to list more s pushed h e r = record {
+    comes = λ count behind. (
+      _,
+      refilled (λ trees. ap (λ all. (all, trees.1)) (sym (ap (λ l. items_of l trees.0) pushed ∙ items_of-append list (stated s ∷ []) trees.0)))
+          (over (h.comes count behind).1 (over (items_goes n _ behind here ItemOpening.Statement e) (r.comes _ (items n ∷ behind)).1)),
+    );
   }
 
-  pub items_close : (to : List Word) → Continues (items n) start here → ItemOpening.Close ≡ opening_of_item (first here)
-      → here ≡ symbol Sym.CloseBrace ∷ to → Reads (items n) start to
-  items_close to h e r = record {
-    tree = h.whole none;
-    comes = λ count behind. (_, over (h.comes count behind).1 (over (items_goes n _ behind here ItemOpening.Close e) (sign_reads Sym.CloseBrace (refl, refl) r)));
+  pub items_close : (to : List Word) (list : List Item) (all : Items) → Continues (items n) (items_of list) start here → ItemOpening.Close ≡ opening_of_item (first here)
+      → here ≡ symbol Sym.CloseBrace ∷ to → all ≡ items_of list none → Reads (items n) all start to
+  items_close to list all h e r made = record {
+    comes = λ count behind. (
+      _,
+      refilled (λ trees. ap (λ t. (t, trees)) (sym made))
+          (over (h.comes count behind).1 (over (items_goes n _ behind here ItemOpening.Close e) (sign_reads Sym.CloseBrace (refl, refl) r))),
+    );
   }
 
 -- the second part of an `if`
@@ -60,43 +84,70 @@ module _ (lexemes : List Lexeme) (at n : ℕ) where
 
 -- the parts of a declaration
 module _ (n : ℕ) (start : List Word) where
-  pub parts_from : (inner to : List Word) → start ≡ symbol Sym.Int ∷ inner → ReadsPart n inner to → ComesToParts n start to
-  parts_from inner to e r = record {
-    whole = λ more. record { part = r.part; more = more };
+  pub parts_from : (inner to : List Word) (part : Part) (so_far : List Part) → so_far ≡ [] → start ≡ symbol Sym.Int ∷ inner → ReadsPart n part inner to
+      → ComesToParts n part so_far start to
+  parts_from inner to part so_far empty e r = subst (λ so_far. ComesToParts n part so_far start to) (sym empty) (record {
     comes = λ count behind. (_, over (declaration_goes n count behind start) (over (sign_reads Sym.Int (refl, refl) e) (r.comes _ behind).1));
-  }
+  })
 
   pub part_missing : (inner to : List Word) → start ≡ symbol Sym.Int ∷ inner → (rule : Rule) → RefusesPart n inner rule to → Refuses (a_declaration n) start rule to
   part_missing inner to e rule h count behind =
       fails (declaration_goes n count behind start) (fails (sign_reads Sym.Int (refl, refl) e) (h _ behind))
 
-  pub parts_over : (here inner to : List Word) → ComesToParts n start here → true ≡ comma_follows (first here) → here ≡ symbol Sym.Comma ∷ inner
-      → ReadsPart n inner to → ComesToParts n start to
-  parts_over here inner to h e c r = record {
-    whole = λ more. h.whole (r.part ∷ more);
+  pub parts_over : (here inner to : List Word) (part further : Part) (so_far more : List Part) → more ≡ so_far ++ further ∷ []
+      → ComesToParts n part so_far start here → true ≡ comma_follows (first here) → here ≡ symbol Sym.Comma ∷ inner
+      → ReadsPart n further inner to → ComesToParts n part more start to
+  parts_over here inner to part further so_far more pushed h e c r = record {
     comes = λ count behind. (
       _,
-      over (h.comes count behind).1
-          (over (parts_goes n _ behind here true e) (over (sign_reads Sym.Comma (refl, refl) c) (r.comes _ behind).1)),
+      refilled (λ trees. ap (λ l. (record { part = part; more = l }, trees.1))
+          (sym (ap (λ l. l ++ trees.0) pushed ∙ append_assoc so_far (further ∷ []) trees.0)))
+          (over (h.comes count behind).1
+          (over (parts_goes n _ behind here true e) (over (sign_reads Sym.Comma (refl, refl) c) (r.comes _ behind).1))),
     );
   }
 
-  pub parts_close : (here to : List Word) → ComesToParts n start here → false ≡ comma_follows (first here) → here ≡ symbol Sym.Semicolon ∷ to
-      → ReadsLeading (a_declaration n) start to
-  parts_close here to h e c = record {
-    tree = h.whole [];
-    comes = λ count behind. over (h.comes count behind).1 (over (parts_goes n _ behind here false e) (leading_reads Sym.Semicolon (refl, refl) c));
+  pub parts_close : (here to : List Word) (part : Part) (so_far : List Part) → ComesToParts n part so_far start here → false ≡ comma_follows (first here)
+      → here ≡ symbol Sym.Semicolon ∷ to → ReadsLeading (a_declaration n) (record { part = part; more = so_far }) start to
+  parts_close here to part so_far h e c = record {
+    comes = λ count behind.
+        refilled (λ trees. ap (λ l. (record { part = part; more = l }, trees)) (append-nil so_far))
+        (over (h.comes count behind).1 (over (parts_goes n _ behind here false e) (leading_reads Sym.Semicolon (refl, refl) c)));
   }
 
 -- what stands before `main`
-pub continues_over : (p : Pending) (start here to : List Word) → Continues p start here → Continues p here to → Continues p start to
-continues_over p start here to h r = record {
-  whole = λ t. h.whole (r.whole t);
-  comes = λ count behind. (_, over (h.comes count behind).1 (r.comes _ behind).1);
+pub preludes_from : (start : List Word) (list : List Prelude) → list ≡ [] → Continues a_program (behind_preludes list) start start
+preludes_from start list empty =
+    subst (λ list. Continues a_program (behind_preludes list) start start) (sym empty)
+    (record { comes = λ count behind. (count, stay count (a_program ∷ behind) start) })
+
+pub preludes_over : (start here to : List Word) (list front more : List Prelude) → more ≡ list ++ front → Continues a_program (behind_preludes list) start here
+    → Continues a_program (behind_preludes front) here to → Continues a_program (behind_preludes more) start to
+preludes_over start here to list front more pushed h r = record {
+  comes = λ count behind. (
+    _,
+    refilled (λ trees. ap (λ l. (record { preludes = l; void = trees.0.void; items = trees.0.items }, trees.1))
+        (sym (ap (λ l. l ++ trees.0.preludes) pushed ∙ append_assoc list front trees.0.preludes)))
+        (over (h.comes count behind).1 (r.comes _ behind).1),
+  );
 }
 
-pub continues_to : (p : Pending) (start here to : List Word) → Continues p start here → Reads p here to → Reads p start to
-continues_to p start here to h r = record {
-  tree = h.whole r.tree;
-  comes = λ count behind. (_, over (h.comes count behind).1 (r.comes _ behind).1);
+pub preludes_to : (start here to : List Word) (list : List Prelude) (void : Bool) (all : Items) → Continues a_program (behind_preludes list) start here
+    → Reads a_program (record { preludes = []; void = void; items = all }) here to → Reads a_program (record { preludes = list; void = void; items = all }) start to
+preludes_to start here to list void all h r = record {
+  comes = λ count behind. (
+    _,
+    refilled (λ trees. ap (λ l. (record { preludes = l; void = void; items = all }, trees)) (append-nil list))
+        (over (h.comes count behind).1 (r.comes _ behind).1),
+  );
 }
+
+-- an element more in a list
+pub one_item_more : (old new : List RustItem) (last : RustItem) → new ≡ old ++ last ∷ [] → map item new ≡ map item old ++ item last ∷ []
+one_item_more old new last pushed = ap (map item) pushed ∙ map-append item old (last ∷ [])
+
+pub one_part_more : (old new : List RustPart) (last : RustPart) → new ≡ old ++ last ∷ [] → map part new ≡ map part old ++ part last ∷ []
+one_part_more old new last pushed = ap (map part) pushed ∙ map-append part old (last ∷ [])
+
+pub one_prelude_more : (old new : List RustPrelude) (last : RustPrelude) → new ≡ old ++ last ∷ [] → map prelude new ≡ map prelude old ++ prelude last ∷ []
+one_prelude_more old new last pushed = ap (map prelude) pushed ∙ map-append prelude old (last ∷ [])

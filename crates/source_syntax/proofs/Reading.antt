@@ -1,26 +1,31 @@
 -- Readings of a single word that the next word opens.
-use Rattle.std.proofs.Common.{◌≡◌, ℕ, ◌+◌, ◌<◌, ◌≤◌, List, ◌∷◌, Some, None, Bool, true, refl, sym, ap, ◌∙◌, arith}
+use Rattle.std.proofs.Common.{◌≡◌, ℕ, ◌+◌, ◌<◌, ◌≤◌, ℤ, List, [], ◌∷◌, ◌++◌, subst, Some, None, Bool, true, refl, sym, ap, ◌∙◌, arith}
 use Rattle.step_meaning.specs.declared.expression.Op2.{Op2}
 use Rattle.derivation.specs.declared.rule.Rule.TheVariants.{Nesting, Operators}
 use Rattle.derivation.specs.declared.symbol.Symbol.{Symbol}
 use Rattle.derivation.specs.declared.symbol.Symbol.TheVariants as Sym
 use Rattle.derivation.specs.declared.lexeme.Lexeme.{Lexeme}
-use Rattle.derivation.specs.Word.{Word, symbol, name as named, number as numbered}
+use Rattle.derivation.specs.Word.{Word, symbol, number as numbered}
 use Rattle.derivation.specs.Spelled.{words_from, IsBehind}
 use Rattle.derivation.specs.Pieces.{first}
-use Rattle.source_syntax.specs.declared.opening.Prefix.{Prefix}
+use Rattle.concrete_syntax.specs.declared.sign.Prefix.{Prefix}
 use Rattle.source_syntax.specs.declared.opening.OperandOpening.{OperandOpening}
 use Rattle.source_syntax.specs.declared.opening.SizeOpening.{SizeOpening}
 use Rattle.source_syntax.specs.Openings.{opening_of_operand, binary_operator, size_opening, negative_follows}
-use Rattle.source_syntax.specs.Trees.{number, name, truth, unknown, signed, further, ended}
+use Rattle.std.proofs.lemmas.List.{map-append}
+use Rattle.concrete_syntax.specs.declared.expression.Operand.{Operand as RustOperand}
+use Rattle.concrete_syntax.specs.Chains.{Link, tail_of}
+use Rattle.concrete_syntax.specs.Mirror.{operand, link, links}
+use Rattle.concrete_syntax.proofs.Chains.{tail_of-append}
+use Rattle.concrete_syntax.specs.Trees.{Operand, Tail, number, truth, unknown, signed, further, ended}
 use Rattle.source_syntax.specs.Spelling.{truth_word, prefix_sign, sign_of}
-use Rattle.source_syntax.specs.Pending.{Pending, a_size, an_end, an_operand, a_tail, an_expression}
+use Rattle.source_syntax.specs.Pending.{Pending, a_size, an_end, an_operand, a_tail, an_expression, TreeOf}
 use Rattle.source_syntax.specs.Leads.{Leads, Stops}
 use Rattle.source_syntax.specs.Reads.{ReadsCounting, ComesToTail}
-use Rattle.source_syntax.proofs.Calculus.{over}
-use Rattle.source_syntax.proofs.Expressions.{size_goes, number_read, name_read, minus_read, operand_goes, prefix_read, prefix_too_deep, operator_read, operator_too_many, tail_ends, expression_goes, truth_quiet}
+use Rattle.source_syntax.proofs.Calculus.{over, refilled}
+use Rattle.source_syntax.proofs.Expressions.{size_goes, minus_read, operand_goes, prefix_read, prefix_too_deep, operator_read, operator_too_many, tail_ends, expression_goes, truth_quiet}
 use Rattle.source_syntax.proofs.Words.{stands_at, operand_word, size_word, operator_word, minus_word}
-use Rattle.source_syntax.proofs.Answering.{sign_reads}
+use Rattle.source_syntax.proofs.Answering.{sign_reads, number_reads}
 
 -- behind one word
 pub one_behind : (lexemes : List Lexeme) (at : ℕ) (w : Word) (rest : List Word) → words_from lexemes at ≡ w ∷ rest → IsBehind lexemes at (at + 1)
@@ -31,24 +36,22 @@ pub next_of : (lexemes : List Lexeme) (at : ℕ) (w : Word) (rest : List Word) �
 next_of lexemes at w rest e = e ∙ ap (λ ws. w ∷ ws) (sym (stands_at lexemes at w rest e).1)
 
 module _ (lexemes : List Lexeme) (at : ℕ) where
-  pub size_number : SizeOpening.Number ≡ size_opening (first (words_from lexemes at))
-      → ((count : ℕ) → ReadsCounting count a_size (words_from lexemes at) count (words_from lexemes (at + 1))) × IsBehind lexemes at (at + 1)
-  size_number e =
-      let w = size_word (words_from lexemes at) SizeOpening.Number e in (
+  pub size_number : (z : ℤ) → SizeOpening.Number z ≡ size_opening (first (words_from lexemes at))
+      → ((count : ℕ) → ReadsCounting count a_size (Some z) (words_from lexemes at) count (words_from lexemes (at + 1))) × IsBehind lexemes at (at + 1)
+  size_number z e =
+      let w = size_word (words_from lexemes at) (SizeOpening.Number z) e in (
         λ count. record {
-          tree = Some w.0;
-          comes = λ behind. over (size_goes count behind (words_from lexemes at) SizeOpening.Number e)
-              (number_read count behind (words_from lexemes at) w.0 (words_from lexemes (at + 1)) (next_of lexemes at (numbered w.0) w.1 w.2));
+          comes = λ behind. over (size_goes count behind (words_from lexemes at) (SizeOpening.Number z) e)
+              (number_reads (next_of lexemes at (numbered z) w.0 w.1));
         },
-        one_behind lexemes at (numbered w.0) w.1 w.2,
+        one_behind lexemes at (numbered z) w.0 w.1,
       )
 
   pub size_infinite : SizeOpening.Infinite ≡ size_opening (first (words_from lexemes at))
-      → ((count : ℕ) → ReadsCounting count a_size (words_from lexemes at) count (words_from lexemes (at + 1))) × IsBehind lexemes at (at + 1)
+      → ((count : ℕ) → ReadsCounting count a_size None (words_from lexemes at) count (words_from lexemes (at + 1))) × IsBehind lexemes at (at + 1)
   size_infinite e =
       let w = size_word (words_from lexemes at) SizeOpening.Infinite e in (
         λ count. record {
-          tree = None;
           comes = λ behind. over (size_goes count behind (words_from lexemes at) SizeOpening.Infinite e)
               (sign_reads Sym.Infinite (refl, refl) (next_of lexemes at (symbol Sym.Infinite) w.0 w.1));
         },
@@ -63,36 +66,22 @@ module _ (lexemes : List Lexeme) (at : ℕ) where
 
 -- operands of one word
 module _ (lexemes : List Lexeme) (at n : ℕ) where
-  pub operand_number : OperandOpening.Number ≡ opening_of_operand (first (words_from lexemes at))
-      → ((count : ℕ) → ReadsCounting count (an_operand n) (words_from lexemes at) count (words_from lexemes (at + 1))) × IsBehind lexemes at (at + 1)
-  operand_number e =
-      let w = operand_word (words_from lexemes at) OperandOpening.Number e in (
+  pub operand_number : (z : ℤ) → OperandOpening.Number z ≡ opening_of_operand (first (words_from lexemes at))
+      → ((count : ℕ) → ReadsCounting count (an_operand n) (number z) (words_from lexemes at) count (words_from lexemes (at + 1))) × IsBehind lexemes at (at + 1)
+  operand_number z e =
+      let w = operand_word (words_from lexemes at) (OperandOpening.Number z) e in (
         λ count. record {
-          tree = number w.0;
-          comes = λ behind. over (operand_goes n count behind (words_from lexemes at) OperandOpening.Number e)
-              (number_read count behind (words_from lexemes at) w.0 (words_from lexemes (at + 1)) (next_of lexemes at (numbered w.0) w.1 w.2));
+          comes = λ behind. over (operand_goes n count behind (words_from lexemes at) (OperandOpening.Number z) e)
+              (number_reads (next_of lexemes at (numbered z) w.0 w.1));
         },
-        one_behind lexemes at (numbered w.0) w.1 w.2,
-      )
-
-  pub operand_name : OperandOpening.Name ≡ opening_of_operand (first (words_from lexemes at))
-      → ((count : ℕ) → ReadsCounting count (an_operand n) (words_from lexemes at) count (words_from lexemes (at + 1))) × IsBehind lexemes at (at + 1)
-  operand_name e =
-      let w = operand_word (words_from lexemes at) OperandOpening.Name e in (
-        λ count. record {
-          tree = name w.0;
-          comes = λ behind. over (operand_goes n count behind (words_from lexemes at) OperandOpening.Name e)
-              (name_read count behind (words_from lexemes at) w.0 (words_from lexemes (at + 1)) (next_of lexemes at (named w.0) w.1 w.2));
-        },
-        one_behind lexemes at (named w.0) w.1 w.2,
+        one_behind lexemes at (numbered z) w.0 w.1,
       )
 
   pub operand_truth : (b : Bool) → OperandOpening.Truth b ≡ opening_of_operand (first (words_from lexemes at))
-      → ((count : ℕ) → ReadsCounting count (an_operand n) (words_from lexemes at) count (words_from lexemes (at + 1))) × IsBehind lexemes at (at + 1)
+      → ((count : ℕ) → ReadsCounting count (an_operand n) (truth b) (words_from lexemes at) count (words_from lexemes (at + 1))) × IsBehind lexemes at (at + 1)
   operand_truth b e =
       let w = operand_word (words_from lexemes at) (OperandOpening.Truth b) e in (
         λ count. record {
-          tree = truth b;
           comes = λ behind. over (operand_goes n count behind (words_from lexemes at) (OperandOpening.Truth b) e)
               (sign_reads (truth_word b) (truth_quiet b) (next_of lexemes at (symbol (truth_word b)) w.0 w.1));
         },
@@ -100,11 +89,10 @@ module _ (lexemes : List Lexeme) (at n : ℕ) where
       )
 
   pub operand_unknown : OperandOpening.Unknown ≡ opening_of_operand (first (words_from lexemes at))
-      → ((count : ℕ) → ReadsCounting count (an_operand n) (words_from lexemes at) count (words_from lexemes (at + 1))) × IsBehind lexemes at (at + 1)
+      → ((count : ℕ) → ReadsCounting count (an_operand n) unknown (words_from lexemes at) count (words_from lexemes (at + 1))) × IsBehind lexemes at (at + 1)
   operand_unknown e =
       let w = operand_word (words_from lexemes at) OperandOpening.Unknown e in (
         λ count. record {
-          tree = unknown;
           comes = λ behind. over (operand_goes n count behind (words_from lexemes at) OperandOpening.Unknown e)
               (sign_reads Sym.Question (refl, refl) (next_of lexemes at (symbol Sym.Question) w.0 w.1));
         },
@@ -148,26 +136,40 @@ module _ (lexemes : List Lexeme) (at n : ℕ) where
 
 -- the loop of an expression
 module _ (count levels : ℕ) (start : List Word) where
-  pub tail_from : (now : ℕ) (here : List Word) → ReadsCounting count (an_operand levels) start now here → ComesToTail count levels start now here
-  tail_from now here r = record {
-    whole = λ t. record { operand = r.tree; tail = t };
+  pub tail_from : (now : ℕ) (here : List Word) (e : Operand) (links : List Link) → links ≡ [] → ReadsCounting count (an_operand levels) e start now here
+      → ComesToTail count levels e links start now here
+  tail_from now here e links none r = subst (λ links. ComesToTail count levels e links start now here) (sym none) (record {
     comes = λ behind. over (expression_goes levels count behind start) (r.comes (a_tail levels ∷ behind));
-  }
+  })
 
-  pub tail_over : (now next : ℕ) (here inner to : List Word) (op : Op2) → ComesToTail count levels start now here
+  pub tail_over : (now next : ℕ) (here inner to : List Word) (op : Op2) (e further_operand : Operand) (links more : List Link)
+      → more ≡ links ++ (op, further_operand) ∷ [] → ComesToTail count levels e links start now here
       → ((behind : List Pending) → Leads now (a_tail levels ∷ behind) here (now + 1) (an_operand levels ∷ a_tail levels ∷ behind) inner (λ g. (further op g.0 g.1.0, g.1.1)))
-      → ReadsCounting (now + 1) (an_operand levels) inner next to → ComesToTail count levels start next to
-  tail_over now next here inner to op h step r = record {
-    whole = λ t. h.whole (further op r.tree t);
-    comes = λ behind. over (h.comes behind) (over (step behind) (r.comes (a_tail levels ∷ behind)));
+      → ReadsCounting (now + 1) (an_operand levels) further_operand inner next to → ComesToTail count levels e more start next to
+  tail_over now next here inner to op e further_operand links more pushed h step r = record {
+    comes = λ behind.
+        refilled (λ trees. ap (λ t. (record { operand = e; tail = t }, trees.1))
+        (sym (ap (λ l. tail_of l trees.0) pushed ∙ tail_of-append links ((op, further_operand) ∷ []) trees.0)))
+        (over (h.comes behind) (over (step behind) (r.comes (a_tail levels ∷ behind))));
   }
 
-  pub tail_done : (now : ℕ) (here : List Word) → ComesToTail count levels start now here → None ≡ binary_operator (first here)
-      → ReadsCounting count (an_expression levels) start now here
-  tail_done now here h e = record {
-    tree = h.whole ended;
-    comes = λ behind. over (h.comes behind) (tail_ends levels now behind here e);
+  pub tail_done : (now : ℕ) (here : List Word) (e : Operand) (links : List Link) (tail : Tail) → ComesToTail count levels e links start now here
+      → None ≡ binary_operator (first here) → tail ≡ tail_of links ended
+      → ReadsCounting count (an_expression levels) (record { operand = e; tail = tail }) start now here
+  tail_done now here e links tail h none made = record {
+    comes = λ behind.
+        refilled (λ trees. ap (λ t. (record { operand = e; tail = t }, trees)) (sym made))
+        (over (h.comes behind) (tail_ends levels now behind here none));
   }
+
+-- a link more in a list
+pub one_link_more : (old new : List (Op2 × RustOperand)) (op : Op2) (e : RustOperand) → new ≡ old ++ (op, e) ∷ []
+    → links new ≡ links old ++ (op, operand e) ∷ []
+one_link_more old new op e pushed = ap links pushed ∙ map-append link old ((op, e) ∷ [])
+
+-- a tree that is told by an equation
+pub told : {count now : ℕ} {p : Pending} {t u : TreeOf p} {from to : List Word} → t ≡ u → ReadsCounting count p u from now to → ReadsCounting count p t from now to
+told {count} {now} {p} {t} {u} {from} {to} e r = subst (λ t. ReadsCounting count p t from now to) (sym e) r
 
 -- a sign whose spelling is told by an equation
 pub written : {from to : List Word} {s t : Symbol} → from ≡ symbol s ∷ to → s ≡ t → from ≡ symbol t ∷ to

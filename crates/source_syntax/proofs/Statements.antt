@@ -8,9 +8,9 @@ use Rattle.derivation.specs.Pieces.{look, no_else, sees, first, first_before, Fi
 use Rattle.derivation.specs.Comes.{IsQuiet}
 use Rattle.source_syntax.specs.Leads.{Leads, Stops}
 use Rattle.source_syntax.proofs.Calculus.{opens, reads, sticks, exceeds}
-use Rattle.source_syntax.specs.declared.opening.Prefix.{Prefix}
-use Rattle.source_syntax.specs.declared.opening.Assignment.{Assignment}
-use Rattle.source_syntax.specs.declared.opening.Step.{Step}
+use Rattle.concrete_syntax.specs.declared.sign.Prefix.{Prefix}
+use Rattle.concrete_syntax.specs.declared.sign.Assignment.{Assignment}
+use Rattle.concrete_syntax.specs.declared.sign.Step.{Step}
 use Rattle.source_syntax.specs.declared.opening.ActionOpening.{ActionOpening}
 use Rattle.source_syntax.specs.declared.opening.SimpleOpening.{SimpleOpening}
 use Rattle.source_syntax.specs.declared.opening.StatementOpening.{StatementOpening}
@@ -18,7 +18,7 @@ use Rattle.source_syntax.specs.declared.opening.ItemOpening.{ItemOpening}
 use Rattle.source_syntax.specs.declared.opening.StartOpening.{StartOpening}
 use Rattle.source_syntax.specs.declared.opening.PreludeOpening.{PreludeOpening}
 use Rattle.source_syntax.specs.Openings.{opening_of_simple, opening_of_action, opening_of_statement, opening_of_item, opening_of_start, opening_of_prelude, assign_follows, comma_follows, semicolon_follows, parenthesis_follows, void_follows, else_follows}
-use Rattle.source_syntax.specs.Trees.{Operand, number, name, truth, unknown, call, signed, parentheses, range, Tail, Expression, assigns, steps, acts, steps_before, Part, starts_with_nothing, starts_with, declares, simple, skip, braces, conditional, while_loop, do_loop, for_loop, return, Otherwise, without, otherwise, Items, none, declaration, statement, Prelude, extern_call, typedef_bool}
+use Rattle.concrete_syntax.specs.Trees.{Operand, number, name, truth, unknown, call, signed, parentheses, range, Tail, Expression, assigns, steps, acts, steps_before, Part, starts_with_nothing, starts_with, declares, simple, skip, braces, conditional, while_loop, do_loop, for_loop, return, Otherwise, without, otherwise, Items, none, declaration, statement, Prelude, extern_call, typedef_bool}
 use Rattle.source_syntax.specs.Spelling.{sign, leading, opening, leading_opening, assignment_sign, step_sign}
 use Rattle.source_syntax.specs.Pending.{Pending, exactly, a_name, an_expression, an_optional, a_test, an_action, a_simple, a_part_end, parts, a_declaration, a_start, a_finish, a_statement, an_otherwise, items, a_void, a_program, Trees, pieces}
 use Rattle.source_syntax.proofs.Completions.{complete, completes}
@@ -511,7 +511,7 @@ module _ (c : ℕ) (S : List Pending) (from : List Word) where
           → (g : Trees (program_rest o S)) × (f ≡ program_tree o S g)
       view (p, rest) fits e = behind p.preludes p.void p.items rest e
 
-unseen : (next : Option Word) → IsFalse (sees no_else next) → else_follows next ≡ false
+pub unseen : (next : Option Word) → IsFalse (sees no_else next) → else_follows next ≡ false
 unseen None h = refl
 unseen (Some (named x)) h = refl
 unseen (Some (numbered z)) h = refl
@@ -540,23 +540,26 @@ module _ (n c : ℕ) (S : List Pending) (from : List Word) where
       view without rest missing = (rest, refl)
       view (otherwise part) rest missing = absurd (cc)
 
+  -- which second parts begin with an `else`
+  pub else_view : (t : Otherwise) (rest : Trees S) → Fits (pieces (an_otherwise n ∷ S) (t, rest))
+      → else_follows (first_before (pieces (an_otherwise n ∷ S) (t, rest)) None) ≡ true
+      → (g : Trees (a_statement (n + 1) ∷ S)) × Same (an_otherwise n ∷ S) (t, rest) (otherwise g.0, g.1)
+  else_view without rest fits found = absurd (let missing = unseen (first_before (pieces S rest) None) fits.0 in let both = sym missing ∙ found in cc)
+  else_view (otherwise part) rest fits found = ((part, rest), refl)
+
   pub else_read : (to : List Word) → from ≡ symbol Sym.Else ∷ to → n + 1 ≤ 64
       → Leads c ((an_otherwise n ∷ S)) from c ((a_statement (n + 1) ∷ S)) to (λ g. (otherwise g.0, g.1))
   else_read to e shallow =
       reads ((an_otherwise n ∷ S)) ((a_statement (n + 1) ∷ S)) c from to (opening Sym.Else (n + 1)) (λ g. (otherwise g.0, g.1)) e
-      (shallow, tt) (λ g. refl) (λ f fits next. view f.0 f.1 fits (ap else_follows next))
-    where
-      view : (t : Otherwise) (rest : Trees S) → Fits (pieces (an_otherwise n ∷ S) (t, rest))
-          → else_follows (first_before (pieces (an_otherwise n ∷ S) (t, rest)) None) ≡ true
-          → (g : Trees (a_statement (n + 1) ∷ S)) × Same (an_otherwise n ∷ S) (t, rest) (otherwise g.0, g.1)
-      view without rest fits found = absurd (let missing = unseen (first_before (pieces S rest) None) fits.0 in let both = sym missing ∙ found in cc)
-      view (otherwise part) rest fits found = ((part, rest), refl)
+      (shallow, tt) (λ g. refl) (λ f fits next. else_view f.0 f.1 fits (ap else_follows next))
 
   pub else_too_deep : (to : List Word) → from ≡ symbol Sym.Else ∷ to → 64 < n + 1
       → Stops c ((an_otherwise n ∷ S)) from Nesting from
   else_too_deep to e deep =
       exceeds ((an_otherwise n ∷ S)) c from (opening Sym.Else (n + 1)) (pieces (a_statement (n + 1) ∷ S) (complete (a_statement (n + 1) ∷ S)))
       Nesting (otherwise (complete (a_statement (n + 1) ∷ S)).0, complete S) (completes (a_statement (n + 1) ∷ S)).0 refl (ap first e) (λ e. cc) deep
+      (λ f fits next. let found = else_view f.0 f.1 fits (ap else_follows next) in
+      (pieces (a_statement (n + 1) ∷ S) found.0, ap (pieces (an_otherwise n ∷ S)) found.1))
 
 -- behind a program nothing follows
 pub trailing : (c : ℕ) (from : List Word) → from ≢ [] → Stops c [] from Expected from

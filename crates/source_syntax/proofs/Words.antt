@@ -1,5 +1,5 @@
 -- The word that stands at a place, by how it opens.
-use Rattle.std.proofs.Common.{◌≡◌, ℕ, suc, ◌+◌, ◌<◌, ◌≤◌, ℤ, ◌⊎◌, inl, inr, List, [], ◌∷◌, Option, None, Some, true, length, drop, get_or, drop-cons, refl, sym, ap, ◌∙◌, subst, add-one}
+use Rattle.std.proofs.Common.{◌≡◌, ℕ, suc, ◌+◌, ◌<◌, ◌≤◌, ◌⊎◌, inl, inr, List, [], ◌∷◌, Option, None, Some, true, length, drop, get_or, drop-cons, refl, sym, ap, ◌∙◌, subst, add-one}
 use Rattle.std.proofs.lemmas.Bool.{cases_lt}
 use Rattle.std.proofs.lemmas.List.{drop_all}
 use Rattle.step_meaning.specs.declared.expression.Op2.{Op2}
@@ -36,8 +36,7 @@ stands_at lexemes at w rest e = by_place (cases_lt at (length lexemes))
         absurd (let none : [] ≡ w ∷ rest = sym (ap all_spelled (drop_all at lexemes outside)) ∙ e in cc)
 
 abbrev pub WordFor : OperandOpening → List Word → Type 0
-WordFor OperandOpening.Number ws = (z : ℤ) × (rest : List Word) × (ws ≡ numbered z ∷ rest)
-WordFor OperandOpening.Name ws = (x : List ℕ) × (rest : List Word) × (ws ≡ named x ∷ rest)
+WordFor (OperandOpening.Number z) ws = (rest : List Word) × (ws ≡ numbered z ∷ rest)
 WordFor (OperandOpening.Truth b) ws = (rest : List Word) × (ws ≡ symbol (truth_word b) ∷ rest)
 WordFor OperandOpening.Unknown ws = (rest : List Word) × (ws ≡ symbol Sym.Question ∷ rest)
 WordFor (OperandOpening.Signed prefix) ws = (rest : List Word) × (ws ≡ symbol (prefix_sign prefix) ∷ rest)
@@ -45,8 +44,8 @@ WordFor _ ws = Unit {0}
 
 pub operand_word : (ws : List Word) (o : OperandOpening) → o ≡ opening_of_operand (first ws) → WordFor o ws
 operand_word [] o e = subst (λ o. WordFor o []) (sym e) tt
-operand_word (named x ∷ ws) o e = subst (λ o. WordFor o (named x ∷ ws)) (sym e) (x, ws, refl)
-operand_word (numbered z ∷ ws) o e = subst (λ o. WordFor o (numbered z ∷ ws)) (sym e) (z, ws, refl)
+operand_word (named x ∷ ws) o e = subst (λ o. WordFor o (named x ∷ ws)) (sym e) tt
+operand_word (numbered z ∷ ws) o e = subst (λ o. WordFor o (numbered z ∷ ws)) (sym e) (ws, refl)
 operand_word (unreadable ∷ ws) o e = subst (λ o. WordFor o (unreadable ∷ ws)) (sym e) tt
 operand_word (symbol Sym.True ∷ ws) o e = subst (λ o. WordFor o (symbol Sym.True ∷ ws)) (sym e) (ws, refl)
 operand_word (symbol Sym.False ∷ ws) o e = subst (λ o. WordFor o (symbol Sym.False ∷ ws)) (sym e) (ws, refl)
@@ -57,14 +56,14 @@ operand_word (symbol Sym.Not ∷ ws) o e = subst (λ o. WordFor o (symbol Sym.No
 operand_word (symbol s ∷ ws) o e = subst (λ o. WordFor o (symbol s ∷ ws)) (sym e) tt
 
 abbrev pub WordForSize : SizeOpening → List Word → Type 0
-WordForSize SizeOpening.Number ws = (z : ℤ) × (rest : List Word) × (ws ≡ numbered z ∷ rest)
+WordForSize (SizeOpening.Number z) ws = (rest : List Word) × (ws ≡ numbered z ∷ rest)
 WordForSize SizeOpening.Infinite ws = (rest : List Word) × (ws ≡ symbol Sym.Infinite ∷ rest)
 WordForSize SizeOpening.Nothing ws = Unit {0}
 
 pub size_word : (ws : List Word) (o : SizeOpening) → o ≡ size_opening (first ws) → WordForSize o ws
 size_word [] o e = subst (λ o. WordForSize o []) (sym e) tt
 size_word (named x ∷ ws) o e = subst (λ o. WordForSize o (named x ∷ ws)) (sym e) tt
-size_word (numbered z ∷ ws) o e = subst (λ o. WordForSize o (numbered z ∷ ws)) (sym e) (z, ws, refl)
+size_word (numbered z ∷ ws) o e = subst (λ o. WordForSize o (numbered z ∷ ws)) (sym e) (ws, refl)
 size_word (unreadable ∷ ws) o e = subst (λ o. WordForSize o (unreadable ∷ ws)) (sym e) tt
 size_word (symbol Sym.Infinite ∷ ws) o e = subst (λ o. WordForSize o (symbol Sym.Infinite ∷ ws)) (sym e) (ws, refl)
 size_word (symbol s ∷ ws) o e = subst (λ o. WordForSize o (symbol s ∷ ws)) (sym e) tt

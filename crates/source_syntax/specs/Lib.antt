@@ -1,7 +1,8 @@
 pub mod Openings
-pub mod Trees
 pub mod Spelling
 pub mod Pending
 pub mod Leads
 pub mod Reads
+pub mod Failures
 pub mod Texts
+pub mod Laws

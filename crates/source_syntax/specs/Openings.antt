@@ -11,12 +11,12 @@ use Rattle.source_syntax.specs.declared.opening.SimpleOpening.{SimpleOpening}
 use Rattle.source_syntax.specs.declared.opening.SizeOpening.{SizeOpening}
 use Rattle.source_syntax.specs.declared.opening.StartOpening.{StartOpening}
 use Rattle.source_syntax.specs.declared.opening.StatementOpening.{StatementOpening}
-use Rattle.source_syntax.specs.declared.opening.Prefix.TheVariants as Prefix
-use Rattle.source_syntax.specs.declared.opening.Assignment.TheVariants as Assignment
-use Rattle.source_syntax.specs.declared.opening.Step.TheVariants as Step
+use Rattle.concrete_syntax.specs.declared.sign.Prefix.TheVariants as Prefix
+use Rattle.concrete_syntax.specs.declared.sign.Assignment.TheVariants as Assignment
+use Rattle.concrete_syntax.specs.declared.sign.Step.TheVariants as Step
 
 abbrev pub opening_of_operand : Option Word → OperandOpening
-opening_of_operand (Some (number z)) = OperandOpening.Number
+opening_of_operand (Some (number z)) = OperandOpening.Number z
 opening_of_operand (Some (name x)) = OperandOpening.Name
 opening_of_operand (Some (symbol Symbol.True)) = OperandOpening.Truth true
 opening_of_operand (Some (symbol Symbol.False)) = OperandOpening.Truth false
@@ -44,7 +44,7 @@ binary_operator (Some (symbol Symbol.Or)) = Some Op2.Or
 binary_operator _ = None
 
 abbrev pub size_opening : Option Word → SizeOpening
-size_opening (Some (number z)) = SizeOpening.Number
+size_opening (Some (number z)) = SizeOpening.Number z
 size_opening (Some (symbol Symbol.Infinite)) = SizeOpening.Infinite
 size_opening _ = SizeOpening.Nothing
 

@@ -1,10 +1,10 @@
 -- What is still to be read: a list of things, each with its trees.
 use Rattle.std.specs.Prelude.{ℕ, ℤ, Bool, Option, Some, List, [], ◌∷◌}
 use Rattle.derivation.specs.declared.symbol.Symbol.TheVariants as S
-use Rattle.derivation.specs.Word.{name as named, number as numbered}
+use Rattle.derivation.specs.Word.{name as named}
 use Rattle.derivation.specs.Pieces.{Token, Piece, token}
 use Rattle.derivation.specs.Comes.{Phrase, IsQuiet}
-use Rattle.source_syntax.specs.Trees.{End, Operand, Tail, Expression, Action, Simple, Part, Declaration, Start, Statement, Otherwise, Items, Program}
+use Rattle.concrete_syntax.specs.Trees.{End, Operand, Tail, Expression, Action, Simple, Part, Declaration, Start, Statement, Otherwise, Items, Program}
 use Rattle.source_syntax.specs.Spelling.{plain, sign, size_pieces, end_pieces, operand_pieces, tail_pieces, expression_pieces, optional_pieces, action_pieces, simple_pieces, initialiser_pieces, parts_pieces, declaration_pieces, start_pieces, finish_pieces, test_pieces, statement_pieces, otherwise_pieces, items_pieces, void_pieces, program_pieces}
 
 -- Something to be read, where so many levels are open. Some take the sign behind them along, by which the next word tells their end:
@@ -13,7 +13,6 @@ use Rattle.source_syntax.specs.Spelling.{plain, sign, size_pieces, end_pieces, o
 pub data Pending : Type 0 where
   exactly : (t : Token) → IsQuiet (Some t.word) → Pending
   a_name : Pending
-  a_number : Pending
   a_size : Pending
   an_end : Pending
   an_operand : ℕ → Pending
@@ -37,7 +36,6 @@ pub data Pending : Type 0 where
 abbrev pub TreeOf : Pending → Type 0
 TreeOf (exactly t quiet) = Unit {0}
 TreeOf a_name = List ℕ
-TreeOf a_number = ℤ
 TreeOf a_size = Option ℤ
 TreeOf an_end = End
 TreeOf (an_operand n) = Operand
@@ -61,7 +59,6 @@ TreeOf a_program = Program
 abbrev pub pieces_of : (p : Pending) → TreeOf p → List Piece → List Piece
 pieces_of (exactly t quiet) tree behind = token t ∷ behind
 pieces_of a_name x behind = token (plain (named x)) ∷ behind
-pieces_of a_number z behind = token (plain (numbered z)) ∷ behind
 pieces_of a_size size behind = size_pieces size behind
 pieces_of an_end end behind = end_pieces end behind
 pieces_of (an_operand n) e behind = operand_pieces n e behind

@@ -1,24 +1,23 @@
 -- What the readers of the parser answer, for whatever is to be read behind.
-use Rattle.std.specs.Prelude.{◌≡◌, ◌≢◌, ℕ, ◌<◌, List, ◌∷◌}
+use Rattle.std.specs.Prelude.{◌≡◌, ◌≢◌, ℕ, ◌<◌, List, ◌∷◌, ◌++◌}
 use Rattle.derivation.specs.declared.rule.Rule.{Rule}
 use Rattle.derivation.specs.declared.rule.Rule.TheVariants.{Expected, Nesting, Operators}
 use Rattle.derivation.specs.declared.symbol.Symbol.{Symbol}
 use Rattle.derivation.specs.Word.{Word, symbol, name as named}
-use Rattle.source_syntax.specs.Trees.{Tail, Expression, Part, Declaration}
+use Rattle.concrete_syntax.specs.Trees.{Operand, Part, Prelude, Program}
+use Rattle.concrete_syntax.specs.Chains.{Link, tail_of}
 use Rattle.source_syntax.specs.Pending.{Pending, an_expression, a_tail, a_name, a_part_end, parts, a_declaration, TreeOf}
 use Rattle.source_syntax.specs.Leads.{Leads, Stops}
 
--- the words up to `to` are a `p`, and its operators raise the count of their expression from `count` to `now`
-pub record ReadsCounting (count : ℕ) (p : Pending) (from : List Word) (now : ℕ) (to : List Word) : Type 0 where
-  pub tree : TreeOf p
+-- the words up to `to` are this tree of a `p`, and its operators raise the count of their expression from `count` to `now`
+pub record ReadsCounting (count : ℕ) (p : Pending) (tree : TreeOf p) (from : List Word) (now : ℕ) (to : List Word) : Type 0 where
   pub comes : (behind : List Pending) → Leads count (p ∷ behind) from now behind to (λ trees. (tree, trees))
 
 abbrev pub RefusesCounting : ℕ → Pending → List Word → Rule → List Word → Type 0
 RefusesCounting count p from rule to = (behind : List Pending) → Stops count (p ∷ behind) from rule to
 
 -- the same for a `p` whose expressions begin their counts anew
-pub record Reads (p : Pending) (from to : List Word) : Type 0 where
-  pub tree : TreeOf p
+pub record Reads (p : Pending) (tree : TreeOf p) (from to : List Word) : Type 0 where
   pub comes : (count : ℕ) (behind : List Pending)
       → (now : ℕ) × Leads count (p ∷ behind) from now behind to (λ trees. (tree, trees))
 
@@ -26,10 +25,13 @@ abbrev pub Refuses : Pending → List Word → Rule → List Word → Type 0
 Refuses p from rule to = (count : ℕ) → RefusesCounting count p from rule to
 
 -- the same for a `p` that begins with an expression
-pub record ReadsAfresh (p : Pending) (from to : List Word) : Type 0 where
-  pub tree : TreeOf p
+pub record ReadsAfresh (p : Pending) (tree : TreeOf p) (from to : List Word) : Type 0 where
   pub comes : (behind : List Pending)
       → (now : ℕ) × Leads 0 (p ∷ behind) from now behind to (λ trees. (tree, trees))
+
+-- the words up to `to` are this tree of a `p`, behind which an expression begins
+pub record ReadsLeading (p : Pending) (tree : TreeOf p) (from to : List Word) : Type 0 where
+  pub comes : (count : ℕ) (behind : List Pending) → Leads count (p ∷ behind) from 0 behind to (λ trees. (tree, trees))
 
 -- why a word isn't the one that has to stand here, or opens level 65
 abbrev pub MissesSign : List Word → Symbol → Rule → Type 0
@@ -45,21 +47,24 @@ abbrev pub MissesName : List Word → Rule → Type 0
 MissesName from Expected = (x : List ℕ) (to : List Word) → from ≢ named x ∷ to
 MissesName from _ = ⊥
 
--- Reading an expression from `start` has come to reading its tail from `here`.
-pub record ComesToTail (count levels : ℕ) (start : List Word) (now : ℕ) (here : List Word) : Type 0 where
-  pub whole : Tail → Expression
+-- Reading an expression from `start` has read this operand and these operators and operands behind it, and has come to reading the
+-- tail that is left from `here`.
+pub record ComesToTail (count levels : ℕ) (operand : Operand) (links : List Link) (start : List Word) (now : ℕ) (here : List Word) : Type 0 where
   pub comes : (behind : List Pending)
-      → Leads count (an_expression levels ∷ behind) start now (a_tail levels ∷ behind) here (λ trees. (whole trees.0, trees.1))
+      → Leads count (an_expression levels ∷ behind) start now (a_tail levels ∷ behind) here
+      (λ trees. (record { operand = operand; tail = tail_of links trees.0 }, trees.1))
 
--- Reading a `p` from `from` has come to reading what is left of it from `to`.
-pub record Continues (p : Pending) (from to : List Word) : Type 0 where
-  pub whole : TreeOf p → TreeOf p
+-- Reading a `p` from `from` has come to reading what is left of it from `to`: the whole is made so of what is left.
+pub record Continues (p : Pending) (whole : TreeOf p → TreeOf p) (from to : List Word) : Type 0 where
   pub comes : (count : ℕ) (behind : List Pending)
       → (now : ℕ) × Leads count (p ∷ behind) from now (p ∷ behind) to (λ trees. (whole trees.0, trees.1))
 
--- the words up to `to` are a part of a declaration, before further parts
-pub record ReadsPart (levels : ℕ) (from to : List Word) : Type 0 where
-  pub part : Part
+-- a program, with these before what else stands before its `main`
+abbrev pub behind_preludes : List Prelude → Program → Program
+behind_preludes front program = record { preludes = front ++ program.preludes; void = program.void; items = program.items }
+
+-- the words up to `to` are this part of a declaration, before further parts
+pub record ReadsPart (levels : ℕ) (part : Part) (from to : List Word) : Type 0 where
   pub comes : (count : ℕ) (behind : List Pending)
       → (now : ℕ) × Leads count (a_name ∷ a_part_end levels ∷ behind) from now (parts levels ∷ behind) to
       (λ trees. (part.declared, ((part.initialiser, trees.0), trees.1)))
@@ -67,13 +72,8 @@ pub record ReadsPart (levels : ℕ) (from to : List Word) : Type 0 where
 abbrev pub RefusesPart : ℕ → List Word → Rule → List Word → Type 0
 RefusesPart levels from rule to = (count : ℕ) (behind : List Pending) → Stops count (a_name ∷ a_part_end levels ∷ behind) from rule to
 
--- Reading a declaration from `from` has come to reading its further parts from `to`.
-pub record ComesToParts (levels : ℕ) (from to : List Word) : Type 0 where
-  pub whole : List Part → Declaration
+-- Reading a declaration from `from` has read this part and these behind it, and has come to reading its further parts from `to`.
+pub record ComesToParts (levels : ℕ) (part : Part) (so_far : List Part) (from to : List Word) : Type 0 where
   pub comes : (count : ℕ) (behind : List Pending)
-      → (now : ℕ) × Leads count (a_declaration levels ∷ behind) from now (parts levels ∷ behind) to (λ trees. (whole trees.0, trees.1))
-
--- the words up to `to` are a `p`, behind which an expression begins
-pub record ReadsLeading (p : Pending) (from to : List Word) : Type 0 where
-  pub tree : TreeOf p
-  pub comes : (count : ℕ) (behind : List Pending) → Leads count (p ∷ behind) from 0 behind to (λ trees. (tree, trees))
+      → (now : ℕ) × Leads count (a_declaration levels ∷ behind) from now (parts levels ∷ behind) to
+      (λ trees. (record { part = part; more = so_far ++ trees.0 }, trees.1))

@@ -5,10 +5,10 @@ use Rattle.derivation.specs.declared.symbol.Symbol.{Symbol}
 use Rattle.derivation.specs.declared.symbol.Symbol.TheVariants as S
 use Rattle.derivation.specs.Word.{Word, symbol, name as named, number as numbered}
 use Rattle.derivation.specs.Pieces.{Token, keeps, one_more, anew, Piece, token, look, no_operator, no_else}
-use Rattle.source_syntax.specs.declared.opening.Prefix.{Prefix}
-use Rattle.source_syntax.specs.declared.opening.Assignment.{Assignment}
-use Rattle.source_syntax.specs.declared.opening.Step.{Step}
-use Rattle.source_syntax.specs.Trees.{End, Operand, number, name, truth, unknown, call, signed, parentheses, range, Tail, ended, further, Expression, Action, assigns, steps, Simple, acts, steps_before, Part, Declaration, Start, starts_with_nothing, starts_with, declares, Statement, simple, skip, braces, conditional, while_loop, do_loop, for_loop, return, Otherwise, without, otherwise, Items, none, declaration, statement, Prelude, extern_call, typedef_bool, Program}
+use Rattle.concrete_syntax.specs.declared.sign.Prefix.{Prefix}
+use Rattle.concrete_syntax.specs.declared.sign.Assignment.{Assignment}
+use Rattle.concrete_syntax.specs.declared.sign.Step.{Step}
+use Rattle.concrete_syntax.specs.Trees.{End, Operand, number, name, truth, unknown, call, signed, parentheses, range, Tail, ended, further, Expression, Action, assigns, steps, Simple, acts, steps_before, Part, Declaration, Start, starts_with_nothing, starts_with, declares, Statement, simple, skip, braces, conditional, while_loop, do_loop, for_loop, return, Otherwise, without, otherwise, Items, none, declaration, statement, Prelude, extern_call, typedef_bool, Program}
 
 -- a token that opens no level
 abbrev pub plain : Word → Token

@@ -10,7 +10,7 @@ use Rattle.source_lex.specs.declared.token.Token.{Token}
 use Rattle.source_syntax.specs.declared.fault.SyntaxFault.{SyntaxFault}
 use Rattle.source_syntax.specs.declared.fault.SyntaxFault.TheVariants.{Lex, Expected as ExpectedAt, Limit, Memory}
 use Rattle.source_syntax.specs.declared.fault.Which.TheVariants as Which
-use Rattle.source_syntax.specs.Trees.{Program}
+use Rattle.concrete_syntax.specs.Trees.{Program}
 use Rattle.source_syntax.specs.Spelling.{program_pieces}
 
 -- programs, with what they spell

@@ -1,74 +1,108 @@
 // Declarations. The parts of one are read by a loop.
 
-ghost use Rattle.std.specs.Prelude.{◌≡◌, ◌≤◌, IfOk, IfErr};
+ghost use Rattle.std.specs.Prelude.{◌≡◌, ◌≤◌, IfOk};
 ghost use Rattle.derivation.specs.Pieces.{first};
 ghost use Rattle.derivation.specs.Spelled.{words_from, IsBehind};
+ghost use Rattle.concrete_syntax.specs.Mirror.{part as part_tree, declaration as declaration_tree, start as start_tree};
+ghost use Rattle.source_syntax.specs.Failures.{IfFault};
 ghost use Rattle.source_syntax.specs.Pending.{a_declaration, a_start};
 ghost use Rattle.source_syntax.specs.Reads.{ReadsLeading, Refuses, ReadsPart, RefusesPart};
 
 use crate::expression::expression;
-use crate::fault::Fault;
+use crate::fault::Failure;
 use crate::opening::{StartOpening, assign_follows, comma_follows, opening_of_start};
-use crate::reader::{name, sign};
+use crate::reader::{owned_name, sign};
 use crate::simple::simple;
+use concrete_syntax::{Declaration, Part, Start};
 use derivation::{Lexeme, Symbol};
+use std::alloc::Global;
 
 /// Reads a declaration and the `;` behind it.
-pub fn declaration(words: &[Lexeme<'_>], at: usize, levels: u32) -> Result<usize, Fault>
+pub fn declaration(
+    alloc: Global,
+    words: &[Lexeme<'_>],
+    at: usize,
+    levels: u32,
+) -> Result<(Declaration, usize), Failure>
     requires shallow { levels ≤ 64 }
-    ensures read { IfOk result (λ next. ReadsLeading (a_declaration levels) (words_from words.now at) (words_from words.now next)) }
-    ensures forward { IfOk result (IsBehind words.now at) }
-    ensures refused { IfErr result (λ fault. Refuses (a_declaration levels) (words_from words.now at) fault.rule (words_from words.now fault.at)) }
+    ensures read { IfOk result (λ found. ReadsLeading (a_declaration levels) (declaration_tree found.0) (words_from words.now at) (words_from words.now found.1)) }
+    ensures forward { IfOk result (λ found. IsBehind words.now at found.1) }
+    ensures refused { IfFault result (λ fault. Refuses (a_declaration levels) (words_from words.now at) fault.rule (words_from words.now fault.at)) }
 {
-    let first = sign(words, at, Symbol::Int)?;
-    let mut here = part(words, first, levels)?;
+    let inner = sign(words, at, Symbol::Int)?;
+    let (first, mut here) = part(alloc, words, inner, levels)?;
+    let mut more = Vec::new(alloc);
     'parts: loop {
         if comma_follows(words, here) {
-            let more = sign(words, here, Symbol::Comma)?;
-            here = part(words, more, levels)?;
+            let behind = sign(words, here, Symbol::Comma)?;
+            let (further, next) = part(alloc, words, behind, levels)?;
+            more.push(further)?;
+            here = next;
         } else {
             let next = sign(words, here, Symbol::Semicolon)?;
-            return Ok(next);
+            return Ok((Declaration { part: first, more }, next));
         }
     }
 }
 
 // Reads a declared name and its initialiser, if it has one.
-fn part(words: &[Lexeme<'_>], at: usize, levels: u32) -> Result<usize, Fault>
+fn part(
+    alloc: Global,
+    words: &[Lexeme<'_>],
+    at: usize,
+    levels: u32,
+) -> Result<(Part, usize), Failure>
     requires shallow { levels ≤ 64 }
-    ensures read { IfOk result (λ next. ReadsPart levels (words_from words.now at) (words_from words.now next)) }
-    ensures forward { IfOk result (IsBehind words.now at) }
-    ensures refused { IfErr result (λ fault. RefusesPart levels (words_from words.now at) fault.rule (words_from words.now fault.at)) }
+    ensures read { IfOk result (λ found. ReadsPart levels (part_tree found.0) (words_from words.now at) (words_from words.now found.1)) }
+    ensures forward { IfOk result (λ found. IsBehind words.now at found.1) }
+    ensures refused { IfFault result (λ fault. RefusesPart levels (words_from words.now at) fault.rule (words_from words.now fault.at)) }
 {
-    let (_, behind) = name(words, at)?;
+    let (declared, behind) = owned_name(alloc, words, at)?;
     if assign_follows(words, behind) {
-        let value = sign(words, behind, Symbol::Assign)?;
-        let (next, _) = expression(words, value, levels, 0)?;
-        return Ok(next);
+        let inner = sign(words, behind, Symbol::Assign)?;
+        let (value, next, _) = expression(alloc, words, inner, levels, 0)?;
+        return Ok((
+            Part {
+                declared,
+                initialiser: Some(value),
+            },
+            next,
+        ));
     }
-    Ok(behind)
+    Ok((
+        Part {
+            declared,
+            initialiser: None,
+        },
+        behind,
+    ))
 }
 
 /// Reads what stands before the first `;` of a `for`, and this `;`.
-pub fn start(words: &[Lexeme<'_>], at: usize, levels: u32) -> Result<usize, Fault>
+pub fn start(
+    alloc: Global,
+    words: &[Lexeme<'_>],
+    at: usize,
+    levels: u32,
+) -> Result<(Start, usize), Failure>
     requires shallow { levels ≤ 64 }
-    ensures read { IfOk result (λ next. ReadsLeading (a_start levels) (words_from words.now at) (words_from words.now next)) }
-    ensures forward { IfOk result (IsBehind words.now at) }
-    ensures refused { IfErr result (λ fault. Refuses (a_start levels) (words_from words.now at) fault.rule (words_from words.now fault.at)) }
+    ensures read { IfOk result (λ found. ReadsLeading (a_start levels) (start_tree found.0) (words_from words.now at) (words_from words.now found.1)) }
+    ensures forward { IfOk result (λ found. IsBehind words.now at found.1) }
+    ensures refused { IfFault result (λ fault. Refuses (a_start levels) (words_from words.now at) fault.rule (words_from words.now fault.at)) }
 {
     match opening_of_start(words, at) {
         StartOpening::Nothing => {
             let next = sign(words, at, Symbol::Semicolon)?;
-            Ok(next)
+            Ok((Start::Nothing, next))
         }
         StartOpening::Declaration => {
-            let next = declaration(words, at, levels)?;
-            Ok(next)
+            let (declared, next) = declaration(alloc, words, at, levels)?;
+            Ok((Start::Declaration(declared), next))
         }
         StartOpening::Simple => {
-            let behind = simple(words, at, levels)?;
+            let (first, behind) = simple(alloc, words, at, levels)?;
             let next = sign(words, behind, Symbol::Semicolon)?;
-            Ok(next)
+            Ok((Start::Simple(first), next))
         }
     }
 }

@@ -3,53 +3,71 @@
 ghost use Rattle.std.specs.Prelude.{◌≡◌, ◌≤◌, ℕ, IfOk, IfErr};
 ghost use Rattle.derivation.specs.Pieces.{first};
 ghost use Rattle.derivation.specs.Spelled.{words_from, IsBehind};
+ghost use Rattle.concrete_syntax.specs.Mirror.{operand as operand_tree, expression as expression_tree, range_end as end_tree};
+ghost use Rattle.concrete_syntax.specs.Trees.{call as call_tree, range as range_tree};
 ghost use Rattle.source_syntax.specs.Openings.{opening_of_operand};
 ghost use Rattle.source_syntax.specs.declared.opening.OperandOpening.TheVariants.{Call, Parenthesis, Bracket, Signed};
+ghost use Rattle.source_syntax.specs.Failures.{IfFault};
 ghost use Rattle.source_syntax.specs.Pending.{an_operand, an_expression, an_end, a_size};
 ghost use Rattle.source_syntax.specs.Reads.{ReadsCounting, RefusesCounting};
 
-use crate::fault::Fault;
+use crate::fault::{Failure, Fault};
 use crate::opening::{
-    OperandOpening, Prefix, SizeOpening, binary_operator, negative_follows, opening_of_operand,
+    OperandOpening, SizeOpening, binary_operator, negative_follows, opening_of_operand,
     size_opening,
 };
-use crate::reader::{MOST_LEVELS, opening, sign};
+use crate::reader::{MOST_LEVELS, opening, owned_name, sign};
+use concrete_syntax::{End, Expression, Operand, Prefix, Tail};
 use derivation::{Lexeme, Rule, Symbol};
+use std::alloc::Global;
 
 /// How many binary operators one expression may have.
 pub const MOST_OPERATORS: u32 = 256;
 
-/// Reads an expression where `levels` levels are open, behind `operators` operators of the same whole expression. Answers the place
-/// behind it and the count of operators by then.
+/// Reads an expression where `levels` levels are open, behind `operators` operators of the same whole expression. Answers the
+/// expression, the place behind it and the count of operators by then.
 #[cycle(expressions)]
 pub fn expression(
+    alloc: Global,
     words: &[Lexeme<'_>],
     at: usize,
     levels: u32,
     operators: u32,
-) -> Result<(usize, u32), Fault>
+) -> Result<(Expression, usize, u32), Failure>
     requires shallow { levels ≤ 64 }
     requires few { operators ≤ 256 }
-    ensures read { IfOk result (λ found. ReadsCounting operators (an_expression levels) (words_from words.now at) found.1 (words_from words.now found.0)) }
-    ensures counted { IfOk result (λ found. found.1 ≤ 256) }
-    ensures forward { IfOk result (λ found. IsBehind words.now at found.0) }
-    ensures refused { IfErr result (λ fault. RefusesCounting operators (an_expression levels) (words_from words.now at) fault.rule (words_from words.now fault.at)) }
+    ensures read { IfOk result (λ found. ReadsCounting operators (an_expression levels) (expression_tree found.0) (words_from words.now at) found.2 (words_from words.now found.1)) }
+    ensures counted { IfOk result (λ found. found.2 ≤ 256) }
+    ensures forward { IfOk result (λ found. IsBehind words.now at found.1) }
+    ensures refused { IfFault result (λ fault. RefusesCounting operators (an_expression levels) (words_from words.now at) fault.rule (words_from words.now fault.at)) }
 {
-    let (mut here, mut count) = operand(words, at, levels, operators)?;
-    loop {
+    let (first, mut here, mut count) = operand(alloc, words, at, levels, operators)?;
+    let mut links = Vec::new(alloc);
+    'operators: loop {
         match binary_operator(words, here) {
-            Some(_) => {
+            Some(op) => {
                 if count + 1 > MOST_OPERATORS {
-                    return Err(Fault {
+                    return Err(Failure::Fault(Fault {
                         rule: Rule::Operators,
                         at: here,
-                    });
+                    }));
                 }
-                let (next, now) = operand(words, here + 1, levels, count + 1)?;
+                let (further, next, now) = operand(alloc, words, here + 1, levels, count + 1)?;
+                links.push((op, further))?;
                 here = next;
                 count = now;
             }
-            None => return Ok((here, count)),
+            None => {
+                let tail = Tail::of(alloc, links)?;
+                return Ok((
+                    Expression {
+                        operand: first,
+                        tail,
+                    },
+                    here,
+                    count,
+                ));
+            }
         }
     }
 }
@@ -57,94 +75,103 @@ pub fn expression(
 // Reads an operand.
 #[cycle(expressions)]
 fn operand(
+    alloc: Global,
     words: &[Lexeme<'_>],
     at: usize,
     levels: u32,
     operators: u32,
-) -> Result<(usize, u32), Fault>
+) -> Result<(Operand, usize, u32), Failure>
     requires shallow { levels ≤ 64 }
     requires few { operators ≤ 256 }
-    ensures read { IfOk result (λ found. ReadsCounting operators (an_operand levels) (words_from words.now at) found.1 (words_from words.now found.0)) }
-    ensures counted { IfOk result (λ found. found.1 ≤ 256) }
-    ensures forward { IfOk result (λ found. IsBehind words.now at found.0) }
-    ensures refused { IfErr result (λ fault. RefusesCounting operators (an_operand levels) (words_from words.now at) fault.rule (words_from words.now fault.at)) }
+    ensures read { IfOk result (λ found. ReadsCounting operators (an_operand levels) (operand_tree found.0) (words_from words.now at) found.2 (words_from words.now found.1)) }
+    ensures counted { IfOk result (λ found. found.2 ≤ 256) }
+    ensures forward { IfOk result (λ found. IsBehind words.now at found.1) }
+    ensures refused { IfFault result (λ fault. RefusesCounting operators (an_operand levels) (words_from words.now at) fault.rule (words_from words.now fault.at)) }
 {
     match opening_of_operand(words, at) {
-        OperandOpening::Number => Ok((at + 1, operators)),
-        OperandOpening::Name => Ok((at + 1, operators)),
-        OperandOpening::Truth(_) => Ok((at + 1, operators)),
-        OperandOpening::Unknown => Ok((at + 1, operators)),
+        OperandOpening::Number(value) => Ok((Operand::Number(value), at + 1, operators)),
+        OperandOpening::Name => {
+            let (name, next) = owned_name(alloc, words, at)?;
+            Ok((Operand::Name(name), next, operators))
+        }
+        OperandOpening::Truth(value) => Ok((Operand::Truth(value), at + 1, operators)),
+        OperandOpening::Unknown => Ok((Operand::Unknown, at + 1, operators)),
         OperandOpening::Call => {
             let next = call(words, at, levels)?;
-            Ok((next, operators))
+            Ok((Operand::Call, next, operators))
         }
-        OperandOpening::Signed(prefix) => signed(words, at, levels, operators, prefix),
-        OperandOpening::Parenthesis => parentheses(words, at, levels, operators),
+        OperandOpening::Signed(prefix) => signed(alloc, words, at, levels, operators, prefix),
+        OperandOpening::Parenthesis => parentheses(alloc, words, at, levels, operators),
         OperandOpening::Bracket => {
-            let next = range(words, at, levels)?;
-            Ok((next, operators))
+            let (low, high, next) = range(words, at, levels)?;
+            Ok((Operand::Range { low, high }, next, operators))
         }
-        OperandOpening::Nothing => Err(Fault {
+        OperandOpening::Nothing => Err(Failure::Fault(Fault {
             rule: Rule::Expected,
             at,
-        }),
+        })),
     }
 }
 
 // Reads a sign and its operand.
 #[cycle(expressions)]
 fn signed(
+    alloc: Global,
     words: &[Lexeme<'_>],
     at: usize,
     levels: u32,
     operators: u32,
     prefix: Prefix,
-) -> Result<(usize, u32), Fault>
+) -> Result<(Operand, usize, u32), Failure>
     requires shallow { levels ≤ 64 }
     requires few { operators ≤ 256 }
     requires opens { Signed prefix ≡ opening_of_operand (first (words_from words.now at)) }
-    ensures read { IfOk result (λ found. ReadsCounting operators (an_operand levels) (words_from words.now at) found.1 (words_from words.now found.0)) }
-    ensures counted { IfOk result (λ found. found.1 ≤ 256) }
-    ensures forward { IfOk result (λ found. IsBehind words.now at found.0) }
-    ensures refused { IfErr result (λ fault. RefusesCounting operators (an_operand levels) (words_from words.now at) fault.rule (words_from words.now fault.at)) }
+    ensures read { IfOk result (λ found. ReadsCounting operators (an_operand levels) (operand_tree found.0) (words_from words.now at) found.2 (words_from words.now found.1)) }
+    ensures counted { IfOk result (λ found. found.2 ≤ 256) }
+    ensures forward { IfOk result (λ found. IsBehind words.now at found.1) }
+    ensures refused { IfFault result (λ fault. RefusesCounting operators (an_operand levels) (words_from words.now at) fault.rule (words_from words.now fault.at)) }
 {
     if levels + 1 > MOST_LEVELS {
-        return Err(Fault {
+        return Err(Failure::Fault(Fault {
             rule: Rule::Nesting,
             at,
-        });
+        }));
     }
-    let (next, count) = operand(words, at + 1, levels + 1, operators)?;
-    Ok((next, count))
+    let (inner, next, count) = operand(alloc, words, at + 1, levels + 1, operators)?;
+    let operand = Box::new(alloc, inner)?;
+    Ok((Operand::Signed { prefix, operand }, next, count))
 }
 
 // Reads an expression in parentheses.
 #[cycle(expressions)]
 fn parentheses(
+    alloc: Global,
     words: &[Lexeme<'_>],
     at: usize,
     levels: u32,
     operators: u32,
-) -> Result<(usize, u32), Fault>
+) -> Result<(Operand, usize, u32), Failure>
     requires shallow { levels ≤ 64 }
     requires few { operators ≤ 256 }
     requires opens { Parenthesis ≡ opening_of_operand (first (words_from words.now at)) }
-    ensures read { IfOk result (λ found. ReadsCounting operators (an_operand levels) (words_from words.now at) found.1 (words_from words.now found.0)) }
-    ensures counted { IfOk result (λ found. found.1 ≤ 256) }
-    ensures forward { IfOk result (λ found. IsBehind words.now at found.0) }
-    ensures refused { IfErr result (λ fault. RefusesCounting operators (an_operand levels) (words_from words.now at) fault.rule (words_from words.now fault.at)) }
+    ensures read { IfOk result (λ found. ReadsCounting operators (an_operand levels) (operand_tree found.0) (words_from words.now at) found.2 (words_from words.now found.1)) }
+    ensures counted { IfOk result (λ found. found.2 ≤ 256) }
+    ensures forward { IfOk result (λ found. IsBehind words.now at found.1) }
+    ensures refused { IfFault result (λ fault. RefusesCounting operators (an_operand levels) (words_from words.now at) fault.rule (words_from words.now fault.at)) }
 {
     let inner = opening(words, at, Symbol::OpenParenthesis, levels + 1)?;
-    let (behind, count) = expression(words, inner, levels + 1, operators)?;
+    let (value, behind, count) = expression(alloc, words, inner, levels + 1, operators)?;
     let next = sign(words, behind, Symbol::CloseParenthesis)?;
-    Ok((next, count))
+    let operand = Box::new(alloc, value.operand)?;
+    let tail = Box::new(alloc, value.tail)?;
+    Ok((Operand::Parentheses { operand, tail }, next, count))
 }
 
 // Reads `__VERIFIER_nondet_int()`.
 fn call(words: &[Lexeme<'_>], at: usize, levels: u32) -> Result<usize, Fault>
     requires shallow { levels ≤ 64 }
     requires opens { Call ≡ opening_of_operand (first (words_from words.now at)) }
-    ensures read { IfOk result (λ next. (count : ℕ) → ReadsCounting count (an_operand levels) (words_from words.now at) count (words_from words.now next)) }
+    ensures read { IfOk result (λ next. (count : ℕ) → ReadsCounting count (an_operand levels) call_tree (words_from words.now at) count (words_from words.now next)) }
     ensures forward { IfOk result (IsBehind words.now at) }
     ensures refused { IfErr result (λ fault. (count : ℕ) → RefusesCounting count (an_operand levels) (words_from words.now at) fault.rule (words_from words.now fault.at)) }
 {
@@ -154,44 +181,56 @@ fn call(words: &[Lexeme<'_>], at: usize, levels: u32) -> Result<usize, Fault>
     Ok(next)
 }
 
-// Reads `[a, b]`.
-fn range(words: &[Lexeme<'_>], at: usize, levels: u32) -> Result<usize, Fault>
+// Reads `[a, b]`. Answers both ends and the place behind.
+fn range(words: &[Lexeme<'_>], at: usize, levels: u32) -> Result<(End, End, usize), Fault>
     requires opens { Bracket ≡ opening_of_operand (first (words_from words.now at)) }
-    ensures read { IfOk result (λ next. (count : ℕ) → ReadsCounting count (an_operand levels) (words_from words.now at) count (words_from words.now next)) }
-    ensures forward { IfOk result (IsBehind words.now at) }
+    ensures read { IfOk result (λ found. (count : ℕ) → ReadsCounting count (an_operand levels) (range_tree (end_tree found.0) (end_tree found.1)) (words_from words.now at) count (words_from words.now found.2)) }
+    ensures forward { IfOk result (λ found. IsBehind words.now at found.2) }
     ensures refused { IfErr result (λ fault. (count : ℕ) → RefusesCounting count (an_operand levels) (words_from words.now at) fault.rule (words_from words.now fault.at)) }
 {
-    let low = sign(words, at, Symbol::OpenBracket)?;
-    let comma = range_end(words, low)?;
-    let high = sign(words, comma, Symbol::Comma)?;
-    let close = range_end(words, high)?;
+    let first = sign(words, at, Symbol::OpenBracket)?;
+    let (low, comma) = range_end(words, first)?;
+    let second = sign(words, comma, Symbol::Comma)?;
+    let (high, close) = range_end(words, second)?;
     let next = sign(words, close, Symbol::CloseBracket)?;
-    Ok(next)
+    Ok((low, high, next))
 }
 
 // Reads an end of a range.
-fn range_end(words: &[Lexeme<'_>], at: usize) -> Result<usize, Fault>
-    ensures read { IfOk result (λ next. (count : ℕ) → ReadsCounting count an_end (words_from words.now at) count (words_from words.now next)) }
-    ensures forward { IfOk result (IsBehind words.now at) }
+fn range_end(words: &[Lexeme<'_>], at: usize) -> Result<(End, usize), Fault>
+    ensures read { IfOk result (λ found. (count : ℕ) → ReadsCounting count an_end (end_tree found.0) (words_from words.now at) count (words_from words.now found.1)) }
+    ensures forward { IfOk result (λ found. IsBehind words.now at found.1) }
     ensures refused { IfErr result (λ fault. (count : ℕ) → RefusesCounting count an_end (words_from words.now at) fault.rule (words_from words.now fault.at)) }
 {
     if negative_follows(words, at) {
-        let next = size(words, at + 1)?;
-        return Ok(next);
+        let (below, next) = size(words, at + 1)?;
+        return Ok((
+            End {
+                negative: true,
+                size: below,
+            },
+            next,
+        ));
     }
-    let next = size(words, at)?;
-    Ok(next)
+    let (above, next) = size(words, at)?;
+    Ok((
+        End {
+            negative: false,
+            size: above,
+        },
+        next,
+    ))
 }
 
-// Reads a number or `inf`.
-fn size(words: &[Lexeme<'_>], at: usize) -> Result<usize, Fault>
-    ensures read { IfOk result (λ next. (count : ℕ) → ReadsCounting count a_size (words_from words.now at) count (words_from words.now next)) }
-    ensures forward { IfOk result (IsBehind words.now at) }
+// Reads a number or `inf`, of which it answers `None`.
+fn size(words: &[Lexeme<'_>], at: usize) -> Result<(Option<i64>, usize), Fault>
+    ensures read { IfOk result (λ found. (count : ℕ) → ReadsCounting count a_size found.0 (words_from words.now at) count (words_from words.now found.1)) }
+    ensures forward { IfOk result (λ found. IsBehind words.now at found.1) }
     ensures refused { IfErr result (λ fault. (count : ℕ) → RefusesCounting count a_size (words_from words.now at) fault.rule (words_from words.now fault.at)) }
 {
     match size_opening(words, at) {
-        SizeOpening::Number => Ok(at + 1),
-        SizeOpening::Infinite => Ok(at + 1),
+        SizeOpening::Number(value) => Ok((Some(value), at + 1)),
+        SizeOpening::Infinite => Ok((None, at + 1)),
         SizeOpening::Nothing => Err(Fault {
             rule: Rule::Expected,
             at,

@@ -1,8 +1,10 @@
 // Why a text is no program by its syntax.
 
+ghost use Rattle.std.specs.Prelude.{◌≡◌, alloc_error};
+
 use derivation::Rule;
 use source_lex::LexFault;
-use std::alloc::AllocError;
+use std::alloc::{AllocError, AllocFailed};
 use thiserror::Error;
 
 /// A limit on a text.
@@ -36,4 +38,42 @@ pub enum SyntaxFault {
 pub struct Fault {
     pub rule: Rule,
     pub at: usize,
+}
+
+/// Why a reader answers no tree.
+#[derive(Drop)]
+pub enum Failure {
+    Fault(Fault),
+    /// Memory ran out. It says nothing of the words.
+    Memory(AllocError),
+}
+
+impl From<Fault> for Failure {
+    ghost use Rattle.source_syntax.specs.declared.fault.Failure.TheVariants.{Fault};
+
+    ghost from_gives = { λ fault failure. failure ≡ Fault fault };
+
+    fn from(fault: Fault) -> Failure {
+        Failure::Fault(fault)
+    }
+}
+
+impl From<AllocError> for Failure {
+    ghost use Rattle.source_syntax.specs.declared.fault.Failure.TheVariants.{Memory};
+
+    ghost from_gives = { λ error failure. failure ≡ Memory error };
+
+    fn from(error: AllocError) -> Failure {
+        Failure::Memory(error)
+    }
+}
+
+impl<T: Drop> From<AllocFailed<T>> for Failure {
+    ghost use Rattle.source_syntax.specs.declared.fault.Failure.TheVariants.{Memory};
+
+    ghost from_gives = { λ _ failure. failure ≡ Memory alloc_error };
+
+    fn from(_: AllocFailed<T>) -> Failure {
+        Failure::Memory(AllocError)
+    }
 }

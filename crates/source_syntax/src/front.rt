@@ -6,23 +6,33 @@ ghost use Rattle.derivation.specs.Comes.{FirstFault, IsSpelledBy};
 ghost use Rattle.derivation.specs.Spelled.{all_spelled, words_from};
 ghost use Rattle.source_lex.specs.Spans.{IsWithin};
 ghost use Rattle.source_lex.specs.Tokens.{TokensOf};
-ghost use Rattle.source_syntax.specs.Trees.{Program};
+ghost use Rattle.concrete_syntax.specs.Mirror.{program as program_tree};
+ghost use Rattle.source_syntax.specs.Failures.{IfFault};
 ghost use Rattle.source_syntax.specs.Texts.{programs, place_in, IsTextOf, IsFaultOf};
 
-use crate::fault::{Fault, SyntaxFault, Which};
+use crate::fault::{Failure, Fault, SyntaxFault, Which};
 use crate::program::program;
+use concrete_syntax::Program;
 use derivation::{Lexeme, Rule, lexemes};
 use source_lex::{LexFault, Token, lex};
 use std::alloc::{AllocError, Global};
 
-/// Whether the text is a program by its syntax: its grammar and the limits on nesting (64 levels) and on the binary operators of one
-/// expression (256). Names and sorts have no part in it. The text has at most 65,536 bytes. Time is linear in the text.
+/// The syntax of a text: its tokens, and the concrete tree that they spell.
+#[derive(Drop)]
+pub struct Syntax {
+    pub tokens: Vec<Token>,
+    pub tree: Program,
+}
+
+/// The tokens and the concrete tree of a text that is a program by its syntax: its grammar and the limits on nesting (64 levels) and on
+/// the binary operators of one expression (256). Names and sorts have no part in it. The text has at most 65,536 bytes. Time is linear in the text.
 ///
-/// The first fault is answered: `Lex` where the text has no tokens; else the first of `Expected` and `Limit` by its place, `Expected`
-/// where a token is both. `Memory` where the tokens find no room.
-pub fn check_syntax(alloc: Global, text: &[u8]) -> Result<(), SyntaxFault>
+/// The first fault is answered where there is one: `Lex` where the text has no tokens; else the first of `Expected` and `Limit` by its
+/// place, `Expected` where a token is both. `Memory` where the tokens or the tree find no room.
+pub fn read_syntax(alloc: Global, text: &[u8]) -> Result<Syntax, SyntaxFault>
     requires { length text.now ≤ 65536 }
-    ensures syntax { IfOk result (λ _. (tree : Program) × IsTextOf text.now tree) }
+    ensures tokens { IfOk result (λ read. TokensOf text.now read.tokens.items) }
+    ensures syntax { IfOk result (λ read. IsTextOf text.now (program_tree read.tree)) }
     ensures fault { IfErr result (IsFaultOf text.now) }
 {
     let tokens = match lex(alloc, text) {
@@ -34,25 +44,26 @@ pub fn check_syntax(alloc: Global, text: &[u8]) -> Result<(), SyntaxFault>
         Ok(words) => words,
         Err(error) => return Err(SyntaxFault::Memory(error)),
     };
-    match check_words(&words) {
-        Ok(()) => Ok(()),
-        Err(fault) => Err(placed(text, &tokens, fault)),
+    match read_words(alloc, &words) {
+        Ok(tree) => Ok(Syntax { tokens, tree }),
+        Err(Failure::Fault(fault)) => Err(placed(text, &tokens, fault)),
+        Err(Failure::Memory(error)) => Err(SyntaxFault::Memory(error)),
     }
 }
 
-// Whether the words are a program.
-fn check_words(words: &[Lexeme<'_>]) -> Result<(), Fault>
-    ensures syntax { IfOk result (λ _. (tree : Program) × IsSpelledBy programs (all_spelled words.now) tree) }
-    ensures fault { IfErr result (λ fault. FirstFault programs (all_spelled words.now) fault.rule (words_from words.now fault.at)) }
+// The tree that all the words spell.
+fn read_words(alloc: Global, words: &[Lexeme<'_>]) -> Result<Program, Failure>
+    ensures syntax { IfOk result (λ tree. IsSpelledBy programs (all_spelled words.now) (program_tree tree)) }
+    ensures fault { IfFault result (λ fault. FirstFault programs (all_spelled words.now) fault.rule (words_from words.now fault.at)) }
 {
-    let end = program(words, 0)?;
+    let (tree, end) = program(alloc, words, 0)?;
     if end < words.len() {
-        return Err(Fault {
+        return Err(Failure::Fault(Fault {
             rule: Rule::Expected,
             at: end,
-        });
+        }));
     }
-    Ok(())
+    Ok(tree)
 }
 
 // The fault with its place in the text.

@@ -1,12 +1,13 @@
 // The syntax of programs: which texts the grammar derives within the limits on nesting and on operators, and the first fault of the
-// others. Front door: `check_syntax`. Stands on the words and the calculus of reading of `derivation`. In `specs/`: the concrete trees
-// and their grammar (Trees), the pieces that they spell (Spelling), and both at a text (Texts).
+// others. Front door: `read_syntax`. Stands on the concrete trees and their grammar of `concrete_syntax`, and on the words and the
+// calculus of reading of `derivation`. In `specs/`: the pieces that a tree spells (Spelling), and the trees of a text (Texts).
 #![tactic(auto)]
 
 mod declaration;
 mod expression;
 mod fault;
 mod front;
+mod laws;
 mod opening;
 mod program;
 mod reader;
@@ -16,4 +17,5 @@ mod statement;
 mod tests;
 
 pub use fault::{SyntaxFault, Which};
-pub use front::check_syntax;
+pub use front::{Syntax, read_syntax};
+pub use laws::{first_faults_agree, programs_have_no_fault, trees_are_unique};

@@ -5,37 +5,14 @@ ghost use Rattle.derivation.specs.Spelled.{words_from};
 ghost use Rattle.derivation.specs.Pieces.{first};
 ghost use Rattle.source_syntax.specs.Openings.{opening_of_operand, binary_operator, opening_of_simple, opening_of_action, opening_of_statement, opening_of_item, opening_of_prelude, negative_follows, size_opening, assign_follows, comma_follows, semicolon_follows, parenthesis_follows, void_follows, else_follows, opening_of_start};
 
+use concrete_syntax::{Assignment, Prefix, Step};
 use derivation::{Lexeme, Reading, Symbol};
 use step_meaning::Op2;
-
-/// A sign before an operand.
-#[derive(Clone, Copy)]
-pub enum Prefix {
-    Plus,
-    Minus,
-    Not,
-}
-
-/// A sign that assigns to the name before it.
-#[derive(Clone, Copy)]
-pub enum Assignment {
-    Assign,
-    Add,
-    Subtract,
-    Multiply,
-}
-
-/// A sign that adds or takes off one.
-#[derive(Clone, Copy)]
-pub enum Step {
-    Increment,
-    Decrement,
-}
 
 /// How an operand opens.
 #[derive(Clone, Copy)]
 pub enum OperandOpening {
-    Number,
+    Number(i64),
     Name,
     Truth(bool),
     Unknown,
@@ -49,7 +26,7 @@ pub enum OperandOpening {
 /// How the end of a range goes on behind its sign.
 #[derive(Clone, Copy)]
 pub enum SizeOpening {
-    Number,
+    Number(i64),
     Infinite,
     Nothing,
 }
@@ -116,7 +93,7 @@ pub fn opening_of_operand(words: &[Lexeme<'_>], at: usize) -> OperandOpening
         return OperandOpening::Nothing;
     };
     match word.reading {
-        Reading::Number(_) => OperandOpening::Number,
+        Reading::Number(value) => OperandOpening::Number(value),
         Reading::Name(_) => OperandOpening::Name,
         Reading::Symbol(Symbol::True) => OperandOpening::Truth(true),
         Reading::Symbol(Symbol::False) => OperandOpening::Truth(false),
@@ -162,7 +139,7 @@ pub fn size_opening(words: &[Lexeme<'_>], at: usize) -> SizeOpening
         return SizeOpening::Nothing;
     };
     match word.reading {
-        Reading::Number(_) => SizeOpening::Number,
+        Reading::Number(value) => SizeOpening::Number(value),
         Reading::Symbol(Symbol::Infinite) => SizeOpening::Infinite,
         _ => SizeOpening::Nothing,
     }

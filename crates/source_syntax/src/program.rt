@@ -1,58 +1,79 @@
 // Programs: `main`, and what may stand before it.
 
-ghost use Rattle.std.specs.Prelude.{◌≡◌, IfOk, IfErr};
+ghost use Rattle.std.specs.Prelude.{◌≡◌, [], ◌∷◌, IfOk, IfErr};
 ghost use Rattle.derivation.specs.Pieces.{first};
 ghost use Rattle.derivation.specs.Spelled.{words_from, IsBehind};
+ghost use Rattle.concrete_syntax.specs.Trees.{extern_call as extern_tree, typedef_bool as typedef_tree};
+ghost use Rattle.concrete_syntax.specs.Mirror.{program as program_tree, items as items_tree};
+ghost use Rattle.source_syntax.specs.Failures.{IfFault};
 ghost use Rattle.source_syntax.specs.Openings.{opening_of_prelude};
 ghost use Rattle.source_syntax.specs.declared.opening.PreludeOpening.TheVariants as PreludeOpening;
 ghost use Rattle.source_syntax.specs.Pending.{a_program, a_void};
-ghost use Rattle.source_syntax.specs.Reads.{Reads, Refuses, Continues};
+ghost use Rattle.source_syntax.specs.Reads.{Reads, Refuses, Continues, behind_preludes};
 
-use crate::fault::Fault;
+use crate::fault::{Failure, Fault};
 use crate::opening::{PreludeOpening, opening_of_prelude, void_follows};
 use crate::reader::{opening, sign};
 use crate::statement::items;
+use concrete_syntax::{Items, Prelude, Program};
 use derivation::{Lexeme, Symbol};
+use std::alloc::Global;
 
 /// Reads a program.
-pub fn program(words: &[Lexeme<'_>], at: usize) -> Result<usize, Fault>
-    ensures read { IfOk result (λ next. Reads a_program (words_from words.now at) (words_from words.now next)) }
-    ensures forward { IfOk result (IsBehind words.now at) }
-    ensures refused { IfErr result (λ fault. Refuses a_program (words_from words.now at) fault.rule (words_from words.now fault.at)) }
+pub fn program(alloc: Global, words: &[Lexeme<'_>], at: usize) -> Result<(Program, usize), Failure>
+    ensures read { IfOk result (λ found. Reads a_program (program_tree found.0) (words_from words.now at) (words_from words.now found.1)) }
+    ensures forward { IfOk result (λ found. IsBehind words.now at found.1) }
+    ensures refused { IfFault result (λ fault. Refuses a_program (words_from words.now at) fault.rule (words_from words.now fault.at)) }
 {
     let mut here = at;
+    let mut preludes = Vec::new(alloc);
     'preludes: loop {
         match opening_of_prelude(words, here) {
-            PreludeOpening::Extern => here = extern_call(words, here)?,
-            PreludeOpening::Typedef => here = typedef_bool(words, here)?,
+            PreludeOpening::Extern => {
+                let (void, next) = extern_call(words, here)?;
+                preludes.push(Prelude::ExternCall { void })?;
+                here = next;
+            }
+            PreludeOpening::Typedef => {
+                let next = typedef_bool(words, here)?;
+                preludes.push(Prelude::TypedefBool)?;
+                here = next;
+            }
             PreludeOpening::Main => {
-                let next = main_function(words, here)?;
-                return Ok(next);
+                let (void, items, next) = main_function(alloc, words, here)?;
+                return Ok((
+                    Program {
+                        preludes,
+                        void,
+                        items,
+                    },
+                    next,
+                ));
             }
         }
     }
 }
 
-// Reads the declaration of `__VERIFIER_nondet_int`.
-fn extern_call(words: &[Lexeme<'_>], at: usize) -> Result<usize, Fault>
+// Reads the declaration of `__VERIFIER_nondet_int`. Answers whether `void` is written in its parentheses, and the place behind it.
+fn extern_call(words: &[Lexeme<'_>], at: usize) -> Result<(bool, usize), Fault>
     requires opens { PreludeOpening.Extern ≡ opening_of_prelude (first (words_from words.now at)) }
-    ensures read { IfOk result (λ next. Continues a_program (words_from words.now at) (words_from words.now next)) }
-    ensures forward { IfOk result (IsBehind words.now at) }
+    ensures read { IfOk result (λ found. Continues a_program (behind_preludes (extern_tree found.0 ∷ [])) (words_from words.now at) (words_from words.now found.1)) }
+    ensures forward { IfOk result (λ found. IsBehind words.now at found.1) }
     ensures refused { IfErr result (λ fault. Refuses a_program (words_from words.now at) fault.rule (words_from words.now fault.at)) }
 {
     let kind = sign(words, at, Symbol::Extern)?;
     let word = sign(words, kind, Symbol::Int)?;
     let open = sign(words, word, Symbol::Nondeterministic)?;
     let inner = sign(words, open, Symbol::OpenParenthesis)?;
-    let end = void(words, inner)?;
+    let (written, end) = void(words, inner)?;
     let next = sign(words, end, Symbol::Semicolon)?;
-    Ok(next)
+    Ok((written, next))
 }
 
 // Reads the definition of `bool`.
 fn typedef_bool(words: &[Lexeme<'_>], at: usize) -> Result<usize, Fault>
     requires opens { PreludeOpening.Typedef ≡ opening_of_prelude (first (words_from words.now at)) }
-    ensures read { IfOk result (λ next. Continues a_program (words_from words.now at) (words_from words.now next)) }
+    ensures read { IfOk result (λ next. Continues a_program (behind_preludes (typedef_tree ∷ [])) (words_from words.now at) (words_from words.now next)) }
     ensures forward { IfOk result (IsBehind words.now at) }
     ensures refused { IfErr result (λ fault. Refuses a_program (words_from words.now at) fault.rule (words_from words.now fault.at)) }
 {
@@ -68,33 +89,37 @@ fn typedef_bool(words: &[Lexeme<'_>], at: usize) -> Result<usize, Fault>
     Ok(next)
 }
 
-// Reads `main`.
-fn main_function(words: &[Lexeme<'_>], at: usize) -> Result<usize, Fault>
+// Reads `main`. Answers whether `void` is written in its parentheses, its items, and the place behind it.
+fn main_function(
+    alloc: Global,
+    words: &[Lexeme<'_>],
+    at: usize,
+) -> Result<(bool, Items, usize), Failure>
     requires opens { PreludeOpening.Main ≡ opening_of_prelude (first (words_from words.now at)) }
-    ensures read { IfOk result (λ next. Reads a_program (words_from words.now at) (words_from words.now next)) }
-    ensures forward { IfOk result (IsBehind words.now at) }
-    ensures refused { IfErr result (λ fault. Refuses a_program (words_from words.now at) fault.rule (words_from words.now fault.at)) }
+    ensures read { IfOk result (λ found. Reads a_program (record { preludes = []; void = found.0; items = items_tree found.1 }) (words_from words.now at) (words_from words.now found.2)) }
+    ensures forward { IfOk result (λ found. IsBehind words.now at found.2) }
+    ensures refused { IfFault result (λ fault. Refuses a_program (words_from words.now at) fault.rule (words_from words.now fault.at)) }
 {
     let word = sign(words, at, Symbol::Int)?;
     let open = sign(words, word, Symbol::Main)?;
     let inner = sign(words, open, Symbol::OpenParenthesis)?;
-    let brace = void(words, inner)?;
+    let (written, brace) = void(words, inner)?;
     let body = opening(words, brace, Symbol::OpenBrace, 1)?;
-    let next = items(words, body, 1)?;
-    Ok(next)
+    let (all, next) = items(alloc, words, body, 1)?;
+    Ok((written, all, next))
 }
 
-// Reads a `)`, and before it the word `void` where it stands.
-fn void(words: &[Lexeme<'_>], at: usize) -> Result<usize, Fault>
-    ensures read { IfOk result (λ next. Reads a_void (words_from words.now at) (words_from words.now next)) }
-    ensures forward { IfOk result (IsBehind words.now at) }
+// Reads a `)`, and before it the word `void` where it stands. Answers whether it does, and the place behind the `)`.
+fn void(words: &[Lexeme<'_>], at: usize) -> Result<(bool, usize), Fault>
+    ensures read { IfOk result (λ found. Reads a_void found.0 (words_from words.now at) (words_from words.now found.1)) }
+    ensures forward { IfOk result (λ found. IsBehind words.now at found.1) }
     ensures refused { IfErr result (λ fault. Refuses a_void (words_from words.now at) fault.rule (words_from words.now fault.at)) }
 {
     if void_follows(words, at) {
         let close = sign(words, at, Symbol::Void)?;
         let end = sign(words, close, Symbol::CloseParenthesis)?;
-        return Ok(end);
+        return Ok((true, end));
     }
     let next = sign(words, at, Symbol::CloseParenthesis)?;
-    Ok(next)
+    Ok((false, next))
 }

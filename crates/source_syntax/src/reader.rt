@@ -3,10 +3,12 @@
 ghost use Rattle.std.specs.Prelude.{◌≡◌, ◌∷◌, ◌≤◌, IfOk, IfErr, ℕ, ℤ, List};
 ghost use Rattle.derivation.specs.Word.{symbol, name as named};
 ghost use Rattle.derivation.specs.Spelled.{words_from, IsBehind};
+ghost use Rattle.source_syntax.specs.Failures.{IfFault};
 ghost use Rattle.source_syntax.specs.Reads.{MissesSign, MissesOpening, MissesName};
 
-use crate::fault::Fault;
+use crate::fault::{Failure, Fault};
 use derivation::{Lexeme, Reading, Rule, Symbol, after};
+use std::alloc::Global;
 
 /// How many levels of nesting may be open at a word.
 pub const MOST_LEVELS: u32 = 64;
@@ -68,4 +70,19 @@ pub fn name<'t>(words: &[Lexeme<'t>], at: usize) -> Result<(&'t [u8], usize), Fa
         Reading::Name(bytes) => Ok((bytes, at + 1)),
         _ => Err(missing),
     }
+}
+
+/// A name that has to stand here, as bytes of its own, and the place behind it.
+pub fn owned_name(
+    alloc: Global,
+    words: &[Lexeme<'_>],
+    at: usize,
+) -> Result<(Vec<u8>, usize), Failure>
+    ensures read { IfOk result (λ found. (words_from words.now at ≡ named found.0.items ∷ words_from words.now found.1)) }
+    ensures forward { IfOk result (λ found. IsBehind words.now at found.1) }
+    ensures missed { IfFault result (λ fault. MissesName (words_from words.now at) fault.rule × (fault.at ≡ at)) }
+{
+    let (bytes, next) = name(words, at)?;
+    let owned = bytes.to_vec(alloc)?;
+    Ok((owned, next))
 }

@@ -1,114 +1,143 @@
 // The parts of statements that no statement is a part of: tests, expressions that may be missing, and simple statements.
 
-ghost use Rattle.std.specs.Prelude.{◌≡◌, ◌≤◌, IfOk, IfErr};
+ghost use Rattle.std.specs.Prelude.{◌≡◌, ◌≤◌, IfOk};
 ghost use Rattle.derivation.specs.Pieces.{first};
 ghost use Rattle.derivation.specs.Spelled.{words_from, IsBehind};
+ghost use Rattle.concrete_syntax.specs.Mirror.{expression as expression_tree, optional as optional_tree, simple as simple_tree, action as action_tree, optional_simple as finish_tree};
 ghost use Rattle.source_syntax.specs.Openings.{opening_of_simple, opening_of_action, semicolon_follows, parenthesis_follows};
 ghost use Rattle.source_syntax.specs.Spelling.{assignment_sign, step_sign};
+ghost use Rattle.source_syntax.specs.Failures.{IfFault};
 ghost use Rattle.source_syntax.specs.Pending.{a_test, an_optional, an_action, a_simple, a_finish};
 ghost use Rattle.source_syntax.specs.Reads.{Reads, Refuses, ReadsAfresh, RefusesCounting};
 
 use crate::expression::expression;
-use crate::fault::Fault;
+use crate::fault::{Failure, Fault};
 use crate::opening::{
-    ActionOpening, Assignment, SimpleOpening, Step, opening_of_action, opening_of_simple,
-    parenthesis_follows, semicolon_follows,
+    ActionOpening, SimpleOpening, opening_of_action, opening_of_simple, parenthesis_follows,
+    semicolon_follows,
 };
-use crate::reader::{name, opening, sign};
+use crate::reader::{opening, owned_name, sign};
+use concrete_syntax::{Action, Assignment, Expression, Simple, Step};
 use derivation::{Lexeme, Rule, Symbol};
+use std::alloc::Global;
 
 /// Reads the test of an `if` or a loop, in its parentheses.
-pub fn test(words: &[Lexeme<'_>], at: usize, levels: u32) -> Result<usize, Fault>
+pub fn test(
+    alloc: Global,
+    words: &[Lexeme<'_>],
+    at: usize,
+    levels: u32,
+) -> Result<(Expression, usize), Failure>
     requires shallow { levels ≤ 64 }
-    ensures read { IfOk result (λ next. Reads (a_test levels) (words_from words.now at) (words_from words.now next)) }
-    ensures forward { IfOk result (IsBehind words.now at) }
-    ensures refused { IfErr result (λ fault. Refuses (a_test levels) (words_from words.now at) fault.rule (words_from words.now fault.at)) }
+    ensures read { IfOk result (λ found. Reads (a_test levels) (expression_tree found.0) (words_from words.now at) (words_from words.now found.1)) }
+    ensures forward { IfOk result (λ found. IsBehind words.now at found.1) }
+    ensures refused { IfFault result (λ fault. Refuses (a_test levels) (words_from words.now at) fault.rule (words_from words.now fault.at)) }
 {
     let inner = opening(words, at, Symbol::OpenParenthesis, levels + 1)?;
-    let (behind, _) = expression(words, inner, levels + 1, 0)?;
+    let (tested, behind, _) = expression(alloc, words, inner, levels + 1, 0)?;
     let next = sign(words, behind, Symbol::CloseParenthesis)?;
-    Ok(next)
+    Ok((tested, next))
 }
 
 /// Reads an expression, which may be missing, and the `;` behind it.
-pub fn optional(words: &[Lexeme<'_>], at: usize, levels: u32) -> Result<usize, Fault>
+pub fn optional(
+    alloc: Global,
+    words: &[Lexeme<'_>],
+    at: usize,
+    levels: u32,
+) -> Result<(Option<Expression>, usize), Failure>
     requires shallow { levels ≤ 64 }
-    ensures read { IfOk result (λ next. ReadsAfresh (an_optional levels) (words_from words.now at) (words_from words.now next)) }
-    ensures forward { IfOk result (IsBehind words.now at) }
-    ensures refused { IfErr result (λ fault. RefusesCounting 0 (an_optional levels) (words_from words.now at) fault.rule (words_from words.now fault.at)) }
+    ensures read { IfOk result (λ found. ReadsAfresh (an_optional levels) (optional_tree found.0) (words_from words.now at) (words_from words.now found.1)) }
+    ensures forward { IfOk result (λ found. IsBehind words.now at found.1) }
+    ensures refused { IfFault result (λ fault. RefusesCounting 0 (an_optional levels) (words_from words.now at) fault.rule (words_from words.now fault.at)) }
 {
     if semicolon_follows(words, at) {
         let end = sign(words, at, Symbol::Semicolon)?;
-        return Ok(end);
+        return Ok((None, end));
     }
-    let (behind, _) = expression(words, at, levels, 0)?;
+    let (value, behind, _) = expression(alloc, words, at, levels, 0)?;
     let next = sign(words, behind, Symbol::Semicolon)?;
-    Ok(next)
+    Ok((Some(value), next))
 }
 
 /// Reads a simple statement, without its `;`.
-pub fn simple(words: &[Lexeme<'_>], at: usize, levels: u32) -> Result<usize, Fault>
+pub fn simple(
+    alloc: Global,
+    words: &[Lexeme<'_>],
+    at: usize,
+    levels: u32,
+) -> Result<(Simple, usize), Failure>
     requires shallow { levels ≤ 64 }
-    ensures read { IfOk result (λ next. Reads (a_simple levels) (words_from words.now at) (words_from words.now next)) }
-    ensures forward { IfOk result (IsBehind words.now at) }
-    ensures refused { IfErr result (λ fault. Refuses (a_simple levels) (words_from words.now at) fault.rule (words_from words.now fault.at)) }
+    ensures read { IfOk result (λ found. Reads (a_simple levels) (simple_tree found.0) (words_from words.now at) (words_from words.now found.1)) }
+    ensures forward { IfOk result (λ found. IsBehind words.now at found.1) }
+    ensures refused { IfFault result (λ fault. Refuses (a_simple levels) (words_from words.now at) fault.rule (words_from words.now fault.at)) }
 {
     match opening_of_simple(words, at) {
         SimpleOpening::Name => {
-            let (_, behind) = name(words, at)?;
-            let next = action(words, behind, levels)?;
-            Ok(next)
+            let (name, behind) = owned_name(alloc, words, at)?;
+            let (action, next) = action(alloc, words, behind, levels)?;
+            Ok((Simple::Acts { name, action }, next))
         }
         SimpleOpening::Steps(step) => {
             let behind = sign(words, at, step_symbol(step))?;
-            let (_, next) = name(words, behind)?;
-            Ok(next)
+            let (name, next) = owned_name(alloc, words, behind)?;
+            Ok((Simple::StepsBefore { step, name }, next))
         }
-        SimpleOpening::Nothing => Err(Fault {
+        SimpleOpening::Nothing => Err(Failure::Fault(Fault {
             rule: Rule::Expected,
             at,
-        }),
+        })),
     }
 }
 
 // Reads what a simple statement does to the name that it begins with.
-fn action(words: &[Lexeme<'_>], at: usize, levels: u32) -> Result<usize, Fault>
+fn action(
+    alloc: Global,
+    words: &[Lexeme<'_>],
+    at: usize,
+    levels: u32,
+) -> Result<(Action, usize), Failure>
     requires shallow { levels ≤ 64 }
-    ensures read { IfOk result (λ next. Reads (an_action levels) (words_from words.now at) (words_from words.now next)) }
-    ensures forward { IfOk result (IsBehind words.now at) }
-    ensures refused { IfErr result (λ fault. Refuses (an_action levels) (words_from words.now at) fault.rule (words_from words.now fault.at)) }
+    ensures read { IfOk result (λ found. Reads (an_action levels) (action_tree found.0) (words_from words.now at) (words_from words.now found.1)) }
+    ensures forward { IfOk result (λ found. IsBehind words.now at found.1) }
+    ensures refused { IfFault result (λ fault. Refuses (an_action levels) (words_from words.now at) fault.rule (words_from words.now fault.at)) }
 {
     match opening_of_action(words, at) {
         ActionOpening::Assigns(assignment) => {
-            let value = sign(words, at, assignment_symbol(assignment))?;
-            let (next, _) = expression(words, value, levels, 0)?;
-            Ok(next)
+            let behind = sign(words, at, assignment_symbol(assignment))?;
+            let (value, next, _) = expression(alloc, words, behind, levels, 0)?;
+            Ok((Action::Assigns { assignment, value }, next))
         }
         ActionOpening::Steps(step) => {
             let next = sign(words, at, step_symbol(step))?;
-            Ok(next)
+            Ok((Action::Steps(step), next))
         }
-        ActionOpening::Nothing => Err(Fault {
+        ActionOpening::Nothing => Err(Failure::Fault(Fault {
             rule: Rule::Expected,
             at,
-        }),
+        })),
     }
 }
 
 /// Reads the last part of a `for`, which may be missing, and the `)` behind it.
-pub fn finish(words: &[Lexeme<'_>], at: usize, levels: u32) -> Result<usize, Fault>
+pub fn finish(
+    alloc: Global,
+    words: &[Lexeme<'_>],
+    at: usize,
+    levels: u32,
+) -> Result<(Option<Simple>, usize), Failure>
     requires shallow { levels ≤ 64 }
-    ensures read { IfOk result (λ next. Reads (a_finish levels) (words_from words.now at) (words_from words.now next)) }
-    ensures forward { IfOk result (IsBehind words.now at) }
-    ensures refused { IfErr result (λ fault. Refuses (a_finish levels) (words_from words.now at) fault.rule (words_from words.now fault.at)) }
+    ensures read { IfOk result (λ found. Reads (a_finish levels) (finish_tree found.0) (words_from words.now at) (words_from words.now found.1)) }
+    ensures forward { IfOk result (λ found. IsBehind words.now at found.1) }
+    ensures refused { IfFault result (λ fault. Refuses (a_finish levels) (words_from words.now at) fault.rule (words_from words.now fault.at)) }
 {
     if parenthesis_follows(words, at) {
         let end = sign(words, at, Symbol::CloseParenthesis)?;
-        return Ok(end);
+        return Ok((None, end));
     }
-    let behind = simple(words, at, levels)?;
+    let (last, behind) = simple(alloc, words, at, levels)?;
     let next = sign(words, behind, Symbol::CloseParenthesis)?;
-    Ok(next)
+    Ok((Some(last), next))
 }
 
 // How a sign that assigns is written.

@@ -1,9 +1,14 @@
 // The syntax of worked texts, with the places of faults counted by hand.
 
 use super::*;
+use concrete_syntax::{
+    Action, Assignment, Expression, Items, Operand, Otherwise, Prefix, Prelude, Program, Simple,
+    Statement, Step, Tail,
+};
 use source_lex::LexFault;
 use std::process::Abort;
 use std::test::Fail;
+use step_meaning::Op2;
 
 const PROGRAMS: [&[u8]; 22] = [
     b"int main() { }",
@@ -76,8 +81,8 @@ int main() {
 // The fault's number in the table of faults, and its place.
 fn fault_of(rt: &(impl Abort + AllocGlobal), text: &[u8]) -> (u32, u32) {
     assert!(rt; text.len() <= 65536);
-    match check_syntax(rt.alloc(), text) {
-        Ok(()) => (0, 0),
+    match read_syntax(rt.alloc(), text) {
+        Ok(_) => (0, 0),
         Err(SyntaxFault::Lex(LexFault::BadByte { at })) => (1, at),
         Err(SyntaxFault::Lex(LexFault::BigNumber { at })) => (2, at),
         Err(SyntaxFault::Lex(LexFault::OpenComment { at })) => (3, at),
@@ -196,4 +201,138 @@ fn prefixes(rt: HostRuntime) {
         let (number, _) = fault_of(&rt, &BENCHMARK[..length]);
         assert!(rt; number == 1 || number == 3 || number == 4, "at {length}");
     }
+}
+
+// The tree of this program.
+fn tree_of(rt: &(impl Abort + AllocGlobal), text: &[u8]) -> Program {
+    assert!(rt; text.len() <= 65536);
+    match read_syntax(rt.alloc(), text) {
+        Ok(syntax) => syntax.tree,
+        Err(fault) => panic!(rt; "{text:?} gives {fault:?}"),
+    }
+}
+
+// The statement that stands first.
+fn first_of<'t>(rt: &impl Abort, tree: &'t Program) -> &'t Statement {
+    match &tree.items {
+        Items::Statement { first, rest: _ } => first,
+        _ => panic!(rt; "no statement stands first"),
+    }
+}
+
+// The value that is assigned first.
+fn value_of<'t>(rt: &impl Abort, tree: &'t Program) -> &'t Expression {
+    match first_of(rt, tree) {
+        Statement::Simple(
+            Simple::Acts {
+                name: _,
+                action: Action::Assigns {
+                    assignment: Assignment::Assign,
+                    value,
+                },
+            },
+        ) => value,
+        _ => panic!(rt; "nothing is assigned first"),
+    }
+}
+
+#[test]
+fn tree_of_an_expression(rt: HostRuntime) {
+    let tree = tree_of(&rt, b"int main() { x = 1 + true * [-inf, 3]; }");
+    let value = value_of(&rt, &tree);
+    assert!(rt; matches!(value.operand, Operand::Number(1)));
+    let Tail::Further { op, operand, rest } = &value.tail else {
+        panic!(rt; "no operator")
+    };
+    assert!(rt; matches!(op, Op2::Add) && matches!(**operand, Operand::Truth(true)));
+    let Tail::Further { op, operand, rest } = &**rest else {
+        panic!(rt; "no second operator")
+    };
+    assert!(rt; matches!(op, Op2::Mul) && matches!(**rest, Tail::Ended));
+    let Operand::Range { low, high } = &**operand else {
+        panic!(rt; "no range")
+    };
+    assert!(rt; low.negative && !high.negative);
+    assert_eq!(rt; (low.size, high.size), (None, Some(3)));
+}
+
+#[test]
+fn tree_of_an_operand(rt: HostRuntime) {
+    let tree = tree_of(&rt, b"int main() { x = -(y || ?); }");
+    let value = value_of(&rt, &tree);
+    assert!(rt; matches!(value.tail, Tail::Ended));
+    let Operand::Signed {
+        prefix: Prefix::Minus,
+        operand,
+    } = &value.operand
+    else {
+        panic!(rt; "no sign")
+    };
+    let Operand::Parentheses { operand, tail } = &**operand else {
+        panic!(rt; "no parentheses")
+    };
+    let Operand::Name(name) = &**operand else {
+        panic!(rt; "no name")
+    };
+    assert_eq!(rt; name.as_slice(), b"y".as_slice());
+    let Tail::Further { op, operand, rest } = &**tail else {
+        panic!(rt; "no operator")
+    };
+    assert!(rt; matches!(op, Op2::Or) && matches!(**operand, Operand::Unknown));
+    assert!(rt; matches!(**rest, Tail::Ended));
+}
+
+#[test]
+fn tree_of_a_conditional(rt: HostRuntime) {
+    let tree = tree_of(&rt, b"int main() { if (?) if (?) ; else return 0; }");
+    let Statement::Conditional {
+        test: _,
+        part,
+        other: Otherwise::Nothing,
+    } = first_of(&rt, &tree)
+    else {
+        panic!(rt; "the outer `if` has an `else`")
+    };
+    let Statement::Conditional {
+        test: _,
+        part,
+        other: Otherwise::Else(second),
+    } = &**part
+    else {
+        panic!(rt; "the inner `if` has no `else`")
+    };
+    assert!(rt; matches!(**part, Statement::Skip));
+    assert!(rt; matches!(**second, Statement::Return(Some(_))));
+}
+
+#[test]
+fn tree_of_items(rt: HostRuntime) {
+    let tree = tree_of(&rt, b"int main() { int a = 1, b; x++; }");
+    let Items::Declaration { first, rest } = &tree.items else {
+        panic!(rt; "no declaration")
+    };
+    assert_eq!(rt; first.part.declared.as_slice(), b"a".as_slice());
+    assert!(rt; first.part.initialiser.is_some());
+    assert_eq!(rt; first.more.len(), 1);
+    assert_eq!(rt; first.more[0].declared.as_slice(), b"b".as_slice());
+    let Items::Statement { first, rest } = &**rest else {
+        panic!(rt; "no statement")
+    };
+    let Statement::Simple(Simple::Acts { name: _, action }) = &**first else {
+        panic!(rt; "no simple statement")
+    };
+    assert!(rt; matches!(action, Action::Steps(Step::Increment)));
+    assert!(rt; matches!(**rest, Items::Ended));
+}
+
+#[test]
+fn tree_of_what_stands_before_main(rt: HostRuntime) {
+    let tree = tree_of(
+        &rt,
+        b"typedef enum {false, true} bool; extern int __VERIFIER_nondet_int(void); int main() { }",
+    );
+    assert_eq!(rt; tree.preludes.len(), 2);
+    assert!(rt; matches!(tree.preludes[0], Prelude::TypedefBool));
+    assert!(rt; matches!(tree.preludes[1], Prelude::ExternCall { void: true }));
+    assert!(rt; !tree.void && matches!(&tree.items, Items::Ended));
 }

@@ -1,5 +1,5 @@
-use Rattle.source_parse.proofs.Whole.{same_text}
+use Rattle.source_parse.proofs.Parsed.{one_program}
 use Rattle.source_parse.proofs.laws.a_text_is_one_program.Goals as goal
 
 pub returns : goal.returns
-returns c = λ text names others body other. same_text text names others body other c.tokens_are_unique.ensures
+returns c = one_program c.trees_are_unique.ensures

@@ -1,44 +1,46 @@
-use Rattle.std.proofs.Common.{◌∙◌, true, false, sym, refl, arith}
+use Rattle.std.proofs.Common.{◌≡◌, [], ◌∷◌, ◌++◌, ◌∙◌, map, true, false, sym, ap, refl, arith, rules}
 use Rattle.derivation.specs.declared.symbol.Symbol.TheVariants as Sym
+use Rattle.concrete_syntax.specs.Mirror.{part}
 use Rattle.source_syntax.proofs.Calculus.{fails}
 use Rattle.source_syntax.proofs.Statements.{parts_goes, declaration_goes}
-use Rattle.source_syntax.proofs.Answering.{handed_on, sign_reads, sign_refused, leading_refused}
-use Rattle.source_syntax.proofs.Loops.{parts_from, part_missing, parts_over, parts_close}
+use Rattle.source_syntax.proofs.Answering.{failed_on, passed_on, sign_reads, sign_refused, leading_refused}
+use Rattle.source_syntax.proofs.Loops.{one_part_more, parts_from, part_missing, parts_over, parts_close}
 use Rattle.source_syntax.proofs.declaration.declaration.Goals as goal
+
+pub returns-in_err-inner-clause-refused : goal.returns-in_err-inner-clause-refused
+returns-in_err-inner-clause-refused c =
+    failed_on _ _ _ c.from_residual.ensures
+    (λ count behind. fails (declaration_goes _ count behind _) (sign_refused _ _ c.in_err-inner.field-0.0 Sym.Int (refl, refl) c.in_err-inner.ensures.missed))
 
 pub returns-in_err-first-clause-refused : goal.returns-in_err-first-clause-refused
 returns-in_err-first-clause-refused c =
-    handed_on _ _ _ c.from_residual.ensures
-    (λ count behind. fails (declaration_goes _ count behind _) (sign_refused _ _ c.in_err-first.field-0.0 Sym.Int (refl, refl) c.in_err-first.ensures.missed))
-
-pub returns-in_err-here-clause-refused : goal.returns-in_err-here-clause-refused
-returns-in_err-here-clause-refused c =
-    handed_on _ _ _ c.from_residual-in_err-here.ensures
-    (part_missing _ _ _ _ c.in_ok-first.ensures.read _ c.in_err-here.ensures.refused)
+    passed_on _ _ _ _ c.from_residual-in_err-first.ensures c.in_err-first.ensures.refused
+    (λ fault refused. part_missing _ _ _ _ c.in_ok-inner.ensures.read _ refused)
 
 pub parts-init : goal.parts-init
 parts-init c = record {
-  forward = omega (arith, c.in_ok-first.ensures.forward.forward, c.in_ok-here.ensures.forward.forward);
-  comes = parts_from _ _ _ _ c.in_ok-first.ensures.read c.in_ok-here.ensures.read;
+  forward = omega (arith, c.in_ok-inner.ensures.forward.forward, c.in_ok-first.ensures.forward.forward);
+  comes = parts_from _ _ _ _ _ _ (let none : c.new-more.result.items ≡ [] = search rules in ap (map part) none) c.in_ok-inner.ensures.read c.in_ok-first.ensures.read;
 }
 
-pub returns-in_err-here-2-clause-refused : goal.returns-in_err-here-2-clause-refused
-returns-in_err-here-2-clause-refused c =
-    handed_on _ _ _ c.from_residual-in_err-here-2.ensures
-    (λ count behind. fails (c.parts.invariant.comes.comes count behind).1
-    (fails (parts_goes _ _ behind _ true (sym c.if-comma_follows.true ∙ c.comma_follows.ensures)) (fails (sign_reads Sym.Comma (refl, refl) c.in_ok-more.ensures.read) (c.in_err-here-2.ensures.refused _ behind))))
+pub returns-in_err-further-clause-refused : goal.returns-in_err-further-clause-refused
+returns-in_err-further-clause-refused c =
+    passed_on _ _ _ _ c.from_residual-in_err-further.ensures c.in_err-further.ensures.refused
+    (λ fault refused count behind. fails (c.parts.invariant.comes.comes count behind).1
+    (fails (parts_goes _ _ behind _ true (sym c.if-comma_follows.true ∙ c.comma_follows.ensures)) (fails (sign_reads Sym.Comma (refl, refl) c.in_ok-behind.ensures.read) (refused _ behind))))
 
 pub parts-preserved : goal.parts-preserved
-parts-preserved c = record {
-  forward = omega (arith, c.parts.invariant.forward, c.in_ok-more.ensures.forward.forward, c.in_ok-here-2.ensures.forward.forward);
-  comes = parts_over _ _ _ _ _ c.parts.invariant.comes (sym c.if-comma_follows.true ∙ c.comma_follows.ensures) c.in_ok-more.ensures.read c.in_ok-here-2.ensures.read;
-}
+parts-preserved c =
+    let pushed : c.push.new.self.items ≡ c.parts.more.items ++ c.in_ok-further.further ∷ [] = search rules in record {
+      forward = omega (arith, c.parts.invariant.forward, c.in_ok-behind.ensures.forward.forward, c.in_ok-further.ensures.forward.forward);
+      comes = parts_over _ _ _ _ _ _ _ _ _ (one_part_more _ _ _ pushed) c.parts.invariant.comes (sym c.if-comma_follows.true ∙ c.comma_follows.ensures) c.in_ok-behind.ensures.read c.in_ok-further.ensures.read;
+    }
 
 pub returns-in_err-next-clause-refused : goal.returns-in_err-next-clause-refused
 returns-in_err-next-clause-refused c =
-    handed_on _ _ _ c.from_residual-in_err-next.ensures
+    failed_on _ _ _ c.from_residual-in_err-next.ensures
     (λ count behind. fails (c.parts.invariant.comes.comes count behind).1
     (fails (parts_goes _ _ behind _ false (sym c.if-comma_follows.false ∙ c.comma_follows.ensures)) (leading_refused _ _ c.in_err-next.field-0.0 Sym.Semicolon (refl, refl) c.in_err-next.ensures.missed)))
 
 pub returns-else-comma_follows-clause-read : goal.returns-else-comma_follows-clause-read
-returns-else-comma_follows-clause-read c = parts_close _ _ _ _ c.parts.invariant.comes (sym c.if-comma_follows.false ∙ c.comma_follows.ensures) c.in_ok-next.ensures.read
+returns-else-comma_follows-clause-read c = parts_close _ _ _ _ _ _ c.parts.invariant.comes (sym c.if-comma_follows.false ∙ c.comma_follows.ensures) c.in_ok-next.ensures.read

@@ -1,64 +1,77 @@
-use Rattle.std.proofs.Common.{◌∙◌, sym, refl, arith}
+use Rattle.std.proofs.Common.{◌≡◌, [], ◌∙◌, sym, ap, refl, arith, rules}
+use mir.Val.{to_z, of_z}
+use mir.Syntax.{w64}
+use borrow.Author.Rules.{sfits_of}
+use Rattle.std.proofs.lemmas.Int.{to_z-of_z}
 use Rattle.derivation.specs.declared.symbol.Symbol.TheVariants as Sym
 use Rattle.source_syntax.specs.declared.opening.OperandOpening.TheVariants as OperandOpening
-use Rattle.source_syntax.specs.Trees.{parentheses, signed}
+use Rattle.concrete_syntax.specs.Mirror.{operand, tail, links}
+use Rattle.concrete_syntax.specs.Trees.{number, parentheses, signed}
 use Rattle.source_syntax.proofs.Calculus.{over, fails}
 use Rattle.source_syntax.proofs.Expressions.{operand_goes, operand_sticks, expression_goes}
-use Rattle.source_syntax.proofs.Answering.{handed_on, sign_reads, opening_reads, sign_refused, opening_refused}
-use Rattle.source_syntax.proofs.Reading.{operand_number, operand_name, operand_truth, operand_unknown, behind_prefix, prefix_stops, behind_operator, operator_stops, tail_from, tail_over, tail_done}
+use Rattle.source_syntax.proofs.Answering.{failed_on, passed_on, sign_reads, opening_reads, name_reads, sign_refused, opening_refused, name_refused}
+use Rattle.source_syntax.proofs.Reading.{operand_number, operand_truth, operand_unknown, behind_prefix, prefix_stops, behind_operator, operator_stops, tail_from, tail_over, tail_done, one_link_more, told}
 use Rattle.source_syntax.proofs.expression.+expressions.Goals as goal
 
-pub expression-returns-in_err-here-clause-refused : goal.expression-returns-in_err-here-clause-refused
-expression-returns-in_err-here-clause-refused t c =
-    handed_on _ _ _ c.from_residual.ensures
-    (λ behind. fails (expression_goes _ _ behind _) (c.in_err-here.ensures.refused _))
+pub expression-returns-in_err-first-clause-refused : goal.expression-returns-in_err-first-clause-refused
+expression-returns-in_err-first-clause-refused t c =
+    passed_on _ _ _ _ c.from_residual.ensures c.in_err-first.ensures.refused
+    (λ fault refused behind. fails (expression_goes _ _ behind _) (refused _))
 
-pub expression-loop-next-init : goal.expression-loop-next-init
-expression-loop-next-init t c = record {
-  forward = omega (arith, c.in_ok-here.ensures.forward.forward);
-  inside = c.in_ok-here.ensures.forward.inside;
-  few = c.in_ok-here.ensures.counted;
-  comes = tail_from _ _ _ _ _ c.in_ok-here.ensures.read;
+pub expression-operators-init : goal.expression-operators-init
+expression-operators-init t c = record {
+  forward = omega (arith, c.in_ok-first.ensures.forward.forward);
+  inside = c.in_ok-first.ensures.forward.inside;
+  few = c.in_ok-first.ensures.counted;
+  comes = tail_from _ _ _ _ _ _ _ (let none : c.new-links.result.items ≡ [] = search rules in ap links none) c.in_ok-first.ensures.read;
 }
 
 pub expression-returns-then-count-gt-MOST_OPERATORS-clause-refused : goal.expression-returns-then-count-gt-MOST_OPERATORS-clause-refused
 expression-returns-then-count-gt-MOST_OPERATORS-clause-refused t c = λ behind.
-    fails (c.loop-next.invariant.comes.comes behind)
-    (operator_stops c.args.words.now c.loop-next.here _ c.in-Some.field-0 (sym c.in-Some.is ∙ c.binary_operator.ensures) _ c.if-count-gt-MOST_OPERATORS.true behind)
+    fails (c.operators.invariant.comes.comes behind)
+    (operator_stops c.args.words.now c.operators.here _ c.in-Some.op (sym c.in-Some.is ∙ c.binary_operator.ensures) _ c.if-count-gt-MOST_OPERATORS.true behind)
 
-pub expression-returns-in_err-next-in-Some-clause-refused : goal.expression-returns-in_err-next-in-Some-clause-refused
-expression-returns-in_err-next-in-Some-clause-refused t c =
-    let step = behind_operator c.args.words.now c.loop-next.here c.args.levels c.in-Some.field-0 (sym c.in-Some.is ∙ c.binary_operator.ensures) c.loop-next.count
+pub expression-returns-in_err-further-in-Some-clause-refused : goal.expression-returns-in_err-further-in-Some-clause-refused
+expression-returns-in_err-further-in-Some-clause-refused t c =
+    let step = behind_operator c.args.words.now c.operators.here c.args.levels c.in-Some.op (sym c.in-Some.is ∙ c.binary_operator.ensures) c.operators.count
     c.if-count-gt-MOST_OPERATORS.false in
-    handed_on _ _ _ c.from_residual-in_err-next-in-Some.ensures
-    (λ behind. fails (c.loop-next.invariant.comes.comes behind) (fails (step.0 behind) (c.in_err-next-in-Some.ensures.refused _)))
+    passed_on _ _ _ _ c.from_residual-in_err-further-in-Some.ensures c.in_err-further-in-Some.ensures.refused
+    (λ fault refused behind. fails (c.operators.invariant.comes.comes behind) (fails (step.0 behind) (refused _)))
 
-pub expression-loop-next-preserved : goal.expression-loop-next-preserved
-expression-loop-next-preserved t c =
-    let step = behind_operator c.args.words.now c.loop-next.here c.args.levels c.in-Some.field-0 (sym c.in-Some.is ∙ c.binary_operator.ensures) c.loop-next.count
+pub expression-operators-preserved : goal.expression-operators-preserved
+expression-operators-preserved t c =
+    let step = behind_operator c.args.words.now c.operators.here c.args.levels c.in-Some.op (sym c.in-Some.is ∙ c.binary_operator.ensures) c.operators.count
     c.if-count-gt-MOST_OPERATORS.false in
     record {
-      forward = omega (arith, c.loop-next.invariant.forward, c.in_ok-next-in-Some.ensures.forward.forward);
-      inside = c.in_ok-next-in-Some.ensures.forward.inside;
-      few = c.in_ok-next-in-Some.ensures.counted;
-      comes = tail_over _ _ _ _ _ _ _ _ c.in-Some.field-0 c.loop-next.invariant.comes step.0 c.in_ok-next-in-Some.ensures.read;
+      forward = omega (arith, c.operators.invariant.forward, c.in_ok-further-in-Some.ensures.forward.forward);
+      inside = c.in_ok-further-in-Some.ensures.forward.inside;
+      few = c.in_ok-further-in-Some.ensures.counted;
+      comes = tail_over _ _ _ _ _ _ _ _ c.in-Some.op _ _ _ _ (one_link_more _ _ _ _ (search rules)) c.operators.invariant.comes step.0 c.in_ok-further-in-Some.ensures.read;
     }
 
 pub expression-returns-in-None-clause-read : goal.expression-returns-in-None-clause-read
 expression-returns-in-None-clause-read t c =
-    tail_done _ _ _ _ _ c.loop-next.invariant.comes (sym c.in-None.is ∙ c.binary_operator.ensures)
+    tail_done _ _ _ _ _ _ _ _ c.operators.invariant.comes (sym c.in-None.is ∙ c.binary_operator.ensures) c.in_ok-tail-in-None.ensures
 
 pub operand-returns-in-Number-clause-read : goal.operand-returns-in-Number-clause-read
 operand-returns-in-Number-clause-read t c =
-    (operand_number c.args.words.now c.args.at _ (sym c.in-Number.is ∙ c.opening_of_operand.ensures)).0 _
+    let fits = rw c.in-Number.is at c.opening_of_operand.type_inv in
+    let kept : to_z w64 (of_z w64 c.in-Number.value) ≡ c.in-Number.value = to_z-of_z w64 c.in-Number.value (sfits_of fits.1.1.1.1.0.1) in
+    told (ap number kept) ((operand_number c.args.words.now c.args.at _ c.in-Number.value (sym c.in-Number.is ∙ c.opening_of_operand.ensures)).0 _)
 
-pub operand-returns-in-Name-clause-read : goal.operand-returns-in-Name-clause-read
-operand-returns-in-Name-clause-read t c =
-    (operand_name c.args.words.now c.args.at _ (sym c.in-Name.is ∙ c.opening_of_operand.ensures)).0 _
+pub operand-returns-in_err-name-in-Name-clause-refused : goal.operand-returns-in_err-name-in-Name-clause-refused
+operand-returns-in_err-name-in-Name-clause-refused t c =
+    passed_on _ _ _ _ c.from_residual.ensures c.in_err-name-in-Name.ensures.missed
+    (λ fault missed behind. fails (operand_goes _ _ behind _ OperandOpening.Name (sym c.in-Name.is ∙ c.opening_of_operand.ensures)) (name_refused _ _ fault missed))
+
+pub operand-returns-in_ok-name-in-Name-clause-read : goal.operand-returns-in_ok-name-in-Name-clause-read
+operand-returns-in_ok-name-in-Name-clause-read t c = record {
+  comes = λ behind. over (operand_goes _ _ behind _ OperandOpening.Name (sym c.in-Name.is ∙ c.opening_of_operand.ensures)) (name_reads c.in_ok-name-in-Name.ensures.read);
+}
 
 pub operand-returns-in-Truth-clause-read : goal.operand-returns-in-Truth-clause-read
 operand-returns-in-Truth-clause-read t c =
-    (operand_truth c.args.words.now c.args.at _ c.in-Truth.field-0 (sym c.in-Truth.is ∙ c.opening_of_operand.ensures)).0 _
+    (operand_truth c.args.words.now c.args.at _ c.in-Truth.value (sym c.in-Truth.is ∙ c.opening_of_operand.ensures)).0 _
 
 pub operand-returns-in-Unknown-clause-read : goal.operand-returns-in-Unknown-clause-read
 operand-returns-in-Unknown-clause-read t c =
@@ -69,49 +82,49 @@ operand-returns-in-Nothing-clause-refused t c = λ behind. operand_sticks _ _ be
 
 pub parentheses-returns-in_err-inner-clause-refused : goal.parentheses-returns-in_err-inner-clause-refused
 parentheses-returns-in_err-inner-clause-refused t c =
-    handed_on _ _ _ c.from_residual.ensures
+    failed_on _ _ _ c.from_residual.ensures
     (λ behind. fails (operand_goes _ _ behind _ OperandOpening.Parenthesis c.requires.opens)
     (opening_refused _ _ c.in_err-inner.field-0.0 Sym.OpenParenthesis _ (refl, refl) c.in_err-inner.ensures.missed))
 
-pub parentheses-returns-in_err-behind-clause-refused : goal.parentheses-returns-in_err-behind-clause-refused
-parentheses-returns-in_err-behind-clause-refused t c =
-    handed_on _ _ _ c.from_residual-in_err-behind.ensures
-    (λ behind. fails (operand_goes _ _ behind _ OperandOpening.Parenthesis c.requires.opens)
+pub parentheses-returns-in_err-value-clause-refused : goal.parentheses-returns-in_err-value-clause-refused
+parentheses-returns-in_err-value-clause-refused t c =
+    passed_on _ _ _ _ c.from_residual-in_err-value.ensures c.in_err-value.ensures.refused
+    (λ fault refused behind. fails (operand_goes _ _ behind _ OperandOpening.Parenthesis c.requires.opens)
     (fails (opening_reads Sym.OpenParenthesis _ (refl, refl) c.in_ok-inner.ensures.read c.in_ok-inner.ensures.shallow)
-    (c.in_err-behind.ensures.refused _)))
+    (refused _)))
 
 pub parentheses-returns-in_err-next-clause-refused : goal.parentheses-returns-in_err-next-clause-refused
 parentheses-returns-in_err-next-clause-refused t c =
-    handed_on _ _ _ c.from_residual-in_err-next.ensures
+    failed_on _ _ _ c.from_residual-in_err-next.ensures
     (λ behind. fails (operand_goes _ _ behind _ OperandOpening.Parenthesis c.requires.opens)
     (fails (opening_reads Sym.OpenParenthesis _ (refl, refl) c.in_ok-inner.ensures.read c.in_ok-inner.ensures.shallow)
-    (fails (c.in_ok-behind.ensures.read.comes _)
+    (fails (c.in_ok-value.ensures.read.comes _)
     (sign_refused _ _ c.in_err-next.field-0.0 Sym.CloseParenthesis (refl, refl) c.in_err-next.ensures.missed))))
 
 pub parentheses-returns-clause-read : goal.parentheses-returns-clause-read
 parentheses-returns-clause-read t c =
-    let inner = c.in_ok-behind.ensures.read in
-    record {
-      tree = parentheses inner.tree.operand inner.tree.tail;
+    let operand_kept : c.in_ok-operand.operand.value ≡ c.in_ok-value.value.operand = search rules in
+    let tail_kept : c.in_ok-tail.tail.value ≡ c.in_ok-value.value.tail = search rules in
+    told (ap (λ e. parentheses (operand e) (tail c.in_ok-tail.tail.value)) operand_kept ∙ ap (λ more. parentheses (operand c.in_ok-value.value.operand) (tail more)) tail_kept) (record {
       comes = λ behind. over (operand_goes _ _ behind _ OperandOpening.Parenthesis c.requires.opens)
           (over (opening_reads Sym.OpenParenthesis _ (refl, refl) c.in_ok-inner.ensures.read c.in_ok-inner.ensures.shallow)
-          (over (inner.comes _) (sign_reads Sym.CloseParenthesis (refl, refl) c.in_ok-next.ensures.read)));
-    }
+          (over (c.in_ok-value.ensures.read.comes _) (sign_reads Sym.CloseParenthesis (refl, refl) c.in_ok-next.ensures.read)));
+    })
 
 pub signed-returns-then-levels-gt-MOST_LEVELS-clause-refused : goal.signed-returns-then-levels-gt-MOST_LEVELS-clause-refused
 signed-returns-then-levels-gt-MOST_LEVELS-clause-refused t c =
     prefix_stops c.args.words.now c.args.at _ c.args.prefix c.requires.opens c.if-levels-gt-MOST_LEVELS.true _
 
-pub signed-returns-in_err-next-clause-refused : goal.signed-returns-in_err-next-clause-refused
-signed-returns-in_err-next-clause-refused t c =
+pub signed-returns-in_err-inner-clause-refused : goal.signed-returns-in_err-inner-clause-refused
+signed-returns-in_err-inner-clause-refused t c =
     let step = behind_prefix c.args.words.now c.args.at c.args.levels c.args.prefix c.requires.opens c.if-levels-gt-MOST_LEVELS.false in
-    handed_on _ _ _ c.from_residual.ensures
-    (λ behind. fails (step.0 c.args.operators behind) (c.in_err-next.ensures.refused behind))
+    passed_on _ _ _ _ c.from_residual.ensures c.in_err-inner.ensures.refused
+    (λ fault refused behind. fails (step.0 c.args.operators behind) (refused behind))
 
 pub signed-returns-clause-read : goal.signed-returns-clause-read
 signed-returns-clause-read t c =
     let step = behind_prefix c.args.words.now c.args.at c.args.levels c.args.prefix c.requires.opens c.if-levels-gt-MOST_LEVELS.false in
-    record {
-      tree = signed c.args.prefix c.in_ok-next.ensures.read.tree;
-      comes = λ behind. over (step.0 c.args.operators behind) (c.in_ok-next.ensures.read.comes behind);
-    }
+    let kept : c.in_ok-operand.operand.value ≡ c.in_ok-inner.inner = search rules in
+    told (ap (λ e. signed c.args.prefix (operand e)) kept) (record {
+      comes = λ behind. over (step.0 c.args.operators behind) (c.in_ok-inner.ensures.read.comes behind);
+    })

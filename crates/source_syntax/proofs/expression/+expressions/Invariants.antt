@@ -1,5 +1,6 @@
 use Rattle.std.proofs.Common.{◌+◌, ◌-◌, ◌*◌, ◌≤◌, length}
 use Rattle.derivation.specs.Spelled.{words_from}
+use Rattle.concrete_syntax.specs.Mirror.{operand, links}
 use Rattle.source_syntax.specs.Reads.{ComesToTail}
 use Rattle.source_syntax.proofs.expression.+expressions.Given as goal
 
@@ -15,14 +16,14 @@ decreases-signed l = 3 * (length l.words.now - l.at)
 abbrev pub decreases-parentheses : goal.decreases-parentheses
 decreases-parentheses l = 3 * (length l.words.now - l.at)
 
--- reading an expression has come to reading its tail from here
-abbrev pub invariant-expression-loop-next : goal.invariant-expression-loop-next
-invariant-expression-loop-next l = record {
+-- reading an expression has read its first operand and these links, and has come to reading the tail that is left
+abbrev pub invariant-expression-operators : goal.invariant-expression-operators
+invariant-expression-operators l = record {
   forward : l.at + 1 ≤ l.here;
   inside : l.here ≤ length l.words;
   few : l.count ≤ 256;
-  comes : ComesToTail l.operators l.levels (words_from l.words l.at) l.count (words_from l.words l.here);
+  comes : ComesToTail l.operators l.levels (operand l.first) (links l.links.items) (words_from l.words l.at) l.count (words_from l.words l.here);
 }
 
-abbrev pub decreases-expression-loop-next : goal.decreases-expression-loop-next
-decreases-expression-loop-next l = length l.words - l.here
+abbrev pub decreases-expression-operators : goal.decreases-expression-operators
+decreases-expression-operators l = length l.words - l.here

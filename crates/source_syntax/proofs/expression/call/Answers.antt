@@ -2,7 +2,6 @@ use Rattle.std.proofs.Common.{refl}
 use Rattle.derivation.specs.declared.symbol.Symbol.TheVariants as Sym
 use Rattle.source_syntax.proofs.Calculus.{over, fails}
 use Rattle.source_syntax.specs.declared.opening.OperandOpening.TheVariants.{Call}
-use Rattle.source_syntax.specs.Trees.{call}
 use Rattle.source_syntax.proofs.Expressions.{operand_goes}
 use Rattle.source_syntax.proofs.Answering.{handed_on, sign_reads, opening_reads, sign_refused, opening_refused}
 use Rattle.source_syntax.proofs.expression.call.Goals as goal
@@ -24,7 +23,6 @@ returns-in_err-next-clause-refused c =
 
 pub returns-clause-read : goal.returns-clause-read
 returns-clause-read c = λ count. record {
-  tree = call;
   comes = λ behind. over (operand_goes _ count behind _ Call c.requires.opens)
       (over (sign_reads Sym.Nondeterministic (refl, refl) c.in_ok-open.ensures.read)
       (over (opening_reads Sym.OpenParenthesis _ (refl, refl) c.in_ok-close.ensures.read c.in_ok-close.ensures.shallow)

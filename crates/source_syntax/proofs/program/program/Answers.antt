@@ -1,38 +1,42 @@
-use Rattle.std.proofs.Common.{arith}
+use Rattle.std.proofs.Common.{◌≡◌, [], ◌∷◌, ◌++◌, map, ap, arith, rules}
+use Rattle.concrete_syntax.specs.declared.program.Prelude.TheVariants.{ExternCall, TypedefBool}
+use Rattle.concrete_syntax.specs.Mirror.{prelude}
 use Rattle.source_syntax.proofs.Calculus.{fails}
-use Rattle.source_syntax.proofs.Answering.{handed_on}
-use Rattle.source_syntax.proofs.Loops.{continues_from, continues_over, continues_to}
+use Rattle.source_syntax.proofs.Answering.{failed_on, passed_on}
+use Rattle.source_syntax.proofs.Loops.{preludes_from, preludes_over, preludes_to, one_prelude_more}
 use Rattle.source_syntax.proofs.program.program.Goals as goal
 
 pub preludes-init : goal.preludes-init
-preludes-init c = record { forward = omega arith; comes = continues_from _ _ }
+preludes-init c = record { forward = omega arith; comes = preludes_from _ _ (let none : c.new-preludes.result.items ≡ [] = search rules in ap (map prelude) none) }
 
 pub preludes-preserved-in-Extern : goal.preludes-preserved-in-Extern
-preludes-preserved-in-Extern c = record {
-  forward = omega (arith, c.preludes.invariant.forward, c.in_ok-here-in-Extern.ensures.forward.forward);
-  comes = continues_over _ _ _ _ c.preludes.invariant.comes c.in_ok-here-in-Extern.ensures.read;
-}
+preludes-preserved-in-Extern c =
+    let pushed : c.push.new.self.items ≡ c.preludes.preludes.items ++ ExternCall c.in_ok-void-in-Extern.void ∷ [] = search rules in record {
+      forward = omega (arith, c.preludes.invariant.forward, c.in_ok-void-in-Extern.ensures.forward.forward);
+      comes = preludes_over _ _ _ _ _ _ (one_prelude_more _ _ _ pushed) c.preludes.invariant.comes c.in_ok-void-in-Extern.ensures.read;
+    }
 
 pub preludes-preserved : goal.preludes-preserved
-preludes-preserved c = record {
-  forward = omega (arith, c.preludes.invariant.forward, c.in_ok-here-in-Typedef.ensures.forward.forward);
-  comes = continues_over _ _ _ _ c.preludes.invariant.comes c.in_ok-here-in-Typedef.ensures.read;
-}
+preludes-preserved c =
+    let pushed : c.push-in-Typedef.new.self.items ≡ c.preludes.preludes.items ++ TypedefBool ∷ [] = search rules in record {
+      forward = omega (arith, c.preludes.invariant.forward, c.in_ok-next-in-Typedef.ensures.forward.forward);
+      comes = preludes_over _ _ _ _ _ _ (one_prelude_more _ _ _ pushed) c.preludes.invariant.comes c.in_ok-next-in-Typedef.ensures.read;
+    }
 
-pub returns-in_err-here-in-Extern-clause-refused : goal.returns-in_err-here-in-Extern-clause-refused
-returns-in_err-here-in-Extern-clause-refused c =
-    handed_on _ _ _ c.from_residual.ensures
-    (λ count behind. fails (c.preludes.invariant.comes.comes count behind).1 (c.in_err-here-in-Extern.ensures.refused _ behind))
+pub returns-in_err-void-in-Extern-clause-refused : goal.returns-in_err-void-in-Extern-clause-refused
+returns-in_err-void-in-Extern-clause-refused c =
+    failed_on _ _ _ c.from_residual.ensures
+    (λ count behind. fails (c.preludes.invariant.comes.comes count behind).1 (c.in_err-void-in-Extern.ensures.refused _ behind))
 
-pub returns-in_err-here-in-Typedef-clause-refused : goal.returns-in_err-here-in-Typedef-clause-refused
-returns-in_err-here-in-Typedef-clause-refused c =
-    handed_on _ _ _ c.from_residual-in_err-here-in-Typedef.ensures
-    (λ count behind. fails (c.preludes.invariant.comes.comes count behind).1 (c.in_err-here-in-Typedef.ensures.refused _ behind))
+pub returns-in_err-next-in-Typedef-clause-refused : goal.returns-in_err-next-in-Typedef-clause-refused
+returns-in_err-next-in-Typedef-clause-refused c =
+    failed_on _ _ _ c.from_residual-in_err-next-in-Typedef.ensures
+    (λ count behind. fails (c.preludes.invariant.comes.comes count behind).1 (c.in_err-next-in-Typedef.ensures.refused _ behind))
 
-pub returns-in_err-next-in-Main-clause-refused : goal.returns-in_err-next-in-Main-clause-refused
-returns-in_err-next-in-Main-clause-refused c =
-    handed_on _ _ _ c.from_residual-in_err-next-in-Main.ensures
-    (λ count behind. fails (c.preludes.invariant.comes.comes count behind).1 (c.in_err-next-in-Main.ensures.refused _ behind))
+pub returns-in_err-void-in-Main-clause-refused : goal.returns-in_err-void-in-Main-clause-refused
+returns-in_err-void-in-Main-clause-refused c =
+    passed_on _ _ _ _ c.from_residual-in_err-void-in-Main.ensures c.in_err-void-in-Main.ensures.refused
+    (λ fault refused count behind. fails (c.preludes.invariant.comes.comes count behind).1 (refused _ behind))
 
 pub returns-in-Main-clause-read : goal.returns-in-Main-clause-read
-returns-in-Main-clause-read c = continues_to _ _ _ _ c.preludes.invariant.comes c.in_ok-next-in-Main.ensures.read
+returns-in-Main-clause-read c = preludes_to _ _ _ _ _ _ c.preludes.invariant.comes c.in_ok-void-in-Main.ensures.read

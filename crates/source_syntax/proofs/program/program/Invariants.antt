@@ -1,14 +1,15 @@
-use Rattle.std.proofs.Common.{◌-◌, ◌≤◌, length}
+use Rattle.std.proofs.Common.{◌-◌, ◌≤◌, length, map}
 use Rattle.derivation.specs.Spelled.{words_from}
+use Rattle.concrete_syntax.specs.Mirror.{prelude}
 use Rattle.source_syntax.specs.Pending.{a_program}
-use Rattle.source_syntax.specs.Reads.{Continues}
+use Rattle.source_syntax.specs.Reads.{Continues, behind_preludes}
 use Rattle.source_syntax.proofs.program.program.Given as goal
 
 -- reading a program has come to reading what is left of it from here
 abbrev pub invariant-preludes : goal.invariant-preludes
 invariant-preludes l = record {
   forward : l.at ≤ l.here;
-  comes : Continues a_program (words_from l.words l.at) (words_from l.words l.here);
+  comes : Continues a_program (behind_preludes (map prelude l.preludes.items)) (words_from l.words l.at) (words_from l.words l.here);
 }
 
 abbrev pub decreases-preludes : goal.decreases-preludes

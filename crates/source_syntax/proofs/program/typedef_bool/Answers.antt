@@ -1,7 +1,6 @@
-use Rattle.std.proofs.Common.{◌∷◌, refl}
+use Rattle.std.proofs.Common.{refl}
 use Rattle.derivation.specs.declared.symbol.Symbol.TheVariants as Sym
 use Rattle.source_syntax.specs.declared.opening.PreludeOpening.TheVariants as PreludeOpening
-use Rattle.source_syntax.specs.Trees.{typedef_bool}
 use Rattle.source_syntax.proofs.Calculus.{over, fails}
 use Rattle.source_syntax.proofs.Statements.{program_goes}
 use Rattle.source_syntax.proofs.Answering.{handed_on, sign_reads, sign_refused}
@@ -54,6 +53,5 @@ returns-in_err-next-clause-refused c =
 
 pub returns-clause-read : goal.returns-clause-read
 returns-clause-read c = record {
-  whole = λ p. record { preludes = typedef_bool ∷ p.preludes; void = p.void; items = p.items };
   comes = λ count behind. (_, over (program_goes count behind _ PreludeOpening.Typedef c.requires.opens) (over (sign_reads Sym.Typedef (refl, refl) c.in_ok-kind.ensures.read) (over (sign_reads Sym.Enum (refl, refl) c.in_ok-open.ensures.read) (over (sign_reads Sym.OpenBrace (refl, refl) c.in_ok-low.ensures.read) (over (sign_reads Sym.False (refl, refl) c.in_ok-comma.ensures.read) (over (sign_reads Sym.Comma (refl, refl) c.in_ok-high.ensures.read) (over (sign_reads Sym.True (refl, refl) c.in_ok-close.ensures.read) (over (sign_reads Sym.CloseBrace (refl, refl) c.in_ok-word.ensures.read) (over (sign_reads Sym.Bool (refl, refl) c.in_ok-end.ensures.read) (sign_reads Sym.Semicolon (refl, refl) c.in_ok-next.ensures.read))))))))));
 }

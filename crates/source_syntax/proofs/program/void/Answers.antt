@@ -12,7 +12,6 @@ returns-in_err-end-clause-refused c =
 
 pub returns-then-void_follows-clause-read : goal.returns-then-void_follows-clause-read
 returns-then-void_follows-clause-read c = record {
-  tree = true;
   comes = λ count behind. (_, over (void_goes count behind _ true (sym c.if-void_follows.true ∙ c.void_follows.ensures)) (over (sign_reads Sym.Void (refl, refl) c.in_ok-close.ensures.read) (sign_reads Sym.CloseParenthesis (refl, refl) c.in_ok-end.ensures.read)));
 }
 
@@ -23,6 +22,5 @@ returns-in_err-next-clause-refused c =
 
 pub returns-clause-read : goal.returns-clause-read
 returns-clause-read c = record {
-  tree = false;
   comes = λ count behind. (_, over (void_goes count behind _ false (sym c.if-void_follows.false ∙ c.void_follows.ensures)) (sign_reads Sym.CloseParenthesis (refl, refl) c.in_ok-next.ensures.read));
 }

@@ -1,5 +1,7 @@
-use Rattle.std.proofs.Common.{◌+◌, ◌-◌, ◌*◌, ◌≤◌, length}
+use Rattle.std.proofs.Common.{◌+◌, ◌-◌, ◌*◌, ◌≤◌, length, map}
 use Rattle.derivation.specs.Spelled.{words_from}
+use Rattle.concrete_syntax.specs.Chains.{items_of}
+use Rattle.concrete_syntax.specs.Mirror.{item}
 use Rattle.source_syntax.specs.Pending.{items as pending_items}
 use Rattle.source_syntax.specs.Reads.{Continues}
 use Rattle.source_syntax.proofs.statement.+statements.Given as goal
@@ -32,7 +34,7 @@ decreases-for_loop l = 3 * (length l.words.now - l.at)
 abbrev pub invariant-items-further : goal.invariant-items-further
 invariant-items-further l = record {
   forward : l.at ≤ l.here;
-  comes : Continues (pending_items l.levels) (words_from l.words l.at) (words_from l.words l.here);
+  comes : Continues (pending_items l.levels) (items_of (map item l.list.items)) (words_from l.words l.at) (words_from l.words l.here);
 }
 
 abbrev pub decreases-items-further : goal.decreases-items-further

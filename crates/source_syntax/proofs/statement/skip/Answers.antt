@@ -1,7 +1,6 @@
 use Rattle.std.proofs.Common.{refl}
 use Rattle.derivation.specs.declared.symbol.Symbol.TheVariants as Sym
 use Rattle.source_syntax.specs.declared.opening.StatementOpening.TheVariants as StatementOpening
-use Rattle.source_syntax.specs.Trees.{skip}
 use Rattle.source_syntax.proofs.Calculus.{over, fails}
 use Rattle.source_syntax.proofs.Statements.{statement_goes}
 use Rattle.source_syntax.proofs.Answering.{handed_on, sign_reads, sign_refused}
@@ -14,6 +13,5 @@ returns-in_err-next-clause-refused c =
 
 pub returns-clause-read : goal.returns-clause-read
 returns-clause-read c = record {
-  tree = skip;
   comes = λ count behind. (_, over (statement_goes _ count behind _ StatementOpening.Skip c.requires.opens) (sign_reads Sym.Semicolon (refl, refl) c.in_ok-next.ensures.read));
 }

@@ -1,0 +1,3 @@
+pub mod Trees
+pub mod Mirror
+pub mod Chains

@@ -1,0 +1,108 @@
+-- The concrete trees of programs: one constructor for each production of the grammar.
+--
+--     program     = prelude* "int" "main" "(" ["void"] ")" "{" item* "}"
+--     prelude     = "extern" "int" "__VERIFIER_nondet_int" "(" ["void"] ")" ";"
+--                 | "typedef" "enum" "{" "false" "," "true" "}" "bool" ";"
+--     item        = declaration ";" | statement
+--     declaration = "int" part ("," part)*
+--     part        = NAME ["=" expression]
+--     statement   = simple ";" | ";" | "{" item* "}"
+--                 | "if" "(" expression ")" statement ["else" statement]
+--                 | "while" "(" expression ")" statement
+--                 | "do" statement "while" "(" expression ")" ";"
+--                 | "for" "(" [simple | declaration] ";" [expression] ";" [simple] ")" statement
+--                 | "return" [expression] ";"
+--     simple      = NAME ("=" | "+=" | "-=" | "*=") expression | NAME ("++" | "--") | ("++" | "--") NAME
+--     expression  = operand (operator operand)*
+--     operand     = ("-" | "+" | "!") operand | NUMBER | NAME | "true" | "false" | "?" | "__VERIFIER_nondet_int" "(" ")"
+--                 | "(" expression ")" | "[" end "," end "]"
+--     operator    = "||" | "&&" | "==" | "!=" | "<" | "<=" | ">" | ">=" | "+" | "-" | "*"
+--     end         = ["-"] (NUMBER | "inf")
+--
+-- An expression is written here as its operands with the operators between them. How they group is said elsewhere: it has no part in
+-- which tokens are an expression.
+use Rattle.std.specs.Prelude.{ℕ, ℤ, Bool, Option, List}
+use Rattle.step_meaning.specs.declared.expression.Op2.{Op2}
+use Rattle.concrete_syntax.specs.declared.sign.Prefix.{Prefix}
+use Rattle.concrete_syntax.specs.declared.sign.Assignment.{Assignment}
+use Rattle.concrete_syntax.specs.declared.sign.Step.{Step}
+
+-- the end of a range: whether a `-` stands before it, and its number, or none for `inf`
+pub record End : Type 0 where
+  pub negative : Bool
+  pub size : Option ℤ
+
+-- an operand, and the operators and operands behind the first one of an expression
+mutual
+  pub data Operand : Type 0 where
+    number : ℤ → Operand
+    name : List ℕ → Operand
+    truth : Bool → Operand
+    unknown : Operand
+    call : Operand
+    signed : Prefix → Operand → Operand
+    parentheses : Operand → Tail → Operand
+    range : End → End → Operand
+
+  pub data Tail : Type 0 where
+    ended : Tail
+    further : Op2 → Operand → Tail → Tail
+
+pub record Expression : Type 0 where
+  pub operand : Operand
+  pub tail : Tail
+
+-- what a simple statement does to the name that it begins with
+pub data Action : Type 0 where
+  assigns : Assignment → Expression → Action
+  steps : Step → Action
+
+pub data Simple : Type 0 where
+  acts : List ℕ → Action → Simple
+  steps_before : Step → List ℕ → Simple
+
+-- a declared name, and its initialiser if it has one
+pub record Part : Type 0 where
+  pub declared : List ℕ
+  pub initialiser : Option Expression
+
+pub record Declaration : Type 0 where
+  pub part : Part
+  pub more : List Part
+
+-- what stands before the first `;` of a `for`
+pub data Start : Type 0 where
+  starts_with_nothing : Start
+  starts_with : Simple → Start
+  declares : Declaration → Start
+
+mutual
+  pub data Statement : Type 0 where
+    simple : Simple → Statement
+    skip : Statement
+    braces : Items → Statement
+    conditional : Expression → Statement → Otherwise → Statement
+    while_loop : Expression → Statement → Statement
+    do_loop : Statement → Expression → Statement
+    for_loop : Start → Option Expression → Option Simple → Statement → Statement
+    return : Option Expression → Statement
+
+  -- the second part of an `if`, where it has one
+  pub data Otherwise : Type 0 where
+    without : Otherwise
+    otherwise : Statement → Otherwise
+
+  pub data Items : Type 0 where
+    none : Items
+    declaration : Declaration → Items → Items
+    statement : Statement → Items → Items
+
+-- what may stand before `main`; the truth value says whether `void` is written
+pub data Prelude : Type 0 where
+  extern_call : Bool → Prelude
+  typedef_bool : Prelude
+
+pub record Program : Type 0 where
+  pub preludes : List Prelude
+  pub void : Bool
+  pub items : Items

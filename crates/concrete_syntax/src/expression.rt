@@ -1,0 +1,98 @@
+// Expressions, as they are written: operands with the operators between them. How they group has no part in the tree.
+
+use crate::sign::Prefix;
+use std::alloc::{AllocError, Global};
+use step_meaning::Op2;
+
+/// The end of a range.
+#[derive(Clone, Copy)]
+pub struct End {
+    /// Whether a `-` stands before it.
+    pub negative: bool,
+    /// Its number, or `None` for `inf`.
+    pub size: Option<i64>,
+}
+
+/// An operand.
+#[cycle(operands)]
+#[derive(Drop)]
+pub enum Operand {
+    Number(i64),
+    /// A variable, by its bytes in the text.
+    Name(Vec<u8>),
+    Truth(bool),
+    /// `?`
+    Unknown,
+    /// `__VERIFIER_nondet_int()`
+    Call,
+    Signed {
+        prefix: Prefix,
+        operand: Box<Operand>,
+    },
+    /// An expression in parentheses: its first operand, and what stands behind that.
+    Parentheses {
+        operand: Box<Operand>,
+        tail: Box<Tail>,
+    },
+    /// `[low, high]`
+    Range {
+        low: End,
+        high: End,
+    },
+}
+
+/// The operators and operands behind the first operand of an expression, in the order of the text.
+#[cycle(operands)]
+pub enum Tail {
+    Ended,
+    Further {
+        op: Op2,
+        operand: Box<Operand>,
+        rest: Box<Tail>,
+    },
+}
+
+/// An expression.
+#[derive(Drop)]
+pub struct Expression {
+    pub operand: Operand,
+    pub tail: Tail,
+}
+
+impl Tail {
+    ghost use Rattle.std.specs.Prelude.{◌≡◌, IfOk};
+    ghost use Rattle.concrete_syntax.specs.Trees.{ended};
+    ghost use Rattle.concrete_syntax.specs.Mirror.{tail, links};
+    ghost use Rattle.concrete_syntax.specs.Chains.{tail_of};
+
+    /// The tail of these operators, each with the operand behind it, in their order. `AllocError` where a link finds no room.
+    pub fn of(alloc: Global, mut list: Vec<(Op2, Operand)>) -> Result<Tail, AllocError>
+        ensures { IfOk result (λ made. tail made ≡ tail_of (links list.items) ended) }
+    {
+        let mut made = Tail::Ended;
+        while let Some((op, operand)) = list.pop() {
+            made = Tail::Further {
+                op,
+                operand: Box::new(alloc, operand)?,
+                rest: Box::new(alloc, made)?,
+            };
+        }
+        Ok(made)
+    }
+}
+
+impl Drop for Tail {
+    #[cycle(drop_operands)]
+    fn drop(mut self) {
+        loop {
+            match self {
+                Tail::Ended => return,
+                Tail::Further {
+                    op: _,
+                    operand: _,
+                    rest,
+                } => self = Box::into_inner(rest),
+            }
+        }
+    }
+}

@@ -1,0 +1,113 @@
+// Statements, and lists of items.
+
+ghost use Rattle.std.specs.Prelude.{◌≡◌, IfOk, [], ◌∷◌};
+ghost use Rattle.concrete_syntax.specs.Mirror.{items, item};
+ghost use Rattle.concrete_syntax.specs.Chains.{items_of};
+
+use crate::expression::Expression;
+use crate::simple::{Declaration, Simple, Start};
+use std::alloc::{AllocError, Global};
+
+/// A statement.
+#[cycle(statements)]
+#[derive(Drop)]
+pub enum Statement {
+    Simple(Simple),
+    /// `;` alone.
+    Skip,
+    Braces(Items),
+    Conditional {
+        test: Expression,
+        part: Box<Statement>,
+        other: Otherwise,
+    },
+    While {
+        test: Expression,
+        body: Box<Statement>,
+    },
+    Do {
+        body: Box<Statement>,
+        test: Expression,
+    },
+    For {
+        start: Start,
+        test: Option<Expression>,
+        step: Option<Simple>,
+        body: Box<Statement>,
+    },
+    Return(Option<Expression>),
+}
+
+/// The second part of an `if`, where it has one.
+#[cycle(statements)]
+#[derive(Drop)]
+pub enum Otherwise {
+    Nothing,
+    Else(Box<Statement>),
+}
+
+/// The declarations and statements of a pair of braces, in the order of the text.
+#[cycle(statements)]
+pub enum Items {
+    Ended,
+    Declaration {
+        first: Declaration,
+        rest: Box<Items>,
+    },
+    Statement {
+        first: Box<Statement>,
+        rest: Box<Items>,
+    },
+}
+
+/// A declaration or a statement.
+#[derive(Drop)]
+pub enum Item {
+    Declaration(Declaration),
+    Statement(Statement),
+}
+
+impl Items {
+    ghost use Rattle.std.specs.Prelude.{◌≡◌, IfOk, map};
+    ghost use Rattle.concrete_syntax.specs.Trees.{none};
+    ghost use Rattle.concrete_syntax.specs.Mirror.{items, item};
+    ghost use Rattle.concrete_syntax.specs.Chains.{items_of};
+
+    /// These declarations and statements, in their order. `AllocError` where a link finds no room.
+    pub fn of(alloc: Global, mut list: Vec<Item>) -> Result<Items, AllocError>
+        ensures { IfOk result (λ made. items made ≡ items_of (map item list.items) none) }
+    {
+        let mut made = Items::Ended;
+        while let Some(last) = list.pop() {
+            made = before(alloc, last, made)?;
+        }
+        Ok(made)
+    }
+}
+
+// The item, and the others behind it.
+fn before(alloc: Global, first: Item, rest: Items) -> Result<Items, AllocError>
+    ensures { IfOk result (λ made. items made ≡ items_of (item first ∷ []) (items rest)) }
+{
+    let rest = Box::new(alloc, rest)?;
+    match first {
+        Item::Declaration(first) => Ok(Items::Declaration { first, rest }),
+        Item::Statement(first) => Ok(Items::Statement {
+            first: Box::new(alloc, first)?,
+            rest,
+        }),
+    }
+}
+
+impl Drop for Items {
+    #[cycle(drop_statements)]
+    fn drop(mut self) {
+        loop {
+            match self {
+                Items::Ended => return,
+                Items::Declaration { first: _, rest } => self = Box::into_inner(rest),
+                Items::Statement { first: _, rest } => self = Box::into_inner(rest),
+            }
+        }
+    }
+}

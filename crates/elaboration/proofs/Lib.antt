@@ -1,0 +1,9 @@
+pub mod Firsts
+pub mod Ladder
+pub mod Names
+pub mod Scoping
+pub mod Walks
+pub mod Declared
+pub mod Valid
+pub mod Bodies
+pub mod Whole

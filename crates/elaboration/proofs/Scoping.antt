@@ -1,0 +1,82 @@
+-- Behind items all that could be used before them can be used still.
+use Rattle.std.proofs.Common.{◌≡◌, ℕ, List, [], ◌∷◌, ◌++◌, length, take, refl, ap, sym, ◌∙◌}
+use Rattle.std.proofs.lemmas.List.{append-nil, append_assoc}
+use Rattle.std.proofs.Math.Seq.{take-append_seam}
+use Rattle.concrete_syntax.specs.Trees.{Part, Declaration, Statement, simple, skip, braces, conditional, while_loop, do_loop, for_loop, return, Otherwise, without, otherwise, Items, none, declaration, statement, Start, starts_with_nothing, starts_with, declares}
+use Rattle.elaboration.specs.Scopes.{Scope, Name, declare, close}
+use Rattle.elaboration.specs.Statements.{parts_scope, declaration_scope, statement_scope, otherwise_scope, items_scope, start_scope}
+
+-- a statement leaves what may be used as it is
+mutual
+  pub statement_visible : (scope : Scope) (s : Statement) → (statement_scope scope s).visible ≡ scope.visible
+  statement_visible scope (simple s) = refl
+  statement_visible scope skip = refl
+  statement_visible scope (braces all) = refl
+  statement_visible scope (conditional test part other) = otherwise_visible (statement_scope scope part) other ∙ statement_visible scope part
+  statement_visible scope (while_loop test body) = statement_visible scope body
+  statement_visible scope (do_loop body test) = statement_visible scope body
+  statement_visible scope (for_loop start test step body) = refl
+  statement_visible scope (return value) = refl
+
+  otherwise_visible : (scope : Scope) (other : Otherwise) → (otherwise_scope scope other).visible ≡ scope.visible
+  otherwise_visible scope without = refl
+  otherwise_visible scope (otherwise s) = statement_visible scope s
+
+-- what could be used stays in front of what is declared
+abbrev Extends : List Name → List Name → Type 0
+Extends outer inner = (more : List Name) × (inner ≡ outer ++ more)
+
+extends_same : (xs : List Name) → Extends xs xs
+extends_same xs = ([], sym (append-nil xs))
+
+extends_on : (xs ys zs : List Name) → Extends xs ys → Extends ys zs → Extends xs zs
+extends_on xs ys zs (more, is) (further, then_is) = (more ++ further, then_is ∙ ap (λ t. t ++ further) is ∙ append_assoc xs more further)
+
+parts_extend : (scope : Scope) (parts : List Part) → Extends scope.visible (parts_scope scope parts).visible
+parts_extend scope [] = extends_same scope.visible
+parts_extend scope (part ∷ more) =
+    extends_on scope.visible (scope.visible ++ part.declared ∷ []) (parts_scope (declare scope part.declared) more).visible
+    (part.declared ∷ [], refl) (parts_extend (declare scope part.declared) more)
+
+declaration_extends : (scope : Scope) (d : Declaration) → Extends scope.visible (declaration_scope scope d).visible
+declaration_extends scope d =
+    extends_on scope.visible (scope.visible ++ d.part.declared ∷ []) (declaration_scope scope d).visible
+    (d.part.declared ∷ [], refl) (parts_extend (declare scope d.part.declared) d.more)
+
+items_extend : (scope : Scope) (all : Items) → Extends scope.visible (items_scope scope all).visible
+items_extend scope none = extends_same scope.visible
+items_extend scope (declaration d more) =
+    extends_on scope.visible (declaration_scope scope d).visible (items_scope (declaration_scope scope d) more).visible
+    (declaration_extends scope d) (items_extend (declaration_scope scope d) more)
+items_extend scope (statement s more) =
+    extends_on scope.visible (statement_scope scope s).visible (items_scope (statement_scope scope s) more).visible
+    ([], statement_visible scope s ∙ sym (append-nil scope.visible)) (items_extend (statement_scope scope s) more)
+
+start_extends : (scope : Scope) (start : Start) → Extends scope.visible (start_scope scope start).visible
+start_extends scope starts_with_nothing = extends_same scope.visible
+start_extends scope (starts_with s) = extends_same scope.visible
+start_extends scope (declares d) = declaration_extends scope d
+
+-- the first names are those that could be used before
+first_names : (outer inner : List Name) → Extends outer inner → take (length outer) inner ≡ outer
+first_names outer inner (more, is) = ap (take (length outer)) is ∙ take-append_seam outer more
+
+pub items_kept : (scope : Scope) (all : Items) → take (length scope.visible) (items_scope scope all).visible ≡ scope.visible
+items_kept scope all = first_names scope.visible (items_scope scope all).visible (items_extend scope all)
+
+pub start_kept : (scope : Scope) (start : Start) (body : Statement)
+    → take (length scope.visible) (statement_scope (start_scope scope start) body).visible ≡ scope.visible
+start_kept scope start body =
+    ap (take (length scope.visible)) (statement_visible (start_scope scope start) body)
+    ∙ first_names scope.visible (start_scope scope start).visible (start_extends scope start)
+
+abbrev names_and : List Name → List Name → Scope
+names_and declared visible = record { declared = declared; visible = visible }
+
+-- a scope whose later names were taken off is closed, where the first names are those that could be used before
+pub closed : (outer inner new : Scope) (depth : ℕ) → depth ≡ length outer.visible
+    → new.declared ≡ inner.declared → new.visible ≡ take depth inner.visible
+    → take (length outer.visible) inner.visible ≡ outer.visible → new ≡ close outer inner
+closed outer inner new depth deep declared visible kept =
+    ap (λ names. names_and names new.visible) declared
+    ∙ ap (names_and inner.declared) (visible ∙ ap (λ n. take n inner.visible) deep ∙ kept)

@@ -1,0 +1,179 @@
+-- Without faults, expressions have the sorts that their places need.
+use Rattle.std.proofs.Common.{◌≡◌, ℕ, ℤ, ◌<◌, ◌≤◌, ◌+◌, Bool, true, false, nat_lt, ◌&&◌, List, [], ◌∷◌, ◌++◌, Option, None, Some, length, refl, sym, subst, arith, if◌then◌else◌}
+use Rattle.std.proofs.lemmas.Bool.{false≢true}
+use Rattle.std.proofs.lemmas.Int.{ints}
+use Rattle.step_meaning.specs.declared.expression.Op2.{Op2}
+use Rattle.step_meaning.specs.declared.expression.Op2.TheVariants.{Add, Sub, Mul, And, Or}
+use Rattle.step_meaning.specs.Syntax as syntax
+use Rattle.step_meaning.specs.Valid.{IsInOrder, IsNumber, IsTest}
+use Rattle.concrete_syntax.specs.declared.sign.Prefix.{Prefix}
+use Rattle.concrete_syntax.specs.Trees.{End, Operand, number, name, truth, unknown, call, signed, parentheses, range, Tail, ended, further, Expression}
+use Rattle.elaboration.specs.declared.fault.Rule.TheVariants.{Unknown, BadRange}
+use Rattle.elaboration.specs.Faults.{fault}
+use Rattle.elaboration.specs.declared.typed.Sort.{Sort}
+use Rattle.elaboration.specs.Widths.{operand_width}
+use Rattle.elaboration.specs.Grouping.{Grouped, leaf, node, attach, tightness}
+use Rattle.elaboration.specs.Scopes.{Scope, Name, is_among, place_of}
+use Rattle.elaboration.specs.Expressions.{Typed, as_test, test_of_sort, mixed_sort, mixed, pair_of, mixed_operands, value, mixed_in, end_value, is_range, is_infinite_as, in_order, range_faults, signed_typed, signed_faults, operand_typed, tail_grouped, grouped, unknown_name, operand_faults, tail_faults, expression_typed, expression_faults, number_faults}
+use Rattle.elaboration.proofs.Names.{place_below}
+
+-- two lists that make none are none
+abbrev is_nil : {A : Type 0} → List A → Type 0
+is_nil [] = Unit {0}
+is_nil (x ∷ xs) = ⊥
+
+pub some_is_not_none : {A : Type 0} (x : A) (xs : List A) → x ∷ xs ≡ [] → ⊥
+some_is_not_none x xs e = subst is_nil (sym e) tt
+
+pub both_none : {A : Type 0} (xs ys : List A) → xs ++ ys ≡ [] → (xs ≡ []) × (ys ≡ [])
+both_none [] ys none = (refl, none)
+both_none (x ∷ xs) ys none = absurd (some_is_not_none x (xs ++ ys) none)
+
+-- what may be used is a variable
+abbrev pub IsSound : Scope → Type 0
+IsSound scope = (x : Name) → is_among scope.visible x ≡ true → is_among scope.declared x ≡ true
+
+abbrev pub HasSort : ℕ → Sort → syntax.Expression → Type 0
+HasSort vars Sort.Number e = IsNumber vars e
+HasSort vars Sort.Truth e = IsTest vars e
+HasSort vars Sort.Either e = e ≡ syntax.free
+
+abbrev pub IsTyped : ℕ → Typed → Type 0
+IsTyped vars t = HasSort vars t.sort t.meaning
+
+abbrev pub AllTyped : ℕ → Grouped Typed → Type 0
+AllTyped vars (leaf t) = IsTyped vars t
+AllTyped vars (node op l r) = AllTyped vars l × AllTyped vars r
+
+sort_number : (vars first : ℕ) (sort : Sort) (e : syntax.Expression) → HasSort vars sort e → mixed_sort sort first ≡ [] → IsNumber vars e
+sort_number vars first Sort.Number e is none = is
+sort_number vars first Sort.Truth e is none = absurd (some_is_not_none _ [] none)
+sort_number vars first Sort.Either e is none = subst (IsNumber vars) (sym is) tt
+
+pub number_typed : (vars : ℕ) (t : Typed) → IsTyped vars t → mixed t ≡ [] → IsNumber vars t.meaning
+number_typed vars t is none = sort_number vars t.first t.sort t.meaning is none
+
+sort_test : (vars : ℕ) (sort : Sort) (e : syntax.Expression) → HasSort vars sort e → IsTest vars (test_of_sort sort e)
+sort_test vars Sort.Number e is = (is, tt)
+sort_test vars Sort.Truth e is = is
+sort_test vars Sort.Either e is = subst (IsTest vars) (sym is) tt
+
+pub test_typed : (vars : ℕ) (t : Typed) → IsTyped vars t → IsTest vars (as_test t)
+test_typed vars t is = sort_test vars t.sort t.meaning is
+
+attach_typed : (vars : ℕ) (group : Grouped Typed) (op : Op2) (t : Typed) → AllTyped vars group → IsTyped vars t → AllTyped vars (attach group op t)
+attach_typed vars (leaf a) op t all is = (all, is)
+attach_typed vars (node top l r) op t all is =
+    let inner = attach_typed vars r op t all.1 is in
+    by_order inner (nat_lt (tightness top) (tightness op))
+  where
+    by_order : AllTyped vars (attach r op t) → (less : Bool) → AllTyped vars (if less then node top l (attach r op t) else node op (node top l r) (leaf t))
+    by_order inner true = (all.0, inner)
+    by_order inner false = (all, is)
+
+numbers : (vars : ℕ) (l r : Typed) → IsTyped vars l → IsTyped vars r → mixed l ++ mixed r ≡ [] → IsNumber vars l.meaning × IsNumber vars r.meaning
+numbers vars l r left right none =
+    let parts = both_none (mixed l) (mixed r) none in
+    (number_typed vars l left parts.0, number_typed vars r right parts.1)
+
+pair_typed : (vars : ℕ) (op : Op2) (l r : Typed) → IsTyped vars l → IsTyped vars r → mixed_operands op l r ≡ [] → IsTyped vars (pair_of op l r)
+pair_typed vars Add l r left right none = numbers vars l r left right none
+pair_typed vars Sub l r left right none = numbers vars l r left right none
+pair_typed vars Mul l r left right none = numbers vars l r left right none
+pair_typed vars And l r left right none = (test_typed vars l left, test_typed vars r right)
+pair_typed vars Or l r left right none = (test_typed vars l left, test_typed vars r right)
+pair_typed vars op l r left right none = numbers vars l r left right none
+
+value_typed : (vars : ℕ) (group : Grouped Typed) → AllTyped vars group → mixed_in group ≡ [] → IsTyped vars (value group)
+value_typed vars (leaf t) all none = all
+value_typed vars (node op l r) all none =
+    let outer = both_none (mixed_in l) (mixed_in r ++ mixed_operands op (value l) (value r)) none in
+    let inner = both_none (mixed_in r) (mixed_operands op (value l) (value r)) outer.1 in
+    pair_typed vars op (value l) (value r) (value_typed vars l all.0 outer.0) (value_typed vars r all.1 inner.0) inner.1
+
+-- a range without a fault is in order
+ordered : (lo hi : Option ℤ) → in_order lo hi ≡ true → IsInOrder lo hi
+ordered (Some lo) (Some hi) is = omega (arith, ints)
+ordered (Some lo) None is = tt
+ordered None hi is = tt
+
+both_true : (a b : Bool) → (a && b) ≡ true → (a ≡ true) × (b ≡ true)
+both_true true b is = (refl, is)
+both_true false b is = absurd (false≢true is)
+
+range_ordered : (n : ℕ) (lo hi : End) → range_faults n lo hi ≡ [] → IsInOrder (end_value lo) (end_value hi)
+range_ordered n lo hi none = by_range (is_range lo hi) refl none
+  where
+    by_range : (ok : Bool) → is_range lo hi ≡ ok → (if ok then [] else fault BadRange n ∷ []) ≡ [] → IsInOrder (end_value lo) (end_value hi)
+    by_range true e h =
+        let all = both_true (is_infinite_as true lo.negative lo.size && is_infinite_as false hi.negative hi.size) (in_order (end_value lo) (end_value hi)) e in
+        ordered (end_value lo) (end_value hi) all.1
+    by_range false e h = absurd (some_is_not_none _ [] h)
+
+-- a name that may be used is a variable
+pub name_typed : (vars : ℕ) (scope : Scope) (n : ℕ) (x : List ℕ) → IsSound scope → length scope.declared ≤ vars → unknown_name scope n x ≡ []
+    → (is_among scope.declared x ≡ true) × (place_of scope.declared x < vars)
+name_typed vars scope n x sound room none = by_visible (is_among scope.visible x) refl none
+  where
+    by_visible : (seen : Bool) → is_among scope.visible x ≡ seen → (if seen then [] else fault Unknown n ∷ []) ≡ []
+        → (is_among scope.declared x ≡ true) × (place_of scope.declared x < vars)
+    by_visible true e h =
+        let known = sound x e in
+        let below = place_below scope.declared x known in
+        (known, omega arith)
+    by_visible false e h = absurd (some_is_not_none _ [] h)
+
+signed_is_typed : (vars n : ℕ) (prefix : Prefix) (t : Typed) → IsTyped vars t → signed_faults prefix t ≡ [] → IsTyped vars (signed_typed prefix n t)
+signed_is_typed vars n Prefix.Plus t is none = number_typed vars t is none
+signed_is_typed vars n Prefix.Minus t is none = number_typed vars t is none
+signed_is_typed vars n Prefix.Not t is none = test_typed vars t is
+
+mutual
+  pub operand_is_typed : (vars : ℕ) (scope : Scope) → IsSound scope → length scope.declared ≤ vars → (n : ℕ) (e : Operand)
+      → operand_faults scope n e ≡ [] → IsTyped vars (operand_typed scope n e)
+  operand_is_typed vars scope sound room n (number z) none = tt
+  operand_is_typed vars scope sound room n (name x) none = (name_typed vars scope n x sound room none).1
+  operand_is_typed vars scope sound room n (truth b) none = tt
+  operand_is_typed vars scope sound room n unknown none = refl
+  operand_is_typed vars scope sound room n call none = refl
+  operand_is_typed vars scope sound room n (signed prefix e) none =
+      let parts = both_none (operand_faults scope (n + 1) e) (signed_faults prefix (operand_typed scope (n + 1) e)) none in
+      signed_is_typed vars n prefix (operand_typed scope (n + 1) e) (operand_is_typed vars scope sound room (n + 1) e parts.0) parts.1
+  operand_is_typed vars scope sound room n (parentheses e more) none =
+      let outer = both_none (operand_faults scope (n + 1) e) (tail_faults scope (n + 1 + operand_width e) more ++ mixed_in (grouped scope (n + 1) e more)) none in
+      let inner = both_none (tail_faults scope (n + 1 + operand_width e) more) (mixed_in (grouped scope (n + 1) e more)) outer.1 in
+      value_typed vars (grouped scope (n + 1) e more)
+      (tail_is_typed vars scope sound room (n + 1 + operand_width e) (leaf (operand_typed scope (n + 1) e)) more
+      (operand_is_typed vars scope sound room (n + 1) e outer.0) inner.0)
+      inner.1
+  operand_is_typed vars scope sound room n (range lo hi) none = range_ordered n lo hi none
+
+  pub tail_is_typed : (vars : ℕ) (scope : Scope) → IsSound scope → length scope.declared ≤ vars → (n : ℕ) (so_far : Grouped Typed) (more : Tail)
+      → AllTyped vars so_far → tail_faults scope n more ≡ [] → AllTyped vars (tail_grouped scope n so_far more)
+  tail_is_typed vars scope sound room n so_far ended all none = all
+  tail_is_typed vars scope sound room n so_far (further op e more) all none =
+      let parts = both_none (operand_faults scope (n + 1) e) (tail_faults scope (n + 1 + operand_width e) more) none in
+      tail_is_typed vars scope sound room (n + 1 + operand_width e) (attach so_far op (operand_typed scope (n + 1) e)) more
+      (attach_typed vars so_far op (operand_typed scope (n + 1) e) all (operand_is_typed vars scope sound room (n + 1) e parts.0))
+      parts.1
+
+expression_is_typed : (vars : ℕ) (scope : Scope) → IsSound scope → length scope.declared ≤ vars → (n : ℕ) (e : Expression)
+    → expression_faults scope n e ≡ [] → IsTyped vars (expression_typed scope n e)
+expression_is_typed vars scope sound room n e none =
+    let outer = both_none (operand_faults scope n e.operand) (tail_faults scope (n + operand_width e.operand) e.tail ++ mixed_in (grouped scope n e.operand e.tail)) none in
+    let inner = both_none (tail_faults scope (n + operand_width e.operand) e.tail) (mixed_in (grouped scope n e.operand e.tail)) outer.1 in
+    value_typed vars (grouped scope n e.operand e.tail)
+    (tail_is_typed vars scope sound room (n + operand_width e.operand) (leaf (operand_typed scope n e.operand)) e.tail
+    (operand_is_typed vars scope sound room n e.operand outer.0) inner.0)
+    inner.1
+
+pub expression_is_number : (vars : ℕ) (scope : Scope) → IsSound scope → length scope.declared ≤ vars → (n : ℕ) (e : Expression)
+    → number_faults scope n e ≡ [] → IsNumber vars (expression_typed scope n e).meaning
+expression_is_number vars scope sound room n e none =
+    let parts = both_none (expression_faults scope n e) (mixed (expression_typed scope n e)) none in
+    number_typed vars (expression_typed scope n e) (expression_is_typed vars scope sound room n e parts.0) parts.1
+
+pub expression_is_test : (vars : ℕ) (scope : Scope) → IsSound scope → length scope.declared ≤ vars → (n : ℕ) (e : Expression)
+    → expression_faults scope n e ≡ [] → IsTest vars (as_test (expression_typed scope n e))
+expression_is_test vars scope sound room n e none =
+    test_typed vars (expression_typed scope n e) (expression_is_typed vars scope sound room n e none)

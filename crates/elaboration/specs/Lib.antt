@@ -1,0 +1,8 @@
+pub mod Widths
+pub mod Grouping
+pub mod Scopes
+pub mod Faults
+pub mod Expressions
+pub mod Typing
+pub mod Statements
+pub mod Elaborates

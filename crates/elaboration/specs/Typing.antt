@@ -1,0 +1,14 @@
+-- What the trees of the elaborator are.
+use Rattle.step_meaning.specs.Syntax.{expression}
+use Rattle.elaboration.specs.declared.typed.Typed.{Typed}
+use Rattle.elaboration.specs.declared.grouping.Grouping.{Grouping, Pair'}
+use Rattle.elaboration.specs.declared.grouping.Grouping.TheVariants.{Operand}
+use Rattle.elaboration.specs.Expressions.{Typed as TypedTree}
+use Rattle.elaboration.specs.Grouping.{Grouped, leaf, node}
+
+abbrev pub typed_of : Typed → TypedTree
+typed_of t = record { first = t.first; sort = t.sort; meaning = expression t.expr }
+
+abbrev pub grouping_of : Grouping → Grouped TypedTree
+grouping_of (Operand t) = leaf (typed_of t)
+grouping_of (Pair' op p l q r) = node op (grouping_of l) (grouping_of r)

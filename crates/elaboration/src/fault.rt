@@ -1,0 +1,62 @@
+// Faults of names and sorts.
+
+ghost use Rattle.std.specs.Prelude.{◌≡◌, ◌∷◌, []};
+ghost use Rattle.elaboration.specs.Faults.{order_of, is_before, earliest};
+
+/// The rules on names and sorts, each by what breaks it.
+#[derive(Clone, Copy, PartialEq, Eq, Debug)]
+pub enum Rule {
+    /// A name is used where it isn't in scope.
+    Unknown,
+    /// A name is declared inside its scope, or declared again without an initialiser.
+    Twice,
+    /// A truth value stands where a number is needed.
+    Mixed,
+    /// A range's lower end is above its upper end, or an end has the wrong infinity.
+    BadRange,
+    /// A sixteenth name is declared.
+    Variables,
+}
+
+/// A broken rule, and the number of the token where it is broken, counted from 0.
+#[derive(Clone, Copy, PartialEq, Eq, Debug)]
+pub struct Fault {
+    pub rule: Rule,
+    pub token: usize,
+}
+
+impl Rule {
+    // Of two faults at one token the one of the lower order comes first.
+    fn order(self) -> u8
+        ensures { result ≡ order_of self }
+    {
+        match self {
+            Rule::Unknown => 0,
+            Rule::Twice => 1,
+            Rule::Mixed => 2,
+            Rule::BadRange => 3,
+            Rule::Variables => 4,
+        }
+    }
+}
+
+impl Fault {
+    // Whether this fault comes before the other.
+    fn is_before(&self, other: &Fault) -> bool
+        ensures { result ≡ is_before self.now other.now }
+    {
+        self.token < other.token
+            || (self.token == other.token && self.rule.order() < other.rule.order())
+    }
+}
+
+/// Keeps the first of the faults that were reported.
+pub fn report(least: &mut Option<Fault>, rule: Rule, token: usize)
+    ensures { least.new ≡ earliest least.old (record { rule = rule; token = token } ∷ []) }
+{
+    let fault = Fault { rule, token };
+    match least {
+        Some(first) if !fault.is_before(first) => {}
+        _ => *least = Some(fault),
+    }
+}

@@ -1,0 +1,19 @@
+// Elaboration: names and sorts of a concrete tree, and the program that it stands for.
+// Front door: `elaborate`. Stands on the concrete trees of `concrete_syntax` and the programs of `step_meaning`. In `specs/`: how many
+// tokens a tree has (Widths), how operators group (Grouping), which names may be used where (Scopes), what expressions and statements
+// stand for, with their faults (Expressions, Statements, Faults), and all of it at a program (Elaborates).
+#![tactic(auto)]
+
+mod expression;
+mod fault;
+mod front;
+mod grouping;
+mod laws;
+mod scope;
+mod simple;
+mod statement;
+mod typed;
+
+pub use fault::{Fault, Rule};
+pub use front::{Refusal, elaborate};
+pub use laws::operators_group_by_the_ladder;

@@ -1,0 +1,62 @@
+// Expressions with their sorts.
+
+ghost use Rattle.std.specs.Prelude.{◌≡◌, IfOk};
+ghost use Rattle.step_meaning.specs.Syntax.{expression};
+ghost use Rattle.elaboration.specs.Expressions.{Typed as TypedTree, as_test, mixed};
+ghost use Rattle.elaboration.specs.Faults.{earliest};
+ghost use Rattle.elaboration.specs.Typing.{typed_of};
+
+use crate::fault::{Fault, Rule, report};
+use std::alloc::{AllocError, Global};
+use step_meaning::{Expr, Op2};
+
+/// What an expression is.
+#[derive(Clone, Copy)]
+pub enum Sort {
+    Number,
+    Truth,
+    /// `?`, which is what its place needs.
+    Either,
+}
+
+/// An expression with its sort and the number of its first token.
+#[derive(Drop)]
+pub struct Typed {
+    pub first: usize,
+    pub sort: Sort,
+    pub expr: Expr,
+}
+
+impl Typed {
+    /// The expression as a number. A truth value is reported.
+    pub fn into_number(self, least: &mut Option<Fault>) -> Expr
+        ensures meaning { expression result ≡ (typed_of self).meaning }
+        ensures faults { least.new ≡ earliest least.old (mixed (typed_of self)) }
+    {
+        self.need_number(least);
+        self.expr
+    }
+
+    /// Reports a truth value in the place of a number.
+    pub fn need_number(&self, least: &mut Option<Fault>)
+        ensures { least.new ≡ earliest least.old (mixed (typed_of self.now)) }
+    {
+        if let Sort::Truth = self.sort {
+            report(least, Rule::Mixed, self.first);
+        }
+    }
+
+    /// The expression as a test: a number is compared with 0.
+    pub fn into_test(self, alloc: Global) -> Result<Expr, AllocError>
+        ensures { IfOk result (λ made. expression made ≡ as_test (typed_of self)) }
+    {
+        match self.sort {
+            Sort::Number => Ok(Expr::Pair {
+                op: Op2::NotEqual,
+                left: Box::new(alloc, self.expr)?,
+                right: Box::new(alloc, Expr::Number(0))?,
+            }),
+            Sort::Truth | Sort::Either => Ok(self.expr),
+        }
+    }
+}

@@ -1,0 +1,12 @@
+pub mod Numerals
+pub mod Buffers
+pub mod Parts
+pub mod Rows
+pub mod Zeros
+pub mod Cuts
+pub mod Words
+pub mod Products
+pub mod Sums
+pub mod Terms
+pub mod Lines
+pub mod LineForms

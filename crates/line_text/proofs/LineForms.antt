@@ -1,0 +1,133 @@
+-- No byte of a line is the newline byte, and a line ends as a claim does.
+use Rattle.std.proofs.Common.{◌≡◌, ◌≢◌, ℕ, zero, suc, ◌<◌, Bool, true, false, eqb, inl, inr, ⊎_elim, ℤ, pos, negsuc, List, [], ◌∷◌, ◌++◌, length, get_or, Option, None, Some, All, sym, refl, ◌∙◌, arith, append_assoc, unsigned_abs, codes}
+use Rattle.std.specs.Prelude.{⊤}
+use Rattle.std.specs.Ordering.{int_eq}
+use Rattle.std.proofs.lemmas.Bool.Decides.{nat_tests}
+use Rattle.linear_cons.specs.declared.affine.Affine.{Affine}
+use Rattle.line_text.specs.declared.claim.Claim.{Claim}
+use Rattle.line_text.specs.declared.claim.Claim.TheVariants.{Exactly, Within, Holds, Unknown}
+use Rattle.line_text.specs.AffineText.{Term, affine_text, front_sign, joining_sign, later_text, number_text, product_text, sum_text, terms_of}
+use Rattle.line_text.specs.LineText.{claim_text, condition_text, is_one, more_rows_text, steps_word}
+use Rattle.line_text.specs.Names.{AreNames}
+use Rattle.line_text.specs.Numeral.{numeral}
+use Rattle.line_text.specs.Spells.{EndsAsLine, Spells}
+use Rattle.line_text.proofs.Cuts.{is_stop, IsWord}
+use Rattle.line_text.proofs.Products.{IsNamed, product_cases}
+use Rattle.line_text.proofs.Sums.{AllProper}
+use Rattle.line_text.proofs.Terms.{AreDistinct, distinct_names, terms_proper}
+use Rattle.line_text.proofs.Words.{numeral_is_word}
+
+-- no byte is the newline byte
+abbrev IsClean : List ℕ → Type 0
+IsClean [] = ⊤
+IsClean (byte ∷ bytes) = (eqb byte 10 ≡ false) × IsClean bytes
+
+clean_append : (xs ys : List ℕ) → IsClean xs → IsClean ys → IsClean (xs ++ ys)
+clean_append [] ys p q = q
+clean_append (b ∷ xs) ys p q = (p.0, clean_append xs ys p.1 q)
+
+byte_clean : (byte : ℕ) → is_stop byte ≡ false → eqb byte 10 ≡ false
+byte_clean byte h = grind (arith, nat_tests)
+
+word_clean : (xs : List ℕ) → IsWord xs → IsClean xs
+word_clean [] is = tt
+word_clean (b ∷ xs) is = (byte_clean b is.0, word_clean xs is.1)
+
+numeral_clean : (n : ℕ) → IsClean (numeral n)
+numeral_clean n = word_clean (numeral n) (numeral_is_word n)
+
+product_clean : (m : ℕ) (p : Option (List ℕ)) → IsNamed p → IsClean (product_text m p)
+product_clean m None is = numeral_clean m
+product_clean m (Some name) is = ⊎_elim
+    (λ (one : (m ≡ 1) × (product_text m (Some name) ≡ name)). rw one.1 (word_clean name is.0))
+    (λ (many : product_text m (Some name) ≡ numeral m ++ 42 ∷ name). rw many
+    (clean_append (numeral m) (42 ∷ name) (numeral_clean m) (refl, word_clean name is.0)))
+    (product_cases m name)
+
+front_clean : (z : ℤ) → IsClean (front_sign z)
+front_clean (pos n) = tt
+front_clean (negsuc n) = (refl, tt)
+
+joining_clean : (z : ℤ) → IsClean (joining_sign z)
+joining_clean (pos n) = (refl, (refl, (refl, tt)))
+joining_clean (negsuc n) = (refl, (refl, (refl, tt)))
+
+later_clean : (terms : List Term) → AllProper terms → IsClean (later_text terms)
+later_clean [] are = tt
+later_clean (term ∷ more) are =
+    clean_append (joining_sign term.number) _ (joining_clean term.number)
+    (clean_append (product_text (unsigned_abs term.number) term.name) _ (product_clean _ term.name are.0.named) (later_clean more are.1))
+
+sum_clean : (terms : List Term) → AllProper terms → IsClean (sum_text terms)
+sum_clean [] are = (refl, tt)
+sum_clean (term ∷ more) are =
+    clean_append (front_sign term.number) _ (front_clean term.number) (clean_append (product_text (unsigned_abs term.number) term.name) _
+    (product_clean _ term.name are.0.named) (later_clean more are.1))
+
+affine_clean : (names : List (List ℕ)) (affine : Affine) → AreDistinct names → IsClean (affine_text names affine)
+affine_clean names affine are = sum_clean (terms_of names affine) (terms_proper names affine.coef affine.constant are)
+
+row_end_clean : IsClean (codes " >= 0")
+row_end_clean = (refl, (refl, (refl, (refl, (refl, tt)))))
+
+more_rows_clean : (names : List (List ℕ)) (rows : List Affine) → AreDistinct names → IsClean (more_rows_text names rows)
+more_rows_clean names [] are = tt
+more_rows_clean names (row ∷ more) are =
+    clean_append (codes " and ") _ (refl, (refl, (refl, (refl, (refl, tt)))))
+    (clean_append _ (more_rows_text names more) (clean_append (affine_text names row) (codes " >= 0") (affine_clean names row are)
+    row_end_clean) (more_rows_clean names more are))
+
+condition_clean : (names : List (List ℕ)) (rows : List Affine) → AreDistinct names → IsClean (condition_text names rows)
+condition_clean names [] are = (refl, (refl, (refl, (refl, (refl, (refl, tt))))))
+condition_clean names (row ∷ more) are =
+    clean_append _ (more_rows_text names more) (clean_append (affine_text names row) (codes " >= 0") (affine_clean names row are)
+    row_end_clean) (more_rows_clean names more are)
+
+steps_clean : (one : Bool) → IsClean (steps_word one)
+steps_clean true = (refl, (refl, (refl, (refl, (refl, tt)))))
+steps_clean false = (refl, (refl, (refl, (refl, (refl, (refl, tt))))))
+
+claim_clean : (names : List (List ℕ)) (claim : Claim) → AreDistinct names → IsClean (claim_text names claim)
+claim_clean names (Exactly number) are =
+    clean_append (codes "exactly ") _ (refl, (refl, (refl, (refl, (refl, (refl, (refl, (refl, tt))))))))
+    (clean_append (number_text number) _ (clean_append (front_sign number) _ (front_clean number) (numeral_clean (unsigned_abs number)))
+    (steps_clean (int_eq number (pos 1))))
+claim_clean names (Within bound) are =
+    clean_append (codes "within ") _ (refl, (refl, (refl, (refl, (refl, (refl, (refl, tt)))))))
+    (clean_append (affine_text names bound) _ (affine_clean names bound are) (steps_clean (is_one bound)))
+claim_clean names Holds are = (refl, (refl, (refl, (refl, (refl, tt)))))
+claim_clean names Unknown are = (refl, (refl, (refl, (refl, (refl, (refl, (refl, tt)))))))
+
+each_clean : (xs : List ℕ) → IsClean xs → (k d : ℕ) → k < length xs → get_or xs k d ≢ 10
+each_clean [] is k d low = absurd (omega arith)
+each_clean (b ∷ xs) is zero d low = λ e. let t = is.0 in grind (arith, nat_tests)
+each_clean (b ∷ xs) is (suc k) d low = each_clean xs is.1 k d (omega arith)
+
+pub line_clean :
+    (names : List (List ℕ)) (line : List ℕ) (condition : List Affine) (claim : Claim) → AreNames names → Spells names line condition claim
+    → All (λ byte. byte ≢ 10) line
+line_clean names line condition claim are spells =
+    let distinct = distinct_names names are in
+    rw spells.text (each_clean _ (clean_append (condition_text names condition) (codes ": " ++ claim_text names claim)
+    (condition_clean names condition distinct) (refl, (refl, claim_clean names claim distinct))))
+
+-- behind any text, ` step` or ` steps`
+step_ends : (one : Bool) (front line : List ℕ) → line ≡ front ++ steps_word one → EndsAsLine line
+step_ends true front line e = inl (front, e)
+step_ends false front line e = inr (inl (front, e))
+
+claim_ends :
+    (names : List (List ℕ)) (before line : List ℕ) (claim : Claim) → line ≡ before ++ (codes ": " ++ claim_text names claim)
+    → EndsAsLine line
+claim_ends names before line (Exactly number) e =
+    step_ends (int_eq number (pos 1)) (before ++ (codes ": exactly " ++ number_text number)) line
+    (e ∙ sym (append_assoc before (codes ": exactly " ++ number_text number) (steps_word (int_eq number (pos 1)))))
+claim_ends names before line (Within bound) e =
+    step_ends (is_one bound) (before ++ (codes ": within " ++ affine_text names bound)) line
+    (e ∙ sym (append_assoc before (codes ": within " ++ affine_text names bound) (steps_word (is_one bound))))
+claim_ends names before line Holds e = inr (inr (inl (before, e)))
+claim_ends names before line Unknown e = inr (inr (inr (before, e)))
+
+pub line_ends :
+    (names : List (List ℕ)) (line : List ℕ) (condition : List Affine) (claim : Claim) → Spells names line condition claim → EndsAsLine line
+line_ends names line condition claim spells = claim_ends names (condition_text names condition) line claim spells.text

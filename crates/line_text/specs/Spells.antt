@@ -1,0 +1,34 @@
+-- What a written line says.
+use Rattle.std.specs.Prelude.{◌≡◌, ◌⊎◌, ℕ, ℤ, pos, ◌≤ℤ◌, List, ◌++◌, All, codes, ⊤}
+use Rattle.linear_cons.specs.declared.affine.Affine.{Affine}
+use Rattle.linear_cons.specs.Functions.{value_at}
+use Rattle.line_text.specs.declared.claim.Claim.{Claim}
+use Rattle.line_text.specs.declared.claim.Claim.TheVariants.{Exactly, Within, Holds, Unknown}
+use Rattle.line_text.specs.Names.{IsOver}
+use Rattle.line_text.specs.LineText.{line_text}
+
+-- the claim speaks of no variable past the names
+abbrev pub IsClaimOver : List (List ℕ) → Claim → Type 0
+IsClaimOver names (Within bound) = IsOver names bound
+IsClaimOver names (Exactly number) = ⊤
+IsClaimOver names Holds = ⊤
+IsClaimOver names Unknown = ⊤
+
+-- the line is the text of the condition and the claim, which are over the names
+pub record Spells (names : List (List ℕ)) (line : List ℕ) (condition : List Affine) (claim : Claim) : Type 0 where
+  pub condition_over : All (λ row. IsOver names row) condition
+  pub claim_over : IsClaimOver names claim
+  pub text : line ≡ line_text names condition claim
+
+-- the store meets the condition: the value of each row's function is at least 0
+abbrev pub MeetsCondition : List ℤ → List Affine → Type 0
+MeetsCondition store condition = All (λ row. pos 0 ≤ℤ value_at row store) condition
+
+-- the bytes end with those of the ending
+abbrev pub EndsWith : List ℕ → List ℕ → Type 0
+EndsWith bytes ending = (front : List ℕ) × (bytes ≡ front ++ ending)
+
+-- the line ends in one of the ways in which a claim ends
+abbrev pub EndsAsLine : List ℕ → Type 0
+EndsAsLine line =
+    EndsWith line (codes " step") ⊎ EndsWith line (codes " steps") ⊎ EndsWith line (codes ": holds") ⊎ EndsWith line (codes ": unknown")

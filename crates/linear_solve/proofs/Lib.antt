@@ -1,0 +1,15 @@
+pub mod Lists
+pub mod Mixing
+pub mod Tightening
+pub mod Growing
+pub mod Occurring
+pub mod Extending
+pub mod Outcomes
+pub mod Solved
+pub mod Bounding
+pub mod Sizes
+pub mod Modest
+pub mod Tame
+pub mod Deciding
+pub mod Counting
+pub mod Nothing

@@ -1,0 +1,5 @@
+pub mod Systems
+pub mod Answers
+pub mod Elimination
+pub mod Points
+pub mod Solving

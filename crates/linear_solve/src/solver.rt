@@ -1,0 +1,75 @@
+//! Whether a system has a store or a point.
+ghost use Rattle.std.specs.Prelude.{◌≡◌, ◌<◌, ◌≤◌, ℕ, List, ℤ, IfOk, IfErr, IfSome, MatchOption, length};
+ghost use Rattle.linear_cons.specs.Exact.{IsOutside};
+ghost use Rattle.linear_solve.specs.Answers.{HasNoStore, IfEmpty, IfPoint, IfRows, IfWide, IsDecided, IsEmpty, IsPointOf, MayOutgrow, MayOverflow};
+ghost use Rattle.linear_solve.specs.Solving.{IfStopRows, IfStopWide, IsMemory, IsModest, IsModestPoint, IsTame, IsTamePoint};
+ghost use Rattle.linear_solve.specs.Systems.{HasOpposed, IsOctagonList, occurring, rows_after};
+
+use crate::answer::{Answer, Stop};
+use crate::eliminate::eliminate;
+use crate::opposed::has_opposed;
+use crate::order::next_place;
+use crate::point::Point;
+use crate::tighten::tightest_rows;
+use linear_cons::Row;
+use std::alloc::{AllocError, Global};
+
+/// Looks for a point that meets all rows.
+///
+/// Two opposed rows are looked for first. Then the places that occur are eliminated, the one with
+/// the fewest combinations first (ties: the least), and values are put back in the other order.
+pub fn decide(alloc: Global, rows: &[Row]) -> Result<Answer, AllocError>
+    requires { length rows.now ≤ 4096 }
+    ensures empty { IfOk result (λ answer. IfEmpty answer (HasNoStore rows.now)) }
+    ensures point { IfOk result (λ answer. IfPoint answer (IsPointOf rows.now)) }
+    ensures opposed { IfOk result (λ answer. HasOpposed rows.now → IsEmpty answer) }
+    ensures wide { IfOk result (λ answer. IfWide answer IsOutside) }
+    ensures wide_past_the_bound { IfOk result (λ answer. IfWide answer (λ _. MayOutgrow (occurring rows.now) rows.now)) }
+    ensures many { IfOk result (λ answer. IfRows answer (λ count. 4096 < count)) }
+    ensures rows_past_the_bound { IfOk result (λ answer. IfRows answer (λ _. MayOverflow (occurring rows.now) rows.now)) }
+    ensures octagon { IfOk result (λ answer. IsOctagonList rows.now → IsDecided answer) }
+{
+    if has_opposed(rows) {
+        return Ok(Answer::Empty);
+    }
+    let kept = tightest_rows(alloc, rows)?;
+    match solve(alloc, &kept) {
+        Ok(None) => Ok(Answer::Empty),
+        Ok(Some(point)) => {
+            let num = point.num;
+            let den = point.den;
+            Ok(Answer::Point { num, den })
+        }
+        Err(Stop::Wide(wide)) => Ok(Answer::Wide(wide)),
+        Err(Stop::Rows { count }) => Ok(Answer::Rows { count }),
+        Err(Stop::Memory(fault)) => Err(fault),
+    }
+}
+
+/// A point that meets all rows, or `None` where no store does.
+fn solve(alloc: Global, rows: &[Row]) -> Result<Option<Point>, Stop>
+    ensures found { IfOk result (λ found. MatchOption found (HasNoStore rows.now) (λ point. IsPointOf rows.now point.num point.den)) }
+    ensures modest_point { IfOk result (λ found. IfSome found (λ point. (size c root : ℕ) → IsModest size c root rows.now → IsModestPoint c root point)) }
+    ensures tame_point { IfOk result (λ found. IfSome found (λ point. (bound : ℕ) → IsTame bound rows.now → IsTamePoint (occurring rows.now) point)) }
+    ensures wide { IfErr result (λ stop. IfStopWide stop IsOutside) }
+    ensures immodest { IfErr result (λ stop. IfStopWide stop (λ _. (size c root : ℕ) → IsModest size c root rows.now → ⊥)) }
+    ensures many { IfErr result (λ stop. IfStopRows stop (λ count. 4096 < count)) }
+    ensures counted { IfErr result (λ stop. IfStopRows stop (λ _. 4096 < rows_after (occurring rows.now) (length rows.now))) }
+    ensures wild { IfErr result (λ stop. (bound : ℕ) → IsTame bound rows.now → IsMemory stop) }
+{
+    let place = match next_place(rows) {
+        Some(place) => place,
+        None => return Ok(Some(Point::origin())),
+    };
+    let left = match eliminate(alloc, rows, place)? {
+        Some(left) => left,
+        None => return Ok(None),
+    };
+    match solve(alloc, &left)? {
+        Some(point) => {
+            let point = point.put_back(rows, place)?;
+            Ok(Some(point))
+        }
+        None => Ok(None),
+    }
+}

@@ -1,0 +1,6 @@
+pub mod Tightening
+pub mod Walking
+pub mod Standing
+pub mod Spelling
+pub mod Testing
+pub mod Cutting

@@ -1,0 +1,285 @@
+-- The texts of lines and of a report, as they are appended.
+use Rattle.std.proofs.Common.{◌≡◌, ℕ, suc, ◌+◌, ◌<◌, List, [], ◌∷◌, ◌++◌, length, map, set, take, get_or, refl, sym, ap, subst, ◌∙◌, arith, All, codes}
+use Rattle.std.specs.Global.{Vec}
+use Rattle.std.specs.List.{AllZip, swap}
+use Rattle.std.specs.List.Sorted.{IsPermutation, IsSorted}
+use Rattle.std.specs.Cmp.Lexicographic.{slice_cmp}
+use Rattle.std.specs.Ordering.{nat_cmp}
+use Rattle.std.proofs.lemmas.List.{append-nil, append_assoc, get_or-map, length-map, map-append, map-set, length-take-le}
+use Rattle.std.proofs.Math.ListN.{get_or-map as mapped}
+use Rattle.std.proofs.lemmas.List.Sorted.{All-permutation, IsPermutation-keeps, IsPermutation-map, IsPermutation-refl, IsPermutation-swap, IsPermutation-trans, length_permutation}
+use Rattle.linear_cons.specs.declared.row.Row.{Row}
+use Rattle.linear_solve.proofs.Lists.{take_snoc}
+use Rattle.line_text.specs.LineText.{claim_text, condition_text, functions_of, more_rows_text, row_text}
+use Rattle.line_text.specs.Names.{IsOver}
+use Rattle.line_text.specs.Numeral.{numeral}
+use Rattle.report_text.specs.declared.line.Line.{Line}
+use Rattle.report_text.specs.declared.report.Header.{Header}
+use Rattle.report_text.specs.declared.report.Header.TheVariants.{Whole, Partial}
+use Rattle.report_text.specs.declared.report.Stop.{Stop}
+use Rattle.report_text.specs.declared.report.Report.{Report}
+use Rattle.report_text.specs.Printed.{AreInOrder, AreRowTexts, AreTextsOf, IsExactAdded, IsLineOver, IsReportText, IsSectionAdded, IsTextOf, adviser_lines, bytes_in, cause_text, ended_lines, exact_part, explain_part, joined, more_joined, row_texts, verdict_line}
+
+-- ---- ended lines
+
+pub ended_append : (xs ys : List (List ℕ)) → ended_lines (xs ++ ys) ≡ ended_lines xs ++ ended_lines ys
+ended_append [] ys = refl
+ended_append (x ∷ xs) ys = ap (λ t. x ++ (10 ∷ t)) (ended_append xs ys) ∙ sym (append_assoc x (10 ∷ ended_lines xs) (ended_lines ys))
+
+-- the texts of one vector more
+bytes_more : (vectors : List (Vec ℕ)) (i : ℕ) (vector : Vec ℕ) → i < length vectors → vector ≡ get_or vectors i vector →
+    bytes_in (take (i + 1) vectors) ≡ bytes_in (take i vectors) ++ vector.items ∷ []
+bytes_more vectors i vector low is = ap (λ t. bytes_in t) (take_snoc vectors i vector low is) ∙ map-append (λ (v : Vec ℕ). v.items) (take i vectors) (vector ∷ [])
+
+-- one line more
+pub lines_more : (lines : List (Vec ℕ)) (i : ℕ) (line : Vec ℕ) (old text next : List ℕ) → i < length lines → line ≡ get_or lines i line →
+    text ≡ old ++ ended_lines (bytes_in (take i lines)) → next ≡ text ++ (line.items ++ 10 ∷ []) →
+    next ≡ old ++ ended_lines (bytes_in (take (i + 1) lines))
+lines_more lines i line old text next low is so_far step =
+    let more : ended_lines (bytes_in (take (i + 1) lines)) ≡ ended_lines (bytes_in (take i lines)) ++ (line.items ++ 10 ∷ []) = ap (λ t. ended_lines t) (bytes_more lines i line low is) ∙ ended_append (bytes_in (take i lines)) (line.items ∷ []) in
+    step ∙ ap (λ t. t ++ (line.items ++ 10 ∷ [])) so_far ∙ append_assoc old (ended_lines (bytes_in (take i lines))) (line.items ++ 10 ∷ []) ∙ ap (λ t. old ++ t) (sym more)
+
+-- ---- rows joined
+
+more_append : (xs ys : List (List ℕ)) → more_joined (xs ++ ys) ≡ more_joined xs ++ more_joined ys
+more_append [] ys = refl
+more_append (x ∷ xs) ys = ap (λ t. codes " and " ++ (x ++ t)) (more_append xs ys) ∙ ap (λ t. codes " and " ++ t) (sym (append_assoc x (more_joined xs) (more_joined ys)))
+
+pub rows_more : (rows : List (Vec ℕ)) (i : ℕ) (row : Vec ℕ) (old text next : List ℕ) → i < length rows → row ≡ get_or rows i row →
+    text ≡ old ++ more_joined (bytes_in (take i rows)) → next ≡ (text ++ codes " and ") ++ row.items →
+    next ≡ old ++ more_joined (bytes_in (take (i + 1) rows))
+rows_more rows i row old text next low is so_far step =
+    let more : more_joined (bytes_in (take (i + 1) rows)) ≡ more_joined (bytes_in (take i rows)) ++ (codes " and " ++ (row.items ++ [])) = ap (λ t. more_joined t) (bytes_more rows i row low is) ∙ more_append (bytes_in (take i rows)) (row.items ∷ []) in
+    step ∙ append_assoc text (codes " and ") row.items ∙ ap (λ t. t ++ (codes " and " ++ row.items)) so_far ∙ append_assoc old (more_joined (bytes_in (take i rows))) (codes " and " ++ row.items)
+    ∙ ap (λ t. old ++ (more_joined (bytes_in (take i rows)) ++ (codes " and " ++ t))) (sym (append-nil row.items)) ∙ ap (λ t. old ++ t) (sym more)
+
+-- a condition by the texts of its rows
+more_is : (names : List (List ℕ)) (rows : List Row) → more_joined (row_texts names rows) ≡ more_rows_text names (functions_of rows)
+more_is names [] = refl
+more_is names (row ∷ more) = ap (λ t. codes " and " ++ (row_text names row.affine ++ t)) (more_is names more)
+
+joined_is : (names : List (List ℕ)) (rows : List Row) → joined (row_texts names rows) ≡ condition_text names (functions_of rows)
+joined_is names [] = refl
+joined_is names (row ∷ more) = ap (λ t. row_text names row.affine ++ t) (more_is names more)
+
+-- ---- sorting
+
+-- vectors in the order of their bytes
+pub in_order : (vectors : List (Vec ℕ)) → IsSorted (λ (x y : Vec ℕ). slice_cmp nat_cmp x.items y.items) vectors →
+    AreInOrder (bytes_in vectors)
+in_order [] sorted k d from to = absurd (omega arith)
+in_order (first ∷ rest) sorted k d from to =
+    let f : Vec ℕ → List ℕ = λ v. v.items in
+    let long : length (bytes_in (first ∷ rest)) ≡ length (first ∷ rest) = length-map (first ∷ rest) f in
+    rw (get_or-map f (first ∷ rest) (k + 1) first d (omega arith), get_or-map f (first ∷ rest) k first d (omega arith)) (sorted k first from (omega arith))
+
+swap_map : {X Y : Type 0} (f : X → Y) (xs : List X) (i j : ℕ) → swap (map f xs) i j ≡ map f (swap xs i j)
+swap_map f [] i j = refl
+swap_map f (d ∷ ys) i j =
+    let xs = d ∷ ys in
+    sym (map-set f (set xs i (get_or xs j d)) j (get_or xs i d)
+    ∙ ap (λ t. set t j (f (get_or xs i d))) (map-set f xs i (get_or xs j d))
+    ∙ ap (λ t. set (set (map f xs) i t) j (f (get_or xs i d))) (sym (mapped f xs j d))
+    ∙ ap (λ t. set (set (map f xs) i (get_or (map f xs) j (f d))) j t) (sym (mapped f xs i d)))
+
+-- the texts are those of the elements in some order
+record AreTextsIn {X Y : Type 0} (f : X → Y) (xs : List X) (ys : List Y) : Type 0 where
+  ordered : List X
+  same : IsPermutation xs ordered
+  are : ys ≡ map f ordered
+
+-- an order of the texts is one of the elements
+permuted_map : {X Y : Type 0} (f : X → Y) (xs : List X) (ys : List Y) → IsPermutation (map f xs) ys → AreTextsIn f xs ys
+permuted_map f xs ys moved = IsPermutation-keeps (map f xs) (λ zs. AreTextsIn f xs zs)
+    (record { ordered = xs; same = IsPermutation-refl xs; are = refl })
+    (λ zs i j low high before.
+    let long : length zs ≡ length before.ordered = ap length before.are ∙ length-map before.ordered f in
+    record {
+      ordered = swap before.ordered i j;
+      same = IsPermutation-trans xs before.ordered (swap before.ordered i j) before.same (IsPermutation-swap before.ordered (swap before.ordered i j) i j (omega arith) (omega arith) refl);
+      are = ap (λ t. swap t i j) before.are ∙ swap_map f before.ordered i j;
+    })
+    ys moved
+
+-- the rows' texts were made and put in order
+pub rows_sorted : (names : List (List ℕ)) (rows : List Row) (made sorted : List (Vec ℕ)) → bytes_in made ≡ row_texts names rows →
+    IsPermutation made sorted → IsSorted (λ (x y : Vec ℕ). slice_cmp nat_cmp x.items y.items) sorted →
+    AreRowTexts names rows (bytes_in sorted)
+rows_sorted names rows made sorted are moved rises =
+    let f : Row → List ℕ = λ row. row_text names row.affine in
+    let texts : IsPermutation (map f rows) (bytes_in sorted) = subst (λ t. IsPermutation t (bytes_in sorted)) are (IsPermutation-map (λ (v : Vec ℕ). v.items) made sorted moved) in
+    let ordered = permuted_map f rows (bytes_in sorted) texts in
+    record { condition = ordered.ordered; same = ordered.same; sorted = in_order sorted rises; are = ordered.are }
+
+-- the text of one row more
+pub row_texts_more : (names : List (List ℕ)) (rows : List Row) (i : ℕ) (row : Row) (texts next : List (Vec ℕ)) (text : Vec ℕ) →
+    i < length rows → row ≡ get_or rows i row → bytes_in texts ≡ row_texts names (take i rows) → next ≡ texts ++ text ∷ [] →
+    text.items ≡ row_text names row.affine → bytes_in next ≡ row_texts names (take (i + 1) rows)
+row_texts_more names rows i row texts next text low is so_far pushed made =
+    ap (λ t. bytes_in t) pushed ∙ map-append (λ (v : Vec ℕ). v.items) texts (text ∷ []) ∙ ap (λ t. t ++ text.items ∷ []) so_far ∙ ap (λ t. row_texts names (take i rows) ++ t ∷ []) made
+    ∙ sym (map-append (λ (r : Row). row_text names r.affine) (take i rows) (row ∷ [])) ∙ ap (λ t. row_texts names t) (sym (take_snoc rows i row low is))
+
+-- a row of those that are over the names
+pub row_over : (names : List (List ℕ)) (rows : List Row) (i : ℕ) (row : Row) → i < length rows → row ≡ get_or rows i row →
+    All (IsOver names) (functions_of rows) → IsOver names row.affine
+row_over names rows i row low is over =
+    let long : length (functions_of rows) ≡ length rows = length-map rows (λ (r : Row). r.affine) in
+    subst (λ a. IsOver names a) (get_or-map (λ (r : Row). r.affine) rows i row row.affine low ∙ ap (λ (r : Row). r.affine) (sym is)) (over i row.affine (omega arith))
+
+-- the text of a line, from those of its rows and its claim
+pub line_spelled : (names : List (List ℕ)) (line : Line) (texts : List (List ℕ)) (empty begun between text : List ℕ) →
+    IsLineOver names line → AreRowTexts names line.rows texts → empty ≡ [] → begun ≡ empty ++ joined texts →
+    between ≡ begun ++ codes ": " → text ≡ between ++ claim_text names line.claim → IsTextOf names line text
+line_spelled names line texts empty begun between text over rows nothing first second third = record {
+  condition = rows.condition;
+  same = rows.same;
+  sorted = subst (λ t. AreInOrder t) rows.are rows.sorted;
+  spells = record {
+    condition_over = All-permutation (IsOver names) (functions_of line.rows) (functions_of rows.condition) (IsPermutation-map (λ (r : Row). r.affine) line.rows rows.condition rows.same) over.rows;
+    claim_over = over.claims;
+    text = third ∙ ap (λ t. t ++ claim_text names line.claim) (second ∙ ap (λ t. t ++ codes ": ") (first ∙ ap (λ t. t ++ joined texts) nothing ∙ ap (λ t. joined t) rows.are ∙ joined_is names rows.condition))
+        ∙ append_assoc (condition_text names (functions_of rows.condition)) (codes ": ") (claim_text names line.claim);
+  };
+}
+
+-- ---- sections
+
+zip_push : {X Y : Type 0} (R : X → Y → Type 0) (xs : List X) (ys : List Y) (x : X) (y : Y) → AllZip R xs ys → R x y →
+    AllZip R (xs ++ x ∷ []) (ys ++ y ∷ [])
+zip_push R [] [] x y all here = (here, tt)
+zip_push R [] (b ∷ ys) x y all here = absurd all
+zip_push R (a ∷ xs) [] x y all here = absurd all
+zip_push R (a ∷ xs) (b ∷ ys) x y all here = (all.0, zip_push R xs ys x y all.1 here)
+
+-- the text of one line more
+pub line_texts_more : (names : List (List ℕ)) (lines : List Line) (i : ℕ) (line : Line) (texts next : List (Vec ℕ)) (text : Vec ℕ) →
+    i < length lines → line ≡ get_or lines i line → AllZip (λ line text. IsTextOf names line text) (take i lines) (bytes_in texts) →
+    next ≡ texts ++ text ∷ [] → IsTextOf names line text.items →
+    AllZip (λ line text. IsTextOf names line text) (take (i + 1) lines) (bytes_in next)
+line_texts_more names lines i line texts next text low is so_far pushed made =
+    let R : Line → List ℕ → Type 0 = λ line text. IsTextOf names line text in
+    let bytes : bytes_in next ≡ bytes_in texts ++ text.items ∷ [] = ap (λ t. bytes_in t) pushed ∙ map-append (λ (v : Vec ℕ). v.items) texts (text ∷ []) in
+    rw (take_snoc lines i line low is, bytes) (zip_push R (take i lines) (bytes_in texts) line text.items so_far made)
+
+-- the lines' texts were made and put in order
+pub lines_sorted : (names : List (List ℕ)) (lines : List Line) (made sorted : List (Vec ℕ)) →
+    AllZip (λ line text. IsTextOf names line text) lines (bytes_in made) → IsPermutation made sorted →
+    IsSorted (λ (x y : Vec ℕ). slice_cmp nat_cmp x.items y.items) sorted → AreTextsOf names lines (bytes_in sorted)
+lines_sorted names lines made sorted each moved rises = record {
+  unsorted = bytes_in made;
+  each = each;
+  same = IsPermutation-map (λ (v : Vec ℕ). v.items) made sorted moved;
+  sorted = in_order sorted rises;
+}
+
+-- a section has as many texts as lines
+zip_length : {X Y : Type 0} (R : X → Y → Type 0) (xs : List X) (ys : List Y) → AllZip R xs ys → length xs ≡ length ys
+zip_length R [] [] all = refl
+zip_length R [] (b ∷ ys) all = absurd all
+zip_length R (a ∷ xs) [] all = absurd all
+zip_length R (a ∷ xs) (b ∷ ys) all = ap (λ n. suc n) (zip_length R xs ys all.1)
+
+same_verdict : {X Y : Type 0} (xs : List X) (ys : List Y) → length xs ≡ length ys → verdict_line xs ≡ verdict_line ys
+same_verdict [] [] long = refl
+same_verdict [] (y ∷ ys) long = absurd (omega arith)
+same_verdict (x ∷ xs) [] long = absurd (omega arith)
+same_verdict (x ∷ xs) (y ∷ ys) long = refl
+
+verdict_is : (names : List (List ℕ)) (lines : List Line) (texts : List (List ℕ)) → AreTextsOf names lines texts →
+    verdict_line lines ≡ verdict_line texts
+verdict_is names lines texts are = same_verdict lines texts (zip_length (λ line text. IsTextOf names line text) lines are.unsorted are.each ∙ sym (length_permutation are.unsorted texts are.same))
+
+-- ---- advisers
+
+advisers_push : (first : ℕ) (asked : List ℕ) (times : ℕ) →
+    adviser_lines first (asked ++ times ∷ []) ≡ adviser_lines first asked ++ (codes "adviser " ++ (numeral (first + length asked) ++ (codes " asked " ++ numeral times))) ∷ []
+advisers_push first [] times = let e : first + 0 ≡ first = omega arith in rw e refl
+advisers_push first (other ∷ asked) times =
+    let e : first + 1 + length asked ≡ first + suc (length asked) = omega arith in
+    ap (λ t. (codes "adviser " ++ (numeral first ++ (codes " asked " ++ numeral other))) ∷ t) (advisers_push (first + 1) asked times ∙ ap (λ n. adviser_lines (first + 1) asked ++ (codes "adviser " ++ (numeral n ++ (codes " asked " ++ numeral times))) ∷ []) e)
+
+adviser_text : (text number times : List ℕ) →
+    ((text ++ codes "adviser ") ++ number) ++ ((codes " asked " ++ times) ++ 10 ∷ []) ≡ text ++ ((codes "adviser " ++ (number ++ (codes " asked " ++ times))) ++ 10 ∷ [])
+adviser_text text number times = simp append_assoc
+
+-- one adviser more
+pub advisers_more : (asked : List ℕ) (i times : ℕ) (old text words number next : List ℕ) → i < length asked →
+    times ≡ get_or asked i times → text ≡ old ++ ended_lines (adviser_lines 1 (take i asked)) → words ≡ text ++ codes "adviser " →
+    number ≡ words ++ numeral (i + 1) → next ≡ number ++ ((codes " asked " ++ numeral times) ++ 10 ∷ []) →
+    next ≡ old ++ ended_lines (adviser_lines 1 (take (i + 1) asked))
+advisers_more asked i times old text words number next low is so_far first second third =
+    let so : length (take i asked) ≡ i = length-take-le i asked (omega arith) in
+    let count : 1 + length (take i asked) ≡ i + 1 = omega arith in
+    let line = codes "adviser " ++ (numeral (i + 1) ++ (codes " asked " ++ numeral times)) in
+    let more : ended_lines (adviser_lines 1 (take (i + 1) asked)) ≡ ended_lines (adviser_lines 1 (take i asked)) ++ (line ++ 10 ∷ []) =
+    ap (λ t. ended_lines (adviser_lines 1 t)) (take_snoc asked i times low is) ∙ ap (λ t. ended_lines t) (advisers_push 1 (take i asked) times)
+    ∙ ap (λ n. ended_lines (adviser_lines 1 (take i asked) ++ (codes "adviser " ++ (numeral n ++ (codes " asked " ++ numeral times))) ∷ [])) count
+    ∙ ended_append (adviser_lines 1 (take i asked)) (line ∷ []) in
+    third ∙ ap (λ t. t ++ ((codes " asked " ++ numeral times) ++ 10 ∷ [])) (second ∙ ap (λ t. t ++ numeral (i + 1)) first)
+    ∙ adviser_text text (numeral (i + 1)) (numeral times) ∙ ap (λ t. t ++ (line ++ 10 ∷ [])) so_far
+    ∙ append_assoc old (ended_lines (adviser_lines 1 (take i asked))) (line ++ 10 ∷ []) ∙ ap (λ t. old ++ t) (sym more)
+
+-- ---- the whole report
+
+-- the lines of the parts one after the other are those of the whole
+parts_ended : (exact proved unknown explain : List (List ℕ)) (verdict : List ℕ) →
+    ((((((ended_lines exact ++ ended_lines (codes "proved:" ∷ [])) ++ ended_lines proved) ++ ended_lines (codes "unknown:" ∷ [])) ++ ended_lines unknown) ++ ended_lines explain) ++ ended_lines (verdict ∷ [])) ≡ ended_lines (exact ++ (codes "proved:" ∷ (proved ++ (codes "unknown:" ∷ (unknown ++ (explain ++ verdict ∷ []))))))
+parts_ended exact proved unknown explain verdict =
+    let tail = explain ++ verdict ∷ [] in
+    simp append_assoc (sym (ended_append exact (codes "proved:" ∷ (proved ++ (codes "unknown:" ∷ (unknown ++ tail))))
+    ∙ ap (λ t. ended_lines exact ++ (codes "proved:" ++ (10 ∷ t))) (ended_append proved (codes "unknown:" ∷ (unknown ++ tail)))
+    ∙ ap (λ t. ended_lines exact ++ (codes "proved:" ++ (10 ∷ (ended_lines proved ++ (codes "unknown:" ++ (10 ∷ t)))))) (ended_append unknown tail ∙ ap (λ t. ended_lines unknown ++ t) (ended_append explain (verdict ∷ [])))))
+
+-- a header line and the lines of a section
+under_header : (old between new header : List ℕ) (texts : List (List ℕ)) → between ≡ old ++ (header ++ 10 ∷ []) →
+    new ≡ between ++ ended_lines texts → new ≡ old ++ ended_lines (header ∷ texts)
+under_header old between new header texts head lines =
+    lines ∙ ap (λ t. t ++ ended_lines texts) head ∙ append_assoc old (header ++ 10 ∷ []) (ended_lines texts) ∙ ap (λ t. old ++ t) (append_assoc header (10 ∷ []) (ended_lines texts))
+
+pub whole_added : (names : List (List ℕ)) (header : Header) (tests : ℕ) (lines : List Line) (old between new : List ℕ) →
+    header ≡ Whole tests → between ≡ old ++ ((codes "exact, " ++ (numeral tests ++ codes " tests:")) ++ 10 ∷ []) →
+    IsSectionAdded names lines between new → IsExactAdded names header lines old new
+whole_added names header tests lines old between new is head section =
+    rw is (record { texts = section.texts; are = section.are; appended = under_header old between new (codes "exact, " ++ (numeral tests ++ codes " tests:")) section.texts head section.appended })
+
+pub partial_added : (names : List (List ℕ)) (header : Header) (tests : ℕ) (cause : Stop) (lines : List Line) (old between new : List ℕ) →
+    header ≡ Partial tests cause →
+    between ≡ old ++ ((codes "exact, " ++ (numeral tests ++ (codes " tests, then " ++ (cause_text cause ++ codes ":")))) ++ 10 ∷ []) →
+    IsSectionAdded names lines between new → IsExactAdded names header lines old new
+partial_added names header tests cause lines old between new is head section =
+    rw is (record { texts = section.texts; are = section.are; appended = under_header old between new (codes "exact, " ++ (numeral tests ++ (codes " tests, then " ++ (cause_text cause ++ codes ":")))) section.texts head section.appended })
+
+-- what was appended, part by part
+pub record Appended (names : List (List ℕ)) (report : Report) (t0 t1 t2 t3 t4 t5 t6 t7 : List ℕ) : Type 0 where
+  pub empty : t0 ≡ []
+  pub exact : IsExactAdded names report.header report.exact t0 t1
+  pub proved_head : t2 ≡ t1 ++ ended_lines (codes "proved:" ∷ [])
+  pub proved : IsSectionAdded names report.proved t2 t3
+  pub unknown_head : t4 ≡ t3 ++ ended_lines (codes "unknown:" ∷ [])
+  pub unknown : IsSectionAdded names report.unknown t4 t5
+  pub explain : t6 ≡ t5 ++ ended_lines (explain_part report.explain)
+  pub verdict : t7 ≡ t6 ++ ended_lines (verdict_line report.unknown ∷ [])
+
+pub report_printed : (names : List (List ℕ)) (report : Report) (t0 t1 t2 t3 t4 t5 t6 t7 : List ℕ) →
+    Appended names report t0 t1 t2 t3 t4 t5 t6 t7 → IsReportText names report t7
+report_printed names report t0 t1 t2 t3 t4 t5 t6 t7 is = record {
+  exact = is.exact.texts;
+  proved = is.proved.texts;
+  unknown = is.unknown.texts;
+  exact_are = is.exact.are;
+  proved_are = is.proved.are;
+  unknown_are = is.unknown.are;
+  is =
+      let exact = ended_lines (exact_part report.header is.exact.texts) in
+      let proved = ended_lines is.proved.texts in
+      let unknown = ended_lines is.unknown.texts in
+      let explain = ended_lines (explain_part report.explain) in
+      let proved_head = ended_lines (codes "proved:" ∷ []) in
+      let unknown_head = ended_lines (codes "unknown:" ∷ []) in
+      let at1 : t1 ≡ exact = is.exact.appended ∙ ap (λ t. t ++ exact) is.empty in
+      let at3 : t3 ≡ (exact ++ proved_head) ++ proved = is.proved.appended ∙ ap (λ t. t ++ proved) (is.proved_head ∙ ap (λ t. t ++ proved_head) at1) in
+      let at5 : t5 ≡ (((exact ++ proved_head) ++ proved) ++ unknown_head) ++ unknown = is.unknown.appended ∙ ap (λ t. t ++ unknown) (is.unknown_head ∙ ap (λ t. t ++ unknown_head) at3) in
+      is.verdict ∙ ap (λ t. t ++ ended_lines (verdict_line report.unknown ∷ [])) (is.explain ∙ ap (λ t. t ++ explain) at5)
+      ∙ ap (λ v. (((((exact ++ proved_head) ++ proved) ++ unknown_head) ++ unknown) ++ explain) ++ ended_lines (v ∷ [])) (verdict_is names report.unknown is.unknown.texts is.unknown.are)
+      ∙ parts_ended (exact_part report.header is.exact.texts) is.proved.texts is.unknown.texts (explain_part report.explain) (verdict_line is.unknown.texts);
+}

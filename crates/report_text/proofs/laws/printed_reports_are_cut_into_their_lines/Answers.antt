@@ -1,0 +1,11 @@
+use Rattle.report_text.proofs.Cutting.{front_says, report_sections}
+use Rattle.report_text.proofs.laws.printed_reports_are_cut_into_their_lines.Goals as goal
+
+pub returns : goal.returns
+returns c =
+    let form = c.lines_have_their_own_form.ensures in
+    let numbers = c.numerals_say_their_numbers.ensures in
+    record {
+      sections = λ names report text printed are. report_sections (record { newline = λ line condition claim. form.newline names line condition claim are; ending = λ line condition claim. form.ending names line condition claim; digits = numbers.digits }) report text printed;
+      lines = λ names report front rest are. front_says (record { newline = λ line condition claim. form.newline names line condition claim are; ending = λ line condition claim. form.ending names line condition claim; digits = numbers.digits }) report front rest;
+    }

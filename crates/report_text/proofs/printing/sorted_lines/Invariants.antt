@@ -1,0 +1,7 @@
+use Rattle.std.proofs.Common.{take}
+use Rattle.std.specs.List.{AllZip}
+use Rattle.report_text.specs.Printed.{IsTextOf, bytes_in}
+use Rattle.report_text.proofs.printing.sorted_lines.Given as goal
+
+abbrev pub invariant-loop-line : goal.invariant-loop-line
+invariant-loop-line l = AllZip (λ line text. IsTextOf l.names line text) (take l.line-index l.lines) (bytes_in l.texts.items)

@@ -1,0 +1,4 @@
+pub mod Tightest
+pub mod Leaves
+pub mod Printed
+pub mod Sections

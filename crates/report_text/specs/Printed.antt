@@ -1,0 +1,148 @@
+-- The text of a report.
+use Rattle.std.specs.Prelude.{◌≡◌, ℕ, ◌+◌, List, [], ◌∷◌, ◌++◌, map, All, Option, None, Some, codes, IsPermutation, IsSorted}
+use Rattle.std.specs.List.{AllZip}
+use Rattle.std.specs.Ordering.{nat_cmp}
+use Rattle.std.specs.Global.{Vec}
+use Rattle.std.specs.Cmp.Lexicographic.{slice_cmp}
+use Rattle.linear_cons.specs.declared.row.Row.{Row}
+use Rattle.line_text.specs.LineText.{functions_of, row_text}
+use Rattle.line_text.specs.Names.{IsOver}
+use Rattle.line_text.specs.Numeral.{numeral}
+use Rattle.line_text.specs.Spells.{IsClaimOver, Spells}
+use Rattle.report_text.specs.declared.line.Line.{Line}
+use Rattle.report_text.specs.declared.report.Explain.{Explain}
+use Rattle.report_text.specs.declared.report.Header.{Header}
+use Rattle.report_text.specs.declared.report.Header.TheVariants.{Absent, Whole, Partial, Stopped}
+use Rattle.report_text.specs.declared.report.Report.{Report}
+use Rattle.report_text.specs.declared.report.Stop.{Stop}
+use Rattle.report_text.specs.declared.report.Stop.TheVariants.{WideNumbers, TooManyNodes, NotPlain}
+
+-- the texts stand in the order of their bytes
+abbrev pub AreInOrder : List (List ℕ) → Type 0
+AreInOrder texts = IsSorted (slice_cmp nat_cmp) texts
+
+-- the texts of rows
+abbrev pub row_texts : List (List ℕ) → List Row → List (List ℕ)
+row_texts names rows = map (λ (row : Row). row_text names row.affine) rows
+
+-- The text is that of the line: its rows are put in the order of their bytes, and then it spells them and the claim.
+pub record IsTextOf (names : List (List ℕ)) (line : Line) (text : List ℕ) : Type 0 where
+  pub condition : List Row
+  pub same : IsPermutation line.rows condition
+  pub sorted : AreInOrder (row_texts names condition)
+  pub spells : Spells names text (functions_of condition) line.claim
+
+-- The texts are those of the lines, each one once, in the order of their bytes.
+pub record AreTextsOf (names : List (List ℕ)) (lines : List Line) (texts : List (List ℕ)) : Type 0 where
+  pub unsorted : List (List ℕ)
+  pub each : AllZip (λ line text. IsTextOf names line text) lines unsorted
+  pub same : IsPermutation unsorted texts
+  pub sorted : AreInOrder texts
+
+-- a cause in words
+abbrev pub cause_text : Stop → List ℕ
+cause_text WideNumbers = codes "wide numbers"
+cause_text TooManyNodes = codes "too many nodes"
+cause_text NotPlain = codes "not a plain program"
+
+-- the exact part: its header, and the exact lines where some level was made
+abbrev pub exact_part : Header → List (List ℕ) → List (List ℕ)
+exact_part Absent exact = []
+exact_part (Whole tests) exact = (codes "exact, " ++ (numeral tests ++ codes " tests:")) ∷ exact
+exact_part (Partial tests cause) exact =
+    (codes "exact, " ++ (numeral tests ++ (codes " tests, then " ++ (cause_text cause ++ codes ":")))) ∷ exact
+exact_part (Stopped cause) exact = (codes "exact: " ++ cause_text cause) ∷ []
+
+-- how often each adviser was asked; the advisers are numbered from `first`
+abbrev pub adviser_lines : ℕ → List ℕ → List (List ℕ)
+adviser_lines first [] = []
+adviser_lines first (asked ∷ more) =
+    (codes "adviser " ++ (numeral first ++ (codes " asked " ++ numeral asked))) ∷ adviser_lines (first + 1) more
+
+-- the lines behind `explain:`
+abbrev pub explained : Explain → List (List ℕ)
+explained explain =
+    (codes "labels " ++ numeral explain.labels) ∷ ((codes "families " ++ numeral explain.families) ∷ adviser_lines 1 explain.asked)
+
+-- the part that explains the report, if there is one
+abbrev pub explain_part : Option Explain → List (List ℕ)
+explain_part None = []
+explain_part (Some explain) = codes "explain:" ∷ explained explain
+
+-- every input meets a proved line exactly where no line is unknown
+abbrev pub verdict_line : {A : Type 0} → List A → List ℕ
+verdict_line [] = codes "verdict: all inputs"
+verdict_line (line ∷ more) = codes "verdict: some inputs"
+
+-- the lines of a report
+abbrev pub report_lines : Header → (exact proved unknown : List (List ℕ)) → Option Explain → List (List ℕ)
+report_lines header exact proved unknown explain =
+    exact_part header exact ++ (codes "proved:" ∷ (proved ++ (codes "unknown:" ∷ (unknown ++ (explain_part explain ++ verdict_line unknown ∷ [])))))
+
+-- the lines one after the other, each ended by a newline byte
+abbrev pub ended_lines : List (List ℕ) → List ℕ
+ended_lines [] = []
+ended_lines (line ∷ more) = line ++ (10 ∷ ended_lines more)
+
+-- the texts of the exact lines, where they are printed
+abbrev pub AreExactTexts : List (List ℕ) → Header → List Line → List (List ℕ) → Type 0
+AreExactTexts names (Whole tests) lines texts = AreTextsOf names lines texts
+AreExactTexts names (Partial tests cause) lines texts = AreTextsOf names lines texts
+AreExactTexts names Absent lines texts = texts ≡ []
+AreExactTexts names (Stopped cause) lines texts = texts ≡ []
+
+-- the text is that of the report
+pub record IsReportText (names : List (List ℕ)) (report : Report) (text : List ℕ) : Type 0 where
+  pub exact : List (List ℕ)
+  pub proved : List (List ℕ)
+  pub unknown : List (List ℕ)
+  pub exact_are : AreExactTexts names report.header report.exact exact
+  pub proved_are : AreTextsOf names report.proved proved
+  pub unknown_are : AreTextsOf names report.unknown unknown
+  pub is : text ≡ ended_lines (report_lines report.header exact proved unknown report.explain)
+
+-- the rows and the claim of the line speak of no variable past the names
+pub record IsLineOver (names : List (List ℕ)) (line : Line) : Type 0 where
+  pub rows : All (IsOver names) (functions_of line.rows)
+  pub claims : IsClaimOver names line.claim
+
+-- so do all lines of the report
+pub record IsReportOver (names : List (List ℕ)) (report : Report) : Type 0 where
+  pub exact : All (IsLineOver names) report.exact
+  pub proved : All (IsLineOver names) report.proved
+  pub unknown : All (IsLineOver names) report.unknown
+
+-- ---- what the calls that print it append
+
+-- the texts of vectors of bytes
+abbrev pub bytes_in : List (Vec ℕ) → List (List ℕ)
+bytes_in vectors = map (λ (vector : Vec ℕ). vector.items) vectors
+
+-- the texts of rows in the order of their bytes
+pub record AreRowTexts (names : List (List ℕ)) (rows : List Row) (texts : List (List ℕ)) : Type 0 where
+  pub condition : List Row
+  pub same : IsPermutation rows condition
+  pub sorted : AreInOrder texts
+  pub are : texts ≡ row_texts names condition
+
+-- the rows behind the first of a condition, by their texts
+abbrev pub more_joined : List (List ℕ) → List ℕ
+more_joined [] = []
+more_joined (row ∷ more) = codes " and " ++ (row ++ more_joined more)
+
+-- a condition by the texts of its rows
+abbrev pub joined : List (List ℕ) → List ℕ
+joined [] = codes "always"
+joined (row ∷ more) = row ++ more_joined more
+
+-- the lines of a section were appended
+pub record IsSectionAdded (names : List (List ℕ)) (lines : List Line) (old new : List ℕ) : Type 0 where
+  pub texts : List (List ℕ)
+  pub are : AreTextsOf names lines texts
+  pub appended : new ≡ old ++ ended_lines texts
+
+-- the exact part was appended
+pub record IsExactAdded (names : List (List ℕ)) (header : Header) (lines : List Line) (old new : List ℕ) : Type 0 where
+  pub texts : List (List ℕ)
+  pub are : AreExactTexts names header lines texts
+  pub appended : new ≡ old ++ ended_lines (exact_part header texts)

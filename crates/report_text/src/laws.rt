@@ -1,0 +1,51 @@
+//! Laws of the definitions, each the contract of a function that does nothing.
+ghost use Rattle.std.specs.Prelude.{◌≡◌, ℕ, ℤ, List, ◌++◌, ◌↔◌};
+ghost use Rattle.linear_cons.specs.Rows.{MeetsAll};
+ghost use Rattle.linear_cons.specs.declared.affine.Affine.{Affine};
+ghost use Rattle.linear_cons.specs.declared.row.Row.{Row};
+ghost use Rattle.decision_tree.specs.Paths.{MeetsPath};
+ghost use Rattle.decision_tree.specs.Evaluation.{eval};
+ghost use Rattle.decision_tree.specs.Plans.{Plan};
+ghost use Rattle.decision_tree.specs.declared.affine_rank.AffineRank.{AffineRank};
+ghost use Rattle.report_text.specs.declared.line.Line.{Line};
+ghost use Rattle.report_text.specs.declared.line.Top.{Top};
+ghost use Rattle.report_text.specs.Leaves.{AreLinesOf, MeetsOneLine, claim_at};
+ghost use Rattle.report_text.specs.Sections.{AreFrontsOf, SaysOnly, sections_of, sections_printed};
+ghost use Rattle.report_text.specs.Printed.{IsReportText};
+ghost use Rattle.report_text.specs.declared.report.Report.{Report};
+ghost use Rattle.line_text.specs.Names.{AreNames};
+ghost use Rattle.report_text.specs.Tightest.{AreTightest};
+
+use decision_tree::AffineRank;
+use decision_tree::laws::stores_stand_where_they_meet_the_path;
+use line_text::laws::{lines_have_their_own_form, numerals_say_their_numbers};
+
+/// A store meets the tightest rows of a path exactly where it meets the path.
+pub fn tightest_rows_are_met_with_the_path()
+    ensures { (path : List Affine) (kept : List Row) (store : List ℤ) → AreTightest path kept → MeetsAll store kept ↔ MeetsPath store path }
+{}
+
+/// Each store meets the rows of exactly one of a tree's lines, and that line has the claim of the leaf
+/// at which the store stands.
+pub fn each_store_meets_one_line()
+    ensures { (claims : Top) (plan : Plan AffineRank) (lines : List Line) (store : List ℤ) → AreLinesOf claims plan lines → MeetsOneLine store (claim_at claims (eval plan store)) lines }
+{
+    stores_stand_where_they_meet_the_path::<AffineRank>();
+}
+
+/// A front of a text, as a write that failed half way leaves it, is cut into fronts of the text's
+/// sections.
+pub fn a_front_is_cut_into_fronts()
+    ensures { (front rest : List ℕ) → AreFrontsOf (sections_of front) (sections_of (front ++ rest)) }
+{}
+
+/// A printed report is cut into the lines that were printed; and each whole exact, proved or unknown
+/// line of a front of it is the text of a line of the report's, in the same section.
+pub fn printed_reports_are_cut_into_their_lines()
+    ensures sections { (names : List (List ℕ)) (report : Report) (text : List ℕ) (printed : IsReportText names report text) → AreNames names →
+        sections_of text ≡ sections_printed report.header printed.exact printed.proved printed.unknown report.explain }
+    ensures lines { (names : List (List ℕ)) (report : Report) (front rest : List ℕ) → AreNames names → IsReportText names report (front ++ rest) → SaysOnly names report front }
+{
+    lines_have_their_own_form();
+    numerals_say_their_numbers();
+}

@@ -1,0 +1,21 @@
+//! Lines of a report: a condition and what is claimed of the inputs that meet it.
+use line_text::Claim;
+use linear_cons::Rows;
+
+/// What the defined leaves of a tree claim.
+#[derive(Clone, Copy, PartialEq, Eq, Debug)]
+pub enum Top {
+    /// The longest run has exactly the rank's number of steps.
+    Exact,
+    /// Every run has at most the rank's value of steps.
+    Bound,
+    /// The formula holds.
+    Plain,
+}
+
+/// One line: the claim on the stores that meet every row. No row says `always`.
+#[derive(Drop)]
+pub struct Line {
+    pub rows: Rows,
+    pub claim: Claim,
+}

@@ -1,0 +1,126 @@
+-- A text has one fault.
+use Rattle.std.proofs.Common.{◌≡◌, ℕ, List, Option, None, Some, refl, sym, ap, ◌∙◌, subst}
+use Rattle.std.proofs.lemmas.Option.{none-some, same_Some}
+use Rattle.source_lex.specs.Laws.{TokensAreUnique}
+use Rattle.source_lex.specs.declared.fault.LexFault.{LexFault}
+use Rattle.source_lex.specs.declared.fault.LexFault.TheVariants.{BadByte, BigNumber, OpenComment, Memory as LexMemory}
+use Rattle.source_syntax.specs.declared.fault.SyntaxFault.{SyntaxFault}
+use Rattle.source_syntax.specs.declared.fault.SyntaxFault.TheVariants as S
+use Rattle.source_syntax.specs.declared.fault.Which.{Which as SyntaxWhich}
+use Rattle.source_syntax.specs.Laws.{IsMemory as IsSyntaxMemory, IsSameFault as IsSameSyntaxFault, ProgramsHaveNoFault as SyntaxHasNoFault, TreesAreUnique, FirstFaultsAgree}
+use Rattle.source_syntax.specs.Texts.{IsFaultOf as IsSyntaxFaultOf, place_in}
+use Rattle.elaboration.specs.declared.fault.Fault.{Fault}
+use Rattle.elaboration.specs.declared.fault.Rule.{Rule}
+use Rattle.elaboration.specs.Faults.{fault as fault_at, IsFirstOf}
+use Rattle.elaboration.specs.Elaborates.{faults_of}
+use Rattle.elaboration.proofs.Firsts.{one_first}
+use Rattle.source_parse.specs.declared.fault.ParseFault.{ParseFault}
+use Rattle.source_parse.specs.declared.fault.ParseFault.TheVariants.{Lex, Expected, Unknown, Twice, Mixed, BadRange, Limit, Memory}
+use Rattle.source_parse.specs.declared.fault.Which.TheVariants as Which
+use Rattle.source_parse.specs.Faults.{HasNamesFault, IsFaultOf, numbered, number_of}
+use Rattle.source_parse.specs.Laws.{FaultsAgree}
+
+-- the numbers of the faults of tokens and of syntax
+abbrev syntax_numbered : SyntaxFault → Option (ℕ × ℕ)
+syntax_numbered (S.Lex (BadByte at)) = Some (1, at)
+syntax_numbered (S.Lex (BigNumber at)) = Some (2, at)
+syntax_numbered (S.Lex (OpenComment at)) = Some (3, at)
+syntax_numbered (S.Lex (LexMemory error)) = None
+syntax_numbered (S.Expected at) = Some (4, at)
+syntax_numbered (S.Limit SyntaxWhich.Nesting at count) = Some (10, at)
+syntax_numbered (S.Limit SyntaxWhich.Operators at count) = Some (11, at)
+syntax_numbered (S.Memory error) = None
+
+-- a fault of a text is one of its syntax, or one of names and sorts, or none
+data Kind (text : List ℕ) (fault : ParseFault) : Type 0 where
+  of_syntax : (s : SyntaxFault) → IsSyntaxFaultOf text s → numbered fault ≡ syntax_numbered s → Kind text fault
+  of_names : (rule : Rule) (at : ℕ) → HasNamesFault text rule at → numbered fault ≡ Some (number_of rule, at) → Kind text fault
+  of_memory : numbered fault ≡ None → Kind text fault
+
+lex_number : (f : LexFault) → numbered (Lex f) ≡ syntax_numbered (S.Lex f)
+lex_number (BadByte at) = refl
+lex_number (BigNumber at) = refl
+lex_number (OpenComment at) = refl
+lex_number (LexMemory error) = refl
+
+kind : (text : List ℕ) (fault : ParseFault) → IsFaultOf text fault → Kind text fault
+kind text (Lex f) is = of_syntax (S.Lex f) is (lex_number f)
+kind text (Expected at) is = of_syntax (S.Expected at) is refl
+kind text (Unknown at) is = of_names Rule.Unknown at is refl
+kind text (Twice at) is = of_names Rule.Twice at is refl
+kind text (Mixed at) is = of_names Rule.Mixed at is refl
+kind text (BadRange at) is = of_names Rule.BadRange at is refl
+kind text (Limit Which.Variables at count) is = of_names Rule.Variables at is.0 refl
+kind text (Limit Which.Nesting at count) is = of_syntax (S.Limit SyntaxWhich.Nesting at count) is refl
+kind text (Limit Which.Operators at count) is = of_syntax (S.Limit SyntaxWhich.Operators at count) is refl
+kind text (Memory error) is = of_memory refl
+
+limit_number : (which : SyntaxWhich) (at count : ℕ) → (n : ℕ) × (syntax_numbered (S.Limit which at count) ≡ Some (n, at))
+limit_number SyntaxWhich.Nesting at count = (10, refl)
+limit_number SyntaxWhich.Operators at count = (11, refl)
+
+-- the count has no part in the number
+limit_same : (which : SyntaxWhich) (at count more : ℕ) → syntax_numbered (S.Limit which at count) ≡ syntax_numbered (S.Limit which at more)
+limit_same SyntaxWhich.Nesting at count more = refl
+limit_same SyntaxWhich.Operators at count more = refl
+
+same_syntax : (s t : SyntaxFault) (x y : ℕ × ℕ) → IsSameSyntaxFault s t → syntax_numbered s ≡ Some x → syntax_numbered t ≡ Some y → x ≡ y
+same_syntax (S.Memory error) t x y same first second = absurd (none-some x first)
+same_syntax (S.Lex f) (S.Lex g) x y same first second =
+    same_Some x y (sym first ∙ ap (λ k. syntax_numbered (S.Lex k)) same ∙ second)
+same_syntax (S.Lex f) (S.Expected at) x y same first second = absurd same
+same_syntax (S.Lex f) (S.Limit which at count) x y same first second = absurd same
+same_syntax (S.Lex f) (S.Memory error) x y same first second = absurd (none-some y second)
+same_syntax (S.Expected at) (S.Lex g) x y same first second = absurd same
+same_syntax (S.Expected at) (S.Expected place) x y same first second =
+    same_Some x y (sym first ∙ ap (λ k. syntax_numbered (S.Expected k)) same ∙ second)
+same_syntax (S.Expected at) (S.Limit which place count) x y same first second = absurd same
+same_syntax (S.Expected at) (S.Memory error) x y same first second = absurd (none-some y second)
+same_syntax (S.Limit which at count) (S.Lex g) x y same first second = absurd same
+same_syntax (S.Limit which at count) (S.Expected place) x y same first second = absurd same
+same_syntax (S.Limit which at count) (S.Limit other place number) x y same first second =
+    same_Some x y
+    (sym first
+    ∙ ap (λ k. syntax_numbered (S.Limit k at count)) same.0
+    ∙ ap (λ k. syntax_numbered (S.Limit other k count)) same.1
+    ∙ limit_same other place count number
+    ∙ second)
+same_syntax (S.Limit which at count) (S.Memory error) x y same first second = absurd (none-some y second)
+
+-- want of memory has no number
+memory_number : (s : SyntaxFault) (x : ℕ × ℕ) → IsSyntaxMemory s → syntax_numbered s ≡ Some x → ⊥
+memory_number (S.Memory error) x is told = none-some x told
+memory_number (S.Lex f) x is told = is
+memory_number (S.Expected at) x is told = is
+memory_number (S.Limit which at count) x is told = is
+
+-- two first faults of names and sorts of one text are at one place and of one rule
+same_names : TreesAreUnique → TokensAreUnique → (text : List ℕ) (rule other : Rule) (at place : ℕ)
+    → HasNamesFault text rule at → HasNamesFault text other place → (rule ≡ other) × (at ≡ place)
+same_names unique tokens text rule other at place h k =
+    let trees = unique text k.tree h.tree k.spelled h.spelled in
+    let lists = tokens text k.tokens h.tokens k.lexed h.lexed in
+    let there : IsFirstOf (faults_of h.tree) (fault_at other k.token) = subst (λ t. IsFirstOf (faults_of t) (fault_at other k.token)) trees k.first in
+    let same = one_first (faults_of h.tree) (fault_at rule h.token) (fault_at other k.token) h.first there in (
+      ap (λ (f : Fault). f.rule) same,
+      h.place ∙ ap (λ (f : Fault). place_in text h.tokens f.token) same ∙ ap (λ ts. place_in text ts k.token) (sym lists) ∙ sym k.place,
+    )
+
+agree : TreesAreUnique → TokensAreUnique → SyntaxHasNoFault → FirstFaultsAgree → (text : List ℕ) (fault other : ParseFault) (x y : ℕ × ℕ)
+    → Kind text fault → Kind text other → numbered fault ≡ Some x → numbered other ≡ Some y → x ≡ y
+agree unique tokens clean law text fault other x y (of_memory none) second told tells = absurd (none-some x (sym none ∙ told))
+agree unique tokens clean law text fault other x y first (of_memory none) told tells = absurd (none-some y (sym none ∙ tells))
+agree unique tokens clean law text fault other x y (of_syntax s is e) (of_syntax t at i) told tells =
+    same_syntax s t x y (law text s t is at) (sym e ∙ told) (sym i ∙ tells)
+agree unique tokens clean law text fault other x y (of_syntax s is e) (of_names rule at h i) told tells =
+    absurd (memory_number s x (clean text h.tree s h.spelled is) (sym e ∙ told))
+agree unique tokens clean law text fault other x y (of_names rule at h i) (of_syntax s is e) told tells =
+    absurd (memory_number s y (clean text h.tree s h.spelled is) (sym e ∙ tells))
+agree unique tokens clean law text fault other x y (of_names rule at h e) (of_names another place k i) told tells =
+    let same = same_names unique tokens text rule another at place h k in
+    same_Some x y
+    (sym told ∙ e ∙ ap (λ r. Some (number_of r, at)) same.0 ∙ ap (λ n. Some (number_of another, n)) same.1 ∙ sym i ∙ tells)
+
+pub one_fault : TreesAreUnique → TokensAreUnique → SyntaxHasNoFault → FirstFaultsAgree → FaultsAgree
+one_fault unique tokens clean law text fault other x y first second told tells =
+    agree unique tokens clean law text fault other x y (kind text fault first) (kind text other second) told tells

@@ -1,0 +1,79 @@
+-- A text has at most one tree and at most one first fault, and never both.
+use Rattle.std.proofs.Common.{◌≡◌, ℕ, zero, suc, List, [], ◌∷◌, length, map, drop, slice_index_or, refl, sym, ap, ◌∙◌, subst, arith}
+use Rattle.std.proofs.lemmas.List.{length-drop}
+use Rattle.derivation.specs.declared.rule.Rule.{Rule}
+use Rattle.derivation.specs.Word.{Word, word, words}
+use Rattle.derivation.specs.Comes.{FirstFault, IsSpelledBy}
+use Rattle.derivation.proofs.Faults.{spelled_has_no_fault, faults_agree}
+use Rattle.source_lex.proofs.Readings.{tokens_unique, fault_unique, tokens_or_fault}
+use Rattle.concrete_syntax.specs.Trees.{Program}
+use Rattle.source_syntax.specs.declared.fault.SyntaxFault.TheVariants.{Lex, Expected, Limit, Memory}
+use Rattle.source_syntax.specs.declared.fault.Which.TheVariants as Which
+use Rattle.source_syntax.specs.Texts.{programs, place_in, IsTextOf, HasFault}
+use Rattle.source_syntax.proofs.OneTree.{one_program}
+use Rattle.source_syntax.specs.Laws.{TreesAreUnique, ProgramsHaveNoFault, FirstFaultsAgree}
+
+pub trees_are_unique : TreesAreUnique
+trees_are_unique text tree other h k =
+    let same : k.tokens ≡ h.tokens = tokens_unique text 0 k.tokens h.tokens k.lexed h.lexed in
+    let spelled : IsSpelledBy programs (words text h.tokens) other = subst (λ ts. IsSpelledBy programs (words text ts) other) same k.spelled in
+    one_program other tree spelled.fits h.spelled.fits (sym spelled.spelled ∙ h.spelled.spelled)
+
+-- a program has no fault behind its tokens
+no_fault : (text : List ℕ) (tree : Program) (rule : Rule) (at : ℕ) → IsTextOf text tree → HasFault text rule at → ⊥
+no_fault text tree rule at h k =
+    let same : h.tokens ≡ k.tokens = tokens_unique text 0 h.tokens k.tokens h.lexed k.lexed in
+    spelled_has_no_fault programs (words text k.tokens) _ rule tree k.fault
+    (subst (λ ts. IsSpelledBy programs (words text ts) tree) same h.spelled)
+
+pub programs_have_no_fault : ProgramsHaveNoFault
+programs_have_no_fault text tree (Lex fault) h k = absurd (tokens_or_fault text 0 h.tokens fault h.lexed k)
+programs_have_no_fault text tree (Expected at) h k = absurd (no_fault text tree Rule.Expected at h k)
+programs_have_no_fault text tree (Limit Which.Nesting at count) h k = absurd (no_fault text tree Rule.Nesting at h k.0)
+programs_have_no_fault text tree (Limit Which.Operators at count) h k = absurd (no_fault text tree Rule.Operators at h k.0)
+programs_have_no_fault text tree (Memory error) h k = tt
+
+-- two places with the same behind them are one place
+same_place : {X : Type 0} (f : X → Word) (g : X → ℕ) (xs : List X) (n m end : ℕ) → drop n (map f xs) ≡ drop m (map f xs)
+    → slice_index_or (map g xs) n end ≡ slice_index_or (map g xs) m end
+same_place f g [] n m end e = refl
+same_place f g (x ∷ xs) zero zero end e = refl
+same_place f g (x ∷ xs) zero (suc m) end e = absurd (omega (arith, ap length e, length-drop m (map f xs)))
+same_place f g (x ∷ xs) (suc n) zero end e = absurd (omega (arith, ap length e, length-drop n (map f xs)))
+same_place f g (x ∷ xs) (suc n) (suc m) end e = same_place f g xs n m end e
+
+faults_meet : (text : List ℕ) (rule other : Rule) (at place : ℕ) → HasFault text rule at → HasFault text other place → (rule ≡ other) × (at ≡ place)
+faults_meet text rule other at place h k =
+    let same : k.tokens ≡ h.tokens = tokens_unique text 0 k.tokens h.tokens k.lexed h.lexed in
+    let fault : FirstFault programs (words text h.tokens) other (drop k.number (words text h.tokens)) =
+    subst (λ ts. FirstFault programs (words text ts) other (drop k.number (words text ts))) same k.fault in
+    let agree = faults_agree rule other h.fault fault in (
+      agree.0,
+      h.place ∙ same_place (word text) (λ token. token.start) h.tokens h.number k.number (length text) agree.1
+          ∙ ap (λ ts. place_in text ts k.number) (sym same) ∙ sym k.place,
+    )
+
+pub first_faults_agree : FirstFaultsAgree
+first_faults_agree text (Lex fault) (Lex other) h k = fault_unique text 0 fault other h k
+first_faults_agree text (Lex fault) (Expected place) h k = absurd (tokens_or_fault text 0 k.tokens fault k.lexed h)
+first_faults_agree text (Lex fault) (Limit Which.Nesting place number) h k = absurd (tokens_or_fault text 0 k.0.tokens fault k.0.lexed h)
+first_faults_agree text (Lex fault) (Limit Which.Operators place number) h k = absurd (tokens_or_fault text 0 k.0.tokens fault k.0.lexed h)
+first_faults_agree text (Lex fault) (Memory error) h k = tt
+first_faults_agree text (Expected at) (Lex other) h k = absurd (tokens_or_fault text 0 h.tokens other h.lexed k)
+first_faults_agree text (Expected at) (Expected place) h k = (faults_meet text _ _ at place h k).1
+first_faults_agree text (Expected at) (Limit Which.Nesting place number) h k = absurd (let e = (faults_meet text _ _ at place h k.0).0 in cc)
+first_faults_agree text (Expected at) (Limit Which.Operators place number) h k = absurd (let e = (faults_meet text _ _ at place h k.0).0 in cc)
+first_faults_agree text (Expected at) (Memory error) h k = tt
+first_faults_agree text (Limit Which.Nesting at count) (Lex other) h k = absurd (tokens_or_fault text 0 h.0.tokens other h.0.lexed k)
+first_faults_agree text (Limit Which.Nesting at count) (Expected place) h k = absurd (let e = (faults_meet text _ _ at place h.0 k).0 in cc)
+first_faults_agree text (Limit Which.Nesting at count) (Limit Which.Nesting place number) h k = (refl, (faults_meet text _ _ at place h.0 k.0).1)
+first_faults_agree text (Limit Which.Nesting at count) (Limit Which.Operators place number) h k =
+    absurd (let e = (faults_meet text _ _ at place h.0 k.0).0 in cc)
+first_faults_agree text (Limit Which.Nesting at count) (Memory error) h k = tt
+first_faults_agree text (Limit Which.Operators at count) (Lex other) h k = absurd (tokens_or_fault text 0 h.0.tokens other h.0.lexed k)
+first_faults_agree text (Limit Which.Operators at count) (Expected place) h k = absurd (let e = (faults_meet text _ _ at place h.0 k).0 in cc)
+first_faults_agree text (Limit Which.Operators at count) (Limit Which.Nesting place number) h k =
+    absurd (let e = (faults_meet text _ _ at place h.0 k.0).0 in cc)
+first_faults_agree text (Limit Which.Operators at count) (Limit Which.Operators place number) h k = (refl, (faults_meet text _ _ at place h.0 k.0).1)
+first_faults_agree text (Limit Which.Operators at count) (Memory error) h k = tt
+first_faults_agree text (Memory error) other h k = tt

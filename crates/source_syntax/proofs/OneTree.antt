@@ -1,0 +1,336 @@
+-- Words are what at most one tree spells.
+use Rattle.std.proofs.Common.{◌≡◌, ℕ, ◌+◌, ℤ, List, [], ◌∷◌, ◌++◌, Option, None, Some, Bool, true, false, refl, sym, ap, ◌∙◌, subst}
+use Rattle.derivation.specs.declared.symbol.Symbol.TheVariants as Sym
+use Rattle.derivation.specs.Word.{Word, symbol, name as named}
+use Rattle.derivation.specs.Pieces.{Token, Piece, token, spelling, first, first_before, Fits}
+use Rattle.derivation.specs.Comes.{IsQuiet}
+use Rattle.derivation.proofs.Calculus.{cancel, spelling-append, fits-behind, first_spelling}
+use Rattle.concrete_syntax.specs.declared.sign.Prefix.TheVariants as Prefix
+use Rattle.concrete_syntax.specs.declared.sign.Assignment.{Assignment}
+use Rattle.concrete_syntax.specs.declared.sign.Step.{Step}
+use Rattle.source_syntax.specs.declared.opening.OperandOpening.TheVariants as OperandOpening
+use Rattle.source_syntax.specs.declared.opening.SizeOpening.TheVariants as SizeOpening
+use Rattle.source_syntax.specs.declared.opening.ActionOpening.{ActionOpening}
+use Rattle.source_syntax.specs.declared.opening.SimpleOpening.{SimpleOpening}
+use Rattle.source_syntax.specs.declared.opening.StatementOpening.{StatementOpening}
+use Rattle.source_syntax.specs.declared.opening.ItemOpening.{ItemOpening}
+use Rattle.source_syntax.specs.declared.opening.StartOpening.{StartOpening}
+use Rattle.source_syntax.specs.declared.opening.PreludeOpening.TheVariants as PreludeOpening
+use Rattle.source_syntax.specs.Openings.{opening_of_operand, binary_operator, opening_of_simple, opening_of_action, opening_of_statement, opening_of_item, opening_of_start, semicolon_follows, parenthesis_follows, else_follows}
+use Rattle.concrete_syntax.specs.Trees.{End, Operand, number, name, truth, unknown, call, signed, parentheses, range, Tail, ended, further, Expression, Action, assigns, steps, Simple, acts, steps_before, Part, Declaration, Start, starts_with_nothing, starts_with, declares, Statement, simple, skip, braces, conditional, while_loop, do_loop, for_loop, return, Otherwise, without, otherwise, Items, none, declaration, statement, Prelude, extern_call, typedef_bool, Program}
+use Rattle.source_syntax.specs.Spelling.{plain, sign, opening, operator, prefix_sign, assignment_sign, step_sign, operand_pieces, simple_pieces, statement_pieces}
+use Rattle.source_syntax.specs.Pending.{Pending, exactly, a_name, a_size, an_end, an_operand, a_tail, an_expression, an_optional, a_test, an_action, a_simple, a_part_end, parts, a_declaration, a_start, a_finish, a_statement, an_otherwise, items, a_void, a_program, Trees, pieces}
+use Rattle.source_syntax.specs.Leads.{Leads}
+use Rattle.source_syntax.proofs.Expressions.{size_goes, end_goes, minus_view, operand_goes, opening_of_prefix, prefix_view, unseen, reads_back, tail_ends, operator_view, expression_goes}
+use Rattle.source_syntax.proofs.Statements.{action_goes, simple_goes, part_end_goes, parts_goes, declaration_goes, test_goes, optional_goes, start_goes, finish_goes, statement_goes, items_goes, void_goes, program_goes, otherwise_ends, else_view}
+use Rattle.source_syntax.proofs.Statements as statements
+
+-- all trees that spell the words of these are these
+record IsOnly (A : List Pending) (trees : Trees A) : Type 0 where
+  same : (others : Trees A) → Fits (pieces A trees) → Fits (pieces A others) → spelling (pieces A trees) ≡ spelling (pieces A others) → others ≡ trees
+
+abbrev own : (A : List Pending) → Trees A → List Word
+own A trees = spelling (pieces A trees)
+
+-- what may be known of the trees: that they fit
+fitting : {A : List Pending} {trees : Trees A} → (Fits (pieces A trees) → IsOnly A trees) → IsOnly A trees
+fitting h = record { same = λ others fits others_fit e. (h fits).same others fits others_fit e }
+
+-- where reading from its own words has come to something else
+through : {A B : List Pending} {c : ℕ} {from to : List Word} {fill : Trees B → Trees A} (g : Trees B) → Leads 0 A from c B to fill
+    → from ≡ spelling (pieces A (fill g)) → IsOnly B g → IsOnly A (fill g)
+through {A} {B} {c} {from} {to} {fill} g goes e d = record {
+  same = λ others fits others_fit words.
+      let x = goes.comes in
+      let mine : pieces A (fill g) ≡ x.front ++ pieces B g = x.spells g in
+      let left : to ≡ spelling (pieces B g) =
+      cancel (spelling x.front) (sym x.parted ∙ e ∙ ap spelling mine ∙ spelling-append x.front (pieces B g)) in
+      let found = x.only others others_fit to (sym words ∙ sym e ∙ x.parted) refl in
+      let theirs : pieces A others ≡ x.front ++ pieces B found.0 = ap (pieces A) found.1 ∙ x.spells found.0 in
+      let their_left : to ≡ spelling (pieces B found.0) =
+      cancel (spelling x.front) (sym x.parted ∙ e ∙ words ∙ ap spelling theirs ∙ spelling-append x.front (pieces B found.0)) in
+      found.1 ∙ ap fill (d.same found.0 (fits-behind x.front (pieces B g) None (subst Fits mine fits))
+      (fits-behind x.front (pieces B found.0) None (subst Fits theirs others_fit)) (sym left ∙ their_left));
+}
+
+-- where a token is its first word
+behind : {A B : List Pending} {fill : Trees B → Trees A} (t : Token) (g : Trees B) → ((h : Trees B) → pieces A (fill h) ≡ token t ∷ pieces B h)
+    → ((f : Trees A) → Fits (pieces A f) → first_before (pieces A f) None ≡ Some t.word → (h : Trees B) × (f ≡ fill h)) → IsOnly B g → IsOnly A (fill g)
+behind {A} {B} {fill} t g spells view d = record {
+  same = λ others fits others_fit words.
+      let mine : pieces A (fill g) ≡ token t ∷ pieces B g = spells g in
+      let next : first_before (pieces A others) None ≡ Some t.word =
+      sym (first_spelling (pieces A others)) ∙ ap first (sym words) ∙ ap (λ ps. first (spelling ps)) mine in
+      let found = view others others_fit next in
+      let theirs : pieces A others ≡ token t ∷ pieces B found.0 = ap (pieces A) found.1 ∙ spells found.0 in
+      let all : t.word ∷ spelling (pieces B g) ≡ t.word ∷ spelling (pieces B found.0) = sym (ap spelling mine) ∙ words ∙ ap spelling theirs in
+      found.1 ∙ ap fill (d.same found.0 (subst Fits mine fits) (subst Fits theirs others_fit) (cancel (t.word ∷ []) all));
+}
+
+exactly_one : (t : Token) (quiet : IsQuiet (Some t.word)) (S : List Pending) (rest : Trees S) → IsOnly S rest → IsOnly (exactly t quiet ∷ S) (tt, rest)
+exactly_one t quiet S rest d = behind {fill = λ g. (tt, g)} t rest (λ h. refl) (λ f fits next. (f.1, refl)) d
+
+name_one : (x : List ℕ) (S : List Pending) (rest : Trees S) → IsOnly S rest → IsOnly (a_name ∷ S) (x, rest)
+name_one x S rest d =
+    behind {fill = λ g. (x, g)} (plain (named x)) rest (λ h. refl) (λ f fits next. (f.1, let same : f.0 ≡ x = cc in ap (λ y. (y, f.1)) same)) d
+
+size_one : (size : Option ℤ) (S : List Pending) (rest : Trees S) → IsOnly S rest → IsOnly (a_size ∷ S) (size, rest)
+size_one (Some z) S rest d =
+    through (tt, rest) (size_goes 0 S (own (a_size ∷ S) (Some z, rest)) (SizeOpening.Number z) refl) refl (exactly_one _ _ S rest d)
+size_one None S rest d =
+    through (tt, rest) (size_goes 0 S (own (a_size ∷ S) (None, rest)) SizeOpening.Infinite refl) refl (exactly_one _ _ S rest d)
+
+end_of : (negative : Bool) (size : Option ℤ) (S : List Pending) (rest : Trees S) → IsOnly S rest
+    → IsOnly (an_end ∷ S) (record { negative = negative; size = size }, rest)
+end_of true size S rest d =
+    behind {fill = λ g. (record { negative = true; size = g.0 }, g.1)} (sign Sym.Minus) (size, rest) (λ h. refl)
+    (λ f fits next. minus_view 0 S [] f.0.negative f.0.size f.1 next) (size_one size S rest d)
+end_of false (Some z) S rest d =
+    through (Some z, rest) (end_goes 0 S (own (an_end ∷ S) (record { negative = false; size = Some z }, rest)) false refl) refl (size_one (Some z) S rest d)
+end_of false None S rest d =
+    through (None, rest) (end_goes 0 S (own (an_end ∷ S) (record { negative = false; size = None }, rest)) false refl) refl (size_one None S rest d)
+
+end_one : (e : End) (S : List Pending) (rest : Trees S) → IsOnly S rest → IsOnly (an_end ∷ S) (e, rest)
+end_one e S rest d = end_of e.negative e.size S rest d
+
+-- expressions
+expression_step : (n : ℕ) (e : Expression) (S : List Pending) (rest : Trees S) → IsOnly (an_operand n ∷ a_tail n ∷ S) (e.operand, (e.tail, rest))
+    → IsOnly (an_expression n ∷ S) (e, rest)
+expression_step n e S rest d = through (e.operand, (e.tail, rest)) (expression_goes n 0 S (own (an_expression n ∷ S) (e, rest))) refl d
+
+mutual
+  operand_one : (n : ℕ) (t : Operand) (S : List Pending) (rest : Trees S) → IsOnly S rest → IsOnly (an_operand n ∷ S) (t, rest)
+  operand_one n (number z) S rest d =
+      through (tt, rest) (operand_goes n 0 S (own (an_operand n ∷ S) (number z, rest)) (OperandOpening.Number z) refl) refl (exactly_one _ _ S rest d)
+  operand_one n (name x) S rest d =
+      through (x, rest) (operand_goes n 0 S (own (an_operand n ∷ S) (name x, rest)) OperandOpening.Name refl) refl (name_one x S rest d)
+  operand_one n (truth true) S rest d =
+      through (tt, rest) (operand_goes n 0 S (own (an_operand n ∷ S) (truth true, rest)) (OperandOpening.Truth true) refl) refl (exactly_one _ _ S rest d)
+  operand_one n (truth false) S rest d =
+      through (tt, rest) (operand_goes n 0 S (own (an_operand n ∷ S) (truth false, rest)) (OperandOpening.Truth false) refl) refl (exactly_one _ _ S rest d)
+  operand_one n unknown S rest d =
+      through (tt, rest) (operand_goes n 0 S (own (an_operand n ∷ S) (unknown, rest)) OperandOpening.Unknown refl) refl (exactly_one _ _ S rest d)
+  operand_one n call S rest d =
+      through (tt, (tt, (tt, rest))) (operand_goes n 0 S (own (an_operand n ∷ S) (call, rest)) OperandOpening.Call refl) refl
+      (exactly_one _ _ _ _ (exactly_one _ _ _ _ (exactly_one _ _ S rest d)))
+  operand_one n (signed prefix e) S rest d =
+      behind {fill = λ g. (signed prefix g.0, g.1)} (opening (prefix_sign prefix) (n + 1)) (e, rest) (λ h. refl)
+      (λ f fits next. prefix_view n 0 S [] prefix f.0 f.1 (ap opening_of_operand next ∙ opening_of_prefix n 0 S [] prefix))
+      (operand_one (n + 1) e S rest d)
+  operand_one n (parentheses e more) S rest d =
+      through (tt, (record { operand = e; tail = more }, (tt, rest)))
+      (operand_goes n 0 S (own (an_operand n ∷ S) (parentheses e more, rest)) OperandOpening.Parenthesis refl) refl
+      (exactly_one _ _ _ _ (expression_step (n + 1) (record { operand = e; tail = more }) _ _
+      (operand_one (n + 1) e _ _ (tail_one (n + 1) more _ _ (exactly_one _ _ S rest d)))))
+  operand_one n (range lo hi) S rest d =
+      through (tt, (lo, (tt, (hi, (tt, rest))))) (operand_goes n 0 S (own (an_operand n ∷ S) (range lo hi, rest)) OperandOpening.Bracket refl) refl
+      (exactly_one _ _ _ _ (end_one lo _ _ (exactly_one _ _ _ _ (end_one hi _ _ (exactly_one _ _ S rest d)))))
+
+  tail_one : (n : ℕ) (t : Tail) (S : List Pending) (rest : Trees S) → IsOnly S rest → IsOnly (a_tail n ∷ S) (t, rest)
+  tail_one n ended S rest d =
+      fitting (λ fits. through rest (tail_ends n 0 S (own (a_tail n ∷ S) (ended, rest))
+      (sym (ap binary_operator (first_spelling (pieces S rest)) ∙ unseen (first_before (pieces S rest) None) fits.0))) refl d)
+  tail_one n (further op e more) S rest d =
+      behind {fill = λ g. (further op g.0 g.1.0, g.1.1)} (operator op) (e, (more, rest)) (λ h. refl)
+      (λ f fits next. operator_view n 0 S [] op f.0 f.1 fits (ap binary_operator next ∙ reads_back op))
+      (operand_one n e _ _ (tail_one n more S rest d))
+
+expression_one : (n : ℕ) (e : Expression) (S : List Pending) (rest : Trees S) → IsOnly S rest → IsOnly (an_expression n ∷ S) (e, rest)
+expression_one n e S rest d = expression_step n e S rest (operand_one n e.operand _ _ (tail_one n e.tail S rest d))
+
+no_semicolon : (n : ℕ) (t : Operand) (more : List Piece) → false ≡ semicolon_follows (first (spelling (operand_pieces n t more)))
+no_semicolon n (number z) more = refl
+no_semicolon n (name x) more = refl
+no_semicolon n (truth true) more = refl
+no_semicolon n (truth false) more = refl
+no_semicolon n unknown more = refl
+no_semicolon n call more = refl
+no_semicolon n (signed Prefix.Plus e) more = refl
+no_semicolon n (signed Prefix.Minus e) more = refl
+no_semicolon n (signed Prefix.Not e) more = refl
+no_semicolon n (parentheses e tail) more = refl
+no_semicolon n (range lo hi) more = refl
+
+optional_one : (n : ℕ) (value : Option Expression) (S : List Pending) (rest : Trees S) → IsOnly S rest → IsOnly (an_optional n ∷ S) (value, rest)
+optional_one n None S rest d =
+    through (tt, rest) (optional_goes n 0 S (own (an_optional n ∷ S) (None, rest)) true refl) refl (exactly_one _ _ S rest d)
+optional_one n (Some e) S rest d =
+    through (e, (tt, rest)) (optional_goes n 0 S (own (an_optional n ∷ S) (Some e, rest)) false (no_semicolon n e.operand _)) refl
+    (expression_one n e _ _ (exactly_one _ _ S rest d))
+
+test_one : (n : ℕ) (e : Expression) (S : List Pending) (rest : Trees S) → IsOnly S rest → IsOnly (a_test n ∷ S) (e, rest)
+test_one n e S rest d =
+    through (tt, (e, (tt, rest))) (test_goes n 0 S (own (a_test n ∷ S) (e, rest))) refl
+    (exactly_one _ _ _ _ (expression_one (n + 1) e _ _ (exactly_one _ _ S rest d)))
+
+-- simple statements
+assigns_so : (a : Assignment) → ActionOpening.Assigns a ≡ opening_of_action (Some (symbol (assignment_sign a)))
+assigns_so Assignment.Assign = refl
+assigns_so Assignment.Add = refl
+assigns_so Assignment.Subtract = refl
+assigns_so Assignment.Multiply = refl
+
+steps_so : (s : Step) → ActionOpening.Steps s ≡ opening_of_action (Some (symbol (step_sign s)))
+steps_so Step.Increment = refl
+steps_so Step.Decrement = refl
+
+steps_first : (s : Step) → SimpleOpening.Steps s ≡ opening_of_simple (Some (symbol (step_sign s)))
+steps_first Step.Increment = refl
+steps_first Step.Decrement = refl
+
+action_one : (n : ℕ) (action : Action) (S : List Pending) (rest : Trees S) → IsOnly S rest → IsOnly (an_action n ∷ S) (action, rest)
+action_one n (assigns a e) S rest d =
+    through (tt, (e, rest)) (action_goes n 0 S (own (an_action n ∷ S) (assigns a e, rest)) (ActionOpening.Assigns a) (assigns_so a)) refl
+    (exactly_one _ _ _ _ (expression_one n e S rest d))
+action_one n (steps s) S rest d =
+    through (tt, rest) (action_goes n 0 S (own (an_action n ∷ S) (steps s, rest)) (ActionOpening.Steps s) (steps_so s)) refl (exactly_one _ _ S rest d)
+
+simple_one : (n : ℕ) (s : Simple) (S : List Pending) (rest : Trees S) → IsOnly S rest → IsOnly (a_simple n ∷ S) (s, rest)
+simple_one n (acts x action) S rest d =
+    through (x, (action, rest)) (simple_goes n 0 S (own (a_simple n ∷ S) (acts x action, rest)) SimpleOpening.Name refl) refl
+    (name_one x _ _ (action_one n action S rest d))
+simple_one n (steps_before s x) S rest d =
+    through (tt, (x, rest)) (simple_goes n 0 S (own (a_simple n ∷ S) (steps_before s x, rest)) (SimpleOpening.Steps s) (steps_first s)) refl
+    (exactly_one _ _ _ _ (name_one x S rest d))
+
+-- declarations
+part_end_step : (n : ℕ) (value : Option Expression) (more : List Part) (S : List Pending) (rest : Trees S) → IsOnly (parts n ∷ S) (more, rest)
+    → IsOnly (a_part_end n ∷ S) ((value, more), rest)
+part_end_step n (Some e) more S rest d =
+    through (tt, (e, (more, rest))) (part_end_goes n 0 S (own (a_part_end n ∷ S) ((Some e, more), rest)) true refl) refl
+    (exactly_one _ _ _ _ (expression_one n e _ _ d))
+part_end_step n None [] S rest d = through ([], rest) (part_end_goes n 0 S (own (a_part_end n ∷ S) ((None, []), rest)) false refl) refl d
+part_end_step n None (part ∷ more) S rest d =
+    through (part ∷ more, rest) (part_end_goes n 0 S (own (a_part_end n ∷ S) ((None, part ∷ more), rest)) false refl) refl d
+
+parts_one : (n : ℕ) (more : List Part) (S : List Pending) (rest : Trees S) → IsOnly S rest → IsOnly (parts n ∷ S) (more, rest)
+parts_one n [] S rest d = through (tt, rest) (parts_goes n 0 S (own (parts n ∷ S) ([], rest)) false refl) refl (exactly_one _ _ S rest d)
+parts_one n (part ∷ more) S rest d =
+    through (tt, (part.declared, ((part.initialiser, more), rest))) (parts_goes n 0 S (own (parts n ∷ S) (part ∷ more, rest)) true refl) refl
+    (exactly_one _ _ _ _ (name_one part.declared _ _ (part_end_step n part.initialiser more S rest (parts_one n more S rest d))))
+
+declaration_one : (n : ℕ) (d : Declaration) (S : List Pending) (rest : Trees S) → IsOnly S rest → IsOnly (a_declaration n ∷ S) (d, rest)
+declaration_one n d S rest h =
+    through (tt, (d.part.declared, ((d.part.initialiser, d.more), rest))) (declaration_goes n 0 S (own (a_declaration n ∷ S) (d, rest))) refl
+    (exactly_one _ _ _ _ (name_one d.part.declared _ _ (part_end_step n d.part.initialiser d.more S rest (parts_one n d.more S rest h))))
+
+starts_simply : (n : ℕ) (s : Simple) (more : List Piece) → StartOpening.Simple ≡ opening_of_start (first (spelling (simple_pieces n s more)))
+starts_simply n (acts x action) more = refl
+starts_simply n (steps_before Step.Increment x) more = refl
+starts_simply n (steps_before Step.Decrement x) more = refl
+
+no_parenthesis : (n : ℕ) (s : Simple) (more : List Piece) → false ≡ parenthesis_follows (first (spelling (simple_pieces n s more)))
+no_parenthesis n (acts x action) more = refl
+no_parenthesis n (steps_before Step.Increment x) more = refl
+no_parenthesis n (steps_before Step.Decrement x) more = refl
+
+start_one : (n : ℕ) (start : Start) (S : List Pending) (rest : Trees S) → IsOnly S rest → IsOnly (a_start n ∷ S) (start, rest)
+start_one n starts_with_nothing S rest d =
+    through (tt, rest) (start_goes n 0 S (own (a_start n ∷ S) (starts_with_nothing, rest)) StartOpening.Nothing refl) refl (exactly_one _ _ S rest d)
+start_one n (declares declared) S rest d =
+    through (declared, rest) (start_goes n 0 S (own (a_start n ∷ S) (declares declared, rest)) StartOpening.Declaration refl) refl
+    (declaration_one n declared S rest d)
+start_one n (starts_with s) S rest d =
+    through (s, (tt, rest)) (start_goes n 0 S (own (a_start n ∷ S) (starts_with s, rest)) StartOpening.Simple (starts_simply n s _)) refl
+    (simple_one n s _ _ (exactly_one _ _ S rest d))
+
+finish_one : (n : ℕ) (step : Option Simple) (S : List Pending) (rest : Trees S) → IsOnly S rest → IsOnly (a_finish n ∷ S) (step, rest)
+finish_one n None S rest d =
+    through (tt, rest) (finish_goes n 0 S (own (a_finish n ∷ S) (None, rest)) true refl) refl (exactly_one _ _ S rest d)
+finish_one n (Some s) S rest d =
+    through (s, (tt, rest)) (finish_goes n 0 S (own (a_finish n ∷ S) (Some s, rest)) false (no_parenthesis n s _)) refl
+    (simple_one n s _ _ (exactly_one _ _ S rest d))
+
+-- statements
+opens_simply : (n : ℕ) (s : Simple) (more : List Piece) → StatementOpening.Simple ≡ opening_of_statement (first (spelling (simple_pieces n s more)))
+opens_simply n (acts x action) more = refl
+opens_simply n (steps_before Step.Increment x) more = refl
+opens_simply n (steps_before Step.Decrement x) more = refl
+
+is_statement : (n : ℕ) (s : Statement) (more : List Piece) → ItemOpening.Statement ≡ opening_of_item (first (spelling (statement_pieces n s more)))
+is_statement n (simple (acts x action)) more = refl
+is_statement n (simple (steps_before Step.Increment x)) more = refl
+is_statement n (simple (steps_before Step.Decrement x)) more = refl
+is_statement n skip more = refl
+is_statement n (braces all) more = refl
+is_statement n (conditional test part other) more = refl
+is_statement n (while_loop test body) more = refl
+is_statement n (do_loop body test) more = refl
+is_statement n (for_loop start test step body) more = refl
+is_statement n (return value) more = refl
+
+mutual
+  statement_one : (n : ℕ) (s : Statement) (S : List Pending) (rest : Trees S) → IsOnly S rest → IsOnly (a_statement n ∷ S) (s, rest)
+  statement_one n (simple s) S rest d =
+      through (s, (tt, rest)) (statement_goes n 0 S (own (a_statement n ∷ S) (simple s, rest)) StatementOpening.Simple (opens_simply n s _)) refl
+      (simple_one n s _ _ (exactly_one _ _ S rest d))
+  statement_one n skip S rest d =
+      through (tt, rest) (statement_goes n 0 S (own (a_statement n ∷ S) (skip, rest)) StatementOpening.Skip refl) refl (exactly_one _ _ S rest d)
+  statement_one n (braces all) S rest d =
+      through (tt, (all, rest)) (statement_goes n 0 S (own (a_statement n ∷ S) (braces all, rest)) StatementOpening.Braces refl) refl
+      (exactly_one _ _ _ _ (items_one (n + 1) all S rest d))
+  statement_one n (conditional test part other) S rest d =
+      through (tt, (test, (part, (other, rest)))) (statement_goes n 0 S (own (a_statement n ∷ S) (conditional test part other, rest)) StatementOpening.If refl) refl
+      (exactly_one _ _ _ _ (test_one (n + 1) test _ _ (statement_one (n + 1) part _ _ (otherwise_one (n + 1) other S rest d))))
+  statement_one n (while_loop test body) S rest d =
+      through (tt, (test, (body, rest))) (statement_goes n 0 S (own (a_statement n ∷ S) (while_loop test body, rest)) StatementOpening.While refl) refl
+      (exactly_one _ _ _ _ (test_one (n + 1) test _ _ (statement_one (n + 1) body S rest d)))
+  statement_one n (do_loop body test) S rest d =
+      through (tt, (body, (tt, (test, (tt, rest))))) (statement_goes n 0 S (own (a_statement n ∷ S) (do_loop body test, rest)) StatementOpening.Do refl) refl
+      (exactly_one _ _ _ _ (statement_one (n + 1) body _ _ (exactly_one _ _ _ _ (test_one (n + 1) test _ _ (exactly_one _ _ S rest d)))))
+  statement_one n (for_loop start test step body) S rest d =
+      through (tt, (tt, (start, (test, (step, (body, rest))))))
+      (statement_goes n 0 S (own (a_statement n ∷ S) (for_loop start test step body, rest)) StatementOpening.For refl) refl
+      (exactly_one _ _ _ _ (exactly_one _ _ _ _ (start_one (n + 1) start _ _ (optional_one (n + 1) test _ _
+      (finish_one (n + 1) step _ _ (statement_one (n + 1) body S rest d))))))
+  statement_one n (return value) S rest d =
+      through (tt, (value, rest)) (statement_goes n 0 S (own (a_statement n ∷ S) (return value, rest)) StatementOpening.Return refl) refl
+      (exactly_one _ _ _ _ (optional_one n value S rest d))
+
+  otherwise_one : (n : ℕ) (other : Otherwise) (S : List Pending) (rest : Trees S) → IsOnly S rest → IsOnly (an_otherwise n ∷ S) (other, rest)
+  otherwise_one n without S rest d =
+      fitting (λ fits. through rest (otherwise_ends n 0 S (own (an_otherwise n ∷ S) (without, rest))
+      (sym (ap else_follows (first_spelling (pieces S rest)) ∙ statements.unseen (first_before (pieces S rest) None) fits.0))) refl d)
+  otherwise_one n (otherwise part) S rest d =
+      behind {fill = λ g. (otherwise g.0, g.1)} (opening Sym.Else (n + 1)) (part, rest) (λ h. refl)
+      (λ f fits next. else_view n 0 S [] f.0 f.1 fits (ap else_follows next)) (statement_one (n + 1) part S rest d)
+
+  items_one : (n : ℕ) (all : Items) (S : List Pending) (rest : Trees S) → IsOnly S rest → IsOnly (items n ∷ S) (all, rest)
+  items_one n none S rest d =
+      through (tt, rest) (items_goes n 0 S (own (items n ∷ S) (none, rest)) ItemOpening.Close refl) refl (exactly_one _ _ S rest d)
+  items_one n (declaration first_one more) S rest d =
+      through (first_one, (more, rest)) (items_goes n 0 S (own (items n ∷ S) (declaration first_one more, rest)) ItemOpening.Declaration refl) refl
+      (declaration_one n first_one _ _ (items_one n more S rest d))
+  items_one n (statement first_one more) S rest d =
+      through (first_one, (more, rest))
+      (items_goes n 0 S (own (items n ∷ S) (statement first_one more, rest)) ItemOpening.Statement (is_statement n first_one _)) refl
+      (statement_one n first_one _ _ (items_one n more S rest d))
+
+-- programs
+void_one : (void : Bool) (S : List Pending) (rest : Trees S) → IsOnly S rest → IsOnly (a_void ∷ S) (void, rest)
+void_one true S rest d =
+    through (tt, (tt, rest)) (void_goes 0 S (own (a_void ∷ S) (true, rest)) true refl) refl (exactly_one _ _ _ _ (exactly_one _ _ S rest d))
+void_one false S rest d = through (tt, rest) (void_goes 0 S (own (a_void ∷ S) (false, rest)) false refl) refl (exactly_one _ _ S rest d)
+
+program_of : (list : List Prelude) (void : Bool) (all : Items) (S : List Pending) (rest : Trees S) → IsOnly S rest
+    → IsOnly (a_program ∷ S) (record { preludes = list; void = void; items = all }, rest)
+program_of [] void all S rest d =
+    through (tt, (tt, (tt, (void, (tt, (all, rest))))))
+    (program_goes 0 S (own (a_program ∷ S) (record { preludes = []; void = void; items = all }, rest)) PreludeOpening.Main refl) refl
+    (exactly_one _ _ _ _ (exactly_one _ _ _ _ (exactly_one _ _ _ _ (void_one void _ _ (exactly_one _ _ _ _ (items_one 1 all S rest d))))))
+program_of (extern_call written ∷ more) void all S rest d =
+    through (tt, (tt, (tt, (tt, (written, (tt, (record { preludes = more; void = void; items = all }, rest)))))))
+    (program_goes 0 S (own (a_program ∷ S) (record { preludes = extern_call written ∷ more; void = void; items = all }, rest)) PreludeOpening.Extern refl) refl
+    (exactly_one _ _ _ _ (exactly_one _ _ _ _ (exactly_one _ _ _ _ (exactly_one _ _ _ _ (void_one written _ _ (exactly_one _ _ _ _
+    (program_of more void all S rest d)))))))
+program_of (typedef_bool ∷ more) void all S rest d =
+    through (tt, (tt, (tt, (tt, (tt, (tt, (tt, (tt, (tt, (record { preludes = more; void = void; items = all }, rest))))))))))
+    (program_goes 0 S (own (a_program ∷ S) (record { preludes = typedef_bool ∷ more; void = void; items = all }, rest)) PreludeOpening.Typedef refl) refl
+    (exactly_one _ _ _ _ (exactly_one _ _ _ _ (exactly_one _ _ _ _ (exactly_one _ _ _ _ (exactly_one _ _ _ _ (exactly_one _ _ _ _
+    (exactly_one _ _ _ _ (exactly_one _ _ _ _ (exactly_one _ _ _ _ (program_of more void all S rest d))))))))))
+
+-- two programs with the same words are the same
+pub one_program : (p other : Program) → Fits (pieces (a_program ∷ []) (p, tt)) → Fits (pieces (a_program ∷ []) (other, tt))
+    → spelling (pieces (a_program ∷ []) (p, tt)) ≡ spelling (pieces (a_program ∷ []) (other, tt)) → other ≡ p
+one_program p other fits other_fits e =
+    ap (λ trees. trees.0) ((program_of p.preludes p.void p.items [] tt (record { same = λ others f g w. refl })).same (other, tt) fits other_fits e)
