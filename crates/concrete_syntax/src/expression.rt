@@ -1,4 +1,4 @@
-// Expressions, as they are written: operands with the operators between them. How they group has no part in the tree.
+//! Expressions, as they are written: operands with the operators between them. How they group has no part in the tree.
 
 use crate::sign::Prefix;
 use std::alloc::{AllocError, Global};

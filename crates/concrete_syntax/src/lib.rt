@@ -1,7 +1,7 @@
-// Concrete syntax trees of programs: one variant for each production of the grammar. In `specs/`: the grammar and its trees as pure
-// data (Trees), and which of them each tree of this crate is (Mirror). Lists are chains of links, so what walks along one is a loop:
-// only nesting may recurse. Trees hold no places in the text: tokens are counted as one walks. Below it stands only `step_meaning`,
-// for the binary operators.
+//! Concrete syntax trees of programs: one variant for each production of the grammar. In `specs/`: the grammar and its trees as pure
+//! data (Trees), and which of them each tree of this crate is (Mirror). Lists are chains of links, so what walks along one is a loop:
+//! only nesting may recurse. Trees hold no places in the text: tokens are counted as one walks. Below it stands only `step_meaning`,
+//! for the binary operators.
 #![tactic(auto)]
 
 mod expression;

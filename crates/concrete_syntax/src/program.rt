@@ -1,4 +1,4 @@
-// Programs: `main`, and what stands before it.
+//! Programs: `main`, and what stands before it.
 
 use crate::statement::Items;
 

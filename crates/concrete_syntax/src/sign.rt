@@ -1,4 +1,4 @@
-// Signs that are no binary operators.
+//! Signs that are no binary operators.
 
 /// A sign before an operand.
 #[derive(Clone, Copy)]

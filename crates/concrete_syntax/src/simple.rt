@@ -1,4 +1,4 @@
-// The parts of statements that no statement is a part of.
+//! The parts of statements that no statement is a part of.
 
 use crate::expression::Expression;
 use crate::sign::{Assignment, Step};

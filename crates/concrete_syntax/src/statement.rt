@@ -1,4 +1,4 @@
-// Statements, and lists of items.
+//! Statements, and lists of items.
 
 ghost use Rattle.std.specs.Prelude.{◌≡◌, IfOk, [], ◌∷◌};
 ghost use Rattle.concrete_syntax.specs.Mirror.{items, item};

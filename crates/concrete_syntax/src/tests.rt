@@ -1,4 +1,4 @@
-// Chains of two links, and of two items.
+//! Chains of two links, and of two items.
 
 use super::*;
 use std::test::Fail;

@@ -1,4 +1,4 @@
-// Words as the parser reads them: each with its place, told apart by what it is.
+//! Words as the parser reads them: each with its place, told apart by what it is.
 
 ghost use Rattle.std.specs.Prelude.{◌≡◌, map, IfOk, All};
 ghost use Rattle.source_lex.specs.Spans.{IsWithin};

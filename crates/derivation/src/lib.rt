@@ -1,6 +1,6 @@
-// The words of a text, and the calculus of reading them: from what is still to be read and the next word, what is to be read next.
-// Stands on the tokens of `source_lex`. The front door for parsers are `lexemes`, the readers of single words, and in `specs/` the
-// relations `Comes` and `Breaks`.
+//! The words of a text, and the calculus of reading them: from what is still to be read and the next word, what is to be read next.
+//! Stands on the tokens of `source_lex`. The front door for parsers are `lexemes`, `after`, which reads a symbol, and in `specs/` the
+//! relations `Comes` and `Breaks`.
 #![tactic(auto)]
 
 mod lexeme;
@@ -11,4 +11,4 @@ mod words;
 pub use lexeme::{Lexeme, Reading, lexemes};
 pub use rule::Rule;
 pub use symbol::{Symbol, reserved_word, sign};
-pub use words::{after, number, stands};
+pub use words::after;

@@ -1,4 +1,4 @@
-// The rules that a text may break.
+//! The rules that a text may break.
 
 /// Which rule a text breaks first.
 #[derive(Clone, Copy, PartialEq, Eq, Debug)]

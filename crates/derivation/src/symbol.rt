@@ -1,4 +1,4 @@
-// Reserved words and signs.
+//! Reserved words and signs.
 
 ghost use Rattle.std.specs.Prelude.{◌≡◌, map};
 ghost use Rattle.derivation.specs.Symbols.{reserved_words, signs, found};

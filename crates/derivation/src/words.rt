@@ -1,15 +1,13 @@
-// Readers of single words. Each reads at a place of the list of words and answers the place behind what it read, or `None` where that
-// doesn't stand there.
+//! The reader of a symbol.
 
-ghost use Rattle.std.specs.Prelude.{◌≡◌, ◌≢◌, ◌∷◌, ◌<◌, ◌≤◌, ℤ, List, MatchOption, IfSome, length};
-ghost use Rattle.std.specs.Bool.{OnFalse};
-ghost use Rattle.derivation.specs.Word.{Word, symbol, number};
+ghost use Rattle.std.specs.Prelude.{◌≡◌, ◌≢◌, ◌∷◌, ◌<◌, ◌≤◌, List, MatchOption, IfSome, length};
+ghost use Rattle.derivation.specs.Word.{Word, symbol};
 ghost use Rattle.derivation.specs.Spelled.{words_from, IsBehind};
 
 use crate::lexeme::{Lexeme, Reading};
 use crate::symbol::Symbol;
 
-/// The place behind this symbol.
+/// The place behind this symbol, where it stands at the place of the list of words; `None` where it doesn't.
 pub fn after(words: &[Lexeme<'_>], at: usize, wanted: Symbol) -> Option<usize>
     ensures read { MatchOption result
         ((rest : List Word) → words_from words.now at ≢ symbol wanted ∷ rest)
@@ -18,26 +16,6 @@ pub fn after(words: &[Lexeme<'_>], at: usize, wanted: Symbol) -> Option<usize>
 {
     match words.get(at)?.reading {
         Reading::Symbol(found) if found == wanted => Some(at + 1),
-        _ => None,
-    }
-}
-
-/// Whether this symbol stands here.
-pub fn stands(words: &[Lexeme<'_>], at: usize, wanted: Symbol) -> bool
-    ensures { OnFalse result ((rest : List Word) → words_from words.now at ≢ symbol wanted ∷ rest) }
-{
-    after(words, at, wanted).is_some()
-}
-
-/// A number, and the place behind it.
-pub fn number(words: &[Lexeme<'_>], at: usize) -> Option<(i64, usize)>
-    ensures read { MatchOption result
-        ((value : ℤ) (rest : List Word) → words_from words.now at ≢ number value ∷ rest)
-        (λ found. (words_from words.now at ≡ number found.0 ∷ words_from words.now found.1)) }
-    ensures forward { IfSome result (λ found. IsBehind words.now at found.1) }
-{
-    match words.get(at)?.reading {
-        Reading::Number(value) => Some((value, at + 1)),
         _ => None,
     }
 }

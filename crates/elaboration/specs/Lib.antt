@@ -5,4 +5,5 @@ pub mod Faults
 pub mod Expressions
 pub mod Typing
 pub mod Statements
+pub mod Places
 pub mod Elaborates

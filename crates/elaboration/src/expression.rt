@@ -1,4 +1,4 @@
-// Expressions. Only nesting recurses: the operators and operands of one expression are walked by a loop.
+//! Expressions. Only nesting recurses: the operators and operands of one expression are walked by a loop.
 
 ghost use Rattle.std.specs.Prelude.{◌≡◌, ◌+◌, ◌<◌, ◌^◌, IfOk};
 ghost use Rattle.concrete_syntax.specs.Mirror.{operand as operand_of, tail as tail_of, expression as expression_of, range_end};

@@ -1,4 +1,4 @@
-// Faults of names and sorts.
+//! Faults of names and sorts.
 
 ghost use Rattle.std.specs.Prelude.{◌≡◌, ◌∷◌, []};
 ghost use Rattle.elaboration.specs.Faults.{order_of, is_before, earliest};

@@ -1,8 +1,10 @@
-// The front door: the program that a tree stands for.
+//! The front door: the program that a tree stands for.
 
 ghost use Rattle.std.specs.Prelude.{◌≡◌, ◌+◌, ◌<◌, ◌^◌, IfOk, IfErr, ⊤};
 ghost use Rattle.concrete_syntax.specs.Mirror.{program as program_of, prelude as prelude_of};
 ghost use Rattle.step_meaning.specs.Syntax.{statements};
+ghost use Rattle.step_meaning.specs.Places.{places};
+ghost use Rattle.elaboration.specs.Places.{program_places};
 ghost use Rattle.elaboration.specs.Elaborates.{StandsFor, IsRefusalOf};
 ghost use Rattle.elaboration.specs.Widths.{head_width, program_width, prelude_width, preludes_width};
 
@@ -42,6 +44,7 @@ impl From<AllocError> for Refusal {
 pub fn elaborate(alloc: Global, tree: &Tree, tokens: &[Token]) -> Result<Program, Refusal>
     requires { program_width (program_of tree.now) < 2 ^ 64 }
     ensures program { IfOk result (λ program. StandsFor (program_of tree.now) program.names (statements program.body)) }
+    ensures places { IfOk result (λ program. places program.body ≡ program_places tokens.now (program_of tree.now)) }
     ensures refusal { IfErr result (IsRefusalOf (program_of tree.now)) }
 {
     let mut scope = Scope::new(alloc);

@@ -1,4 +1,4 @@
-// Operands and operators, grouped.
+//! Operands and operators, grouped.
 
 ghost use Rattle.std.specs.Prelude.{◌≡◌, IfOk};
 ghost use Rattle.elaboration.specs.Expressions.{value, mixed_in, pair_of, mixed_operands};

@@ -1,4 +1,4 @@
-// Laws of the definitions, each the contract of a function that does nothing.
+//! Laws of the definitions, each the contract of a function that does nothing.
 
 ghost use Rattle.elaboration.specs.Expressions.{Typed};
 ghost use Rattle.elaboration.specs.Grouping.{Grouped, attach, IsLadder, first_operand, further_operands};

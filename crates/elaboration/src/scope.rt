@@ -1,4 +1,4 @@
-// The names of a program, and which of them may be used.
+//! The names of a program, and which of them may be used.
 
 ghost use Rattle.std.specs.Prelude.{◌≡◌, ◌≤◌, ◌<◌, IfSome, IfNone, OnOk, IfOk, length, map, vec_items, take, true, false};
 ghost use Rattle.elaboration.specs.Scopes.{is_among, place_of};

@@ -1,11 +1,13 @@
-// Simple statements and declarations, which nothing nests in.
+//! Simple statements and declarations, which nothing nests in.
 
-ghost use Rattle.std.specs.Prelude.{◌≡◌, ◌+◌, ◌<◌, ◌^◌, ◌++◌, IfOk, OnOk, vec_items};
+ghost use Rattle.std.specs.Prelude.{◌≡◌, ◌+◌, ◌<◌, ◌^◌, ◌++◌, ◌∷◌, [], IfOk, OnOk, vec_items};
 ghost use Rattle.concrete_syntax.specs.Mirror.{action as action_of, simple as simple_of, part as part_of, parts as parts_of, declaration as declaration_of, optional_simple};
 ghost use Rattle.step_meaning.specs.Syntax as syntax;
+ghost use Rattle.step_meaning.specs.Places.{all_places, statement_places};
 ghost use Rattle.elaboration.specs.Faults.{earliest};
 ghost use Rattle.elaboration.specs.Scopes.{declare, place_of};
 ghost use Rattle.elaboration.specs.Statements.{action_meaning, action_faults, simple_meaning, simple_faults, part_meaning, part_faults, declaration_scope, declaration_meaning, declaration_faults, stepped, assigned};
+ghost use Rattle.elaboration.specs.Places.{place_in, places_in, part_tokens, declaration_tokens};
 ghost use Rattle.elaboration.specs.Widths.{action_width, simple_width, part_width, declaration_width};
 
 use crate::expression::number;
@@ -30,6 +32,7 @@ pub fn simple(
 ) -> Result<usize, AllocError>
     requires { at + simple_width (simple_of tree.now) < 2 ^ 64 }
     ensures meaning { OnOk result (syntax.parts out.new.items ≡ syntax.parts out.old.items ++ simple_meaning scope.now at (simple_of tree.now)) }
+    ensures places { OnOk result (all_places out.new.items ≡ all_places out.old.items ++ place ∷ []) }
     ensures faults { OnOk result (least.new ≡ earliest least.old (simple_faults scope.now at (simple_of tree.now))) }
     ensures next { IfOk result (λ next. next ≡ at + simple_width (simple_of tree.now)) }
 {
@@ -51,7 +54,8 @@ pub fn simple(
 }
 
 fn assign(at: u32, var: u8, value: Expr) -> Stmt
-    ensures { syntax.statement result.kind ≡ syntax.assign var (syntax.expression value) }
+    ensures meaning { syntax.statement result.kind ≡ syntax.assign var (syntax.expression value) }
+    ensures places { statement_places result ≡ at ∷ [] }
 {
     Stmt {
         at,
@@ -131,6 +135,7 @@ pub fn declaration(
     requires { at + declaration_width (declaration_of tree.now) < 2 ^ 64 }
     ensures scope { OnOk result (scope.new ≡ declaration_scope scope.old (declaration_of tree.now)) }
     ensures meaning { OnOk result (syntax.parts out.new.items ≡ syntax.parts out.old.items ++ declaration_meaning scope.old at (declaration_of tree.now)) }
+    ensures places { OnOk result (all_places out.new.items ≡ all_places out.old.items ++ places_in tokens.now (declaration_tokens at (declaration_of tree.now))) }
     ensures faults { OnOk result (least.new ≡ earliest least.old (declaration_faults scope.old at (declaration_of tree.now))) }
     ensures next { IfOk result (λ next. next ≡ at + declaration_width (declaration_of tree.now)) }
 {
@@ -155,6 +160,7 @@ fn part(
     requires { at + part_width (part_of tree.now) < 2 ^ 64 }
     ensures scope { OnOk result (scope.new ≡ declare scope.old (vec_items tree.now.declared)) }
     ensures meaning { OnOk result (syntax.parts out.new.items ≡ syntax.parts out.old.items ++ part_meaning scope.old at (part_of tree.now)) }
+    ensures places { OnOk result (all_places out.new.items ≡ all_places out.old.items ++ places_in tokens.now (part_tokens at (part_of tree.now))) }
     ensures faults { OnOk result (least.new ≡ earliest least.old (part_faults scope.old at (part_of tree.now))) }
     ensures next { IfOk result (λ next. next ≡ at + part_width (part_of tree.now)) }
 {
@@ -174,7 +180,9 @@ fn part(
 }
 
 /// The place in the text of a token, by its number.
-pub fn place_of(tokens: &[Token], number: usize) -> u32 {
+pub fn place_of(tokens: &[Token], number: usize) -> u32
+    ensures { result ≡ place_in tokens.now number }
+{
     match tokens.get(number) {
         Some(token) => token.start,
         None => 0,

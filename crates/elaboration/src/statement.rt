@@ -1,13 +1,15 @@
-// Statements. Only nesting recurses: the items in braces are walked by a loop.
+//! Statements. Only nesting recurses: the items in braces are walked by a loop.
 
 ghost use Rattle.std.specs.Prelude.{◌≡◌, ◌+◌, ◌<◌, ◌^◌, ◌++◌, ◌∷◌, [], IfOk, OnOk};
 ghost use Rattle.concrete_syntax.specs.Trees.{conditional as conditional_tree, while_loop as while_tree, do_loop as do_tree};
 ghost use Rattle.concrete_syntax.specs.Mirror.{expression as expression_of, start as start_of, optional, optional_simple as optional_simple_of, statement as statement_of, otherwise as otherwise_of, items as items_of};
 ghost use Rattle.step_meaning.specs.Syntax as syntax;
+ghost use Rattle.step_meaning.specs.Places as step_places;
 ghost use Rattle.elaboration.specs.Expressions.{as_test, expression_typed, expression_faults};
 ghost use Rattle.elaboration.specs.Faults.{earliest};
 ghost use Rattle.elaboration.specs.Scopes.{close};
 ghost use Rattle.elaboration.specs.Statements.{statement_scope, statement_meaning, statement_faults, otherwise_scope, otherwise_meaning, otherwise_faults, items_scope, items_meaning, items_faults, start_scope, start_meaning, start_faults, optional_test, optional_faults, optional_simple_meaning, optional_simple_faults, loop_meaning, loop_faults};
+ghost use Rattle.elaboration.specs.Places.{place_in, places_in, statement_tokens, otherwise_tokens, items_tokens, start_tokens, optional_simple_tokens, loop_tokens};
 ghost use Rattle.elaboration.specs.Widths.{statement_width, otherwise_width, items_width, start_width, optional_width, optional_simple_width, loop_width};
 
 use crate::expression::{any, test};
@@ -35,6 +37,7 @@ fn statement(
     requires { at + statement_width (statement_of tree.now) < 2 ^ 64 }
     ensures scope { OnOk result (scope.new ≡ statement_scope scope.old (statement_of tree.now)) }
     ensures meaning { OnOk result (syntax.parts out.new.items ≡ syntax.parts out.old.items ++ statement_meaning scope.old at (statement_of tree.now)) }
+    ensures places { OnOk result (step_places.all_places out.new.items ≡ step_places.all_places out.old.items ++ places_in tokens.now (statement_tokens at (statement_of tree.now))) }
     ensures faults { OnOk result (least.new ≡ earliest least.old (statement_faults scope.old at (statement_of tree.now))) }
     ensures next { IfOk result (λ next. next ≡ at + statement_width (statement_of tree.now)) }
 {
@@ -76,10 +79,7 @@ fn statement(
         } => {
             let depth = scope.depth();
             let inner = start(alloc, tokens, scope, first, at + 2, least, out)?;
-            let place = place_of(tokens, at);
-            let (stmt, next) = for_loop(
-                alloc, tokens, scope, test, step, body, inner, place, least,
-            )?;
+            let (stmt, next) = for_loop(alloc, tokens, scope, test, step, body, inner, at, least)?;
             scope.close(depth);
             out.push(stmt)?;
             Ok(next)
@@ -93,7 +93,8 @@ fn statement(
 }
 
 fn stmt(at: u32, kind: StmtKind) -> Stmt
-    ensures { syntax.statement result.kind ≡ syntax.statement kind }
+    ensures meaning { syntax.statement result.kind ≡ syntax.statement kind }
+    ensures places { step_places.statement_places result ≡ at ∷ step_places.inner_places kind }
 {
     Stmt { at, kind }
 }
@@ -114,6 +115,7 @@ fn conditional(
     requires { at + statement_width (conditional_tree (expression_of condition.now) (statement_of part.now) (otherwise_of other.now)) < 2 ^ 64 }
     ensures scope { OnOk result (scope.new ≡ statement_scope scope.old (conditional_tree (expression_of condition.now) (statement_of part.now) (otherwise_of other.now))) }
     ensures meaning { IfOk result (λ found. syntax.statement found.0.kind ∷ [] ≡ statement_meaning scope.old at (conditional_tree (expression_of condition.now) (statement_of part.now) (otherwise_of other.now))) }
+    ensures places { IfOk result (λ found. step_places.statement_places found.0 ≡ places_in tokens.now (statement_tokens at (conditional_tree (expression_of condition.now) (statement_of part.now) (otherwise_of other.now)))) }
     ensures faults { OnOk result (least.new ≡ earliest least.old (statement_faults scope.old at (conditional_tree (expression_of condition.now) (statement_of part.now) (otherwise_of other.now)))) }
     ensures next { IfOk result (λ found. found.1 ≡ at + statement_width (conditional_tree (expression_of condition.now) (statement_of part.now) (otherwise_of other.now))) }
 {
@@ -141,6 +143,7 @@ fn while_loop(
     requires { at + statement_width (while_tree (expression_of condition.now) (statement_of part.now)) < 2 ^ 64 }
     ensures scope { OnOk result (scope.new ≡ statement_scope scope.old (statement_of part.now)) }
     ensures meaning { IfOk result (λ found. syntax.statement found.0.kind ∷ [] ≡ statement_meaning scope.old at (while_tree (expression_of condition.now) (statement_of part.now))) }
+    ensures places { IfOk result (λ found. step_places.statement_places found.0 ≡ places_in tokens.now (statement_tokens at (while_tree (expression_of condition.now) (statement_of part.now)))) }
     ensures faults { OnOk result (least.new ≡ earliest least.old (statement_faults scope.old at (while_tree (expression_of condition.now) (statement_of part.now)))) }
     ensures next { IfOk result (λ found. found.1 ≡ at + statement_width (while_tree (expression_of condition.now) (statement_of part.now))) }
 {
@@ -168,6 +171,7 @@ fn do_loop(
     requires { at + statement_width (do_tree (statement_of part.now) (expression_of condition.now)) < 2 ^ 64 }
     ensures scope { OnOk result (scope.new ≡ statement_scope scope.old (statement_of part.now)) }
     ensures meaning { IfOk result (λ found. syntax.statement found.0.kind ∷ [] ≡ statement_meaning scope.old at (do_tree (statement_of part.now) (expression_of condition.now))) }
+    ensures places { IfOk result (λ found. step_places.statement_places found.0 ≡ places_in tokens.now (statement_tokens at (do_tree (statement_of part.now) (expression_of condition.now)))) }
     ensures faults { OnOk result (least.new ≡ earliest least.old (statement_faults scope.old at (do_tree (statement_of part.now) (expression_of condition.now)))) }
     ensures next { IfOk result (λ found. found.1 ≡ at + statement_width (do_tree (statement_of part.now) (expression_of condition.now))) }
 {
@@ -179,7 +183,7 @@ fn do_loop(
     ))
 }
 
-// The loop that a `for` is behind its start, from the token `at` of its test on.
+// The loop that a `for` is behind its start, from the token `at` of its test on. The word `for` is the token `word`.
 #[cycle(statements)]
 #[tactic(auto, using(crate::proofs::Firsts::earliest_more))]
 fn for_loop(
@@ -190,19 +194,23 @@ fn for_loop(
     step: &Option<Simple>,
     part: &Statement,
     at: usize,
-    place: u32,
+    word: usize,
     least: &mut Option<Fault>,
 ) -> Result<(Stmt, usize), AllocError>
     requires { at + loop_width (optional condition.now) (optional_simple_of step.now) (statement_of part.now) < 2 ^ 64 }
     ensures scope { OnOk result (scope.new ≡ statement_scope scope.old (statement_of part.now)) }
     ensures meaning { IfOk result (λ found. syntax.statement found.0.kind ≡ loop_meaning scope.old at (optional condition.now) (optional_simple_of step.now) (statement_of part.now)) }
+    ensures places { IfOk result (λ found. step_places.statement_places found.0 ≡ places_in tokens.now (loop_tokens word at (optional condition.now) (optional_simple_of step.now) (statement_of part.now))) }
     ensures faults { OnOk result (least.new ≡ earliest least.old (loop_faults scope.old at (optional condition.now) (optional_simple_of step.now) (statement_of part.now))) }
     ensures next { IfOk result (λ found. found.1 ≡ at + loop_width (optional condition.now) (optional_simple_of step.now) (statement_of part.now)) }
 {
     let (test, behind) = optional_test(alloc, scope, condition, at, least)?;
     let (step, behind) = last_part(alloc, tokens, scope, step, behind + 1, least)?;
     let (body, next) = body(alloc, tokens, scope, part, behind + 1, least)?;
-    Ok((stmt(place, StmtKind::While { test, body, step }), next))
+    Ok((
+        stmt(place_of(tokens, word), StmtKind::While { test, body, step }),
+        next,
+    ))
 }
 
 // A statement as a list of its own.
@@ -218,6 +226,7 @@ fn body(
     requires { at + statement_width (statement_of tree.now) < 2 ^ 64 }
     ensures scope { OnOk result (scope.new ≡ statement_scope scope.old (statement_of tree.now)) }
     ensures meaning { IfOk result (λ found. syntax.statements found.0 ≡ syntax.of_list (statement_meaning scope.old at (statement_of tree.now))) }
+    ensures places { IfOk result (λ found. step_places.places found.0 ≡ places_in tokens.now (statement_tokens at (statement_of tree.now))) }
     ensures faults { OnOk result (least.new ≡ earliest least.old (statement_faults scope.old at (statement_of tree.now))) }
     ensures next { IfOk result (λ found. found.1 ≡ at + statement_width (statement_of tree.now)) }
 {
@@ -239,6 +248,7 @@ fn otherwise(
     requires { at + otherwise_width (otherwise_of tree.now) < 2 ^ 64 }
     ensures scope { OnOk result (scope.new ≡ otherwise_scope scope.old (otherwise_of tree.now)) }
     ensures meaning { IfOk result (λ found. syntax.statements found.0 ≡ syntax.of_list (otherwise_meaning scope.old at (otherwise_of tree.now))) }
+    ensures places { IfOk result (λ found. step_places.places found.0 ≡ places_in tokens.now (otherwise_tokens at (otherwise_of tree.now))) }
     ensures faults { OnOk result (least.new ≡ earliest least.old (otherwise_faults scope.old at (otherwise_of tree.now))) }
     ensures next { IfOk result (λ found. found.1 ≡ at + otherwise_width (otherwise_of tree.now)) }
 {
@@ -266,6 +276,7 @@ pub fn items(
     requires { at + items_width (items_of tree.now) < 2 ^ 64 }
     ensures scope { OnOk result (scope.new ≡ items_scope scope.old (items_of tree.now)) }
     ensures meaning { OnOk result (syntax.parts out.new.items ≡ syntax.parts out.old.items ++ items_meaning scope.old at (items_of tree.now)) }
+    ensures places { OnOk result (step_places.all_places out.new.items ≡ step_places.all_places out.old.items ++ places_in tokens.now (items_tokens at (items_of tree.now))) }
     ensures faults { OnOk result (least.new ≡ earliest least.old (items_faults scope.old at (items_of tree.now))) }
     ensures next { IfOk result (λ next. next ≡ at + items_width (items_of tree.now)) }
 {
@@ -300,6 +311,7 @@ fn start(
     requires { at + start_width (start_of tree.now) < 2 ^ 64 }
     ensures scope { OnOk result (scope.new ≡ start_scope scope.old (start_of tree.now)) }
     ensures meaning { OnOk result (syntax.parts out.new.items ≡ syntax.parts out.old.items ++ start_meaning scope.old at (start_of tree.now)) }
+    ensures places { OnOk result (step_places.all_places out.new.items ≡ step_places.all_places out.old.items ++ places_in tokens.now (start_tokens at (start_of tree.now))) }
     ensures faults { OnOk result (least.new ≡ earliest least.old (start_faults scope.old at (start_of tree.now))) }
     ensures next { IfOk result (λ next. next ≡ at + start_width (start_of tree.now)) }
 {
@@ -343,6 +355,7 @@ fn last_part(
 ) -> Result<(Block, usize), AllocError>
     requires { at + optional_simple_width (optional_simple_of tree.now) < 2 ^ 64 }
     ensures meaning { IfOk result (λ found. syntax.statements found.0 ≡ syntax.of_list (optional_simple_meaning scope.now at (optional_simple_of tree.now))) }
+    ensures places { IfOk result (λ found. step_places.places found.0 ≡ places_in tokens.now (optional_simple_tokens at (optional_simple_of tree.now))) }
     ensures faults { OnOk result (least.new ≡ earliest least.old (optional_simple_faults scope.now at (optional_simple_of tree.now))) }
     ensures next { IfOk result (λ found. found.1 ≡ at + optional_simple_width (optional_simple_of tree.now)) }
 {

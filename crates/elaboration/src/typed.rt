@@ -1,4 +1,4 @@
-// Expressions with their sorts.
+//! Expressions with their sorts.
 
 ghost use Rattle.std.specs.Prelude.{◌≡◌, IfOk};
 ghost use Rattle.step_meaning.specs.Syntax.{expression};

@@ -1,4 +1,4 @@
-// The command: `function_top::run` over the words of the command line, standard input and standard output.
+//! The command: `function_top::run` over the words of the command line, standard input and standard output.
 #![tactic(auto)]
 
 use function_top::{Status, run};

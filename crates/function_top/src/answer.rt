@@ -1,4 +1,4 @@
-// From a source to what is to be written.
+//! From a source to what is to be written.
 
 ghost use Rattle.std.specs.Prelude.{◌≡◌, ◌≤◌, ◌+◌, ℕ, IfOk, OnErr, MatchOption, length};
 ghost use Rattle.outside.specs.Faults.{Rose};

@@ -1,4 +1,4 @@
-// What is to be written for a source.
+//! What is to be written for a source.
 
 /// What is to be written, built whole before its first byte is written.
 #[derive(Drop)]

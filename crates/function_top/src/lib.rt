@@ -1,4 +1,4 @@
-// The top call: `run` does all that the program does, and carries the headline.
+//! The top call: `run` does all that the program does, and carries the headline.
 #![tactic(auto)]
 
 mod answer;

@@ -1,4 +1,4 @@
-// The longest path through a program without loops, over the syntax tree.
+//! The longest path through a program without loops, over the syntax tree.
 
 ghost use Rattle.std.specs.Prelude.{◌≡◌, ◌≤◌, ◌<◌, ◌+◌, ◌^◌, ℕ, MatchOption, IfSome, max, unwrap_or, option_map};
 ghost use Rattle.step_meaning.specs.Syntax.{statements, statement, size_of, size_of_statement};

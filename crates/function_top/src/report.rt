@@ -1,4 +1,4 @@
-// The texts that the command writes.
+//! The texts that the command writes.
 
 ghost use Rattle.std.specs.Prelude.{◌≡◌, ◌≤◌, ◌∷◌, [], IfOk, string_bytes, length, All};
 ghost use Rattle.report_text.specs.Printed.{IsLineOver, IsReportText};

@@ -1,4 +1,4 @@
-// How the command ends.
+//! How the command ends.
 
 /// The status of a run, numbered from 0 in this order.
 #[derive(Clone, Copy, PartialEq, Eq, Debug)]

@@ -1,4 +1,4 @@
-// Rows on `run`: texts with the bytes and the status that they give, and sources and sinks that fail.
+//! Rows on `run`: texts with the bytes and the status that they give, and sources and sinks that fail.
 
 ghost use Rattle.std.specs.Prelude.{None};
 

@@ -1,4 +1,4 @@
-// The top call.
+//! The top call.
 
 ghost use Rattle.std.specs.Prelude.{◌≡◌, ◌≤◌, ◌<◌, ◌+◌, ◌↔◌, ℕ, length, if◌then◌else◌};
 ghost use Rattle.outside.specs.Source.{ConsumesUpTo};

@@ -1,4 +1,4 @@
-// The classes of bytes, and the signs.
+//! The classes of bytes, and the signs.
 
 ghost use Rattle.std.specs.Prelude.{◌≡◌};
 ghost use Rattle.source_lex.specs.Bytes;

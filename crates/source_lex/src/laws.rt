@@ -1,4 +1,4 @@
-// Laws of tokens and faults: each function is empty, and its contract is the law.
+//! Laws of tokens and faults: each function is empty, and its contract is the law.
 
 ghost use Rattle.source_lex.specs.Laws.{TokensAreUnique, TokensExcludeFaults, FirstFaultIsUnique, TokensAreInOrder, TokensStandInText, TokensSpellTheirKinds, TokensAreLongest, NoTokenIsMissed, EachTextIsRead};
 

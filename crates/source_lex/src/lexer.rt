@@ -1,4 +1,4 @@
-// The lexer: one pass over the text.
+//! The lexer: one pass over the text.
 
 ghost use Rattle.std.specs.Prelude.{◌≤◌, length, All, IfOk, IfErr};
 ghost use Rattle.source_lex.specs.Tokens.{TokensOf};

@@ -1,7 +1,7 @@
-// The tokens of the language: names, numbers and signs, with blanks and comments between them.
-// A reserved word is a name here; parsers know it by its bytes.
-// Front door: `lex`, which answers the tokens of a text or its first fault.
-// Stands on no other crate of the repository.
+//! The tokens of the language: names, numbers and signs, with blanks and comments between them.
+//! A reserved word is a name here; parsers know it by its bytes.
+//! Front door: `lex`, which answers the tokens of a text or its first fault.
+//! Stands on no other crate of the repository.
 #![tactic(auto)]
 
 mod bytes;

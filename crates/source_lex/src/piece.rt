@@ -1,4 +1,4 @@
-// One piece of a text: a blank, a comment or a token.
+//! One piece of a text: a blank, a comment or a token.
 
 ghost use Rattle.std.specs.Prelude.{◌≡◌, ◌<◌, ◌^◌, length, IsTrue, MatchResult, slice_index};
 ghost use Rattle.source_lex.specs.Bytes.{is_digit};

@@ -1,4 +1,4 @@
-// Where the parts of a text end.
+//! Where the parts of a text end.
 
 ghost use Rattle.std.specs.Prelude.{◌≡◌, ℕ, ◌+◌, ◌^◌, ◌<◌, ◌≤◌, length, min, IsTrue, All, MatchOption, slice_index};
 ghost use Rattle.std.specs.Bool.{IsFalse};

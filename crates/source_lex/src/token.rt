@@ -1,4 +1,4 @@
-// A token: its kind, and where in the text it stands.
+//! A token: its kind, and where in the text it stands.
 
 ghost use Rattle.std.specs.Prelude.{◌≡◌};
 ghost use Rattle.source_lex.specs.Lexemes.{lexeme};

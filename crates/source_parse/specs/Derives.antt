@@ -1,10 +1,14 @@
 -- Which program a text is.
-use Rattle.std.specs.Prelude.{ℕ, List}
+use Rattle.std.specs.Prelude.{◌≡◌, ℕ, List}
 use Rattle.step_meaning.specs.Syntax.{Statements, statements}
+use Rattle.step_meaning.specs.Places.{places}
 use Rattle.step_meaning.specs.declared.program.Program.{Program}
+use Rattle.source_lex.specs.declared.token.Token.{Token}
+use Rattle.source_lex.specs.Tokens.{TokensOf}
 use Rattle.concrete_syntax.specs.Trees.{Program as Tree}
 use Rattle.source_syntax.specs.Texts.{IsTextOf as IsSyntaxOf}
 use Rattle.elaboration.specs.Elaborates.{StandsFor}
+use Rattle.elaboration.specs.Places.{program_places}
 
 -- the text is the program of these names and this body: its tokens are what some concrete tree spells, within the limits, and that tree has
 -- no fault of names and sorts and stands for them
@@ -16,6 +20,14 @@ pub record IsTextOf (text : List ℕ) (names : List (List ℕ)) (body : Statemen
 -- the text is this program
 abbrev pub Derives : List ℕ → Program → Type 0
 Derives text program = IsTextOf text program.names (statements program.body)
+
+-- the program's statements hold the places at which they stand in the text
+pub record HasPlacesOf (text : List ℕ) (program : Program) : Type 0 where
+  pub tree : Tree
+  pub spelled : IsSyntaxOf text tree
+  pub tokens : List Token
+  pub lexed : TokensOf text tokens
+  pub stand : places program.body ≡ program_places tokens tree
 
 -- the text is no program
 abbrev pub DerivesNone : List ℕ → Type 0

@@ -1,4 +1,4 @@
-// Why a text is no program.
+//! Why a text is no program.
 
 ghost use Rattle.source_parse.specs.Faults.{numbered};
 

@@ -1,13 +1,15 @@
-// The parser's front door.
+//! The parser's front door.
 
 ghost use Rattle.std.specs.Prelude.{◌≡◌, ◌≤◌, ◌<◌, ℕ, List, length, IfOk, IfErr};
 ghost use Rattle.source_lex.specs.Tokens.{TokensOf};
 ghost use Rattle.concrete_syntax.specs.Mirror.{program as program_tree};
+ghost use Rattle.step_meaning.specs.Places.{places};
 ghost use Rattle.step_meaning.specs.Syntax.{Statements, statements, size_of};
 ghost use Rattle.concrete_syntax.specs.Trees.{Program as Concrete};
 ghost use Rattle.elaboration.specs.Elaborates.{HasFirstFault, StandsFor};
+ghost use Rattle.elaboration.specs.Places.{program_places};
 ghost use Rattle.source_syntax.specs.Texts.{IsTextOf as IsSyntaxOf, IsFaultOf as IsSyntaxFaultOf, place_in};
-ghost use Rattle.source_parse.specs.Derives.{Derives};
+ghost use Rattle.source_parse.specs.Derives.{Derives, HasPlacesOf};
 ghost use Rattle.source_parse.specs.Faults.{IsFaultOf, limit_of};
 
 use crate::fault::{ParseFault, Which};
@@ -27,6 +29,7 @@ use step_meaning::Program;
 pub fn parse(alloc: Global, text: &[u8]) -> Result<Program, ParseFault>
     requires { length text.now ≤ 65536 }
     ensures program { IfOk result (Derives text.now) }
+    ensures places { IfOk result (HasPlacesOf text.now) }
     ensures fault { IfErr result (IsFaultOf text.now) }
     ensures size { IfOk result (λ program. size_of (statements program.body) ≤ length text.now) }
 {
@@ -45,6 +48,7 @@ fn program(alloc: Global, text: &[u8], tree: &Tree, tokens: &[Token]) -> Result<
     requires lexed { TokensOf text.now tokens.now }
     requires spelled { IsSyntaxOf text.now (program_tree tree.now) }
     ensures program { IfOk result (λ program. StandsFor (program_tree tree.now) program.names (statements program.body)) }
+    ensures places { IfOk result (λ program. places program.body ≡ program_places tokens.now (program_tree tree.now)) }
     ensures fault { IfErr result (IsFaultOf text.now) }
 {
     tokens_are_in_order();

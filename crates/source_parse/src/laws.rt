@@ -1,4 +1,4 @@
-// Laws of derivations, each the contract of a function that does nothing.
+//! Laws of derivations, each the contract of a function that does nothing.
 
 ghost use Rattle.source_parse.specs.Laws.{TextsAreUnique, ProgramsHaveNoFault, FaultsAgree, ProgramsAreSmall, NamesAreNames};
 

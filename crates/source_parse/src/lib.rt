@@ -1,6 +1,6 @@
-// The parser: the program that a text is, or its first fault.
-// Front door: `parse`. Stands on the concrete trees that `source_syntax` reads and on `elaboration`, which makes programs of them. What
-// a text derives, and which fault is its first, stands in `specs/` (Derives, Faults).
+//! The parser: the program that a text is, or its first fault.
+//! Front door: `parse`. Stands on the concrete trees that `source_syntax` reads and on `elaboration`, which makes programs of them. What
+//! a text derives, and which fault is its first, stands in `specs/` (Derives, Faults).
 #![tactic(auto)]
 
 mod fault;

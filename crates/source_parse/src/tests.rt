@@ -1,4 +1,4 @@
-// Worked texts: the program that each is, with the places of its statements, and the faults of others.
+//! Worked texts: the program that each is, with the places of its statements, and the faults of others.
 
 use super::*;
 use std::alloc::AllocError;

@@ -1,4 +1,4 @@
-// Declarations. The parts of one are read by a loop.
+//! Declarations. The parts of one are read by a loop.
 
 ghost use Rattle.std.specs.Prelude.{◌≡◌, ◌≤◌, IfOk};
 ghost use Rattle.derivation.specs.Pieces.{first};

@@ -1,4 +1,4 @@
-// Expressions. Only nesting recurses: the operators and operands of one expression are read by a loop.
+//! Expressions. Only nesting recurses: the operators and operands of one expression are read by a loop.
 
 ghost use Rattle.std.specs.Prelude.{◌≡◌, ◌≤◌, ℕ, IfOk, IfErr};
 ghost use Rattle.derivation.specs.Pieces.{first};

@@ -1,4 +1,4 @@
-// Why a text is no program by its syntax.
+//! Why a text is no program by its syntax.
 
 ghost use Rattle.std.specs.Prelude.{◌≡◌, alloc_error};
 

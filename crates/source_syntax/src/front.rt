@@ -1,4 +1,4 @@
-// The front door: the syntax of a text.
+//! The front door: the syntax of a text.
 
 ghost use Rattle.std.specs.Prelude.{◌≡◌, ◌≤◌, ℕ, length, drop, All, IfOk, IfErr};
 ghost use Rattle.derivation.specs.Word.{words};

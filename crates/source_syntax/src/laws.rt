@@ -1,4 +1,4 @@
-// Laws of the definitions: each function is empty, and its contract is the law.
+//! Laws of the definitions: each function is empty, and its contract is the law.
 
 ghost use Rattle.source_syntax.specs.Laws.{TreesAreUnique, ProgramsHaveNoFault, FirstFaultsAgree};
 

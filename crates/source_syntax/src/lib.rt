@@ -1,6 +1,6 @@
-// The syntax of programs: which texts the grammar derives within the limits on nesting and on operators, and the first fault of the
-// others. Front door: `read_syntax`. Stands on the concrete trees and their grammar of `concrete_syntax`, and on the words and the
-// calculus of reading of `derivation`. In `specs/`: the pieces that a tree spells (Spelling), and the trees of a text (Texts).
+//! The syntax of programs: which texts the grammar derives within the limits on nesting and on operators, and the first fault of the
+//! others. Front door: `read_syntax`. Stands on the concrete trees and their grammar of `concrete_syntax`, and on the words and the
+//! calculus of reading of `derivation`. In `specs/`: the pieces that a tree spells (Spelling), and the trees of a text (Texts).
 #![tactic(auto)]
 
 mod declaration;

@@ -1,4 +1,4 @@
-// How each kind of phrase opens, by its first word.
+//! How each kind of phrase opens, by its first word.
 
 ghost use Rattle.std.specs.Prelude.{◌≡◌};
 ghost use Rattle.derivation.specs.Spelled.{words_from};

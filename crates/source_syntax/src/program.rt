@@ -1,4 +1,4 @@
-// Programs: `main`, and what may stand before it.
+//! Programs: `main`, and what may stand before it.
 
 ghost use Rattle.std.specs.Prelude.{◌≡◌, [], ◌∷◌, IfOk, IfErr};
 ghost use Rattle.derivation.specs.Pieces.{first};

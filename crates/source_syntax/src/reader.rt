@@ -1,4 +1,4 @@
-// Readers of single words. Each reads at a place of the list of words and answers the place behind.
+//! Readers of single words. Each reads at a place of the list of words and answers the place behind.
 
 ghost use Rattle.std.specs.Prelude.{◌≡◌, ◌∷◌, ◌≤◌, IfOk, IfErr, ℕ, ℤ, List};
 ghost use Rattle.derivation.specs.Word.{symbol, name as named};

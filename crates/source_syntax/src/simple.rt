@@ -1,4 +1,4 @@
-// The parts of statements that no statement is a part of: tests, expressions that may be missing, and simple statements.
+//! The parts of statements that no statement is a part of: tests, expressions that may be missing, and simple statements.
 
 ghost use Rattle.std.specs.Prelude.{◌≡◌, ◌≤◌, IfOk};
 ghost use Rattle.derivation.specs.Pieces.{first};

@@ -1,4 +1,4 @@
-// Statements. Only nesting recurses: the items in braces are read by a loop.
+//! Statements. Only nesting recurses: the items in braces are read by a loop.
 
 ghost use Rattle.std.specs.Prelude.{◌≡◌, ◌≤◌, length, IfOk, IfErr};
 ghost use Rattle.derivation.specs.Pieces.{first};

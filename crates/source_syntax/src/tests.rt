@@ -1,4 +1,4 @@
-// The syntax of worked texts, with the places of faults counted by hand.
+//! The syntax of worked texts, with the places of faults counted by hand.
 
 use super::*;
 use concrete_syntax::{

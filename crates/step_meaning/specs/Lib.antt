@@ -4,3 +4,4 @@ pub mod Step
 pub mod Run
 pub mod Valid
 pub mod ValidOnce
+pub mod Places

@@ -1,4 +1,4 @@
-// Expressions: numbers and tests in one tree, of which `Program` promises that each operand has the sort that its place needs.
+//! Expressions: numbers and tests in one tree, of which `Program` promises that each operand has the sort that its place needs.
 
 /// A binary operator, with the precedence and the meaning of C99 (6.5.5 to 6.5.14), but over unbounded whole numbers and with no
 /// order of evaluation, since operands have no side effects.

@@ -1,6 +1,6 @@
-// The syntax of programs and what they mean: what an expression may give, what a configuration may step to, and how long its runs
-// are. Every theorem of this product about a program speaks of these definitions, which stand in `specs/`; nothing here analyses.
-// The front door is `Program`; below it stands only the standard library.
+//! The syntax of programs and what they mean: what an expression may give, what a configuration may step to, and how long its runs
+//! are. Every theorem of this product about a program speaks of these definitions, which stand in `specs/`; nothing here analyses.
+//! The front door is `Program`; below it stands only the standard library.
 #![tactic(auto)]
 
 mod expression;

@@ -1,4 +1,4 @@
-// The names of a program's variables.
+//! The names of a program's variables.
 
 use std::marker::Model;
 

@@ -1,4 +1,4 @@
-// A program: its names and its body, which are valid together.
+//! A program: its names and its body, which are valid together.
 
 ghost use Rattle.step_meaning.specs.Valid.{IsValid};
 ghost use Rattle.step_meaning.specs.ValidOnce.{IsValid-prop};

@@ -1,4 +1,4 @@
-// Statements and lists of them. A list is a chain of links, so what walks along it is a loop: only nesting may recurse.
+//! Statements and lists of them. A list is a chain of links, so what walks along it is a loop: only nesting may recurse.
 
 use crate::expression::Expr;
 use std::alloc::{AllocError, Global};
@@ -49,10 +49,12 @@ pub enum StmtKind {
 impl Block {
     ghost use Rattle.std.specs.Prelude.{◌≡◌, IfOk};
     ghost use Rattle.step_meaning.specs.Syntax.{statements, of_list, parts};
+    ghost use Rattle.step_meaning.specs.Places.{places, all_places};
 
     /// The list of these statements, in their order.
     pub fn of(alloc: Global, mut list: Vec<Stmt>) -> Result<Block, AllocError>
-        ensures { IfOk result (λ block. statements block ≡ of_list (parts list.items)) }
+        ensures meaning { IfOk result (λ block. statements block ≡ of_list (parts list.items)) }
+        ensures places { IfOk result (λ block. places block ≡ all_places list.items) }
     {
         let mut block = Block::End;
         while let Some(last) = list.pop() {

@@ -17,7 +17,7 @@ invariant_of-result c =
           stands (program_of c.args.tree.now) c.new-scope.result c.items.new.scope c.head-first.result c.items.new.least c.in_ok-names.names
           (parts c.new-list.result.items) (parts c.items.new.out.items) (statements c.in_ok-body.body)
           c.new-scope.ensures c.head-first.ensures c.in_ok-items.ensures.faults c.in_default.is c.in_ok-items.ensures.scope c.in_ok-names.ensures.names
-          (ap parts c.new-list.ensures.items) c.in_ok-items.ensures.meaning c.in_ok-body.ensures);
+          (ap parts c.new-list.ensures.items) c.in_ok-items.ensures.meaning c.in_ok-body.ensures.meaning);
     }
 
 pub returns-clause-program : goal.returns-clause-program
@@ -25,4 +25,4 @@ returns-clause-program c =
     stands (program_of c.args.tree.now) c.new-scope.result c.items.new.scope c.head-first.result c.items.new.least c.in_ok-names.names
     (parts c.new-list.result.items) (parts c.items.new.out.items) (statements c.in_ok-body.body)
     c.new-scope.ensures c.head-first.ensures c.in_ok-items.ensures.faults c.in_default.is c.in_ok-items.ensures.scope c.in_ok-names.ensures.names
-    (ap parts c.new-list.ensures.items) c.in_ok-items.ensures.meaning c.in_ok-body.ensures
+    (ap parts c.new-list.ensures.items) c.in_ok-items.ensures.meaning c.in_ok-body.ensures.meaning

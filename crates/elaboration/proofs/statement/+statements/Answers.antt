@@ -4,37 +4,38 @@ use Rattle.concrete_syntax.specs.Trees as tree
 use Rattle.step_meaning.specs.Syntax.{parts}
 use Rattle.elaboration.specs.Statements.{statement_scope, items_scope, start_scope}
 use Rattle.elaboration.proofs.Scoping.{closed, items_kept, start_kept}
+use Rattle.step_meaning.specs.Places.{all_places}
 use Rattle.elaboration.proofs.Walks.{Stand, declaration_on, statement_on}
 use Rattle.elaboration.proofs.statement.+statements.Goals as goal
 
 pub items-loop-left-preserved-in-Declaration : goal.items-loop-left-preserved-in-Declaration
 items-loop-left-preserved-in-Declaration t c =
-    let now : Stand = record { scope = c.loop-left.scope; out = parts c.loop-left.out.items; least = c.loop-left.least; here = c.loop-left.here } in
+    let now : Stand = record { scope = c.loop-left.scope; out = parts c.loop-left.out.items; places = all_places c.loop-left.out.items; least = c.loop-left.least; here = c.loop-left.here } in
     let split : items_of c.loop-left.left.now ≡ tree.declaration (declaration_of c.in-Declaration.first) (items_of c.deref-left.result.now) =
     rw (c.deref-left.ensures) (ap items_of c.in-Declaration.is)
     in
     let step = c.in_ok-here-in-Declaration.ensures in
     let before = c.loop-left.invariant.1 in (
-      declaration_on now
-          record { scope = c.declaration.new.scope; out = parts c.declaration.new.out.items; least = c.declaration.new.least; here = c.in_ok-here-in-Declaration.here }
+      declaration_on c.args.tokens.now now
+          record { scope = c.declaration.new.scope; out = parts c.declaration.new.out.items; places = all_places c.declaration.new.out.items; least = c.declaration.new.least; here = c.in_ok-here-in-Declaration.here }
           _ (declaration_of c.in-Declaration.first) (items_of c.deref-left.result.now)
-          step.scope step.meaning step.faults step.next
+          step.scope step.meaning step.places step.faults step.next
           (items_of c.loop-left.left.now) split c.loop-left.invariant.0,
       omega (arith, step.next, before),
     )
 
 pub items-loop-left-preserved : goal.items-loop-left-preserved
 items-loop-left-preserved t c =
-    let now : Stand = record { scope = c.loop-left.scope; out = parts c.loop-left.out.items; least = c.loop-left.least; here = c.loop-left.here } in
+    let now : Stand = record { scope = c.loop-left.scope; out = parts c.loop-left.out.items; places = all_places c.loop-left.out.items; least = c.loop-left.least; here = c.loop-left.here } in
     let split : items_of c.loop-left.left.now ≡ tree.statement (statement_of c.deref.result.now) (items_of c.deref-left-in-Statement.result.now) =
     rw (c.deref.ensures, c.deref-left-in-Statement.ensures) (ap items_of c.in-Statement.is)
     in
     let step = c.in_ok-here-in-Statement.ensures in
     let before = c.loop-left.invariant.1 in (
-      statement_on now
-          record { scope = c.statement.new.scope; out = parts c.statement.new.out.items; least = c.statement.new.least; here = c.in_ok-here-in-Statement.here }
+      statement_on c.args.tokens.now now
+          record { scope = c.statement.new.scope; out = parts c.statement.new.out.items; places = all_places c.statement.new.out.items; least = c.statement.new.least; here = c.in_ok-here-in-Statement.here }
           _ (statement_of c.deref.result.now) (items_of c.deref-left-in-Statement.result.now)
-          step.scope step.meaning step.faults step.next
+          step.scope step.meaning step.places step.faults step.next
           (items_of c.loop-left.left.now) split c.loop-left.invariant.0,
       omega (arith, step.next, before),
     )

@@ -5,6 +5,8 @@ use Rattle.step_meaning.specs.Syntax.{parts}
 use Rattle.elaboration.specs.Faults.{earliest}
 use Rattle.elaboration.specs.Statements.{items_scope, items_meaning, items_faults}
 use Rattle.elaboration.specs.Widths.{statement_width, otherwise_width, items_width, loop_width}
+use Rattle.step_meaning.specs.Places.{all_places}
+use Rattle.elaboration.specs.Places.{places_in, items_tokens}
 use Rattle.elaboration.proofs.Walks.{ItemsLeft}
 use Rattle.elaboration.proofs.statement.+statements.Given as goal
 
@@ -36,12 +38,13 @@ decreases-items l = 4 * items_width (items_of l.tree.now) + 3
 -- the items that are left make, behind what was made, what the whole makes
 abbrev pub invariant-items-loop-left : goal.invariant-items-loop-left
 invariant-items-loop-left l =
-    ItemsLeft
-    record { scope = l.scope; out = parts l.out.items; least = l.least; here = l.here }
+    ItemsLeft l.tokens
+    record { scope = l.scope; out = parts l.out.items; places = all_places l.out.items; least = l.least; here = l.here }
     (items_of l.left)
     record {
       scope = items_scope l.fn.scope (items_of l.tree);
       out = parts l.fn.out.items ++ items_meaning l.fn.scope l.at (items_of l.tree);
+      places = all_places l.fn.out.items ++ places_in l.tokens (items_tokens l.at (items_of l.tree));
       least = earliest l.fn.least (items_faults l.fn.scope l.at (items_of l.tree));
       here = l.at + items_width (items_of l.tree);
     }
