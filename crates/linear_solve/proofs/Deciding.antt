@@ -12,7 +12,7 @@ use Rattle.linear_cons.proofs.Places.{eqb_apart, length-at_places, number_at-set
 use Rattle.linear_cons.proofs.Ring.{mul_assoc, mul_commutes}
 use Rattle.linear_cons.proofs.RowLaws.{opposed_never}
 use Rattle.linear_solve.specs.Answers.{HasNoStore, KeepsStores, MayOutgrow, MayOverflow, PointsExtend}
-use Rattle.linear_solve.specs.Elimination.{AreTightest, HasUnfitPair, IsEliminated, IsNothing, made_of}
+use Rattle.linear_solve.specs.Elimination.{HasUnfitPair, IsEliminated, IsNothing, StandFor, made_of}
 use Rattle.linear_solve.specs.Points.{IsFree, IsPutBack, IsTightest, cleared, moved, numbers_of, numerator_of}
 use Rattle.linear_solve.specs.Solving.{IsModest, IsTame}
 use Rattle.linear_solve.specs.Systems.{HasOpposed, IsOctagonList, IsOctagonRow, IsSized, occurring, rows_after}
@@ -31,17 +31,17 @@ pub no_store_of_opposed : (rows : List Row) → HasOpposed rows → HasNoStore r
 no_store_of_opposed rows two store met =
     opposed_never two.row two.other two.opposed store (pos 1) (omega (arith, ints)) (member_of (λ r. Meets store r) rows two.row met two.row_in) (member_of (λ r. Meets store r) rows two.other met two.other_in)
 
-pub kept_met : (rows kept : List Row) (store : List ℤ) → AreTightest rows kept → MeetsAll store rows → MeetsAll store kept
-kept_met rows kept store tightest met = all_of (λ r. Meets store r) kept (λ row member. member_of (λ r. Meets store r) rows row met (tightest.among row member))
+pub kept_met : (rows kept : List Row) (store : List ℤ) → StandFor rows kept → MeetsAll store rows → MeetsAll store kept
+kept_met rows kept store stand met = all_of (λ r. Meets store r) kept (λ row member. member_of (λ r. Meets store r) rows row met (stand.among row member))
 
-pub no_store_of_kept : (rows kept : List Row) → AreTightest rows kept → HasNoStore kept → HasNoStore rows
-no_store_of_kept rows kept tightest none store met = none store (kept_met rows kept store tightest met)
+pub no_store_of_kept : (rows kept : List Row) → StandFor rows kept → HasNoStore kept → HasNoStore rows
+no_store_of_kept rows kept stand none store met = none store (kept_met rows kept store stand met)
 
-pub kept_occurs : (rows kept : List Row) → AreTightest rows kept → occurring kept ≤ occurring rows
-kept_occurs rows kept tightest = occurring_le 16 kept rows (λ i low is. let found = occurs_in i kept is in occurs_of i rows found.0 (tightest.among found.0 found.1.0) found.1.1)
+pub kept_occurs : (rows kept : List Row) → StandFor rows kept → occurring kept ≤ occurring rows
+kept_occurs rows kept stand = occurring_le 16 kept rows (λ i low is. let found = occurs_in i kept is in occurs_of i rows found.0 (stand.among found.0 found.1.0) found.1.1)
 
-kept_sized : (rows kept : List Row) (bound : ℕ) → AreTightest rows kept → All (IsSized bound) rows → All (IsSized bound) kept
-kept_sized rows kept bound tightest sized = all_of (IsSized bound) kept (λ row member. member_of (IsSized bound) rows row sized (tightest.among row member))
+kept_sized : (rows kept : List Row) (bound : ℕ) → StandFor rows kept → All (IsSized bound) rows → All (IsSized bound) kept
+kept_sized rows kept bound stand sized = all_of (IsSized bound) kept (λ row member. member_of (IsSized bound) rows row sized (stand.among row member))
 
 -- a number whose square is at most 2^126 is at most 2^63
 root_small : (x : ℕ) → x * x ≤ 2 ^ 126 → x ≤ 2 ^ 63
@@ -51,29 +51,29 @@ root_small x small = ⊎_elim
     (cases_lt (2 ^ 63) x)
 
 -- rows that are not modest at any bounds may outgrow
-pub outgrow : (rows kept : List Row) → AreTightest rows kept → ((size c root : ℕ) → IsModest size c root kept → ⊥) → MayOutgrow (occurring rows) rows
-outgrow rows kept tightest never bound sized = ⊎_elim
+pub outgrow : (rows kept : List Row) → StandFor rows kept → ((size c root : ℕ) → IsModest size c root kept → ⊥) → MayOutgrow (occurring rows) rows
+outgrow rows kept stand never bound sized = ⊎_elim
     (λ (more : 2 ^ 126 < (34 * bound) ^ (2 ^ (occurring rows + 1))). more)
     (λ (less : (34 * bound) ^ (2 ^ (occurring rows + 1)) ≤ 2 ^ 126). absurd (
     let square : (34 * bound) ^ (2 ^ occurring rows) * (34 * bound) ^ (2 ^ occurring rows) ≤ 2 ^ 126 = rw (add-one, power_double) at less in
     never bound (34 * bound) ((34 * bound) ^ (2 ^ occurring kept)) (record {
-      sized = kept_sized rows kept bound tightest sized;
+      sized = kept_sized rows kept bound stand sized;
       factor = omega arith;
       power = omega arith;
-      root_fits = le_trans (power_le (34 * bound) (occurring kept) (occurring rows) (kept_occurs rows kept tightest)) (root_small _ square);
+      root_fits = le_trans (power_le (34 * bound) (occurring kept) (occurring rows) (kept_occurs rows kept stand)) (root_small _ square);
     })))
     (cases_lt (2 ^ 126) ((34 * bound) ^ (2 ^ (occurring rows + 1))))
 
-pub overflow : (rows kept : List Row) → AreTightest rows kept → 4096 < rows_after (occurring kept) (length kept) → MayOverflow (occurring rows) rows
-overflow rows kept tightest many =
-    let p = after_mono (occurring kept) (length kept) (length rows) tightest.short in
-    let q = after_more (occurring kept) (occurring rows) (length rows) (kept_occurs rows kept tightest) in
+pub overflow : (rows kept : List Row) → StandFor rows kept → 4096 < rows_after (occurring kept) (length kept) → MayOverflow (occurring rows) rows
+overflow rows kept stand many =
+    let p = after_mono (occurring kept) (length kept) (length rows) stand.short in
+    let q = after_more (occurring kept) (occurring rows) (length rows) (kept_occurs rows kept stand) in
     omega (arith, p, q, many)
 
-pub tame_kept : (rows kept : List Row) → AreTightest rows kept → IsOctagonList rows → IsTame (2 ^ 64) kept
-tame_kept rows kept tightest octagons = record {
-  distinct = tightest.distinct;
-  octagons = all_of (IsOctagonRow (2 ^ 64)) kept (λ row member. member_of (IsOctagonRow (2 ^ 64)) rows row octagons (tightest.among row member));
+pub tame_kept : (rows kept : List Row) → StandFor rows kept → IsOctagonList rows → IsTame (2 ^ 64) kept
+tame_kept rows kept stand octagons = record {
+  distinct = stand.distinct;
+  octagons = all_of (IsOctagonRow (2 ^ 64)) kept (λ row member. member_of (IsOctagonRow (2 ^ 64)) rows row octagons (stand.among row member));
   power = sixteen (occurring kept) (occurring_most 16 kept);
 }
   where
@@ -88,25 +88,25 @@ square_is x = pow-suc x 1 ∙ ap (λ t. t * x) (pow-suc x 0 ∙ ap (λ t. t * x)
     one_times : (n : ℕ) → 1 * n ≡ n
     one_times n = omega arith
 
-pub outgrow_one : (rows kept : List Row) (place : ℕ) → place < 16 → AreTightest rows kept → HasUnfitPair kept place → MayOutgrow 1 rows
-outgrow_one rows kept place inside tightest unfit bound sized = ⊎_elim
+pub outgrow_one : (rows kept : List Row) (place : ℕ) → place < 16 → StandFor rows kept → HasUnfitPair kept place → MayOutgrow 1 rows
+outgrow_one rows kept place inside stand unfit bound sized = ⊎_elim
     (λ (more : 2 ^ 126 < (34 * bound) ^ (2 ^ (1 + 1))). more)
     (λ (less : (34 * bound) ^ (2 ^ (1 + 1)) ≤ 2 ^ 126). absurd (
     let square : (34 * bound) ^ (2 ^ 1) * (34 * bound) ^ (2 ^ 1) ≤ 2 ^ 126 = rw (power_double) at less in
     let root = root_small _ square in
     let double : (34 * bound) ^ (2 ^ 1) ≡ (34 * bound) * (34 * bound) = square_is (34 * bound) in
-    sized_pairs kept place bound inside (kept_sized rows kept bound tightest sized) (omega (arith, root, double)) unfit))
+    sized_pairs kept place bound inside (kept_sized rows kept bound stand sized) (omega (arith, root, double)) unfit))
     (cases_lt (2 ^ 126) ((34 * bound) ^ (2 ^ (1 + 1))))
 
-pub overflow_one : (rows kept : List Row) (place : ℕ) → AreTightest rows kept → 4096 < made_of place kept → MayOverflow 1 rows
-overflow_one rows kept place tightest many =
+pub overflow_one : (rows kept : List Row) (place : ℕ) → StandFor rows kept → 4096 < made_of place kept → MayOverflow 1 rows
+overflow_one rows kept place stand many =
     let p = after_made kept place 1 (omega arith) in
-    let q = after_mono 1 (length kept) (length rows) tightest.short in
+    let q = after_mono 1 (length kept) (length rows) stand.short in
     omega (arith, p, q, many)
 
-pub stores_kept : (rows kept : List Row) (place : ℕ) (left : List Row) → place < 16 → AreTightest rows kept → IsEliminated kept place left → KeepsStores rows place left
-stores_kept rows kept place left inside tightest eliminated store z long met =
-    left_anywhere kept place left store (pos 1) z inside long eliminated (left_met kept place left store eliminated (kept_met rows kept store tightest met))
+pub stores_kept : (rows kept : List Row) (place : ℕ) (left : List Row) → place < 16 → StandFor rows kept → IsEliminated kept place left → KeepsStores rows place left
+stores_kept rows kept place left inside stand eliminated store z long met =
+    left_anywhere kept place left store (pos 1) z inside long eliminated (left_met kept place left store eliminated (kept_met rows kept store stand met))
 
 -- a point of what is left, with the place put back
 put_back_exists : (rows : List Row) (place : ℕ) (num : List ℤ) (den : ℤ) → (point : Point) × IsPutBack rows place num den point
@@ -134,15 +134,15 @@ put_back_elsewhere rows place num den point inside long (inl (side, (bound, (tig
 put_back_elsewhere rows place num den point inside long (inr (below, above, is)) i low apart =
     subst (λ (t : Point). number_at t.num i *ℤ den ≡ number_at num i *ℤ t.den) (sym is) (ap (λ t. t *ℤ den) (cleared_elsewhere num place i (omega (arith, long)) apart))
 
-pub points_extend : (rows kept : List Row) (place : ℕ) (left : List Row) → place < 16 → AreTightest rows kept → IsEliminated kept place left → PointsExtend rows place left
-points_extend rows kept place left inside tightest eliminated num den long meets =
+pub points_extend : (rows kept : List Row) (place : ℕ) (left : List Row) → place < 16 → StandFor rows kept → IsEliminated kept place left → PointsExtend rows place left
+points_extend rows kept place left inside stand eliminated num den long meets =
     let found = put_back_exists kept place num den in
     let point : Point = found.0 in
     let kept_meets = put_back_meets kept place left num den point inside long eliminated meets found.1 in
     record {
       numerators = point.num;
       denominator = point.den;
-      meets = record { positive = kept_meets.positive; meets = tightest.implies point.num point.den kept_meets.positive kept_meets.meets };
+      meets = record { positive = kept_meets.positive; meets = stand.implies point.num point.den kept_meets.positive kept_meets.meets };
       elsewhere = put_back_elsewhere kept place num den point inside long found.1;
     }
 

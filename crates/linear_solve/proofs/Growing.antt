@@ -3,28 +3,39 @@
 use Rattle.std.proofs.Common.{◌≡◌, inl, inr, ℕ, zero, suc, ◌+◌, ◌*◌, ◌<◌, ◌≤◌, ℤ, pos, negsuc, ◌≤ℤ◌, ◌<ℤ◌, List, [], ◌∷◌, ◌++◌, length, take, get_or, refl, ap, subst, ◌∙◌, arith, All, Contains, ⊎_elim}
 use Rattle.std.proofs.lemmas.Int.{ints}
 use Rattle.std.proofs.lemmas.List.{take_all, length-take-le}
+use Rattle.std.proofs.lemmas.List.Elements.{Contains-append_left, Contains-push, Contains-push_cases}
 use Rattle.std.proofs.Math.Nat.{mul-le-mul_right}
 use Rattle.linear_cons.specs.declared.row.Row.{Row}
 use Rattle.linear_cons.specs.declared.row.RowKind.TheVariants.{Always, Row as Kept}
 use Rattle.linear_cons.specs.Functions.{coefficient, form_at}
-use Rattle.linear_cons.specs.Rows.{IsRowOf, PointMeets}
-use Rattle.linear_solve.specs.Elimination.{Grows, ImpliesMixtures, ImpliesPairs, ImpliesRest, IsEliminated, IsKept, IsLower, IsMade, IsUpper, lowers_of, mixture, one_above, one_below, others_of, uppers_of}
-use Rattle.linear_solve.proofs.Lists.{all_more, all_end, all_none, take_snoc}
+use Rattle.linear_cons.specs.Rows.{IsRowOf, PointMeets, PointMeetsAll}
+use Rattle.linear_solve.specs.Elimination.{Grows, ImpliesMixtures, ImpliesPairs, ImpliesRest, IsEliminated, IsLower, IsMade, IsUpper, StandFor, lowers_of, mixture, one_above, one_below, others_of, uppers_of}
+use Rattle.linear_solve.proofs.Lists.{all_more, all_end, all_none, all_of, member_of, take_snoc}
 use Rattle.linear_solve.proofs.Mixing.{always_point, kept_point}
 
 -- ---- a list that grows
 
 pub grows_none : (rows : List Row) (place : ℕ) (old : List Row) → Grows rows place old old
-grows_none rows place old = record { among = λ row member. inl member; implies = λ num den positive met. met; distinct = λ distinct. distinct }
+grows_none rows place old = record { among = λ row member. inl member; implies = λ num den met. met }
 
-pub grows_kept : (rows : List Row) (place : ℕ) (old new next : List Row) (row : Row) → Grows rows place old new → IsKept new row next → IsMade rows place row → Grows rows place old next
-grows_kept rows place old new next row before step made = record {
+-- a point that meets a list with one row more meets the list and the row
+front_met : (new next : List Row) (row : Row) (num : List ℤ) (den : ℤ) → next ≡ new ++ row ∷ [] → PointMeetsAll num den next → PointMeetsAll num den new
+front_met new next row num den is met =
+    let longer : PointMeetsAll num den (new ++ row ∷ []) = rw is at met in
+    all_of (λ r. PointMeets num den r) new (λ r member. member_of (λ r. PointMeets num den r) (new ++ row ∷ []) r longer (Contains-append_left new (row ∷ []) r member))
+
+last_met : (new next : List Row) (row : Row) (num : List ℤ) (den : ℤ) → next ≡ new ++ row ∷ [] → PointMeetsAll num den next → PointMeets num den row
+last_met new next row num den is met =
+    let longer : PointMeetsAll num den (new ++ row ∷ []) = rw is at met in
+    member_of (λ r. PointMeets num den r) (new ++ row ∷ []) row longer (Contains-push new row)
+
+pub grows_added : (rows : List Row) (place : ℕ) (old new next : List Row) (row : Row) → Grows rows place old new → next ≡ new ++ row ∷ [] → IsMade rows place row → Grows rows place old next
+grows_added rows place old new next row before is made = record {
   among = λ other member. ⊎_elim
       (λ (was : Contains new other). before.among other was)
       (λ (here : row ≡ other). inr (subst (λ t. IsMade rows place t) here made))
-      (step.among other member);
-  implies = λ num den positive met. before.implies num den positive (step.implies num den positive met);
-  distinct = λ distinct. step.distinct (before.distinct distinct);
+      (Contains-push_cases new row other (rw is at member));
+  implies = λ num den met. before.implies num den (front_met new next row num den is met);
 }
 
 pub grows_further : (rows : List Row) (place : ℕ) (old new next : List Row) → Grows rows place old new → Grows rows place new next → Grows rows place old next
@@ -33,8 +44,7 @@ grows_further rows place old new next before after = record {
       (λ (was : Contains new other). before.among other was)
       (λ (made : IsMade rows place other). inr made)
       (after.among other member);
-  implies = λ num den positive met. before.implies num den positive (after.implies num den positive met);
-  distinct = λ distinct. after.distinct (before.distinct distinct);
+  implies = λ num den met. before.implies num den (after.implies num den met);
 }
 
 -- ---- the rows without the place
@@ -42,11 +52,11 @@ grows_further rows place old new next before after = record {
 pub rest_none : (rows : List Row) (place : ℕ) (new : List Row) → ImpliesRest (take 0 rows) place new
 rest_none rows place new num den positive met = all_none (λ (row : Row). coefficient row.affine place ≡ pos 0 → PointMeets num den row) rows
 
-pub rest_kept : (rows : List Row) (i place : ℕ) (row : Row) (new next : List Row) → i < length rows → row ≡ get_or rows i row → ImpliesRest (take i rows) place new → IsKept new row next → ImpliesRest (take (i + 1) rows) place next
-rest_kept rows i place row new next low is before step num den positive met =
+pub rest_added : (rows : List Row) (i place : ℕ) (row : Row) (new next : List Row) → i < length rows → row ≡ get_or rows i row → ImpliesRest (take i rows) place new → next ≡ new ++ row ∷ [] → ImpliesRest (take (i + 1) rows) place next
+rest_added rows i place row new next low is before step num den positive met =
     all_more (λ (row : Row). coefficient row.affine place ≡ pos 0 → PointMeets num den row) rows i row low is
-    (before num den positive (step.implies num den positive met))
-    (λ none. step.implies_row num den positive met)
+    (before num den positive (front_met new next row num den step met))
+    (λ none. last_met new next row num den step met)
 
 pub rest_skipped : (rows : List Row) (i place : ℕ) (row : Row) (new : List Row) → i < length rows → row ≡ get_or rows i row → ImpliesRest (take i rows) place new → (coefficient row.affine place ≡ pos 0 → ⊥) → ImpliesRest (take (i + 1) rows) place new
 rest_skipped rows i place row new low is before some num den positive met =
@@ -59,18 +69,18 @@ rest_all rows i place new end rest num den positive met =
     all_end (λ (row : Row). coefficient row.affine place ≡ pos 0 → PointMeets num den row) rows i end (rest num den positive met)
 
 pub rest_grows : (rows seen : List Row) (place : ℕ) (new next : List Row) → ImpliesRest seen place new → Grows rows place new next → ImpliesRest seen place next
-rest_grows rows seen place new next before after num den positive met = before num den positive (after.implies num den positive met)
+rest_grows rows seen place new next before after num den positive met = before num den positive (after.implies num den met)
 
 -- ---- the combinations of one row
 
 pub mixtures_none : (lower : Row) (rows : List Row) (place : ℕ) (new : List Row) → ImpliesMixtures lower (take 0 rows) place new
 mixtures_none lower rows place new num den positive met = all_none (λ (upper : Row). IsUpper place upper → pos 0 ≤ℤ form_at (mixture lower upper place) num den) rows
 
-pub mixtures_kept : (lower : Row) (rows : List Row) (i place : ℕ) (upper row : Row) (new next : List Row) → i < length rows → upper ≡ get_or rows i upper → ImpliesMixtures lower (take i rows) place new → IsRowOf (mixture lower upper place) (Kept row) → IsKept new row next → ImpliesMixtures lower (take (i + 1) rows) place next
-mixtures_kept lower rows i place upper row new next low is before normal step num den positive met =
+pub mixtures_added : (lower : Row) (rows : List Row) (i place : ℕ) (upper row : Row) (new next : List Row) → i < length rows → upper ≡ get_or rows i upper → ImpliesMixtures lower (take i rows) place new → IsRowOf (mixture lower upper place) (Kept row) → next ≡ new ++ row ∷ [] → ImpliesMixtures lower (take (i + 1) rows) place next
+mixtures_added lower rows i place upper row new next low is before normal step num den positive met =
     all_more (λ (upper : Row). IsUpper place upper → pos 0 ≤ℤ form_at (mixture lower upper place) num den) rows i upper low is
-    (before num den positive (step.implies num den positive met))
-    (λ above. kept_point (mixture lower upper place) row normal num den positive (step.implies_row num den positive met))
+    (before num den positive (front_met new next row num den step met))
+    (λ above. kept_point (mixture lower upper place) row normal num den positive (last_met new next row num den step met))
 
 pub mixtures_always : (lower : Row) (rows : List Row) (i place : ℕ) (upper : Row) (new : List Row) → i < length rows → upper ≡ get_or rows i upper → ImpliesMixtures lower (take i rows) place new → IsRowOf (mixture lower upper place) Always → ImpliesMixtures lower (take (i + 1) rows) place new
 mixtures_always lower rows i place upper new low is before normal num den positive met =
@@ -96,7 +106,7 @@ pairs_none rows place new num den positive met = all_none (λ (lower : Row). IsL
 pub pairs_more : (rows : List Row) (i place : ℕ) (lower : Row) (new next : List Row) → i < length rows → lower ≡ get_or rows i lower → ImpliesPairs (take i rows) rows place new → Grows rows place new next → ImpliesMixtures lower rows place next → ImpliesPairs (take (i + 1) rows) rows place next
 pairs_more rows i place lower new next low is before after mixtures num den positive met =
     all_more (λ (lower : Row). IsLower place lower → All (λ (upper : Row). IsUpper place upper → pos 0 ≤ℤ form_at (mixture lower upper place) num den) rows) rows i lower low is
-    (before num den positive (after.implies num den positive met))
+    (before num den positive (after.implies num den met))
     (λ below. mixtures num den positive met)
 
 pub pairs_skipped : (rows : List Row) (i place : ℕ) (lower : Row) (new : List Row) → i < length rows → lower ≡ get_or rows i lower → ImpliesPairs (take i rows) rows place new → (IsLower place lower → ⊥) → ImpliesPairs (take (i + 1) rows) rows place new
@@ -179,12 +189,12 @@ short_same new lowers next one uppers others is short =
     let p : lowers * uppers ≤ next * uppers = mul-le-mul_right uppers (omega (arith, is)) in
     omega (arith, short, p)
 
--- the whole elimination
-pub eliminated : (rows : List Row) (place i : ℕ) (left : List Row) → length rows ≤ i → Grows rows place [] left → ImpliesRest rows place left → ImpliesPairs (take i rows) rows place left → length left ≤ lowers_of place (take i rows) * uppers_of place rows + others_of place rows → IsEliminated rows place left
-eliminated rows place i left end grows rest pairs short = record {
-  made = λ row member. ⊎_elim (λ (old : Contains [] row). absurd (omega (arith, old.1))) (λ (made : IsMade rows place row). made) (grows.among row member);
-  rest = rest;
-  pairs = pairs_all rows i place left end pairs;
-  distinct = grows.distinct (λ j k d less inside. absurd (omega arith));
-  short = subst (λ seen. length left ≤ lowers_of place seen * uppers_of place rows + others_of place rows) (take_all i rows end) short;
+-- the whole elimination: what was made, and rows that stand for it
+pub eliminated : (rows : List Row) (place i : ℕ) (made left : List Row) → length rows ≤ i → Grows rows place [] made → ImpliesRest rows place made → ImpliesPairs (take i rows) rows place made → length made ≤ lowers_of place (take i rows) * uppers_of place rows + others_of place rows → StandFor made left → IsEliminated rows place left
+eliminated rows place i made left end grows rest pairs short stand = record {
+  made = λ row member. ⊎_elim (λ (old : Contains [] row). absurd (omega (arith, old.1))) (λ (is : IsMade rows place row). is) (grows.among row (stand.among row member));
+  rest = λ num den positive met. rest num den positive (stand.implies num den positive met);
+  pairs = λ num den positive met. pairs_all rows i place made end pairs num den positive (stand.implies num den positive met);
+  distinct = stand.distinct;
+  short = subst (λ seen. length left ≤ lowers_of place seen * uppers_of place rows + others_of place rows) (take_all i rows end) (let s = stand.short in omega (arith, s, short));
 }

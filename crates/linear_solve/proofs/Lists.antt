@@ -1,5 +1,5 @@
 -- Members of lists, one element more at a time.
-use Rattle.std.proofs.Common.{◌≡◌, ◌≢◌, ◌⊎◌, inl, inr, ℕ, ◌+◌, ◌<◌, ◌≤◌, List, [], ◌∷◌, ◌++◌, length, take, set, get_or, sym, ap, subst, ◌∙◌, arith, All, Contains, ⊎_elim, get_or-set_same, get_or-set_other, length-set}
+use Rattle.std.proofs.Common.{◌≡◌, ℕ, zero, suc, ◌+◌, ◌<◌, ◌≤◌, List, [], ◌∷◌, ◌++◌, length, take, get_or, map, refl, sym, ap, subst, ◌∙◌, arith, All, Contains}
 use Rattle.std.proofs.lemmas.List.{take_all, take_more, length-take-le}
 use Rattle.std.proofs.lemmas.List.Elements.{All-contains, All-contains_itself, All-more, All-take, Contains-get_or}
 
@@ -33,15 +33,17 @@ module _ {X : Type 0} where
   pub all_none : (P : X → Type 0) (xs : List X) → All P (take 0 xs)
   all_none P xs k d h = absurd (let e : length (take 0 xs) ≡ 0 = length-take-le 0 xs (omega arith) in omega (arith, e))
 
-  -- a member of a list in which one element was set
-  pub set_member : (xs : List X) (i : ℕ) (x y : X) → Contains (set xs i x) y → Contains xs y ⊎ (x ≡ y)
-  set_member xs i x y member =
-      let k = member.0 in
-      let inside : k < length xs = omega (arith, member.1, length-set xs i x) in
-      ⊎_elim
-      (λ (same : i ≡ k). inr (let lt : k < length xs = inside in sym (get_or-set_same xs k x y lt) ∙ subst (λ t. get_or (set xs t x) k y ≡ y) same member.2))
-      (λ (apart : i ≢ k). inl (k, inside, let ne : k ≢ i = λ e. apart (sym e) in sym (get_or-set_other xs i k x y ne) ∙ member.2))
-      (same_or i k)
-    where
-      same_or : (a b : ℕ) → (a ≡ b) ⊎ (a ≢ b)
-      same_or a b = grind arith
+  -- a member of a list is one of a longer list
+  pub behind : (xs : List X) (x y : X) → Contains xs y → Contains (x ∷ xs) y
+  behind xs x y member = (suc member.0, omega (arith, member.1), member.2)
+
+  -- the members of a list of images are the images of the members
+  pub in_map : {Y : Type 0} (f : X → Y) (xs : List X) (x : X) → Contains xs x → Contains (map f xs) (f x)
+  in_map f [] x member = absurd (omega (arith, member.1))
+  in_map f (y ∷ xs) x (zero, low, is) = (0, omega arith, ap f is)
+  in_map f (y ∷ xs) x (suc k, low, is) = let rest = in_map f xs x (k, omega arith, is) in (suc rest.0, omega (arith, rest.1), rest.2)
+
+  pub of_map : {Y : Type 0} (f : X → Y) (xs : List X) (y : Y) → Contains (map f xs) y → (x : X) × Contains xs x × (f x ≡ y)
+  of_map f [] y member = absurd (omega (arith, member.1))
+  of_map f (x ∷ xs) y (zero, low, is) = (x, (0, omega arith, refl), is)
+  of_map f (x ∷ xs) y (suc k, low, is) = let rest = of_map f xs y (k, omega arith, is) in (rest.0, behind xs x rest.0 rest.1, rest.2)

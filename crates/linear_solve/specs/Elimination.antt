@@ -1,11 +1,12 @@
 -- One elimination: the rows that it makes, what they imply, and how many they are.
-use Rattle.std.specs.Prelude.{◌≡◌, ◌⊎◌, ℕ, zero, suc, ◌+◌, ◌-◌, ◌*◌, ◌<◌, ◌≤◌, ℤ, pos, negsuc, ◌-ℤ◌, ◌<ℤ◌, ◌≤ℤ◌, List, [], ◌∷◌, length, slice_index_or, All, Contains}
+use Rattle.std.specs.Prelude.{◌≡◌, ◌⊎◌, ℕ, zero, suc, ◌+◌, ◌-◌, ◌*◌, ◌≤◌, ℤ, pos, negsuc, ◌-ℤ◌, ◌<ℤ◌, ◌≤ℤ◌, List, [], ◌∷◌, length, All, Contains}
 use Rattle.linear_cons.specs.declared.affine.Affine.{Affine}
 use Rattle.linear_cons.specs.declared.row.Row.{Row}
 use Rattle.linear_cons.specs.declared.row.RowKind.TheVariants.{Never, Row as Kept}
 use Rattle.linear_cons.specs.Functions.{NumbersFit, coefficient, form_at, multiple_of, sum_of}
 use Rattle.linear_cons.specs.Numbers.{Fits128}
 use Rattle.linear_cons.specs.Rows.{IsRowOf, PointMeets, PointMeetsAll}
+use Rattle.linear_solve.specs.Tightest.{AreDistinct}
 
 -- the row bounds the place from below, from above
 abbrev pub IsLower : ℕ → Row → Type 0
@@ -62,24 +63,8 @@ pub record HasUnfitPair (rows : List Row) (place : ℕ) : Type 0 where
 abbrev pub IsMade : List Row → ℕ → Row → Type 0
 IsMade rows place row = (Contains rows row × (coefficient row.affine place ≡ pos 0)) ⊎ IsMixture rows place row
 
--- the rows have the same coefficients
-abbrev pub IsSamePart : Row → Row → Type 0
-IsSamePart row other = (i : ℕ) → i < 16 → coefficient row.affine i ≡ coefficient other.affine i
-
--- no two rows have the same linear part
-abbrev pub AreDistinct : List Row → Type 0
-AreDistinct rows = (i j : ℕ) (d : Row) → i < j → j < length rows → ¬ IsSamePart (slice_index_or rows i d) (slice_index_or rows j d)
-
--- a row was added to a list with one row for each linear part
-pub record IsKept (old : List Row) (row : Row) (new : List Row) : Type 0 where
-  pub among : (other : Row) → Contains new other → Contains old other ⊎ (row ≡ other)
-  pub implies : (num : List ℤ) (den : ℤ) → pos 0 <ℤ den → PointMeetsAll num den new → PointMeetsAll num den old
-  pub implies_row : (num : List ℤ) (den : ℤ) → pos 0 <ℤ den → PointMeetsAll num den new → PointMeets num den row
-  pub distinct : AreDistinct old → AreDistinct new
-  pub short : length new ≤ length old + 1
-
--- the tightest rows of a list
-pub record AreTightest (rows kept : List Row) : Type 0 where
+-- rows that stand for others: some of them, which imply them all, one for each linear part
+pub record StandFor (rows kept : List Row) : Type 0 where
   pub among : (row : Row) → Contains kept row → Contains rows row
   pub implies : (num : List ℤ) (den : ℤ) → pos 0 <ℤ den → PointMeetsAll num den kept → PointMeetsAll num den rows
   pub distinct : AreDistinct kept
@@ -88,8 +73,7 @@ pub record AreTightest (rows kept : List Row) : Type 0 where
 -- a list grew by rows that the elimination makes
 pub record Grows (rows : List Row) (place : ℕ) (old new : List Row) : Type 0 where
   pub among : (row : Row) → Contains new row → Contains old row ⊎ IsMade rows place row
-  pub implies : (num : List ℤ) (den : ℤ) → pos 0 <ℤ den → PointMeetsAll num den new → PointMeetsAll num den old
-  pub distinct : AreDistinct old → AreDistinct new
+  pub implies : (num : List ℤ) (den : ℤ) → PointMeetsAll num den new → PointMeetsAll num den old
 
 -- the rows of the first list without the place are implied by the new list
 abbrev pub ImpliesRest : List Row → ℕ → List Row → Type 0

@@ -1,5 +1,6 @@
 pub mod Systems
 pub mod Answers
+pub mod Tightest
 pub mod Elimination
 pub mod Points
 pub mod Solving

@@ -2,7 +2,8 @@
 //!
 //! The method is that of Fourier and Motzkin, with each combination tightened to the whole numbers
 //! (Schrijver, "Theory of Linear and Integer Programming", 12.2). It stands on `linear_cons`. The
-//! front door: `decide` and `project`, with the words of `specs/` for systems and answers.
+//! front door: `decide`, `project` and `tightest`, with the words of `specs/` for systems, answers and
+//! tightest rows.
 #![tactic(auto)]
 
 mod answer;
@@ -20,3 +21,4 @@ mod tighten;
 pub use answer::{Answer, Projected};
 pub use projection::project;
 pub use solver::decide;
+pub use tighten::tightest;

@@ -10,7 +10,7 @@ ghost use Rattle.linear_solve.specs.Systems.{IsOctagonList};
 
 use crate::answer::{Projected, Stop};
 use crate::eliminate::eliminate;
-use crate::tighten::tightest_rows;
+use crate::tighten::tightest_of;
 use linear_cons::{Affine, Row, RowKind};
 use std::alloc::{AllocError, Global};
 
@@ -27,7 +27,7 @@ pub fn project(alloc: Global, rows: &[Row], place: u8) -> Result<Projected, Allo
     ensures many_past_the_bound { IfOk result (λ projected. IfTooMany projected (λ _. MayOverflow 1 rows.now)) }
     ensures octagon { IfOk result (λ projected. IsOctagonList rows.now → IsProjected projected) }
 {
-    let kept = tightest_rows(alloc, rows)?;
+    let kept = tightest_of(alloc, rows)?;
     match eliminate(alloc, &kept, place) {
         Ok(Some(left)) => Ok(Projected::Rows(left)),
         Ok(None) => {

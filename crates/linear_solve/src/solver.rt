@@ -10,7 +10,7 @@ use crate::eliminate::eliminate;
 use crate::opposed::has_opposed;
 use crate::order::next_place;
 use crate::point::Point;
-use crate::tighten::tightest_rows;
+use crate::tighten::tightest_of;
 use linear_cons::Row;
 use std::alloc::{AllocError, Global};
 
@@ -32,7 +32,7 @@ pub fn decide(alloc: Global, rows: &[Row]) -> Result<Answer, AllocError>
     if has_opposed(rows) {
         return Ok(Answer::Empty);
     }
-    let kept = tightest_rows(alloc, rows)?;
+    let kept = tightest_of(alloc, rows)?;
     match solve(alloc, &kept) {
         Ok(None) => Ok(Answer::Empty),
         Ok(Some(point)) => {

@@ -2,6 +2,7 @@
 use crate::answer::{Answer, Projected};
 use crate::projection::project;
 use crate::solver::decide;
+use crate::tighten::tightest;
 use linear_cons::{Affine, Row, RowKind};
 use std::alloc::Global;
 use std::test::Fail;
@@ -264,9 +265,10 @@ fn projections(rt: HostRuntime) -> Result<(), Fail> {
         Projected::Rows(left) => assert_eq!(rt; left.as_slice(), expected.as_slice()),
         _ => return Err(Fail::from("given up")),
     }
-    // A place that does not occur leaves the tightest rows.
+    // A place that does not occur leaves the tightest rows, in the order of their coefficients.
+    let ordered = system(alloc, &[[-1, 1, 0, 0], [1, 0, 0, -1]])?;
     match project(alloc, &rows, 5)? {
-        Projected::Rows(left) => assert_eq!(rt; left.as_slice(), rows.as_slice()),
+        Projected::Rows(left) => assert_eq!(rt; left.as_slice(), ordered.as_slice()),
         _ => return Err(Fail::from("given up")),
     }
     // x >= 1 and x <= 0 leave what nothing meets.
@@ -275,5 +277,23 @@ fn projections(rt: HostRuntime) -> Result<(), Fail> {
         Projected::Rows(left) => assert_eq!(rt; judged(alloc, &left)?, Verdict::Empty),
         _ => return Err(Fail::from("given up")),
     }
+    Ok(())
+}
+
+#[test]
+fn tightest_of_rows(rt: HostRuntime) -> Result<(), Fail> {
+    let alloc = rt.alloc();
+    let rows = system(
+        alloc,
+        &[
+            [1, 0, 0, 5],
+            [0, 1, 0, 0],
+            [1, 0, 0, -1],
+            [2, 0, 0, 7],
+            [0, -1, 3, 4],
+        ],
+    )?;
+    let expected = system(alloc, &[[0, -1, 3, 4], [0, 1, 0, 0], [1, 0, 0, -1]])?;
+    assert_eq!(rt; tightest(rows).as_slice(), expected.as_slice());
     Ok(())
 }

@@ -1,42 +1,56 @@
-//! Lists with one row for each linear part: the tightest.
-ghost use Rattle.std.specs.Prelude.{◌<◌, ◌↔◌, IsTrue, OnOk, IfOk, MatchOption, All, HoldsAt, length};
+//! Of rows with one linear part, the tightest.
+ghost use Rattle.std.specs.Prelude.{◌≡◌, ◌≤◌, ◌↔◌, IfOk, IsTrue, length, map};
+ghost use Rattle.std.specs.List.Sorted.{IsStrictlySortedBy};
 ghost use Rattle.linear_cons.specs.declared.row.Row.{Row};
-ghost use Rattle.linear_solve.specs.Elimination.{AreTightest, IsKept, IsSamePart};
+ghost use Rattle.linear_solve.specs.Elimination.{StandFor};
+ghost use Rattle.linear_solve.specs.Tightest.{AreTightest, IsSamePart, by_part, by_part_and_constant};
 
 use linear_cons::Row;
 use std::alloc::{AllocError, Global};
+use std::cmp::Ordering;
 
-/// Adds the row. Of two rows with one linear part the one with the lesser constant stays, which
-/// implies the other.
-pub(crate) fn keep(rows: &mut Vec<Row>, row: Row) -> Result<(), AllocError>
-    ensures { OnOk result (IsKept rows.old.items row rows.new.items) }
+/// Of the rows with the same coefficients the one with the least constant, which implies the others.
+/// They come in the order of their coefficients. It takes no memory, and n * log n comparisons.
+pub fn tightest(mut rows: Vec<Row>) -> Vec<Row>
+    ensures tightest { AreTightest (map (λ (row : Row). row.affine) rows.items) result.items }
+    ensures in_order { IsStrictlySortedBy by_part result.items }
+    ensures short { length result.items ≤ length rows.items }
 {
-    match same_part(rows, &row) {
-        Some(index) => {
-            if row.affine.constant < rows[index].affine.constant {
-                rows[index] = row;
-            }
-        }
-        None => rows.push(row)?,
-    }
-    Ok(())
+    rows.sort_unstable_by(|row, other| order(row, other));
+    rows.dedup_by(
+        |row, kept|
+            ensures tells { IsTrue result ↔ IsSamePart row.old.affine kept.old.affine }
+            ensures leaves { row.new ≡ row.old }
+            ensures leaves_kept { kept.new ≡ kept.old }
+        { has_part(row, kept) },
+    );
+    rows
 }
 
-/// The index of the row with the same linear part.
-fn same_part(rows: &[Row], row: &Row) -> Option<usize>
-    ensures { MatchOption result (All (λ other. ¬ IsSamePart other row.now) rows.now) (λ index. (index < length rows.now) × HoldsAt (λ other. IsSamePart other row.now) rows.now index) }
+/// The tightest of the slice's rows, which stand for them all.
+pub(crate) fn tightest_of(alloc: Global, rows: &[Row]) -> Result<Vec<Row>, AllocError>
+    ensures { IfOk result (λ kept. StandFor rows.now kept.items) }
 {
-    for (index, other) in rows.iter().enumerate() {
-        if has_part(other, row) {
-            return Some(index);
-        }
-    }
-    None
+    let copied = rows.to_vec(alloc)?;
+    Ok(tightest(copied))
 }
 
-/// True exactly where the rows have the same linear part.
+/// By the coefficients, the one at place 0 first, and then by the constant.
+fn order(row: &Row, other: &Row) -> Ordering
+    ensures { result ≡ by_part_and_constant row.now other.now }
+{
+    for place in 0..16 {
+        match row.affine.coef[place].cmp(&other.affine.coef[place]) {
+            Ordering::Equal => {}
+            apart => return apart,
+        }
+    }
+    row.affine.constant.cmp(&other.affine.constant)
+}
+
+/// True exactly where the rows have the same coefficients.
 fn has_part(row: &Row, other: &Row) -> bool
-    ensures { IsTrue result ↔ IsSamePart row.now other.now }
+    ensures { IsTrue result ↔ IsSamePart row.now.affine other.now.affine }
 {
     for place in 0..16 {
         if row.affine.coef[place] != other.affine.coef[place] {
@@ -44,15 +58,4 @@ fn has_part(row: &Row, other: &Row) -> bool
         }
     }
     true
-}
-
-/// The tightest row for each linear part of the list.
-pub(crate) fn tightest_rows(alloc: Global, rows: &[Row]) -> Result<Vec<Row>, AllocError>
-    ensures { IfOk result (λ kept. AreTightest rows.now kept.items) }
-{
-    let mut kept = Vec::new(alloc);
-    for row in rows {
-        keep(&mut kept, *row)?;
-    }
-    Ok(kept)
 }

@@ -17,9 +17,10 @@ use Rattle.line_text.specs.declared.claim.Claim.{Claim}
 use Rattle.line_text.specs.declared.claim.Claim.TheVariants.{Unknown}
 use Rattle.report_text.specs.declared.line.Line.{Line}
 use Rattle.report_text.specs.declared.line.Top.{Top}
-use Rattle.report_text.specs.Tightest.{AreTightest}
+use Rattle.linear_solve.specs.Tightest.{AreTightest}
 use Rattle.report_text.proofs.Tightening.{tightest_met}
-use Rattle.report_text.specs.Leaves.{AreAdded, AreLinesFrom, AreLinesOf, HasLineOrNone, IsAdded, IsLineOf, IsMetNowhere, IsOnOtherSide, claim_at, claim_of}
+use Rattle.report_text.specs.Leaves.{AreLinesFrom, AreLinesOf, HasLineOrNone, IsLineOf, IsMetNowhere, claim_at, claim_of}
+use Rattle.report_text.specs.Walk.{AreAdded, IsAdded, IsOnOtherSide}
 
 -- ---- a leaf's line or none, before others
 

@@ -1,11 +1,12 @@
 -- The lines of a tree: one for each leaf, but for leaves whose condition is known to be met nowhere.
-use Rattle.std.specs.Prelude.{◌≡◌, ◌⊎◌, ℕ, zero, suc, ◌+◌, ◌<◌, ℤ, List, [], ◌∷◌, ◌++◌, length, filter, Bool, true, false, not, HoldsAt, ⊤}
+use Rattle.std.specs.Prelude.{◌≡◌, ◌⊎◌, ℕ, zero, suc, ◌+◌, ◌<◌, ℤ, List, [], ◌∷◌, length, filter, Bool, true, false, not, HoldsAt, ⊤}
 use Rattle.linear_cons.specs.declared.affine.Affine.{Affine}
 use Rattle.linear_cons.specs.declared.row.Row.{Row}
 use Rattle.linear_cons.specs.Functions.{IsConstant, NumbersFit, complement_of}
 use Rattle.linear_cons.specs.Rows.{MeetsAll}
 use Rattle.linear_solve.specs.Answers.{IsPointOf, MayOutgrow, MayOverflow}
-use Rattle.linear_solve.specs.Systems.{occurring}
+use Rattle.linear_solve.specs.Systems.{HasOpposed, IsOctagonList, occurring}
+use Rattle.linear_solve.specs.Tightest.{AreTightest}
 use Rattle.decision_tree.specs.declared.affine_rank.AffineRank.{AffineRank}
 use Rattle.decision_tree.specs.Plans.{Plan, leaf, leaves_of, node}
 use Rattle.decision_tree.specs.Paths.{MeetsPath, leaf_numbered, path_of}
@@ -14,7 +15,6 @@ use Rattle.line_text.specs.declared.claim.Claim.TheVariants.{Exactly, Within, Ho
 use Rattle.report_text.specs.declared.line.Line.{Line}
 use Rattle.report_text.specs.declared.line.Top.{Top}
 use Rattle.report_text.specs.declared.line.Top.TheVariants.{Exact, Bound, Plain}
-use Rattle.report_text.specs.Tightest.{AreTightest}
 
 -- what a defined leaf claims by its rank
 abbrev pub claim_of : Top → AffineRank → Claim
@@ -49,10 +49,16 @@ pub record HasPoint (rows : List Row) : Type 0 where
   pub den : ℤ
   pub point : IsPointOf rows num den
 
--- the rows have a rational point, or they lie beyond what the solver decides: numbers may outgrow 128 bits, rows may come to more than
--- 4,096 on the way, or they are more than that already
+-- the solver may give the rows up: no two of them are opposed, they are no octagon list, and on the way numbers may outgrow 128 bits or
+-- rows come to more than 4,096
+pub record MayBeGivenUp (rows : List Row) : Type 0 where
+  pub unopposed : ¬ HasOpposed rows
+  pub no_octagons : ¬ IsOctagonList rows
+  pub large : MayOutgrow (occurring rows) rows ⊎ MayOverflow (occurring rows) rows
+
+-- the rows have a rational point, or the solver may give them up, or they are more than it takes
 abbrev pub MayStand : List Row → Type 0
-MayStand rows = HasPoint rows ⊎ MayOutgrow (occurring rows) rows ⊎ MayOverflow (occurring rows) rows ⊎ (4096 < length rows)
+MayStand rows = HasPoint rows ⊎ MayBeGivenUp rows ⊎ (4096 < length rows)
 
 -- the line of a leaf: the tightest rows of its path, and its claim
 pub record IsLineOf (path : List Affine) (claim : Claim) (line : Line) : Type 0 where
@@ -94,27 +100,3 @@ pub record MeetsOneLine (store : List ℤ) (claim : Claim) (lines : List Line) :
   pub meets : HoldsAt (λ line. MeetsAll store line.rows) lines number
   pub claims : HoldsAt (λ line. line.claim ≡ claim) lines number
   pub only : (other : ℕ) → other < length lines → HoldsAt (λ line. MeetsAll store line.rows) lines other → other ≡ number
-
--- ---- the walk that makes them
-
--- the last row has the property
-abbrev pub EndsWith : List Row → (Row → Type 0) → Type 0
-EndsWith rows P = (front : List Row) (row : Row) → rows ≡ front ++ row ∷ [] → P row
-
--- the complement stands in place of the last row
-abbrev pub IsOnOtherSide : List Row → List Row → Type 0
-IsOnOtherSide old new = (front : List Row) (row : Row) → old ≡ front ++ row ∷ [] →
-    (complement : Row) × (complement.affine ≡ complement_of row.affine) × (new ≡ front ++ complement ∷ [])
-
--- the lines that a tree below the functions of a path has were appended
-pub record AreAdded (top : Top) (above : List Affine) (plan : Plan AffineRank) (old new : List Line) : Type 0 where
-  pub added : List Line
-  pub appended : new ≡ old ++ added
-  pub lines :
-      AreLinesFrom (λ number. above ++ path_of plan number) (λ number. claim_at top (leaf_numbered plan number)) 0 (leaves_of plan) added
-
--- the line of a leaf was appended, or there is none since no store meets its path
-pub record IsAdded (path : List Affine) (claim : Claim) (old new : List Line) : Type 0 where
-  pub added : List Line
-  pub appended : new ≡ old ++ added
-  pub line : HasLineOrNone path claim added (λ rest. rest ≡ [])

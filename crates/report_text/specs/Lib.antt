@@ -1,4 +1,4 @@
-pub mod Tightest
 pub mod Leaves
+pub mod Walk
 pub mod Printed
 pub mod Sections

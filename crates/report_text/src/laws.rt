@@ -3,6 +3,7 @@ ghost use Rattle.std.specs.Prelude.{◌≡◌, ℕ, ℤ, List, ◌++◌, ◌↔�
 ghost use Rattle.linear_cons.specs.Rows.{MeetsAll};
 ghost use Rattle.linear_cons.specs.declared.affine.Affine.{Affine};
 ghost use Rattle.linear_cons.specs.declared.row.Row.{Row};
+ghost use Rattle.linear_solve.specs.Tightest.{AreTightest};
 ghost use Rattle.decision_tree.specs.Paths.{MeetsPath};
 ghost use Rattle.decision_tree.specs.Evaluation.{eval};
 ghost use Rattle.decision_tree.specs.Plans.{Plan};
@@ -14,7 +15,6 @@ ghost use Rattle.report_text.specs.Sections.{AreFrontsOf, SaysOnly, sections_of,
 ghost use Rattle.report_text.specs.Printed.{IsReportText};
 ghost use Rattle.report_text.specs.declared.report.Report.{Report};
 ghost use Rattle.line_text.specs.Names.{AreNames};
-ghost use Rattle.report_text.specs.Tightest.{AreTightest};
 
 use decision_tree::AffineRank;
 use decision_tree::laws::stores_stand_where_they_meet_the_path;

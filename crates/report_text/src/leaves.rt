@@ -2,20 +2,21 @@
 ghost use Rattle.std.specs.Prelude.{◌≡◌, List, [], ◌∷◌, ◌++◌, IfOk, OnOk, MatchBool};
 ghost use Rattle.linear_cons.specs.Functions.{NumbersFit, complement_of};
 ghost use Rattle.linear_solve.specs.Answers.{HasNoStore};
+ghost use Rattle.linear_solve.specs.Tightest.{AreTightest};
 ghost use Rattle.decision_tree.specs.Plans.{plan_of};
 ghost use Rattle.report_text.specs.declared.line.Top.{Top};
-ghost use Rattle.report_text.specs.Leaves.{AreAdded, AreLinesOf, ComplementsFit, EndsWith, HasConstantRanks, IsAdded, IsOnOtherSide, MayStand, claim_of};
+ghost use Rattle.report_text.specs.Leaves.{AreLinesOf, ComplementsFit, HasConstantRanks, MayStand, claim_of};
+ghost use Rattle.report_text.specs.Walk.{AreAdded, EndsWith, IsAdded, IsOnOtherSide};
 ghost use Rattle.line_text.specs.LineText.{functions_of};
 ghost use Rattle.line_text.specs.declared.claim.Claim.TheVariants.{Unknown as Unclaimed};
 ghost use Rattle.linear_cons.specs.declared.row.Row.{Row};
 
 use crate::line::{Line, Top};
 use crate::line_list::Lines;
-use crate::tightest::tightest_rows;
 use decision_tree::{AffineRank, Tree};
 use line_text::Claim;
-use linear_cons::Row;
-use linear_solve::{Answer, decide};
+use linear_cons::{Row, Rows};
+use linear_solve::{Answer, decide, tightest};
 use std::alloc::{AllocError, Global};
 
 /// How many rows the solver takes.
@@ -129,12 +130,20 @@ fn add_line(
 ) -> Result<(), AllocError>
     ensures { OnOk result (IsAdded (functions_of path.now) claim lines.old.items lines.new.items) }
 {
-    let rows = tightest_rows(alloc, path)?;
+    let rows = condition(alloc, path)?;
     if has_no_store(alloc, rows.items())? {
         return Ok(());
     }
     lines.push(Line { rows, claim })?;
     Ok(())
+}
+
+/// The tightest rows of the path.
+fn condition(alloc: Global, path: &[Row]) -> Result<Rows, AllocError>
+    ensures { IfOk result (λ rows. AreTightest (functions_of path.now) rows) }
+{
+    let copied = path.to_vec(alloc)?;
+    Ok(Rows::of(tightest(copied)))
 }
 
 /// True only where no store meets the rows, and false only where a point does or they lie beyond what

@@ -15,11 +15,9 @@ mod printing;
 mod report;
 #[cfg(test)]
 mod tests;
-mod tightest;
 
 pub use leaves::lines;
 pub use line::{Line, Top};
 pub use line_list::Lines;
 pub use printing::print;
 pub use report::{Counts, Explain, Header, Report, Stop};
-pub use tightest::tightest_rows;

@@ -4,7 +4,7 @@ use Rattle.linear_solve.proofs.eliminate.add_mixtures.Given as goal
 
 abbrev pub invariant-loop-upper : goal.invariant-loop-upper
 invariant-loop-upper l = record {
-  grows : Grows l.rows l.place l.initial.left.items l.left.items;
-  mixtures : ImpliesMixtures l.lower (take l.upper-index l.rows) l.place l.left.items;
-  short : length l.left.items ≤ length l.initial.left.items + uppers_of l.place (take l.upper-index l.rows);
+  grows : Grows l.rows l.place l.initial.made.items l.made.items;
+  mixtures : ImpliesMixtures l.lower (take l.upper-index l.rows) l.place l.made.items;
+  short : length l.made.items ≤ length l.initial.made.items + uppers_of l.place (take l.upper-index l.rows);
 }

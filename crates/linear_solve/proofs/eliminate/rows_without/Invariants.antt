@@ -4,7 +4,7 @@ use Rattle.linear_solve.proofs.eliminate.rows_without.Given as goal
 
 abbrev pub invariant-loop-row : goal.invariant-loop-row
 invariant-loop-row l = record {
-  grows : Grows l.rows l.place [] l.left.items;
-  rest : ImpliesRest (take l.row-index l.rows) l.place l.left.items;
-  short : length l.left.items ≤ others_of l.place (take l.row-index l.rows);
+  grows : Grows l.rows l.place [] l.made.items;
+  rest : ImpliesRest (take l.row-index l.rows) l.place l.made.items;
+  short : length l.made.items ≤ others_of l.place (take l.row-index l.rows);
 }

@@ -1,0 +1,8 @@
+use Rattle.std.proofs.Common.{◌≡◌, rules}
+use Rattle.linear_solve.proofs.Tightening.{stand_for}
+use Rattle.linear_solve.proofs.tighten.tightest_of.Goals as goal
+
+pub returns : goal.returns
+returns c =
+    let same : c.in_ok-copied.copied.items ≡ c.args.rows.now = c.in_ok-copied.ensures.items_if_clones_equal (search rules) in
+    stand_for _ _ (rw same at c.tightest.ensures.tightest) (rw same at c.tightest.ensures.short)
