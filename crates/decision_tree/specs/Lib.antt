@@ -2,8 +2,10 @@ pub mod Trend
 pub mod Alternatives
 pub mod AffineRanks
 pub mod Plans
+pub mod Equality
+pub mod EqualityLaws
 pub mod Evaluation
 pub mod AffineLaws
 pub mod Paths
 pub mod Seeking
-pub mod Families
+pub mod PlanCode

@@ -1,28 +1,41 @@
 //! Trees for the labels of a graph.
 ghost use Rattle.std.specs.Prelude.{◌≡◌, map};
-ghost use Rattle.decision_tree.specs.Families.{plans_in};
 ghost use Rattle.decision_tree.specs.Plans.{plan_of};
 
 use crate::rank::Rank;
 use crate::tree::Tree;
+use std::marker::Model;
 
-/// A list of trees.
+/// A list of trees; contracts see it as the list of their plans.
 #[derive(Drop)]
 pub struct TreeList<R: Rank> {
     trees: Vec<Tree<R>>,
 }
 
+impl<R: Rank> Model for TreeList<R> {
+    ghost use Rattle.std.specs.Coded.{coded_list};
+    ghost use Rattle.std.specs.Prelude.{List, map};
+    ghost use Rattle.decision_tree.specs.PlanCode.{plan_code};
+    ghost use Rattle.decision_tree.specs.Plans.{Plan, plan_of};
+
+    ghost Value = { List (Plan R) };
+
+    ghost coded = { coded_list (plan_code R.code) };
+
+    ghost view = { λ inside. map plan_of inside.trees.items };
+}
+
 impl<R: Rank> TreeList<R> {
     /// The list of the vector's trees. It takes no memory.
     pub fn of(trees: Vec<Tree<R>>) -> TreeList<R>
-        ensures { plans_in result ≡ map plan_of trees.items }
+        ensures { result ≡ map plan_of trees.items }
     {
         TreeList { trees }
     }
 
     /// The trees as a slice.
     pub fn items(&self) -> &[Tree<R>]
-        ensures { map plan_of result.now ≡ plans_in self.now }
+        ensures { map plan_of result.now ≡ self.now }
     {
         &self.trees
     }

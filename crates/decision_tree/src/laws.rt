@@ -1,11 +1,16 @@
 //! Laws of the definitions, each the contract of a function that does nothing.
-ghost use Rattle.std.specs.Prelude.{◌≡◌, ℕ, ◌<◌, ◌↔◌, ℤ, List, Some, length, slice_set};
+ghost use Rattle.std.specs.Prelude.{◌≡◌, ℕ, ◌<◌, ◌↔◌, ℤ, List, Some, IsTrue, length, slice_set};
 ghost use Rattle.linear_cons.specs.Bounds.{Covers};
 ghost use Rattle.linear_cons.specs.declared.bounds.Linear.{Linear};
+ghost use Rattle.linear_cons.specs.declared.row.Row.{Row};
+ghost use Rattle.decision_tree.specs.Equality.{same_cause, same_pick, same_plan, same_reason, same_row};
 ghost use Rattle.decision_tree.specs.Evaluation.{eval};
 ghost use Rattle.decision_tree.specs.Paths.{MeetsPath, leaf_numbered, number_met, path_of};
 ghost use Rattle.decision_tree.specs.Plans.{Plan, leaves_of};
 ghost use Rattle.decision_tree.specs.Trend.{greatest_of};
+ghost use Rattle.decision_tree.specs.declared.reason.Cause.{Cause};
+ghost use Rattle.decision_tree.specs.declared.reason.Pick.{Pick};
+ghost use Rattle.decision_tree.specs.declared.reason.Why.{Why};
 
 use crate::rank::Rank;
 
@@ -22,4 +27,13 @@ pub fn nothing_in_the_range_exceeds_the_greatest<R: Rank>()
     ensures { (rank best : R) (place : ℕ) (range : Linear) (store : List ℤ) (z : ℤ) → place < 16 → length store ≡ 16
         → greatest_of rank (R.trend rank place) range (R.substituted rank place) ≡ Some best → Covers range store z
         → R.exceeds (R.rank_value rank (slice_set store place z)) (R.rank_value best store) → ⊥ }
+{}
+
+/// `==` holds exactly between identical rows, picks, reasons and causes, and between trees of one plan.
+pub fn equality_is_identity<R: Rank>()
+    ensures rows { (row other : Row) → IsTrue (same_row row other) ↔ (row ≡ other) }
+    ensures picks { (pick other : Pick) → IsTrue (same_pick pick other) ↔ (pick ≡ other) }
+    ensures reasons { (why other : Why) → IsTrue (same_reason why other) ↔ (why ≡ other) }
+    ensures causes { (cause other : Cause) → IsTrue (same_cause cause other) ↔ (cause ≡ other) }
+    ensures trees { (plan other : Plan R) → IsTrue (same_plan R.eq plan other) ↔ (plan ≡ other) }
 {}

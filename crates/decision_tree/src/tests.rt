@@ -187,8 +187,32 @@ fn long_paths(rt: HostRuntime) -> Result<(), Fail> {
 #[test]
 fn long_copies(rt: HostRuntime) -> Result<(), Fail> {
     for down_yes in [true, false] {
-        let twin = long_line(rt.alloc(), 65_536, down_yes)?.copy(rt.alloc())?;
+        let tree = long_line(rt.alloc(), 65_536, down_yes)?;
+        let twin = tree.copy(rt.alloc())?;
         assert_eq!(rt; twin.size(), 131_073);
+        assert!(rt; twin == tree);
+        assert!(rt; twin != long_line(rt.alloc(), 65_536, !down_yes)?);
+    }
+    Ok(())
+}
+
+#[test]
+fn equal_trees(rt: HostRuntime) -> Result<(), Fail> {
+    let trees = [
+        Tree::Bottom,
+        Tree::Top(Cause::Given),
+        Tree::Top(Cause::Nodes { count: 5 }),
+        leaf(3),
+        leaf(4),
+        small(rt.alloc())?,
+        Tree::node(rt.alloc(), row(line(1, -1))?, Tree::Bottom, leaf(3))?,
+        Tree::node(rt.alloc(), row(line(1, -1))?, leaf(3), Tree::Bottom)?,
+        Tree::node(rt.alloc(), row(line(1, -2))?, leaf(3), Tree::Bottom)?,
+    ];
+    for (index, tree) in trees.iter().enumerate() {
+        for (other, twin) in trees.iter().enumerate() {
+            assert_eq!(rt; tree == twin, index == other);
+        }
     }
     Ok(())
 }

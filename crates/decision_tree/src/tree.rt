@@ -1,6 +1,7 @@
 //! Trees of rows with ranks at their leaves.
-ghost use Rattle.std.specs.Prelude.{◌≡◌, ◌-◌, ◌^◌, ◌↔◌, min, IsOk, IfOk, IfErr};
+ghost use Rattle.std.specs.Prelude.{◌≡◌, ◌-◌, ◌^◌, ◌↔◌, min, IsTrue, IsOk, IfOk, IfErr};
 ghost use Rattle.linear_cons.specs.Exact.{IsOutside};
+ghost use Rattle.decision_tree.specs.Equality.{same_plan};
 ghost use Rattle.decision_tree.specs.Evaluation.{WayFits, eval};
 ghost use Rattle.decision_tree.specs.Plans.{bottom, leaf, leaves_of, node, plan_of, size_of, top};
 
@@ -55,6 +56,29 @@ impl<R: Rank> Drop for Tree<R> {
     }
 }
 
+impl<R: Rank> PartialEq for Tree<R> {
+    ghost use Rattle.decision_tree.specs.EqualityLaws.{equivalence_by, plan_eq-Decides};
+    ghost use Rattle.std.specs.Cmp.{partial_equiv_from_equiv};
+
+    ghost eq = { λ tree other. same_plan R.eq (plan_of tree) (plan_of other) };
+
+    ghost laws = { partial_equiv_from_equiv (equivalence_by plan_of _ (λ tree other. plan_eq-Decides R.eq R.Rank.equal_law (plan_of tree) (plan_of other))) };
+
+    /// True exactly where the trees have the same shape, with identical rows, reasons, causes and ranks.
+    fn eq(&self, other: &Tree<R>) -> bool
+        ensures tested { result ≡ same_plan R.eq (plan_of self.now) (plan_of other.now) }
+        ensures identical { IsTrue result ↔ (plan_of self.now ≡ plan_of other.now) }
+    {
+        self.is_same(other)
+    }
+}
+
+impl<R: Rank> Eq for Tree<R> {
+    ghost use Rattle.decision_tree.specs.EqualityLaws.{equivalence_by, plan_eq-Decides};
+
+    ghost laws = { equivalence_by plan_of _ (λ tree other. plan_eq-Decides R.eq R.Rank.equal_law (plan_of tree) (plan_of other)) };
+}
+
 impl<R: Rank> Tree<R> {
     /// The number of nodes, leaves included, or the type's last value where that is less.
     pub fn size(&self) -> u64
@@ -92,6 +116,32 @@ impl<R: Rank> Tree<R> {
             at = if value < 0 { no } else { yes };
         }
         Ok(at)
+    }
+
+    /// What `==` answers.
+    fn is_same(&self, other: &Tree<R>) -> bool
+        ensures { result ≡ same_plan R.eq (plan_of self.now) (plan_of other.now) }
+    {
+        match (self, other) {
+            (Tree::Bottom, Tree::Bottom) => true,
+            (Tree::Top(cause), Tree::Top(given)) => cause == given,
+            (
+                Tree::Leaf { why, rank },
+                Tree::Leaf {
+                    why: reason,
+                    rank: second,
+                },
+            ) => why == reason && rank == second,
+            (
+                Tree::Node { row, yes, no },
+                Tree::Node {
+                    row: given,
+                    yes: first,
+                    no: second,
+                },
+            ) => row == given && yes.is_same(first) && no.is_same(second),
+            _ => false,
+        }
     }
 
     /// An equal tree.
