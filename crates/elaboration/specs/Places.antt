@@ -3,7 +3,7 @@
 use Rattle.std.specs.Prelude.{ℕ, ◌+◌, List, [], ◌∷◌, ◌++◌, Option, None, Some, map, slice_index_or}
 use Rattle.source_lex.specs.declared.token.Token.{Token}
 use Rattle.concrete_syntax.specs.Trees.{Expression, Simple, Part, Declaration, Start, starts_with_nothing, starts_with, declares, Statement, simple, skip, braces, conditional, while_loop, do_loop, for_loop, return, Otherwise, without, otherwise, Items, none, declaration, statement, Program}
-use Rattle.elaboration.specs.Widths.{part_width, declaration_width, optional_width, optional_simple_width, start_width, statement_width, items_width, head_width}
+use Rattle.elaboration.specs.Widths.{part_width, declaration_width, optional_width, optional_simple_width, start_width, statement_width, head_width}
 use Rattle.elaboration.specs.Statements.{behind_test}
 
 -- the place in the text of the token of this number: where it starts, or 0 past the last

@@ -37,7 +37,7 @@ impl From<AllocError> for Refusal {
 
 /// The program that a concrete tree stands for: its variables in the order of their first declarations, and its statements, each with
 /// the place in the text of its first token (for a `do` of the `while` that ends it, for a declared name of the name). `tokens` are
-/// the text's. Time is linear in the tree, times the number of variables, which is at most 15.
+/// the text's. Time is linear in the tree, times the number of names in scope, which is at most 15 where there is no fault.
 ///
 /// `Fault` comes exactly where a name is used outside its scope or declared twice, a truth value stands where a number is needed, a
 /// range is upside down or infinite the wrong way, or a sixteenth name is declared; `Memory` where memory runs out.

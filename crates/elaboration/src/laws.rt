@@ -12,3 +12,8 @@ pub fn operators_group_by_the_ladder()
     ensures first { (group : Grouped Typed) (op : Op2) (operand : Typed) → first_operand (attach group op operand) ≡ first_operand group }
     ensures further { (group : Grouped Typed) (op : Op2) (operand : Typed) → further_operands (attach group op operand) ≡ further_operands group ++ (op, operand) ∷ [] }
 {}
+
+/// Operands with the operators between them are one group by the ladder and no other.
+pub fn one_group_is_by_the_ladder()
+    ensures { (group other : Grouped Typed) → IsLadder group → IsLadder other → first_operand group ≡ first_operand other → further_operands group ≡ further_operands other → group ≡ other }
+{}

@@ -16,4 +16,4 @@ mod typed;
 
 pub use fault::{Fault, Rule};
 pub use front::{Refusal, elaborate};
-pub use laws::operators_group_by_the_ladder;
+pub use laws::{one_group_is_by_the_ladder, operators_group_by_the_ladder};

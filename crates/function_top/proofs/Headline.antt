@@ -5,7 +5,7 @@ use Rattle.std.proofs.lemmas.List.{append_cancel_left, take_all}
 use Rattle.outside.specs.Sink.{AppendsFront}
 use Rattle.step_meaning.specs.Syntax.{Statements}
 use Rattle.source_parse.specs.Derives.{IsTextOf}
-use Rattle.source_parse.specs.Laws.{NamesAreNames, TextsAreUnique}
+use Rattle.source_parse.specs.Laws.{NamesAreDistinct, NamesAreNames, TextsAreUnique}
 use Rattle.line_text.specs.Names.{AreNames}
 use Rattle.report_text.specs.Printed.{IsReportText}
 use Rattle.function_top.specs.declared.due.Due.{Due}
@@ -24,6 +24,7 @@ use Rattle.function_top.proofs.Truth.{EndAsLines, KnownLines, bounded_true, unkn
 pub record KnownTexts : Type 0 where
   pub unique : TextsAreUnique
   pub spelled : NamesAreNames
+  pub distinct : NamesAreDistinct
   pub ending : EndAsLines
   pub lines : (names : List (List ℕ)) → AreNames names → KnownLines names
 
@@ -37,12 +38,12 @@ due_true known text names body (Covered report) h d =
     let printed = subst (λ ns. IsReportText ns (bounded_report (longest_path body)) report.items) same.0
     (subst (λ b. IsReportText found.0 (bounded_report (longest_path b)) report.items) same.1 found.4)
     in
-    bounded_true names body known.ending (known.lines names (program_names known.spelled text names body h)) (longest_path body) report.items
+    bounded_true names body known.ending (known.lines names (program_names known.spelled known.distinct text names body h)) (longest_path body) report.items
     (λ input is_input. longest_path_bounds body input free) printed
 due_true known text names body (Open report) h d =
     let found = d.1 in
     let same = known.unique text found.0 names found.1 body found.2 h in
-    unknown_true names body known.ending (known.lines names (program_names known.spelled text names body h)) report.items
+    unknown_true names body known.ending (known.lines names (program_names known.spelled known.distinct text names body h)) report.items
     (subst (λ ns. IsReportText ns unknown_report report.items) same.0 found.4)
 due_true known text names body (Refused line) h (inl d) =
     subst (IsTrueText names body) (sym d.1) (fault_true names body known.ending 14 65536 (omega arith) (omega arith))

@@ -1,14 +1,12 @@
 -- The names of a program are names of variables, and no two of them are equal.
-use Rattle.std.proofs.Common.{◌≢◌, ℕ, ◌||◌, List, AllPairs, IsTrue, sym, subst, arith}
+use Rattle.std.proofs.Common.{ℕ, ◌||◌, List, IsTrue}
 use Rattle.std.specs.Char.{is_ascii_digit}
 use Rattle.std.proofs.lemmas.List.Elements.{All-weaker}
 use Rattle.step_meaning.specs.Syntax.{Statements}
 use Rattle.source_lex.specs.Bytes.{is_letter, is_digit, is_name_byte}
 use Rattle.source_lex.specs.Spellings.{SpellsName}
-use Rattle.elaboration.specs.Elaborates.{no_names, names_of}
-use Rattle.elaboration.proofs.Declared.{distinct_kept, items_keep}
 use Rattle.source_parse.specs.Derives.{IsTextOf}
-use Rattle.source_parse.specs.Laws.{NamesAreNames}
+use Rattle.source_parse.specs.Laws.{NamesAreDistinct, NamesAreNames}
 use Rattle.line_text.specs.Names.{AreNames, IsName, begins_name}
 
 letter_begins : (byte : ℕ) → IsTrue (is_letter byte) → IsTrue (begins_name byte)
@@ -26,12 +24,8 @@ spelled_name name is = record {
   each = All-weaker (λ byte. IsTrue (is_name_byte byte)) (λ byte. IsTrue (begins_name byte || is_ascii_digit byte)) name_byte name is.each;
 }
 
-pub program_names : NamesAreNames → (text : List ℕ) (names : List (List ℕ)) (body : Statements) → IsTextOf text names body → AreNames names
-program_names spelled text names body is =
-    let distinct : AllPairs (λ a b. a ≢ b) (names_of is.tree) =
-    items_keep (λ xs. AllPairs (λ a b. a ≢ b) xs) distinct_kept no_names is.tree.items (λ i j d lt within. absurd (omega arith))
-    in
-    record {
-      each = All-weaker SpellsName IsName spelled_name names (spelled text names body is);
-      distinct = subst (λ xs. AllPairs (λ a b. a ≢ b) xs) (sym is.stands.declares) distinct;
-    }
+pub program_names : NamesAreNames → NamesAreDistinct → (text : List ℕ) (names : List (List ℕ)) (body : Statements) → IsTextOf text names body → AreNames names
+program_names spelled distinct text names body is = record {
+  each = All-weaker SpellsName IsName spelled_name names (spelled text names body is);
+  distinct = distinct text names body is;
+}

@@ -11,7 +11,7 @@ use crate::report::usage;
 use crate::status::Status;
 use line_text::laws::{a_line_spells_at_most_one_claim, lines_have_their_own_form};
 use outside::{Sink, Source, write_all};
-use source_parse::{a_text_is_one_program, names_are_spelled_as_names};
+use source_parse::{a_text_is_one_program, names_are_distinct, names_are_spelled_as_names};
 use std::alloc::Global;
 
 /// Does all that the program does: reads a program from the source, and writes the report on it to the sink.
@@ -36,6 +36,7 @@ pub fn run<S: Source, K: Sink>(
 {
     a_text_is_one_program();
     names_are_spelled_as_names();
+    names_are_distinct();
     lines_have_their_own_form();
     a_line_spells_at_most_one_claim();
     if words.len() > 1 {

@@ -1,5 +1,5 @@
 -- Every name that a program declares is a word of its text, and is spelled as names are.
-use Rattle.std.proofs.Common.{ℕ, suc, ℤ, ◌+◌, Bool, true, false, nat_lt, if◌then◌else◌, Option, None, Some, List, [], ◌∷◌, ◌++◌, length, All, sym, subst, arith}
+use Rattle.std.proofs.Common.{◌≢◌, ℕ, suc, ℤ, ◌+◌, Bool, true, false, nat_lt, if◌then◌else◌, Option, None, Some, List, [], ◌∷◌, ◌++◌, length, All, AllPairs, sym, subst, arith}
 use Rattle.std.specs.Prelude.{⊤}
 use Rattle.std.proofs.lemmas.List.Elements.{All-push}
 use Rattle.derivation.specs.declared.symbol.Symbol.{Symbol}
@@ -18,7 +18,8 @@ use Rattle.source_syntax.specs.Spelling.{sign, leading, opening, size_pieces, mi
 use Rattle.elaboration.specs.Scopes.{Scope, Name as VariableName, declare, is_among, with_variable, most_variables}
 use Rattle.elaboration.specs.Statements.{parts_scope, declaration_scope, start_scope, statement_scope, otherwise_scope, items_scope}
 use Rattle.elaboration.specs.Elaborates.{no_names, names_of}
-use Rattle.source_parse.specs.Laws.{NamesAreNames}
+use Rattle.elaboration.proofs.Declared.{distinct_kept, items_keep}
+use Rattle.source_parse.specs.Laws.{NamesAreDistinct, NamesAreNames}
 
 -- the word is spelled as a name if it is one
 abbrev IsNamed : Word → Type 0
@@ -224,3 +225,11 @@ names_are_names spell text names body h =
     let read : AllNamed (words text h.spelled.tokens) = words_named text h.spelled.tokens (spell text h.spelled.tokens h.spelled.lexed) in
     let inside : Spelled (program_pieces tree []) = subst AllNamed h.spelled.spelled.spelled read in
     subst (λ ns. All SpellsName ns) (sym h.stands.declares) (program_named tree inside)
+
+-- no two names of a program are equal
+pub names_are_distinct : NamesAreDistinct
+names_are_distinct text names body h =
+    let distinct : AllPairs (λ name other. name ≢ other) (names_of h.tree) =
+    items_keep (λ all. AllPairs (λ name other. name ≢ other) all) distinct_kept no_names h.tree.items (λ i j d less within. absurd (omega arith))
+    in
+    subst (λ all. AllPairs (λ name other. name ≢ other) all) (sym h.stands.declares) distinct

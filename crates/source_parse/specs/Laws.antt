@@ -1,5 +1,5 @@
 -- Laws of derivations.
-use Rattle.std.specs.Prelude.{◌≡◌, ℕ, ◌≤◌, List, length, Some, All}
+use Rattle.std.specs.Prelude.{◌≡◌, ◌≢◌, ℕ, ◌≤◌, List, length, Some, All, AllPairs}
 use Rattle.source_lex.specs.Spellings.{SpellsName}
 use Rattle.step_meaning.specs.Syntax.{Statements, size_of}
 use Rattle.source_parse.specs.declared.fault.ParseFault.{ParseFault}
@@ -33,3 +33,8 @@ ProgramsAreSmall =
 abbrev pub NamesAreNames : Type 0
 NamesAreNames =
     (text : List ℕ) (names : List (List ℕ)) (body : Statements) → IsTextOf text names body → All SpellsName names
+
+-- no two names of a program are equal
+abbrev pub NamesAreDistinct : Type 0
+NamesAreDistinct =
+    (text : List ℕ) (names : List (List ℕ)) (body : Statements) → IsTextOf text names body → AllPairs (λ name other. name ≢ other) names

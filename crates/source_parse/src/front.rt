@@ -21,7 +21,8 @@ use source_syntax::{SyntaxFault, Which as SyntaxWhich, read_syntax};
 use std::alloc::Global;
 use step_meaning::Program;
 
-/// The program that the text is, or its first fault. The text has at most 65,536 bytes. Time is linear in the text.
+/// The program that the text is, or its first fault. The text has at most 65,536 bytes. Time is linear in the text, but that a name is
+/// looked up among those in scope, which are at most 15 where there is no fault.
 ///
 /// Faults, in their order: `Lex`, the first of its kinds by its place; `Expected` and `Limit` of `Nesting` and `Operators`, the first by its
 /// place, and `Expected` where a token is both; `Unknown`, `Twice`, `Mixed`, `BadRange` and `Limit` of `Variables`, the first by its place,

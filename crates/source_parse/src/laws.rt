@@ -1,6 +1,6 @@
 //! Laws of derivations, each the contract of a function that does nothing.
 
-ghost use Rattle.source_parse.specs.Laws.{TextsAreUnique, ProgramsHaveNoFault, FaultsAgree, ProgramsAreSmall, NamesAreNames};
+ghost use Rattle.source_parse.specs.Laws.{TextsAreUnique, ProgramsHaveNoFault, FaultsAgree, ProgramsAreSmall, NamesAreDistinct, NamesAreNames};
 
 use source_lex::{tokens_are_in_order, tokens_are_unique, tokens_spell_their_kinds};
 use source_syntax::{
@@ -45,3 +45,8 @@ pub fn names_are_spelled_as_names()
 {
     tokens_spell_their_kinds();
 }
+
+/// No two names of a program are equal.
+pub fn names_are_distinct()
+    ensures { NamesAreDistinct }
+{}

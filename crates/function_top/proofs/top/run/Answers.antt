@@ -17,6 +17,7 @@ returns-in-Ok-Some-clause-headline g c =
     settled_true (record {
       unique = c.a_text_is_one_program.ensures;
       spelled = c.names_are_spelled_as_names.ensures;
+      distinct = c.names_are_distinct.ensures;
       ending = c.lines_have_their_own_form.ensures.ending;
       lines = λ ns are. record {
         newline = λ line condition claim. c.lines_have_their_own_form.ensures.newline ns line condition claim are;
