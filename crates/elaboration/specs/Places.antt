@@ -1,14 +1,15 @@
 -- The places of statements. A statement stands at its first token, but a `do` at the `while` that ends it, a declared name with an
 -- initialiser at the name, and the loop of a `for` at its `for`.
-use Rattle.std.specs.Prelude.{ℕ, ◌+◌, List, [], ◌∷◌, ◌++◌, Option, None, Some, map, slice_index_or}
+use Rattle.std.specs.Prelude.{ℕ, ◌+◌, List, [], ◌∷◌, ◌++◌, Option, None, Some, map}
+use Rattle.source_lex.specs.Spans.{start_of}
 use Rattle.source_lex.specs.declared.token.Token.{Token}
 use Rattle.concrete_syntax.specs.Trees.{Expression, Simple, Part, Declaration, Start, starts_with_nothing, starts_with, declares, Statement, simple, skip, braces, conditional, while_loop, do_loop, for_loop, return, Otherwise, without, otherwise, Items, none, declaration, statement, Program}
 use Rattle.elaboration.specs.Widths.{part_width, declaration_width, optional_width, optional_simple_width, start_width, statement_width, head_width}
 use Rattle.elaboration.specs.Statements.{behind_test}
 
--- the place in the text of the token of this number: where it starts, or 0 past the last
+-- where the token of this number starts, or 0 behind the last
 abbrev pub place_in : List Token → ℕ → ℕ
-place_in tokens number = slice_index_or (map (λ token. token.start) tokens) number 0
+place_in tokens number = start_of tokens number 0
 
 -- the tokens, by their numbers, of the statements of a tree whose first token is the token `n`: that of a statement, then those of its
 -- parts. First declared names: one without an initialiser is no statement

@@ -14,7 +14,7 @@ use crate::expression::number;
 use crate::fault::Fault;
 use crate::scope::Scope;
 use concrete_syntax::{Action, Assignment, Declaration, Part, Simple, Step};
-use source_lex::Token;
+use source_lex::{Token, start_of};
 use std::alloc::{AllocError, Global};
 use step_meaning::{Expr, Op2, Stmt, StmtKind};
 
@@ -183,8 +183,5 @@ fn part(
 pub fn place_of(tokens: &[Token], number: usize) -> u32
     ensures { result ≡ place_in tokens.now number }
 {
-    match tokens.get(number) {
-        Some(token) => token.start,
-        None => 0,
-    }
+    start_of(tokens, number, 0)
 }

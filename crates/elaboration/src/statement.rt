@@ -46,10 +46,7 @@ fn statement(
             let next = simple(alloc, scope, tree, at, place_of(tokens, at), least, out)?;
             Ok(next + 1)
         }
-        Statement::Skip => {
-            out.push(stmt(place_of(tokens, at), StmtKind::Skip))?;
-            Ok(at + 1)
-        }
+        Statement::Skip => add(out, (stmt(place_of(tokens, at), StmtKind::Skip), at + 1)),
         Statement::Braces(all) => {
             let depth = scope.depth();
             let next = items(alloc, tokens, scope, all, at + 1, least, out)?;
@@ -57,39 +54,47 @@ fn statement(
             Ok(next + 1)
         }
         Statement::Conditional { test, part, other } => {
-            let (stmt, next) = conditional(alloc, tokens, scope, test, part, other, at, least)?;
-            out.push(stmt)?;
-            Ok(next)
+            let found = conditional(alloc, tokens, scope, test, part, other, at, least)?;
+            add(out, found)
         }
         Statement::While { test, body } => {
-            let (stmt, next) = while_loop(alloc, tokens, scope, test, body, at, least)?;
-            out.push(stmt)?;
-            Ok(next)
+            let found = while_loop(alloc, tokens, scope, test, body, at, least)?;
+            add(out, found)
         }
         Statement::Do { body, test } => {
-            let (stmt, next) = do_loop(alloc, tokens, scope, body, test, at, least)?;
-            out.push(stmt)?;
-            Ok(next)
+            let found = do_loop(alloc, tokens, scope, body, test, at, least)?;
+            add(out, found)
         }
         Statement::For {
-            start: first,
+            start,
             test,
             step,
             body,
         } => {
             let depth = scope.depth();
-            let inner = start(alloc, tokens, scope, first, at + 2, least, out)?;
-            let (stmt, next) = for_loop(alloc, tokens, scope, test, step, body, inner, at, least)?;
+            let inner = for_start(alloc, tokens, scope, start, at + 2, least, out)?;
+            let found = for_loop(alloc, tokens, scope, test, step, body, inner, at, least)?;
             scope.close(depth);
-            out.push(stmt)?;
-            Ok(next)
+            add(out, found)
         }
         Statement::Return(value) => {
             let next = unused(alloc, scope, value, at + 1, least)?;
-            out.push(stmt(place_of(tokens, at), StmtKind::Return))?;
-            Ok(next + 1)
+            add(
+                out,
+                (stmt(place_of(tokens, at), StmtKind::Return), next + 1),
+            )
         }
     }
+}
+
+// Adds a statement, and answers the number of the token behind it, which comes with it.
+fn add(out: &mut Vec<Stmt>, found: (Stmt, usize)) -> Result<usize, AllocError>
+    ensures added { OnOk result (out.new.items ≡ out.old.items ++ found.0 ∷ []) }
+    ensures next { IfOk result (λ next. next ≡ found.1) }
+{
+    let (stmt, next) = found;
+    out.push(stmt)?;
+    Ok(next)
 }
 
 fn stmt(at: u32, kind: StmtKind) -> Stmt
@@ -299,7 +304,7 @@ pub fn items(
 
 // The start of a `for`, from behind its `(` to behind its `;`.
 #[tactic(auto, using(crate::proofs::Firsts::earliest_more))]
-fn start(
+fn for_start(
     alloc: Global,
     tokens: &[Token],
     scope: &mut Scope,

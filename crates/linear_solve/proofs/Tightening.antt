@@ -245,7 +245,7 @@ tightest_of rows sorted moved order = record {
 -- ---- rows that stand for others
 
 -- a row of the same linear part with a constant that is not less is implied
-looser_met : (row : Row) (a : Affine) (num : List ℤ) (den : ℤ) → IsSamePart row.affine a → row.affine.constant ≤ℤ a.constant → pos 0 <ℤ den → PointMeets num den row →
+pub looser_met : (row : Row) (a : Affine) (num : List ℤ) (den : ℤ) → IsSamePart row.affine a → row.affine.constant ≤ℤ a.constant → pos 0 <ℤ den → PointMeets num den row →
     pos 0 ≤ℤ form_at a num den
 unfolding linear_form
 looser_met row a num den same le positive met =

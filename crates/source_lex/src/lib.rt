@@ -21,4 +21,4 @@ pub use laws::{
     tokens_stand_in_text,
 };
 pub use lexer::lex;
-pub use token::{Kind, Token};
+pub use token::{Kind, Token, start_of};

@@ -2,7 +2,7 @@
 
 ghost use Rattle.std.specs.Prelude.{◌≡◌};
 ghost use Rattle.source_lex.specs.Lexemes.{lexeme};
-ghost use Rattle.source_lex.specs.Spans.{IsWithin};
+ghost use Rattle.source_lex.specs.Spans.{IsWithin, start_of};
 
 /// What a token is. A reserved word is a `Name`.
 #[derive(Clone, Copy, PartialEq, Eq, Debug)]
@@ -31,5 +31,15 @@ impl Token {
         ensures { result.now ≡ lexeme text.now self.now }
     {
         &text[self.start as usize..self.end as usize]
+    }
+}
+
+/// Where the token of this number, counted from 0, starts in the text; behind the last token it is `end`.
+pub fn start_of(tokens: &[Token], number: usize, end: u32) -> u32
+    ensures { result ≡ start_of tokens.now number end }
+{
+    match tokens.get(number) {
+        Some(token) => token.start,
+        None => end,
     }
 }

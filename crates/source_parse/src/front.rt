@@ -17,7 +17,7 @@ use crate::laws::a_program_is_no_larger_than_its_text;
 use concrete_syntax::Program as Tree;
 use elaboration::{Fault, Refusal, Rule, elaborate};
 use source_lex::{Token, tokens_are_in_order};
-use source_syntax::{SyntaxFault, Which as SyntaxWhich, read_syntax};
+use source_syntax::{SyntaxFault, Which as SyntaxWhich, place_in, read_syntax};
 use std::alloc::Global;
 use step_meaning::Program;
 
@@ -90,7 +90,7 @@ fn of_names(text: &[u8], tokens: &[Token], fault: Fault) -> ParseFault
     requires { length text.now ≤ 65536 }
     ensures { (tree : Concrete) → TokensOf text.now tokens.now → IsSyntaxOf text.now tree → HasFirstFault tree fault → IsFaultOf text.now result }
 {
-    let at = place(text, tokens, fault.token);
+    let at = place_in(text, tokens, fault.token);
     match fault.rule {
         Rule::Unknown => ParseFault::Unknown { at },
         Rule::Twice => ParseFault::Twice { at },
@@ -101,16 +101,5 @@ fn of_names(text: &[u8], tokens: &[Token], fault: Fault) -> ParseFault
             at,
             count: 16,
         },
-    }
-}
-
-// The place in the text of a token by its number.
-fn place(text: &[u8], tokens: &[Token], number: usize) -> u32
-    requires { length text.now ≤ 65536 }
-    ensures { result ≡ place_in text.now tokens.now number }
-{
-    match tokens.get(number) {
-        Some(token) => token.start,
-        None => text.len() as u32,
     }
 }

@@ -1,9 +1,10 @@
 -- Which texts are programs by their syntax, and the first fault of those that aren't.
-use Rattle.std.specs.Prelude.{◌≡◌, ℕ, ◌<◌, List, [], length, map, drop, slice_index_or, ⊤}
+use Rattle.std.specs.Prelude.{◌≡◌, ℕ, ◌<◌, List, [], length, drop, ⊤}
 use Rattle.derivation.specs.declared.rule.Rule.{Rule}
 use Rattle.derivation.specs.declared.rule.Rule.TheVariants.{Expected, Nesting, Operators}
 use Rattle.derivation.specs.Word.{words}
 use Rattle.derivation.specs.Comes.{Phrase, FirstFault, IsSpelledBy}
+use Rattle.source_lex.specs.Spans.{start_of}
 use Rattle.source_lex.specs.Tokens.{TokensOf}
 use Rattle.source_lex.specs.Faults.{FirstFault as FirstLexFault}
 use Rattle.source_lex.specs.declared.token.Token.{Token}
@@ -25,7 +26,7 @@ pub record IsTextOf (text : List ℕ) (tree : Program) : Type 0 where
 
 -- the place in the text of the token of this number, counted from 0; the end is a token too, at the text's length
 abbrev pub place_in : List ℕ → List Token → ℕ → ℕ
-place_in text tokens number = slice_index_or (map (λ token. token.start) tokens) number (length text)
+place_in text tokens number = start_of tokens number (length text)
 
 -- the text has tokens, and its first fault breaks this rule at this place
 pub record HasFault (text : List ℕ) (rule : Rule) (at : ℕ) : Type 0 where

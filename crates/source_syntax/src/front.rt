@@ -14,7 +14,7 @@ use crate::fault::{Failure, Fault, SyntaxFault, Which};
 use crate::program::program;
 use concrete_syntax::Program;
 use derivation::{Lexeme, Rule, lexemes};
-use source_lex::{LexFault, Token, lex};
+use source_lex::{LexFault, Token, lex, start_of};
 use std::alloc::{AllocError, Global};
 
 /// The syntax of a text: its tokens, and the concrete tree that they spell.
@@ -73,7 +73,7 @@ fn placed(text: &[u8], tokens: &[Token], fault: Fault) -> SyntaxFault
     requires breaks { FirstFault programs (words text.now tokens.now) fault.rule (drop fault.at (words text.now tokens.now)) }
     ensures { IsFaultOf text.now result }
 {
-    let at = place(text, tokens, fault.at);
+    let at = place_in(text, tokens, fault.at);
     match fault.rule {
         Rule::Expected => SyntaxFault::Expected { at },
         Rule::Nesting => SyntaxFault::Limit {
@@ -89,13 +89,10 @@ fn placed(text: &[u8], tokens: &[Token], fault: Fault) -> SyntaxFault
     }
 }
 
-// The place in the text of a token by its number, or the text's length behind the last.
-fn place(text: &[u8], tokens: &[Token], number: usize) -> u32
+/// The place in the text of a token by its number, or the text's length behind the last.
+pub fn place_in(text: &[u8], tokens: &[Token], number: usize) -> u32
     requires { length text.now ≤ 65536 }
     ensures { result ≡ place_in text.now tokens.now number }
 {
-    match tokens.get(number) {
-        Some(token) => token.start,
-        None => text.len() as u32,
-    }
+    start_of(tokens, number, text.len() as u32)
 }

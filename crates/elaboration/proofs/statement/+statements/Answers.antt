@@ -1,4 +1,4 @@
-use Rattle.std.proofs.Common.{◌≡◌, take, ap, sym, ◌∙◌, arith}
+use Rattle.std.proofs.Common.{◌≡◌, take, ap, sym, ◌∙◌, arith, rules}
 use Rattle.concrete_syntax.specs.Mirror.{declaration as declaration_of, start as start_of, statement as statement_of, items as items_of}
 use Rattle.concrete_syntax.specs.Trees as tree
 use Rattle.step_meaning.specs.Syntax.{parts}
@@ -51,19 +51,22 @@ statement-returns-in_ok-next-in-Braces-clause-scope t c =
     (items_kept outer all)
     ∙ ap (λ s. statement_scope outer (statement_of s)) (sym c.in-Braces.is)
 
-pub statement-returns-in_ok-push-in-For-clause-scope : goal.statement-returns-in_ok-push-in-For-clause-scope
-statement-returns-in_ok-push-in-For-clause-scope t c =
+pub statement-returns-in_ok-found-in-For-clause-scope : goal.statement-returns-in_ok-found-in-For-clause-scope
+statement-returns-in_ok-found-in-For-clause-scope t c =
     let outer = c.args.scope.now in
-    let first = start_of c.in-For.first in
+    let first = start_of c.in-For.start in
     let body = statement_of c.in-For.body.value in
-    let behind = c.in_ok-stmt-in-For.ensures.scope in
+    let behind = c.in_ok-found-in-For.ensures.scope in
     let inner : c.for_loop.new.scope ≡ statement_scope (start_scope outer first) body =
     behind
     ∙ ap (λ s. statement_scope s (statement_of c.deref-in-For.result.now)) c.in_ok-inner-in-For.ensures.scope
     ∙ ap (λ s. statement_scope (start_scope outer first) (statement_of s)) c.deref-in-For.ensures
     in
+    let whole : c.close-in-For.new.self ≡ statement_scope outer (statement_of c.args.tree.now) =
     closed outer (statement_scope (start_scope outer first) body) c.close-in-For.new.self c.depth-depth-in-For.result c.depth-depth-in-For.ensures
     (c.close-in-For.ensures.declared ∙ ap (λ s. s.declared) inner)
     (c.close-in-For.ensures.visible ∙ ap (λ s. take c.depth-depth-in-For.result s.visible) inner)
     (start_kept outer first body)
     ∙ ap (λ s. statement_scope outer (statement_of s)) (sym c.in-For.is)
+    in
+    search rules
