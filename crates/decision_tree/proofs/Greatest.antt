@@ -8,7 +8,8 @@ use Rattle.linear_cons.specs.Functions.{value_at, constant_of}
 use Rattle.linear_cons.specs.declared.affine.Affine.{Affine}
 use Rattle.linear_cons.specs.declared.bounds.Linear.{Linear}
 use Rattle.linear_cons.proofs.Forms.{value_constant, value_sum}
-use Rattle.decision_tree.specs.Trend.{Trend, unmentioned, rising, falling, RunsWith, end_of, put_end, greatest_of}
+use Rattle.linear_cons.specs.Bounds.{end_of}
+use Rattle.decision_tree.specs.Trend.{Trend, unmentioned, rising, falling, RunsWith, put_end, greatest_of}
 
 -- the value of the range's function plus an end
 value_end : (range : Linear) (n : ℤ) (store : List ℤ) → value_at (end_of range n) store ≡ value_at range.affine store +ℤ n

@@ -1,5 +1,8 @@
 mod Unwinding
 mod Ways
 mod Paths
-mod Standing
+pub mod Standing
 mod Greatest
+pub mod Replacing
+mod Gathering
+mod LexicographicPairs

@@ -6,12 +6,12 @@ use Rattle.linear_cons.specs.declared.affine.Affine.{Affine}
 use Rattle.linear_cons.specs.Functions.{NumbersFit, complement_of}
 use Rattle.linear_cons.specs.declared.row.Row.{Row}
 use Rattle.decision_tree.specs.Paths.{complements_on, path_of}
-use Rattle.decision_tree.specs.Plans.{Plan, bottom, leaf, leaves_of, node, top}
+use Rattle.decision_tree.specs.Plans.{Plan, bottom, leaf, leaves_of, branch, top}
 use Rattle.decision_tree.specs.Seeking.{AlongFits, IsSought, complements_along, path_along, sides_to}
 use Rattle.decision_tree.specs.declared.path.Side.{Side}
 use Rattle.decision_tree.specs.declared.path.Side.TheVariants.{Yes, No}
 
-path_side : {R : Type 0} (row : Row) (this that : Plan R) (number : ℕ) (t : Bool) → path_along this (sides_to this number) ≡ path_of this number → path_along that (sides_to that (number - leaves_of this)) ≡ path_of that (number - leaves_of this) → path_along (node row this that) (cond t (Yes ∷ sides_to this number) (No ∷ sides_to that (number - leaves_of this))) ≡ cond t (row.affine ∷ path_of this number) (complement_of row.affine ∷ path_of that (number - leaves_of this))
+path_side : {R : Type 0} (row : Row) (this that : Plan R) (number : ℕ) (t : Bool) → path_along this (sides_to this number) ≡ path_of this number → path_along that (sides_to that (number - leaves_of this)) ≡ path_of that (number - leaves_of this) → path_along (branch row this that) (cond t (Yes ∷ sides_to this number) (No ∷ sides_to that (number - leaves_of this))) ≡ cond t (row.affine ∷ path_of this number) (complement_of row.affine ∷ path_of that (number - leaves_of this))
 path_side row this that number true here there = ap (λ t. row.affine ∷ t) here
 path_side row this that number false here there = ap (λ t. complement_of row.affine ∷ t) there
 
@@ -19,9 +19,9 @@ path_is : {R : Type 0} (plan : Plan R) (number : ℕ) → path_along plan (sides
 path_is bottom number = refl
 path_is (top cause) number = refl
 path_is (leaf why rank) number = refl
-path_is (node row this that) number = path_side row this that number (nat_lt number (leaves_of this)) (path_is this number) (path_is that (number - leaves_of this))
+path_is (branch row this that) number = path_side row this that number (nat_lt number (leaves_of this)) (path_is this number) (path_is that (number - leaves_of this))
 
-complements_side : {R : Type 0} (row : Row) (this that : Plan R) (number : ℕ) (t : Bool) → complements_along this (sides_to this number) ≡ complements_on this number → complements_along that (sides_to that (number - leaves_of this)) ≡ complements_on that (number - leaves_of this) → complements_along (node row this that) (cond t (Yes ∷ sides_to this number) (No ∷ sides_to that (number - leaves_of this))) ≡ cond t (complements_on this number) (complement_of row.affine ∷ complements_on that (number - leaves_of this))
+complements_side : {R : Type 0} (row : Row) (this that : Plan R) (number : ℕ) (t : Bool) → complements_along this (sides_to this number) ≡ complements_on this number → complements_along that (sides_to that (number - leaves_of this)) ≡ complements_on that (number - leaves_of this) → complements_along (branch row this that) (cond t (Yes ∷ sides_to this number) (No ∷ sides_to that (number - leaves_of this))) ≡ cond t (complements_on this number) (complement_of row.affine ∷ complements_on that (number - leaves_of this))
 complements_side row this that number true here there = here
 complements_side row this that number false here there = ap (λ t. complement_of row.affine ∷ t) there
 
@@ -29,7 +29,7 @@ complements_is : {R : Type 0} (plan : Plan R) (number : ℕ) → complements_alo
 complements_is bottom number = refl
 complements_is (top cause) number = refl
 complements_is (leaf why rank) number = refl
-complements_is (node row this that) number = complements_side row this that number (nat_lt number (leaves_of this)) (complements_is this number) (complements_is that (number - leaves_of this))
+complements_is (branch row this that) number = complements_side row this that number (nat_lt number (leaves_of this)) (complements_is this number) (complements_is that (number - leaves_of this))
 
 -- what the sides that were found lead to
 pub record Leads {R : Type 0} (plan : Plan R) (number : ℕ) (sides : List Side) : Type 0 where
@@ -62,16 +62,16 @@ pub record Going {R : Type 0} (rows : List Row) (plan : Plan R) (sides : List Si
 last_first : (sides rest : List Side) (side : Side) → sides ≡ rest ++ side ∷ [] → reverse sides ≡ side ∷ reverse rest
 last_first sides rest side is = ap (λ t. reverse t) is ∙ reverse-append rest (side ∷ [])
 
-pub going_yes : {R : Type 0} (before : List Row) (row : Row) (this that : Plan R) (sides rest : List Side) (whole : List Affine) (Fits : Type 0) → sides ≡ rest ++ Yes ∷ [] → Going before (node row this that) (reverse sides) whole Fits → Going (before ++ row ∷ []) this (reverse rest) whole Fits
+pub going_yes : {R : Type 0} (before : List Row) (row : Row) (this that : Plan R) (sides rest : List Side) (whole : List Affine) (Fits : Type 0) → sides ≡ rest ++ Yes ∷ [] → Going before (branch row this that) (reverse sides) whole Fits → Going (before ++ row ∷ []) this (reverse rest) whole Fits
 going_yes before row this that sides rest whole Fits is going =
     let same = last_first sides rest Yes is in
-    let here : Going before (node row this that) (Yes ∷ reverse rest) whole Fits = rw same at going in
+    let here : Going before (branch row this that) (Yes ∷ reverse rest) whole Fits = rw same at going in
     record { listed = one_more before row (path_along this (reverse rest)) ∙ here.listed; fits = here.fits }
 
-pub going_no : {R : Type 0} (before : List Row) (row complement : Row) (this that : Plan R) (sides rest : List Side) (whole : List Affine) (Fits : Type 0) → sides ≡ rest ++ No ∷ [] → complement.affine ≡ complement_of row.affine → NumbersFit (complement_of row.affine) → Going before (node row this that) (reverse sides) whole Fits → Going (before ++ complement ∷ []) that (reverse rest) whole Fits
+pub going_no : {R : Type 0} (before : List Row) (row complement : Row) (this that : Plan R) (sides rest : List Side) (whole : List Affine) (Fits : Type 0) → sides ≡ rest ++ No ∷ [] → complement.affine ≡ complement_of row.affine → NumbersFit (complement_of row.affine) → Going before (branch row this that) (reverse sides) whole Fits → Going (before ++ complement ∷ []) that (reverse rest) whole Fits
 going_no before row complement this that sides rest whole Fits is equal fit going =
     let same = last_first sides rest No is in
-    let here : Going before (node row this that) (No ∷ reverse rest) whole Fits = rw same at going in
+    let here : Going before (branch row this that) (No ∷ reverse rest) whole Fits = rw same at going in
     record {
       listed = one_more before complement (path_along that (reverse rest)) ∙ ap (λ t. affines before ++ (t ∷ path_along that (reverse rest))) equal ∙ here.listed;
       fits = (
@@ -81,10 +81,10 @@ going_no before row complement this that sides rest whole Fits is equal fit goin
     }
 
 -- a complement that doesn't fit
-pub going_wide : {R : Type 0} (before : List Row) (row : Row) (this that : Plan R) (sides rest : List Side) (whole : List Affine) (Fits : Type 0) → sides ≡ rest ++ No ∷ [] → (NumbersFit (complement_of row.affine) → ⊥) → Going before (node row this that) (reverse sides) whole Fits → Fits → ⊥
+pub going_wide : {R : Type 0} (before : List Row) (row : Row) (this that : Plan R) (sides rest : List Side) (whole : List Affine) (Fits : Type 0) → sides ≡ rest ++ No ∷ [] → (NumbersFit (complement_of row.affine) → ⊥) → Going before (branch row this that) (reverse sides) whole Fits → Fits → ⊥
 going_wide before row this that sides rest whole Fits is wide going all =
     let same = last_first sides rest No is in
-    let here : Going before (node row this that) (No ∷ reverse rest) whole Fits = rw same at going in
+    let here : Going before (branch row this that) (No ∷ reverse rest) whole Fits = rw same at going in
     wide (here.fits.1 all 0 (complement_of row.affine) (omega arith))
 
 -- with no side left the way has ended
@@ -92,4 +92,4 @@ pub going_ends : {R : Type 0} (before : List Row) (plan : Plan R) (sides : List 
 going_ends before bottom sides whole Fits none going = let here : Going before bottom [] whole Fits = rw none at going in (sym (append-nil (affines before)) ∙ here.listed, here.fits.0 (λ k d h. absurd (omega arith)))
 going_ends before (top cause) sides whole Fits none going = let here : Going before (top cause) [] whole Fits = rw none at going in (sym (append-nil (affines before)) ∙ here.listed, here.fits.0 (λ k d h. absurd (omega arith)))
 going_ends before (leaf why rank) sides whole Fits none going = let here : Going before (leaf why rank) [] whole Fits = rw none at going in (sym (append-nil (affines before)) ∙ here.listed, here.fits.0 (λ k d h. absurd (omega arith)))
-going_ends before (node row this that) sides whole Fits none going = let here : Going before (node row this that) [] whole Fits = rw none at going in (sym (append-nil (affines before)) ∙ here.listed, here.fits.0 (λ k d h. absurd (omega arith)))
+going_ends before (branch row this that) sides whole Fits none going = let here : Going before (branch row this that) [] whole Fits = rw none at going in (sym (append-nil (affines before)) ∙ here.listed, here.fits.0 (λ k d h. absurd (omega arith)))

@@ -9,7 +9,7 @@ use Rattle.linear_cons.specs.declared.affine.Affine.{Affine}
 use Rattle.linear_cons.proofs.RowLaws.{complement_met}
 use Rattle.decision_tree.specs.Evaluation.{eval}
 use Rattle.decision_tree.specs.Paths.{MeetsPath, leaf_numbered, number_met, path_of}
-use Rattle.decision_tree.specs.Plans.{Plan, bottom, leaf, leaves_of, node, top}
+use Rattle.decision_tree.specs.Plans.{Plan, bottom, leaf, leaves_of, branch, top}
 
 below_at : (t : Bool) (m n k l : ℕ) → m < k → n < l → cond t m (k + n) < k + l
 below_at true m n k l first second = omega arith
@@ -20,7 +20,7 @@ pub met_below : {R : Type 0} (plan : Plan R) (store : List ℤ) → number_met p
 met_below bottom store = omega arith
 met_below (top cause) store = omega arith
 met_below (leaf why rank) store = omega arith
-met_below (node row this that) store = below_at (int_le (pos 0) (value_at row.affine store)) _ _ _ _ (met_below this store) (met_below that store)
+met_below (branch row this that) store = below_at (int_le (pos 0) (value_at row.affine store)) _ _ _ _ (met_below this store) (met_below that store)
 
 past_tells : (m k : ℕ) → nat_lt m k ≡ false → k ≤ m
 past_tells m k is = ⊎_elim (λ (less : m < k). absurd (let low = lt-ltb m k less in cc)) (λ (high : k ≤ m). high) (cases_lt m k)
@@ -36,7 +36,7 @@ pub eval_is : {R : Type 0} (plan : Plan R) (store : List ℤ) → eval plan stor
 eval_is bottom store = refl
 eval_is (top cause) store = refl
 eval_is (leaf why rank) store = refl
-eval_is (node row this that) store = eval_at (int_le (pos 0) (value_at row.affine store)) this that (number_met this store) (number_met that store) (leaves_of this) (eval this store) (eval that store) (met_below this store) (eval_is this store) (eval_is that store)
+eval_is (branch row this that) store = eval_at (int_le (pos 0) (value_at row.affine store)) this that (number_met this store) (number_met that store) (leaves_of this) (eval this store) (eval that store) (met_below this store) (eval_is this store) (eval_is that store)
 
 met_first : (store : List ℤ) (a : Affine) (path : List Affine) → MeetsPath store (a ∷ path) → pos 0 ≤ℤ value_at a store
 met_first store a path met = met 0 a (omega arith)
@@ -67,5 +67,5 @@ pub standing : {R : Type 0} (plan : Plan R) (number : ℕ) (store : List ℤ) �
 standing bottom number store low = (λ is k d h. absurd (omega arith), λ met. omega arith)
 standing (top cause) number store low = (λ is k d h. absurd (omega arith), λ met. omega arith)
 standing (leaf why rank) number store low = (λ is k d h. absurd (omega arith), λ met. omega arith)
-standing (node row this that) number store low =
+standing (branch row this that) number store low =
     standing_at (int_le (pos 0) (value_at row.affine store)) (nat_lt number (leaves_of this)) store row.affine (number_met this store) (number_met that store) (leaves_of this) (leaves_of that) number (path_of this number) (path_of that (number - leaves_of this)) refl refl (met_below this store) low (standing this number store) (standing that (number - leaves_of this) store)

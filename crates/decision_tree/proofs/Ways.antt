@@ -6,7 +6,7 @@ use Rattle.std.proofs.lemmas.List.Elements.{All-cons}
 use Rattle.linear_cons.specs.Functions.{PartsFit, value_at}
 use Rattle.linear_cons.specs.declared.row.Row.{Row}
 use Rattle.decision_tree.specs.Evaluation.{WayFits, eval, rows_met}
-use Rattle.decision_tree.specs.Plans.{Plan, node, plan_of}
+use Rattle.decision_tree.specs.Plans.{Plan, branch, plan_of}
 use Rattle.decision_tree.specs.declared.tree.Tree.{Tree, Bottom, Top, Leaf, Node'}
 use Rattle.decision_tree.specs.declared.tree.Tree.TheViews.{Node}
 
@@ -23,11 +23,11 @@ pub record SameWay {R : Type 0} (now before : Plan R) (store : List ℤ) : Type 
   pub leaf : eval now store ≡ eval before store
   pub fits : WayFits now store ↔ WayFits before store
 
-pub step_least : {R : Type 0} (row : Row) (this that : Plan R) (store : List ℤ) → pos 0 ≤ℤ value_at row.affine store → PartsFit row.affine store → SameWay this (node row this that) store
+pub step_least : {R : Type 0} (row : Row) (this that : Plan R) (store : List ℤ) → pos 0 ≤ℤ value_at row.affine store → PartsFit row.affine store → SameWay this (branch row this that) store
 step_least row this that store met fits =
     let test = test_least (value_at row.affine store) _ refl met in
     let Fit : List Row → Type 0 = All (λ row. PartsFit row.affine store) in
-    let rows : rows_met (node row this that) store ≡ row ∷ rows_met this store = ap (λ t. row ∷ cond t (rows_met this store) (rows_met that store)) test in record {
+    let rows : rows_met (branch row this that) store ≡ row ∷ rows_met this store = ap (λ t. row ∷ cond t (rows_met this store) (rows_met that store)) test in record {
       leaf = sym (ap (λ t. cond t (eval this store) (eval that store)) test);
       fits = (
         λ rest. subst Fit (sym rows) (All-cons (λ row. PartsFit row.affine store) row (rows_met this store) fits rest),
@@ -35,11 +35,11 @@ step_least row this that store met fits =
       );
     }
 
-pub step_below : {R : Type 0} (row : Row) (this that : Plan R) (store : List ℤ) → value_at row.affine store <ℤ pos 0 → PartsFit row.affine store → SameWay that (node row this that) store
+pub step_below : {R : Type 0} (row : Row) (this that : Plan R) (store : List ℤ) → value_at row.affine store <ℤ pos 0 → PartsFit row.affine store → SameWay that (branch row this that) store
 step_below row this that store met fits =
     let test = test_below (value_at row.affine store) _ refl met in
     let Fit : List Row → Type 0 = All (λ row. PartsFit row.affine store) in
-    let rows : rows_met (node row this that) store ≡ row ∷ rows_met that store = ap (λ t. row ∷ cond t (rows_met this store) (rows_met that store)) test in record {
+    let rows : rows_met (branch row this that) store ≡ row ∷ rows_met that store = ap (λ t. row ∷ cond t (rows_met this store) (rows_met that store)) test in record {
       leaf = sym (ap (λ t. cond t (eval this store) (eval that store)) test);
       fits = (
         λ rest. subst Fit (sym rows) (All-cons (λ row. PartsFit row.affine store) row (rows_met that store) fits rest),
@@ -47,7 +47,7 @@ step_below row this that store met fits =
       );
     }
 
-pub step_wide : {R : Type 0} (row : Row) (this that : Plan R) (store : List ℤ) → (PartsFit row.affine store → ⊥) → WayFits (node row this that) store → ⊥
+pub step_wide : {R : Type 0} (row : Row) (this that : Plan R) (store : List ℤ) → (PartsFit row.affine store → ⊥) → WayFits (branch row this that) store → ⊥
 step_wide row this that store wide fits = wide (fits 0 row (omega arith))
 
 -- what has no sides is the leaf itself, with no row on the way

@@ -1,14 +1,14 @@
 -- Affine functions as ranks.
-use Rattle.std.specs.Prelude.{ℕ, pos, int_lt, [], ◌∷◌, None, Some, if◌then◌else◌}
-use Rattle.linear_cons.specs.Functions.{NumbersFit, coefficient, constant_of, difference_of}
+use Rattle.std.specs.Prelude.{ℕ, pos, negsuc, int_lt, [], ◌∷◌, None, Some, if◌then◌else◌}
+use Rattle.linear_cons.specs.Functions.{NumbersFit, coefficient, constant_of, difference_of, sum_of}
 use Rattle.linear_cons.specs.declared.affine.Affine.{Affine}
-use Rattle.linear_cons.proofs.KindLaws.{row_kind_of}
+use Rattle.linear_cons.specs.Rows.{row_kind_of}
 use Rattle.decision_tree.specs.Trend.{Trend, falling, rising, unmentioned}
 use Rattle.decision_tree.specs.declared.rank.Alternatives.{Alternatives}
 
 -- at least 0 at exactly the stores where the first function exceeds the second
 abbrev pub excess_of : Affine → Affine → Affine
-excess_of a b = difference_of (difference_of a b) (constant_of (pos 1))
+excess_of a b = sum_of (difference_of a b) (constant_of (negsuc 0))
 
 -- its numbers fit, and those of the difference that it is formed from
 pub record ExcessFits (a b : Affine) : Type 0 where

@@ -8,7 +8,7 @@ use Rattle.decision_tree.specs.declared.reason.Why.{Why}
 use Rattle.decision_tree.specs.contracts.reason.CausePartialEq.TheImpl as cause_eq
 use Rattle.decision_tree.specs.contracts.reason.PickPartialEq.TheImpl as pick_eq
 use Rattle.decision_tree.specs.contracts.reason.WhyPartialEq.TheImpl as why_eq
-use Rattle.decision_tree.specs.Plans.{Plan, bottom, leaf, node, top}
+use Rattle.decision_tree.specs.Plans.{Plan, bottom, leaf, branch, top}
 
 abbrev pub same_row : Row → Row → Bool
 same_row = (row_eq.ghosts).eq
@@ -27,5 +27,5 @@ abbrev pub same_plan : {R : Type 0} → (R → R → Bool) → Plan R → Plan R
 same_plan same bottom bottom = true
 same_plan same (top cause) (top other) = same_cause cause other
 same_plan same (leaf why rank) (leaf other second) = same_reason why other && same rank second
-same_plan same (node row this that) (node other first second) = same_row row other && (same_plan same this first && same_plan same that second)
+same_plan same (branch row this that) (branch other first second) = same_row row other && (same_plan same this first && same_plan same that second)
 same_plan same _ _ = false

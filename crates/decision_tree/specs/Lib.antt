@@ -3,9 +3,9 @@ pub mod Alternatives
 pub mod AffineRanks
 pub mod Plans
 pub mod Equality
-pub mod EqualityLaws
+pub mod Nodes
 pub mod Evaluation
-pub mod AffineLaws
 pub mod Paths
 pub mod Seeking
-pub mod PlanCode
+pub mod Laws
+pub mod Trails

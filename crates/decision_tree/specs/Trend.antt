@@ -1,14 +1,19 @@
 -- How a rank moves with the number at a place, and what it becomes at most over a range.
-use Rattle.std.specs.Prelude.{ℤ, ◌≤ℤ◌, Option, None, Some, ⊤}
+use Rattle.std.specs.Prelude.{◌≢◌, ℤ, ◌≤ℤ◌, Option, None, Some, ⊤}
 use Rattle.linear_cons.specs.declared.affine.Affine.{Affine}
 use Rattle.linear_cons.specs.declared.bounds.Linear.{Linear}
-use Rattle.linear_cons.specs.Functions.{NumbersFit, constant_of, sum_of}
+use Rattle.linear_cons.specs.Bounds.{end_of}
+use Rattle.linear_cons.specs.Functions.{NumbersFit}
 
 -- the rank doesn't mention the place, or it is greatest at the upper end, or at the lower end of the numbers there
 pub data Trend : Type 0 where
   unmentioned : Trend
   rising : Trend
   falling : Trend
+
+-- the rank mentions the place
+abbrev pub IsMentioned : Trend → Type 0
+IsMentioned trend = trend ≢ unmentioned
 
 -- a rank that moves so doesn't fall as the number goes from z to w
 abbrev pub RunsWith : Trend → ℤ → ℤ → Type 0
@@ -21,10 +26,6 @@ abbrev pub best_end : Trend → Linear → Option ℤ
 best_end unmentioned range = None
 best_end rising range = range.hi
 best_end falling range = range.lo
-
--- the range's affine function plus a number
-abbrev pub end_of : Linear → ℤ → Affine
-end_of range n = sum_of range.affine (constant_of n)
 
 -- what putting the end in gives; without an end nothing
 abbrev pub put_end : {R : Type 0} → Linear → (Affine → R) → Option ℤ → Option R

@@ -16,7 +16,7 @@ pub struct AffineRank {
 }
 
 impl Rank for AffineRank {
-    ghost use Rattle.decision_tree.specs.AffineLaws.{chain_is, equal_is, excess_is, more_exceeds, more_keeps, negative_is, trend_is};
+    ghost use Rattle.decision_tree.specs.Laws.AffineLaws.{chain_is, equal_is, excess_is, more_exceeds, more_keeps, negative_is, trend_is};
     ghost use Rattle.linear_cons.proofs.Forms.{value_substituted};
     ghost use Rattle.std.proofs.lemmas.Int.{ints};
     ghost use Rattle.std.proofs.Common.{arith};
@@ -71,13 +71,13 @@ impl Rank for AffineRank {
     }
 
     fn add_one(&self) -> Result<AffineRank, Wide> {
-        let value = self.value.add(&Affine::constant(1))?;
+        let value = self.value.plus(1)?;
         Ok(AffineRank { value })
     }
 
     fn greater(&self, other: &AffineRank) -> Result<Alternatives, Wide> {
         let difference = self.value.sub(&other.value)?;
-        let excess = difference.sub(&Affine::constant(1))?;
+        let excess = difference.plus(-1)?;
         Ok(Alternatives::only(excess))
     }
 
@@ -114,7 +114,7 @@ impl AffineRank {
         match end {
             None => Ok(None),
             Some(number) => {
-                let by = range.affine.add(&Affine::constant(number))?;
+                let by = range.affine.plus(number)?;
                 let rank = self.subst(place, &by)?;
                 Ok(Some(rank))
             }

@@ -15,7 +15,7 @@ pub struct TreeList<R: Rank> {
 impl<R: Rank> Model for TreeList<R> {
     ghost use Rattle.std.specs.Coded.{coded_list};
     ghost use Rattle.std.specs.Prelude.{List, map};
-    ghost use Rattle.decision_tree.specs.PlanCode.{plan_code};
+    ghost use Rattle.decision_tree.specs.Laws.PlanCode.{plan_code};
     ghost use Rattle.decision_tree.specs.Plans.{Plan, plan_of};
 
     ghost Value = { List (Plan R) };
@@ -38,6 +38,13 @@ impl<R: Rank> TreeList<R> {
         ensures { map plan_of result.now ≡ self.now }
     {
         &self.trees
+    }
+
+    /// The vector of the trees. It takes no memory.
+    pub fn into_vec(self) -> Vec<Tree<R>>
+        ensures { map plan_of result.items ≡ self }
+    {
+        self.trees
     }
 }
 

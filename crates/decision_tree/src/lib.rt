@@ -3,22 +3,27 @@
 //!
 //! It stands on `linear_cons`. A tree divides the stores by the sides of its rows; each defined leaf
 //! says why it stands and how many steps it promises. The front door: `Tree` with `leaf_at` and
-//! `path`, the trait `Rank` with its laws, and `AffineRank`.
+//! `path`, `Trail` for walks with the rows in hand, the trait `Rank` with its laws, and `AffineRank`.
+//! `specs/Laws/` holds proofs that its impls cite.
 #![tactic(auto)]
 
 mod affine_rank;
 mod family;
+mod family_list;
 pub mod laws;
 mod path;
 mod rank;
 mod reason;
 #[cfg(test)]
 mod tests;
+mod trail;
 mod tree;
 
 pub use affine_rank::AffineRank;
 pub use family::{Family, TreeList};
+pub use family_list::FamilyList;
 pub use path::PathFault;
 pub use rank::{Alternatives, Rank};
 pub use reason::{Cause, Pick, Why};
+pub use trail::Trail;
 pub use tree::Tree;

@@ -1,8 +1,11 @@
 //! Tables of small trees, worked out by hand, and trees that are long lines.
 use crate::affine_rank::AffineRank;
+use crate::family::{Family, TreeList};
+use crate::family_list::FamilyList;
 use crate::path::PathFault;
 use crate::rank::{Alternatives, Rank};
 use crate::reason::{Cause, Why};
+use crate::trail::Trail;
 use crate::tree::Tree;
 use linear_cons::{Affine, Linear, Op, Row, RowKind, Wide};
 use std::alloc::{AllocError, Global};
@@ -58,8 +61,8 @@ fn steps(tree: &Tree<AffineRank>) -> i128 {
 fn small(alloc: Global) -> Result<Tree<AffineRank>, Fail> {
     let inner = row(line(1, -5))?;
     let outer = row(line(1, -1))?;
-    let yes = Tree::node(alloc, inner, leaf(3), Tree::Top(Cause::Rows { count: 9 }))?;
-    Ok(Tree::node(alloc, outer, yes, Tree::Bottom)?)
+    let yes = Tree::branch(alloc, inner, leaf(3), Tree::Top(Cause::Rows { count: 9 }))?;
+    Ok(Tree::branch(alloc, outer, yes, Tree::Bottom)?)
 }
 
 #[test]
@@ -128,7 +131,7 @@ fn wide_complement(rt: HostRuntime) -> Result<(), Fail> {
     coef[0] = i128::MIN;
     coef[1] = 1;
     let wide = row(Affine { coef, constant: 0 })?;
-    let tree = Tree::node(rt.alloc(), wide, leaf(3), leaf(4))?;
+    let tree = Tree::branch(rt.alloc(), wide, leaf(3), leaf(4))?;
     assert_eq!(rt; along(&tree, rt.alloc(), 0).is_ok(), true);
     match along(&tree, rt.alloc(), 1) {
         Err(PathFault::Wide(fault)) => assert_eq!(rt;
@@ -150,9 +153,9 @@ fn long_line(alloc: Global, nodes: u32, down_yes: bool) -> Result<Tree<AffineRan
     let mut tree = leaf(7);
     for _ in 0..nodes {
         tree = if down_yes {
-            Tree::node(alloc, row, tree, Tree::Bottom)?
+            Tree::branch(alloc, row, tree, Tree::Bottom)?
         } else {
-            Tree::node(alloc, row, Tree::Bottom, tree)?
+            Tree::branch(alloc, row, Tree::Bottom, tree)?
         };
     }
     Ok(tree)
@@ -197,6 +200,103 @@ fn long_copies(rt: HostRuntime) -> Result<(), Fail> {
 }
 
 #[test]
+fn undefined_leaves(rt: HostRuntime) -> Result<(), Fail> {
+    for leaf in 0..3 {
+        let mut tree = small(rt.alloc())?;
+        let cause = Cause::Nodes { count: 7 };
+        if leaf < tree.leaves() {
+            tree.undefine(leaf, &cause);
+        }
+        assert_eq!(rt; tree.leaves(), 3);
+        assert_eq!(rt; tree.size(), 5);
+        // The leaves 0, 1 and 2 hold 5, 1 and 0.
+        for (number, x) in [(0, 5), (1, 1), (2, 0)] {
+            match tree.leaf_at(&store(x)) {
+                Ok(Tree::Top(found)) => assert_eq!(rt; *found == cause, number == leaf),
+                Ok(_) => assert_eq!(rt; number == leaf, false),
+                Err(_) => return Err(Fail::from("wide")),
+            }
+        }
+    }
+    Ok(())
+}
+
+#[test]
+fn long_lines_undefined(rt: HostRuntime) -> Result<(), Fail> {
+    for (down_yes, inside, leaf) in [(true, 1, 0), (false, 0, 65_536)] {
+        let mut tree = long_line(rt.alloc(), 65_536, down_yes)?;
+        if leaf < tree.leaves() {
+            tree.undefine(leaf, &Cause::Given);
+        }
+        match tree.leaf_at(&store(inside)) {
+            Ok(found) => assert_eq!(rt; steps(found), -2),
+            Err(_) => return Err(Fail::from("wide")),
+        }
+    }
+    Ok(())
+}
+
+#[test]
+fn joined_sides(rt: HostRuntime) -> Result<(), Fail> {
+    let row = row(line(1, -1))?;
+    let one = Tree::node(rt.alloc(), row, leaf(3), leaf(3))?;
+    assert!(rt; one == leaf(3));
+    let two = Tree::node(rt.alloc(), row, leaf(3), leaf(4))?;
+    assert!(rt; two == Tree::branch(rt.alloc(), row, leaf(3), leaf(4))?);
+    let (yes, no) = (leaf(3).boxed(rt.alloc())?, leaf(3).boxed(rt.alloc())?);
+    let boxed = Tree::boxed_node(rt.alloc(), &row, yes, no)?;
+    assert!(rt; *boxed == leaf(3));
+    Ok(())
+}
+
+#[test]
+fn trails(rt: HostRuntime) -> Result<(), Fail> {
+    let mut trail = Trail::new(rt.alloc());
+    // x0 >= 1, then the no side of x0 >= 5, so x0 <= 4.
+    trail.down(&row(line(1, -1))?)?;
+    trail.down(&row(line(1, -5))?)?;
+    assert_eq!(rt; trail.rows(), [row(line(1, -5))?].as_slice());
+    assert_eq!(rt; trail.settles(&row(line(1, -3))?), Some(true));
+    assert_eq!(rt; trail.settles(&row(line(-1, 4))?), Some(false));
+    assert_eq!(rt; trail.settles(&row(line(1, -6))?), None);
+    assert!(rt; trail.turn().is_ok());
+    assert_eq!(rt;
+        trail.rows(),
+        [row(line(1, -1))?, row(line(-1, 4))?].as_slice()
+    );
+    assert_eq!(rt; trail.settles(&row(line(1, -3))?), None);
+    assert_eq!(rt; trail.settles(&row(line(1, -5))?), Some(false));
+    trail.up();
+    assert_eq!(rt; trail.rows(), [row(line(1, -1))?].as_slice());
+    assert_eq!(rt; trail.settles(&row(line(-1, 4))?), None);
+    trail.up();
+    assert_eq!(rt; trail.rows().len(), 0);
+    Ok(())
+}
+
+#[test]
+fn lists_of_trees(rt: HostRuntime) -> Result<(), Fail> {
+    let mut trees = Vec::new(rt.alloc());
+    trees.push(leaf(3))?;
+    trees.push(small(rt.alloc())?)?;
+    let list = TreeList::of(trees);
+    assert_eq!(rt; list.items().len(), 2);
+    let mut families = Vec::new(rt.alloc());
+    families.push(Family {
+        part: 2,
+        trees: list,
+    })?;
+    let families = FamilyList::of(families);
+    for family in families.items() {
+        assert_eq!(rt; family.part, 2);
+    }
+    for family in families.into_vec() {
+        assert_eq!(rt; family.trees.into_vec().len(), 2);
+    }
+    Ok(())
+}
+
+#[test]
 fn equal_trees(rt: HostRuntime) -> Result<(), Fail> {
     let trees = [
         Tree::Bottom,
@@ -205,9 +305,9 @@ fn equal_trees(rt: HostRuntime) -> Result<(), Fail> {
         leaf(3),
         leaf(4),
         small(rt.alloc())?,
-        Tree::node(rt.alloc(), row(line(1, -1))?, Tree::Bottom, leaf(3))?,
-        Tree::node(rt.alloc(), row(line(1, -1))?, leaf(3), Tree::Bottom)?,
-        Tree::node(rt.alloc(), row(line(1, -2))?, leaf(3), Tree::Bottom)?,
+        Tree::branch(rt.alloc(), row(line(1, -1))?, Tree::Bottom, leaf(3))?,
+        Tree::branch(rt.alloc(), row(line(1, -1))?, leaf(3), Tree::Bottom)?,
+        Tree::branch(rt.alloc(), row(line(1, -2))?, leaf(3), Tree::Bottom)?,
     ];
     for (index, tree) in trees.iter().enumerate() {
         for (other, twin) in trees.iter().enumerate() {

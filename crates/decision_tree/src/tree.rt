@@ -1,9 +1,12 @@
 //! Trees of rows with ranks at their leaves.
-ghost use Rattle.std.specs.Prelude.{◌≡◌, ◌-◌, ◌^◌, ◌↔◌, min, IsTrue, IsOk, IfOk, IfErr};
+ghost use Rattle.std.specs.Prelude.{◌≡◌, ◌<◌, ◌-◌, ◌^◌, ◌↔◌, min, IsTrue, IsOk, IfOk, IfErr};
 ghost use Rattle.linear_cons.specs.Exact.{IsOutside};
 ghost use Rattle.decision_tree.specs.Equality.{same_plan};
 ghost use Rattle.decision_tree.specs.Evaluation.{WayFits, eval};
-ghost use Rattle.decision_tree.specs.Plans.{bottom, leaf, leaves_of, node, plan_of, size_of, top};
+ghost use Rattle.decision_tree.specs.Nodes.{node};
+ghost use Rattle.decision_tree.specs.Paths.{with_leaf};
+ghost use Rattle.decision_tree.specs.Plans.{bottom, branch, leaf, leaves_of, plan_of, size_of, top};
+ghost use Rattle.decision_tree.specs.Seeking.{IsReplaced};
 
 use crate::rank::Rank;
 use crate::reason::{Cause, Why};
@@ -57,7 +60,7 @@ impl<R: Rank> Drop for Tree<R> {
 }
 
 impl<R: Rank> PartialEq for Tree<R> {
-    ghost use Rattle.decision_tree.specs.EqualityLaws.{equivalence_by, plan_eq-Decides};
+    ghost use Rattle.decision_tree.specs.Laws.EqualityLaws.{equivalence_by, plan_eq-Decides};
     ghost use Rattle.std.specs.Cmp.{partial_equiv_from_equiv};
 
     ghost eq = { λ tree other. same_plan R.eq (plan_of tree) (plan_of other) };
@@ -74,7 +77,7 @@ impl<R: Rank> PartialEq for Tree<R> {
 }
 
 impl<R: Rank> Eq for Tree<R> {
-    ghost use Rattle.decision_tree.specs.EqualityLaws.{equivalence_by, plan_eq-Decides};
+    ghost use Rattle.decision_tree.specs.Laws.EqualityLaws.{equivalence_by, plan_eq-Decides};
 
     ghost laws = { equivalence_by plan_of _ (λ tree other. plan_eq-Decides R.eq R.Rank.equal_law (plan_of tree) (plan_of other)) };
 }
@@ -152,10 +155,69 @@ impl<R: Rank> Tree<R> {
         Ok(Box::into_inner(twin))
     }
 
-    // The recursion holds boxes alone, and each tree is made in a call of its own: so a level takes
-    // a few words of stack, and a tree of 65,536 levels is copied on a stack of eight megabytes.
-    /// An equal tree in a box.
-    fn boxed(&self, alloc: Global) -> Result<Box<Tree<R>>, AllocError>
+    /// Puts `Top` with the cause in place of the leaf with the number; all else stays. Leaves are numbered
+    /// from 0, yes sides first. It takes no memory.
+    pub fn undefine(&mut self, leaf: u64, cause: &Cause)
+        requires { leaf < leaves_of (plan_of self.old) }
+        ensures { plan_of self.new ≡ with_leaf (plan_of self.old) leaf (top cause.now) }
+    {
+        let mut left = leaf;
+        let _ = self.undefine_after(&mut left, cause);
+    }
+
+    /// Undefines the leaf that `left` others come before, and counts `left` down by each that it passes.
+    /// True where it was found.
+    fn undefine_after(&mut self, left: &mut u64, cause: &Cause) -> bool
+        ensures { IsReplaced (plan_of self.old) left.old left.new (top cause.now) (plan_of self.new) result }
+    {
+        match self {
+            Tree::Bottom | Tree::Top(_) | Tree::Leaf { .. } => {
+                if *left == 0 {
+                    self.become_top(cause);
+                    return true;
+                }
+                *left -= 1;
+                false
+            }
+            Tree::Node { row: _, yes, no } => {
+                yes.undefine_after(left, cause) || no.undefine_after(left, cause)
+            }
+        }
+    }
+
+    #[inline(never)]
+    fn become_top(&mut self, cause: &Cause)
+        ensures { plan_of self.new ≡ top cause.now }
+    {
+        *self = Tree::Top(*cause);
+    }
+
+    /// The tree with the row at its root and the two sides.
+    pub fn branch(alloc: Global, row: Row, yes: Tree<R>, no: Tree<R>) -> Result<Tree<R>, AllocError>
+        ensures { IfOk result (λ tree. plan_of tree ≡ branch row (plan_of yes) (plan_of no)) }
+    {
+        let yes = Box::new(alloc, yes)?;
+        let no = Box::new(alloc, no)?;
+        Ok(Tree::Node { row, yes, no })
+    }
+
+    /// The yes side where both sides are equal, else the tree with the row at its root.
+    pub fn node(alloc: Global, row: Row, yes: Tree<R>, no: Tree<R>) -> Result<Tree<R>, AllocError>
+        ensures { IfOk result (λ tree. plan_of tree ≡ node R.eq row (plan_of yes) (plan_of no)) }
+    {
+        if yes == no {
+            return Ok(yes);
+        }
+        Tree::branch(alloc, row, yes, no)
+    }
+}
+
+/// Building in boxes. A recursion along a tree may be 32,767 levels deep, so that it holds references,
+/// boxes and words alone, and makes each tree in a call of its own: then a level takes a few words of
+/// stack, and a tree of 65,536 nodes is walked on a stack of eight megabytes. These are such calls.
+impl<R: Rank> Tree<R> {
+    /// An equal tree.
+    pub fn boxed(&self, alloc: Global) -> Result<Box<Tree<R>>, AllocError>
         ensures { IfOk result (λ twin. plan_of twin.value ≡ plan_of self.now) }
     {
         match self {
@@ -165,7 +227,7 @@ impl<R: Rank> Tree<R> {
             Tree::Node { row, yes, no } => {
                 let yes = yes.boxed(alloc)?;
                 match no.boxed(alloc) {
-                    Ok(no) => Tree::boxed_node(alloc, row, yes, no),
+                    Ok(no) => Tree::boxed_branch(alloc, row, yes, no),
                     Err(error) => {
                         Tree::discard(yes);
                         Err(error)
@@ -177,26 +239,29 @@ impl<R: Rank> Tree<R> {
 
     /// Drops the tree.
     #[inline(never)]
-    fn discard(_tree: Box<Tree<R>>) {}
+    pub fn discard(_tree: Box<Tree<R>>) {}
 
+    /// No claim.
     #[inline(never)]
-    fn boxed_bottom(alloc: Global) -> Result<Box<Tree<R>>, AllocError>
+    pub fn boxed_bottom(alloc: Global) -> Result<Box<Tree<R>>, AllocError>
         ensures { IfOk result (λ tree. plan_of tree.value ≡ bottom) }
     {
         let tree = Box::new(alloc, Tree::Bottom)?;
         Ok(tree)
     }
 
+    /// No claim, given up for the cause.
     #[inline(never)]
-    fn boxed_top(alloc: Global, cause: &Cause) -> Result<Box<Tree<R>>, AllocError>
+    pub fn boxed_top(alloc: Global, cause: &Cause) -> Result<Box<Tree<R>>, AllocError>
         ensures { IfOk result (λ tree. plan_of tree.value ≡ top cause.now) }
     {
         let tree = Box::new(alloc, Tree::Top(*cause))?;
         Ok(tree)
     }
 
+    /// A claim, with its reason and its rank.
     #[inline(never)]
-    fn boxed_leaf(alloc: Global, why: &Why, rank: &R) -> Result<Box<Tree<R>>, AllocError>
+    pub fn boxed_leaf(alloc: Global, why: &Why, rank: &R) -> Result<Box<Tree<R>>, AllocError>
         ensures { IfOk result (λ tree. plan_of tree.value ≡ leaf why.now rank.now) }
     {
         let tree = Tree::Leaf {
@@ -207,26 +272,34 @@ impl<R: Rank> Tree<R> {
         Ok(tree)
     }
 
+    /// The tree with the row at its root and the two sides.
     #[inline(never)]
-    fn boxed_node(
+    pub fn boxed_branch(
         alloc: Global,
         row: &Row,
         yes: Box<Tree<R>>,
         no: Box<Tree<R>>,
     ) -> Result<Box<Tree<R>>, AllocError>
-        ensures { IfOk result (λ tree. plan_of tree.value ≡ node row.now (plan_of yes.value) (plan_of no.value)) }
+        ensures { IfOk result (λ tree. plan_of tree.value ≡ branch row.now (plan_of yes.value) (plan_of no.value)) }
     {
         let row = *row;
         let tree = Box::new(alloc, Tree::Node { row, yes, no })?;
         Ok(tree)
     }
 
-    /// The tree with the row at its root and the two sides.
-    pub fn node(alloc: Global, row: Row, yes: Tree<R>, no: Tree<R>) -> Result<Tree<R>, AllocError>
-        ensures { IfOk result (λ tree. plan_of tree ≡ node row (plan_of yes) (plan_of no)) }
+    /// The yes side where both sides are equal, else the tree with the row at its root.
+    #[inline(never)]
+    pub fn boxed_node(
+        alloc: Global,
+        row: &Row,
+        yes: Box<Tree<R>>,
+        no: Box<Tree<R>>,
+    ) -> Result<Box<Tree<R>>, AllocError>
+        ensures { IfOk result (λ tree. plan_of tree.value ≡ node R.eq row.now (plan_of yes.value) (plan_of no.value)) }
     {
-        let yes = Box::new(alloc, yes)?;
-        let no = Box::new(alloc, no)?;
-        Ok(Tree::Node { row, yes, no })
+        if yes.is_same(&no) {
+            return Ok(yes);
+        }
+        Tree::boxed_branch(alloc, row, yes, no)
     }
 }

@@ -10,7 +10,7 @@ use Rattle.linear_cons.specs.declared.bounds.Bounds.{Bounds}
 use Rattle.linear_cons.specs.declared.bounds.Linear.{Linear}
 use Rattle.linear_cons.specs.declared.row.Row.{Row}
 use Rattle.linear_cons.specs.Bounds.{IsFrom, IsUpTo, LiesIn, lower_end, upper_end}
-use Rattle.linear_cons.specs.Functions.{IsConstant, coefficient, value_at, without}
+use Rattle.linear_cons.specs.Functions.{MentionsOnly, IsConstant, coefficient, value_at, without}
 use Rattle.linear_cons.specs.LinearForm.{products_below}
 use Rattle.linear_cons.specs.Numbers.{number_at, at_places}
 use Rattle.linear_cons.specs.Rows.{Meets}
@@ -25,8 +25,8 @@ use Rattle.num_domain.specs.Domain.{IsStore, KeepsAssigned, KeepsMeeting, Within
 use Rattle.num_domain.specs.Ends.{some_end}
 use Rattle.interval_dom.specs.declared.boxes.Boxes.{Boxes}
 use Rattle.interval_dom.specs.declared.interval.Interval.{Interval}
-use Rattle.interval_dom.specs.Boxes.{Has, HasOneVariable, IsLeastOf, IsWidening, KeepsOtherEnds, bounds_of, ends_of, is_empty_box}
-use Rattle.interval_dom.specs.Laws.{empty_none, ends_at, every_number, holds_member, interval_at, member_holds}
+use Rattle.interval_dom.specs.Boxes.{Has, IsLeastOf, IsWidening, KeepsOtherEnds, bounds_of, ends_of, is_empty_box}
+use Rattle.interval_dom.specs.Laws.BoxLaws.{empty_none, ends_at, every_number, holds_member, interval_at, member_holds}
 use Rattle.interval_dom.specs.Intervals.{Holds, IsHull, IsRefined, IsWidened, is_void, void_ends}
 
 -- ---- one interval replaced
@@ -49,7 +49,7 @@ pub record RefinedBelow (n : ℕ) (old : Boxes) (row : Row) (now : Boxes) : Type
   pub places : length now.intervals ≡ 16
   pub keeps : KeepsMeeting row (Has old) (Has now)
   pub inside : Within (Has now) (Has old)
-  pub meets : (place : ℕ) → place < n → HasOneVariable row place → row.affine.constant ≢ negsuc (2 ^ 127 - 1) → (store : List ℤ) → IsStore store → Has now store → Meets store row
+  pub meets : (place : ℕ) → place < n → MentionsOnly place row.affine → row.affine.constant ≢ negsuc (2 ^ 127 - 1) → (store : List ℤ) → IsStore store → Has now store → Meets store row
 
 pub refined_none : (box : Boxes) (row : Row) → length box.intervals ≡ 16 → RefinedBelow 0 box row box
 refined_none box row long = record {
@@ -60,14 +60,14 @@ refined_none box row long = record {
 }
 
 -- without its one variable a row is a constant
-alone_constant : (row : Row) (place : ℕ) → HasOneVariable row place → IsConstant (without row.affine place)
+alone_constant : (row : Row) (place : ℕ) → MentionsOnly place row.affine → IsConstant (without row.affine place)
 alone_constant row place alone i h = rw number_at-clear (⊎_elim
     (λ (same : (eqb i place ≡ true) × (i ≡ place)). rw same.0 refl)
     (λ (apart : (eqb i place ≡ false) × (i ≢ place)). rw apart.0 (alone i h apart.1))
     (eqb_tells i place))
 
 -- a place that the row does not have, or whose other terms have no bound, refines nothing
-pub refined_kept : (n : ℕ) (old : Boxes) (row : Row) (now : Boxes) → RefinedBelow n old row now → (HasOneVariable row n → ⊥) → RefinedBelow (n + 1) old row now
+pub refined_kept : (n : ℕ) (old : Boxes) (row : Row) (now : Boxes) → RefinedBelow n old row now → (MentionsOnly n row.affine → ⊥) → RefinedBelow (n + 1) old row now
 refined_kept n old row now so_far not_alone = record {
   places = so_far.places;
   keeps = so_far.keeps;
@@ -76,14 +76,14 @@ refined_kept n old row now so_far not_alone = record {
 }
 
 -- a coefficient of 0 is not that of a row's one variable
-pub zero_not_alone : (row : Row) (n : ℕ) → coefficient row.affine n ≡ pos 0 → HasOneVariable row n → ⊥
+pub zero_not_alone : (row : Row) (n : ℕ) → coefficient row.affine n ≡ pos 0 → MentionsOnly n row.affine → ⊥
 zero_not_alone row n none alone = row_not_constant row (λ i h. ⊎_elim
     (λ (same : (eqb i n ≡ true) × (i ≡ n)). rw same.1 none)
     (λ (apart : (eqb i n ≡ false) × (i ≢ n)). alone i h apart.1)
     (eqb_tells i n))
 
 -- the range of a row's one constant has an upper end
-pub missing_not_alone : (row : Row) (n : ℕ) (range : Interval) → range.upper ≡ Without → (IsConstant (without row.affine n) → some_end range.upper ≡ Some row.affine.constant) → HasOneVariable row n → ⊥
+pub missing_not_alone : (row : Row) (n : ℕ) (range : Interval) → range.upper ≡ Without → (IsConstant (without row.affine n) → some_end range.upper ≡ Some row.affine.constant) → MentionsOnly n row.affine → ⊥
 missing_not_alone row n range missing single alone =
     let some = rw missing at (single (alone_constant row n alone)) in cc
 
@@ -125,7 +125,7 @@ refined_more n old row now next others part rest low so_far upper values single 
         (λ (other : (eqb i n ≡ false) × (i ≢ n)). rw (← placed.others i other.1) (member_holds next store has i h))
         (eqb_tells i n))
 
-    own : HasOneVariable row n → row.affine.constant ≢ negsuc (2 ^ 127 - 1) → (store : List ℤ) → Holds part (number_at store n) → Meets store row
+    own : MentionsOnly n row.affine → row.affine.constant ≢ negsuc (2 ^ 127 - 1) → (store : List ℤ) → Holds part (number_at store n) → Meets store row
     own alone constant store holds =
         let none : IsConstant (without row.affine n) = alone_constant row n alone in
         let same : Some rest ≡ Some row.affine.constant = rw upper at (single none) in

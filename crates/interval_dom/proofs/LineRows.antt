@@ -15,7 +15,8 @@ use Rattle.linear_cons.specs.declared.row.Row.{Row}
 use Rattle.linear_cons.specs.declared.row.RowKind.{RowKind}
 use Rattle.linear_cons.specs.declared.row.RowKind.TheVariants.{Always, Never, Row as Kept}
 use Rattle.linear_cons.specs.Bounds.{lower_end, upper_end}
-use Rattle.linear_cons.proofs.KindLaws.{primitive_kind, row_kind_of, row_kind_unique}
+use Rattle.linear_cons.proofs.KindLaws.{primitive_kind, row_kind_unique}
+use Rattle.linear_cons.specs.Rows.{row_kind_of}
 use Rattle.linear_cons.proofs.Places.{length-at_places, number_at-set, number_at_places, places_of}
 use Rattle.interval_dom.specs.Boxes.{line, lines_below, lower_line, row_list, rows_of_lines, upper_line}
 

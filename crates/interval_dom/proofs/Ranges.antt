@@ -8,13 +8,18 @@ use Rattle.num_domain.specs.declared.bound.Bound.{Bound}
 use Rattle.num_domain.specs.declared.bound.Bound.TheVariants.{Without, At}
 use Rattle.num_domain.specs.Ends.{IsExactEnd, both_ends, end_of, some_end}
 use Rattle.interval_dom.specs.declared.interval.Interval.{Interval}
-use Rattle.interval_dom.specs.Intervals.{IsRefined}
+use Rattle.interval_dom.specs.Intervals.{IsRefined, end_times}
 
 -- ---- multiples
 
 -- the end is the exact product of another with the factor, where it fits
 abbrev pub IsProduct : ℤ → Bound ℤ → Bound ℤ → Type 0
 IsProduct factor end product = IsExactEnd (λ x. x) Fits128 (both_ends ◌*ℤ◌ (end_of (λ x. x) end) (Some factor)) product
+
+-- an exact product, as it is said of intervals
+pub exact_product : (factor : ℤ) (end product : Bound ℤ) → IsProduct factor end product → IsExactEnd (λ z. z) Fits128 (end_times end factor) product
+exact_product factor Without product is = is
+exact_product factor (At e) product is = is
 
 turned : (factor a b : ℤ) → factor <ℤ pos 0 → a ≤ℤ b → (factor *ℤ b) ≤ℤ (factor *ℤ a)
 turned factor a b below le =

@@ -7,9 +7,8 @@ use Rattle.linear_cons.specs.declared.bounds.Bounds.{Bounds}
 use Rattle.linear_cons.specs.declared.row.Row.{Row}
 use Rattle.linear_cons.specs.declared.row.RowKind.{RowKind}
 use Rattle.linear_cons.specs.declared.row.RowKind.TheVariants.{Always, Never, Row as Kept}
-use Rattle.linear_cons.proofs.KindLaws.{row_kind_of}
+use Rattle.linear_cons.specs.Rows.{row_kind_of}
 use Rattle.linear_cons.specs.Bounds.{LiesIn, lower_end, upper_end}
-use Rattle.linear_cons.specs.Functions.{coefficient}
 use Rattle.linear_cons.specs.Numbers.{at_places}
 use Rattle.linear_cons.specs.Rows.{Meets}
 use Rattle.num_domain.specs.Domain.{IsStore, Within}
@@ -48,10 +47,6 @@ pub record IsWidening (old newer wide : Bounds) : Type 0 where
 -- the ends at every other place are the old ones
 abbrev pub KeepsOtherEnds : ℕ → Bounds → Bounds → Type 0
 KeepsOtherEnds place old new = (i : ℕ) → i ≢ place → (lower_end new i ≡ lower_end old i) × (upper_end new i ≡ upper_end old i)
-
--- the row has one variable, that at the place
-abbrev pub HasOneVariable : Row → ℕ → Type 0
-HasOneVariable row place = (i : ℕ) → i < 16 → i ≢ place → coefficient row.affine i ≡ pos 0
 
 -- the members after are exactly those before that meet the row
 abbrev pub IsMeet : Row → (List ℤ → Type 0) → (List ℤ → Type 0) → Type 0

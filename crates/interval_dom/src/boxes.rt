@@ -4,12 +4,9 @@ ghost use Rattle.interval_dom.specs.Boxes.{line, lower_line, rows_of_lines, uppe
 ghost use Rattle.num_domain.specs.Ends.{some_end};
 
 use crate::interval::Interval;
-use linear_cons::{Affine, Bounds, Linear, Row, RowKind};
+use linear_cons::{Affine, Bounds, Linear, PLACES, Row, RowKind};
 use num_domain::{Bound, NumDomain};
 use std::alloc::{AllocError, Global};
-
-/// The places of a store.
-const PLACES: usize = 16;
 
 /// The stores whose number at each place lies between two ends, either of which may be missing.
 #[derive(Clone, Copy, PartialEq, Eq, Debug)]
@@ -18,11 +15,11 @@ pub struct Boxes {
 }
 
 impl Boxes {
-    ghost use Rattle.std.specs.Prelude.{◌≡◌, ◌<◌, ◌≢◌, ℤ, ℕ, List, negsuc, false, ◌-◌, ◌^◌};
-    ghost use Rattle.linear_cons.specs.Functions.{IsConstant, value_at};
+    ghost use Rattle.std.specs.Prelude.{◌≡◌, ◌<◌, ◌≢◌, ℤ, ℕ, List, negsuc, true, false, ◌-◌, ◌^◌};
+    ghost use Rattle.linear_cons.specs.Functions.{IsConstant, MentionsOnly, value_at};
     ghost use Rattle.linear_cons.specs.Rows.{Meets};
     ghost use Rattle.num_domain.specs.Domain.{HasEvery, IsStore, KeepsAssigned, KeepsMeeting, Within};
-    ghost use Rattle.interval_dom.specs.Boxes.{Has, HasOneVariable, IsLeastOf, IsWidening, KeepsOtherEnds, bounds_of, is_empty_box, rows_of};
+    ghost use Rattle.interval_dom.specs.Boxes.{Has, IsLeastOf, IsWidening, KeepsOtherEnds, bounds_of, is_empty_box, rows_of};
     ghost use Rattle.std.specs.List.{list_any};
     ghost use Rattle.interval_dom.specs.Intervals.{Holds, is_void};
 
@@ -85,7 +82,7 @@ impl Boxes {
     fn refine(&mut self, row: &Row)
         ensures keeps { KeepsMeeting row.now (Has self.old) (Has self.new) }
         ensures inside { Within (Has self.new) (Has self.old) }
-        ensures meets { (place : ℕ) → place < 16 → HasOneVariable row.now place → row.now.affine.constant ≢ negsuc (2 ^ 127 - 1) → (store : List ℤ) → IsStore store → Has self.new store → Meets store row.now }
+        ensures meets { (place : ℕ) → place < 16 → MentionsOnly place row.now.affine → row.now.affine.constant ≢ negsuc (2 ^ 127 - 1) → (store : List ℤ) → IsStore store → Has self.new store → Meets store row.now }
     {
         for place in 0..PLACES {
             let factor = row.affine.coef[place];
@@ -106,6 +103,8 @@ impl Boxes {
         ensures own { Within (Has self.now) (Has result) }
         ensures others { Within (Has other.now) (Has result) }
         ensures least { IsLeastOf (Has self.now) (Has other.now) (Has result) }
+        ensures empty { is_empty_box self.now ≡ true → result ≡ other.now }
+        ensures empty_other { is_empty_box self.now ≡ false → is_empty_box other.now ≡ true → result ≡ self.now }
     {
         if self.has_none() {
             return *other;
@@ -125,6 +124,8 @@ impl Boxes {
         ensures own { Within (Has self.now) (Has result) }
         ensures others { Within (Has newer.now) (Has result) }
         ensures ends { is_empty_box self.now ≡ false → is_empty_box newer.now ≡ false → IsWidening (bounds_of self.now) (bounds_of newer.now) (bounds_of result) }
+        ensures empty { is_empty_box self.now ≡ true → result ≡ newer.now }
+        ensures empty_newer { is_empty_box self.now ≡ false → is_empty_box newer.now ≡ true → result ≡ self.now }
     {
         if self.has_none() {
             return *newer;
@@ -215,10 +216,11 @@ fn push_upper(rows: &mut Vec<Row>, place: usize, upper: Bound<i128>) -> Result<(
 }
 
 impl NumDomain for Boxes {
-    ghost use Rattle.std.specs.Prelude.{◌≡◌, ◌≢◌, ◌<◌, ◌-◌, ◌^◌, ℕ, negsuc, false, map, IfOk, OnErr};
-    ghost use Rattle.num_domain.specs.Domain.{AllMeet, IsPlain, IsUnchanged, KeepsAssigned, KeepsMeeting, Within};
-    ghost use Rattle.interval_dom.specs.Boxes.{Has, HasOneVariable, IsLeastOf, IsMeet, IsWidening, KeepsOtherEnds, TellsEmpty, bounds_of, is_empty_box, lines_below, rows_of};
-    ghost use Rattle.interval_dom.specs.Laws.{empty_none, rows_met};
+    ghost use Rattle.std.specs.Prelude.{◌≡◌, ◌≢◌, ◌<◌, ◌-◌, ◌^◌, ℕ, negsuc, true, false, map, IsOk, IfOk, OnErr};
+    ghost use Rattle.linear_cons.specs.Functions.{MentionsOnly};
+    ghost use Rattle.num_domain.specs.Domain.{AllMeet, HasEvery, IsPlain, IsUnchanged, KeepsAssigned, KeepsMeeting, SameMembers, Within};
+    ghost use Rattle.interval_dom.specs.Boxes.{Has, IsLeastOf, IsMeet, IsWidening, KeepsOtherEnds, TellsEmpty, bounds_of, is_empty_box, lines_below, rows_of};
+    ghost use Rattle.interval_dom.specs.Laws.BoxLaws.{empty_none, rows_met};
 
     ghost has = { Has };
 
@@ -228,7 +230,10 @@ impl NumDomain for Boxes {
 
     ghost told_bounds = { bounds_of };
 
-    fn top(_alloc: Global) -> Result<Boxes, AllocError> {
+    fn top(_alloc: Global) -> Result<Boxes, AllocError>
+        ensures every { IfOk result (λ all. HasEvery (Has all)) }
+        ensures total { IsOk result }
+    {
         Ok(Boxes::whole())
     }
 
@@ -237,8 +242,9 @@ impl NumDomain for Boxes {
     fn meet_row(&mut self, _alloc: Global, row: &Row) -> Result<(), AllocError>
         ensures keeps { IfOk result (λ _. KeepsMeeting row.now (Has self.old) (Has self.new)) }
         ensures plain { IfOk result (λ _. (place : ℕ) → IsPlain row.now place → AllMeet row.now (Has self.new)) }
-        ensures exact { IfOk result (λ _. (place : ℕ) → place < 16 → HasOneVariable row.now place → row.now.affine.constant ≢ negsuc (2 ^ 127 - 1) → IsMeet row.now (Has self.old) (Has self.new)) }
+        ensures exact { IfOk result (λ _. (place : ℕ) → place < 16 → MentionsOnly place row.now.affine → row.now.affine.constant ≢ negsuc (2 ^ 127 - 1) → IsMeet row.now (Has self.old) (Has self.new)) }
         ensures inside { IfOk result (λ _. Within (Has self.new) (Has self.old)) }
+        ensures total { IsOk result }
         ensures err { OnErr result (IsUnchanged Has is_empty_box rows_of bounds_of self.old self.new) }
     {
         self.refine(row);
@@ -250,6 +256,9 @@ impl NumDomain for Boxes {
         ensures own { IfOk result (λ _. Within (Has self.old) (Has self.new)) }
         ensures others { IfOk result (λ _. Within (Has other.now) (Has self.new)) }
         ensures least { IfOk result (λ _. IsLeastOf (Has self.old) (Has other.now) (Has self.new)) }
+        ensures empty { IfOk result (λ _. is_empty_box self.old ≡ true → self.new ≡ other.now) }
+        ensures empty_other { IfOk result (λ _. is_empty_box self.old ≡ false → is_empty_box other.now ≡ true → self.new ≡ self.old) }
+        ensures total { IsOk result }
         ensures err { OnErr result (IsUnchanged Has is_empty_box rows_of bounds_of self.old self.new) }
     {
         *self = self.hull(other);
@@ -261,6 +270,9 @@ impl NumDomain for Boxes {
         ensures own { IfOk result (λ _. Within (Has self.old) (Has self.new)) }
         ensures newer { IfOk result (λ _. Within (Has newer.now) (Has self.new)) }
         ensures ends { IfOk result (λ _. is_empty_box self.old ≡ false → is_empty_box newer.now ≡ false → IsWidening (bounds_of self.old) (bounds_of newer.now) (bounds_of self.new)) }
+        ensures empty { IfOk result (λ _. is_empty_box self.old ≡ true → self.new ≡ newer.now) }
+        ensures empty_newer { IfOk result (λ _. is_empty_box self.old ≡ false → is_empty_box newer.now ≡ true → self.new ≡ self.old) }
+        ensures total { IsOk result }
         ensures err { OnErr result (IsUnchanged Has is_empty_box rows_of bounds_of self.old self.new) }
     {
         *self = self.widened(newer);
@@ -272,6 +284,7 @@ impl NumDomain for Boxes {
         requires { place < 16 }
         ensures keeps { IfOk result (λ _. KeepsAssigned place value.now (Has self.old) (Has self.new)) }
         ensures other_ends { IfOk result (λ _. KeepsOtherEnds place (bounds_of self.old) (bounds_of self.new)) }
+        ensures total { IsOk result }
         ensures err { OnErr result (IsUnchanged Has is_empty_box rows_of bounds_of self.old self.new) }
     {
         self.set(place, value);
@@ -298,7 +311,10 @@ impl NumDomain for Boxes {
         self.ends()
     }
 
-    fn copy(&self, _alloc: Global) -> Result<Boxes, AllocError> {
+    fn copy(&self, _alloc: Global) -> Result<Boxes, AllocError>
+        ensures same { IfOk result (λ twin. SameMembers (Has self.now) (Has twin)) }
+        ensures total { IsOk result }
+    {
         Ok(*self)
     }
 

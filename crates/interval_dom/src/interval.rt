@@ -1,9 +1,7 @@
 //! Intervals of whole numbers, with either end or without.
-ghost use Rattle.std.specs.Prelude.{◌≡◌, ◌≢◌, ◌↔◌, ℤ, pos, ◌+ℤ◌, ◌*ℤ◌, ◌≤ℤ◌, Some};
-ghost use Rattle.std.specs.Int.{int_max, int_min};
-ghost use Rattle.linear_cons.specs.Bounds.{IsFrom, IsUpTo};
-ghost use Rattle.num_domain.specs.Ends.{both_ends, some_end};
-ghost use Rattle.interval_dom.specs.Intervals.{Holds, IsHull, IsRefined, IsWidened, is_void};
+ghost use Rattle.std.specs.Prelude.{◌≡◌, ◌≢◌, ℤ, pos, ◌+ℤ◌, ◌*ℤ◌, Some};
+ghost use Rattle.num_domain.specs.Ends.{some_end};
+ghost use Rattle.interval_dom.specs.Intervals.{Holds, IsHull, IsMultipleOf, IsRefined, IsSumOf, IsWidened, is_void};
 
 use linear_cons::floor_quotient;
 use num_domain::Bound;
@@ -42,8 +40,8 @@ impl Interval {
         ensures { IsHull self.now other.now result }
     {
         Interval {
-            lower: lesser(self.lower, other.lower),
-            upper: greater(self.upper, other.upper),
+            lower: self.lower.lesser(other.lower),
+            upper: self.upper.greater(other.upper),
         }
     }
 
@@ -65,7 +63,8 @@ impl Interval {
 
     /// An interval with the sum of each two numbers.
     pub(crate) fn plus(&self, other: &Interval) -> Interval
-        ensures { (a b : ℤ) → Holds self.now a → Holds other.now b → Holds result (a +ℤ b) }
+        ensures holds { (a b : ℤ) → Holds self.now a → Holds other.now b → Holds result (a +ℤ b) }
+        ensures exact { IsSumOf self.now other.now result }
     {
         Interval {
             lower: self.lower.plus(&other.lower),
@@ -75,7 +74,8 @@ impl Interval {
 
     /// An interval with the multiple of each number.
     pub(crate) fn times(&self, factor: i128) -> Interval
-        ensures { (z : ℤ) → Holds self.now z → Holds result (factor *ℤ z) }
+        ensures holds { (z : ℤ) → Holds self.now z → Holds result (factor *ℤ z) }
+        ensures exact { IsMultipleOf factor self.now result }
     {
         if factor < 0 {
             return Interval {
@@ -98,55 +98,15 @@ impl Interval {
         if factor < 0 {
             return Interval {
                 lower: self.lower,
-                upper: lowered(self.upper, quotient),
+                upper: self.upper.lowered(quotient),
             };
         }
         match quotient.checked_neg() {
             Some(least) => Interval {
-                lower: raised(self.lower, least),
+                lower: self.lower.raised(least),
                 upper: self.upper,
             },
             None => *self,
         }
-    }
-}
-
-/// The lower of two ends, or none where one is missing.
-fn lesser(own: Bound<i128>, other: Bound<i128>) -> Bound<i128>
-    ensures { some_end result ≡ both_ends int_min (some_end own) (some_end other) }
-{
-    match (own, other) {
-        (Bound::At(own), Bound::At(other)) => Bound::At(own.min(other)),
-        _ => Bound::Without,
-    }
-}
-
-/// The higher of two ends, or none where one is missing.
-fn greater(own: Bound<i128>, other: Bound<i128>) -> Bound<i128>
-    ensures { some_end result ≡ both_ends int_max (some_end own) (some_end other) }
-{
-    match (own, other) {
-        (Bound::At(own), Bound::At(other)) => Bound::At(own.max(other)),
-        _ => Bound::Without,
-    }
-}
-
-/// The lower end that asks for `least` too.
-fn raised(lower: Bound<i128>, least: i128) -> Bound<i128>
-    ensures { (z : ℤ) → IsFrom (some_end result) z ↔ (IsFrom (some_end lower) z × (least ≤ℤ z)) }
-{
-    match lower {
-        Bound::At(lower) if least <= lower => Bound::At(lower),
-        _ => Bound::At(least),
-    }
-}
-
-/// The upper end that asks for `greatest` too.
-fn lowered(upper: Bound<i128>, greatest: i128) -> Bound<i128>
-    ensures { (z : ℤ) → IsUpTo (some_end result) z ↔ (IsUpTo (some_end upper) z × (z ≤ℤ greatest)) }
-{
-    match upper {
-        Bound::At(upper) if upper <= greatest => Bound::At(upper),
-        _ => Bound::At(greatest),
     }
 }

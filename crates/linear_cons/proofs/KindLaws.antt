@@ -1,27 +1,14 @@
--- The row kind of a constraint as a function, and its laws.
+-- The row kind of a function whose coefficients have no common divisor but 1.
 use Rattle.std.proofs.Common.{◌≡◌, length, arith, sym, lit<}
 use Rattle.std.proofs.lemmas.Int.{ints}
 use Rattle.linear_cons.specs.Divisor.{IsPrimitive}
 use Rattle.linear_cons.specs.Functions.{IsQuotient, coefficient}
-use Rattle.linear_cons.specs.Rows.{IsRowOf}
+use Rattle.linear_cons.specs.Rows.{row_kind_of}
 use Rattle.linear_cons.specs.declared.affine.Affine.{Affine}
 use Rattle.linear_cons.specs.declared.row.Row.{Row}
-use Rattle.linear_cons.specs.declared.row.RowKind.{RowKind}
 use Rattle.linear_cons.specs.declared.row.RowKind.TheVariants.{Row as Kept}
 use Rattle.linear_cons.proofs.Ring.{one_mul}
-use Rattle.linear_cons.proofs.RowKinds.{row_exists, row_unique}
-
--- the kind that `IsRowOf` names for the function: there is one, and no other
-unfoldable pub row_kind_of : Affine → RowKind
-row_kind_of a = (row_exists a).0
-
-pub row_kind_is : (a : Affine) → IsRowOf a (row_kind_of a)
-unfolding row_kind_of
-row_kind_is a = (row_exists a).1
-
--- what `Row::of` answers is the row kind
-pub row_kind_unique : (a : Affine) (kind : RowKind) → IsRowOf a kind → kind ≡ row_kind_of a
-row_kind_unique a kind is = row_unique a kind (row_kind_of a) is (row_kind_is a)
+pub use Rattle.linear_cons.proofs.RowKinds.{row_kind_is, row_kind_unique}
 
 -- a function whose coefficients have no common divisor but 1 is its own quotient
 pub primitive_quotient : (a : Affine) → length a.coef ≡ 16 → IsQuotient a a

@@ -8,3 +8,6 @@ pub mod KindLaws
 pub mod RowLaws
 pub mod Sizes
 pub mod Sums
+pub mod Telling
+pub mod Parts
+pub mod Examples

@@ -3,16 +3,9 @@ use Rattle.std.proofs.Common.{◌≡◌, ◌≢◌, true, false, cond, eqb, repl
 use Rattle.std.proofs.lemmas.Bool.{cases_lt}
 use Rattle.std.proofs.lemmas.Bool.Decides.{eqb_tells}
 use Rattle.std.proofs.lemmas.List.{length-replicate, get_or-replicate, get_or_past, set_past}
-use Rattle.std.proofs.lemmas.List.FromFn.{fill_by_all, get_or-map-range_with_len, length-map-range_with_len}
+use Rattle.std.proofs.lemmas.List.FromFn.{fill_by_all}
 use Rattle.linear_cons.specs.Numbers.{Fits128, number_at, at_places}
-
-pub number_at_places : (f : ℕ → ℤ) (i : ℕ) → i < 16 → number_at (at_places f) i ≡ f i
-unfolding at_places
-number_at_places f i h = get_or-map-range_with_len f 0 16 i i (pos 0) h (omega arith)
-
-pub length-at_places : (f : ℕ → ℤ) → length (at_places f) ≡ 16
-unfolding at_places
-length-at_places f = length-map-range_with_len f 0 16
+pub use Rattle.linear_cons.specs.Laws.Primitive.{number_at_places, length-at_places}
 
 -- a list of sixteen is the numbers that it has at its places
 pub places_of : (xs : List ℤ) (f : ℕ → ℤ) → length xs ≡ 16 → ((i : ℕ) → i < 16 → number_at xs i ≡ f i) → xs ≡ at_places f

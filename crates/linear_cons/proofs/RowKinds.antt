@@ -1,51 +1,28 @@
 -- Each function with unbounded numbers is one row kind and no other.
-use Rattle.std.proofs.Common.{◌≡◌, ℕ, zero, suc, add-one, ◌*◌, ◌/◌, ◌%◌, ◌<◌, ◌≤◌, ⊎_elim, ℤ, pos, negsuc, ◌+ℤ◌, ◌*ℤ◌, ◌≤ℤ◌, ◌<ℤ◌, List, refl, sym, ap, ◌∙◌, arith, unsigned_abs}
-use Rattle.std.specs.Int.{IsGcd, ◌∣◌}
+use Rattle.std.proofs.Common.{◌≡◌, ℕ, zero, suc, ◌*◌, ◌/◌, ◌<◌, ℤ, pos, negsuc, ◌+ℤ◌, ◌*ℤ◌, ◌≤ℤ◌, ◌<ℤ◌, Bool, true, false, cond, int_lt, refl, sym, ap, ◌∙◌, arith}
+use Rattle.std.specs.Int.{◌∣◌}
 use Rattle.std.proofs.lemmas.Int.{ints, by_lt_z, unsigned_abs-mul}
-use Rattle.std.proofs.lemmas.Bool.{cases_lt}
-use Rattle.std.proofs.lemmas.Nat.Gcd.{IsGcd-from_mod, IsGcd-from_zero, dvd-zero}
+use Rattle.std.proofs.lemmas.Nat.Gcd.{dvd-zero}
 use Rattle.std.proofs.Math.Nat.{dvd-mul_right, dvd_of_mul-dvd-mul_left, mul-div_cancel', mul-one}
-use Rattle.linear_cons.specs.Numbers.{number_at, at_places}
-use Rattle.linear_cons.specs.Divisor.{DividesAll, IsDivisorOf, IsPrimitive}
-use Rattle.linear_cons.specs.Functions.{IsConstant, IsQuotient, coefficient}
-use Rattle.linear_cons.specs.Rows.{IsRowOf}
+use Rattle.linear_cons.specs.Numbers.{floor_by}
+use Rattle.linear_cons.specs.Divisor.{DividesAll, IsDivisorOf, IsPrimitive, divisor_of}
+use Rattle.linear_cons.specs.Functions.{IsConstant, IsQuotient, coefficient, quotient_by}
+use Rattle.linear_cons.specs.Laws.Primitive.{divisor_is}
+use Rattle.linear_cons.specs.Rows.{IsRowOf, kind_by, row_kind_of}
 use Rattle.linear_cons.specs.declared.affine.Affine.{Affine}
-use Rattle.linear_cons.specs.declared.row.Row.{Row}
 use Rattle.linear_cons.specs.declared.row.RowKind.{RowKind}
 use Rattle.linear_cons.specs.declared.row.RowKind.TheVariants.{Always, Never, Row as Kept}
-use Rattle.linear_cons.proofs.Dividing.{DivisorBelow, divisor_all, divisor_more, divisor_none, exact_quotient, primitive_quotients}
+use Rattle.linear_cons.proofs.Dividing.{exact_quotient}
 use Rattle.linear_cons.proofs.Forms.{affine_same}
 use Rattle.linear_cons.proofs.Places.{length-at_places, number_at_places}
 use Rattle.linear_cons.proofs.Ring.{mul_add, mul_le, mul_lt, mul_one, mul_zero}
 use Rattle.linear_cons.proofs.RowLaws.{divisor_zero, row_same}
 
--- ---- greatest common divisors exist
-
-gcd_exists : (fuel a b : ℕ) → b ≤ fuel → (g : ℕ) × IsGcd a b g
-gcd_exists zero a b small = (a, IsGcd-from_zero a b (omega arith))
-gcd_exists (suc fuel) a b small = ⊎_elim
-    (λ (some : 0 < b).
-    let rest : a % b ≤ fuel = omega arith in
-    let found = gcd_exists fuel b (a % b) rest in
-    (found.0, IsGcd-from_mod a b found.0 found.1))
-    (λ (none : b ≤ 0). (a, IsGcd-from_zero a b (omega arith)))
-    (cases_lt 0 b)
-
-below_exists : (n : ℕ) (xs : List ℤ) → (g : ℕ) × DivisorBelow n xs g
-below_exists zero xs = (0, divisor_none xs)
-below_exists (suc n) xs =
-    let before = below_exists n xs in
-    let next = gcd_exists before.0 (unsigned_abs (number_at xs n)) before.0 (omega arith) in
-    (next.0, rw (← add-one) (divisor_more n xs before.0 next.0 before.1 next.1))
-
-pub divisor_exists : (xs : List ℤ) → (g : ℕ) × IsDivisorOf xs g
-divisor_exists xs = let found = below_exists 16 xs in (found.0, divisor_all xs found.0 found.1)
-
 -- ---- a quotient with coefficients that have no common divisor is unique
 
 -- such a quotient is by the greatest common divisor
-divisor_is : (a q : Affine) (by : IsQuotient a q) (g : ℕ) → IsPrimitive q.coef → IsDivisorOf a.coef g → g ≡ by.divisor
-divisor_is a q by g primitive greatest =
+divisor_of_quotient : (a q : Affine) (by : IsQuotient a q) (g : ℕ) → IsPrimitive q.coef → IsDivisorOf a.coef g → g ≡ by.divisor
+divisor_of_quotient a q by g primitive greatest =
     let each : DividesAll by.divisor a.coef = λ i h. rw (by.coefficients i h, unsigned_abs-mul) (dvd-mul_right by.divisor _) in
     let part : by.divisor ∣ g = greatest.greatest by.divisor each in
     let m : ℕ = g / by.divisor in
@@ -75,8 +52,8 @@ floor_unique g z x y positive low high also next =
 
 pub quotient_unique : (a q r : Affine) → IsQuotient a q → IsQuotient a r → IsPrimitive q.coef → IsPrimitive r.coef → ((i : ℕ) → i < 16 → coefficient q i ≡ coefficient r i) × (q.constant ≡ r.constant)
 quotient_unique a q r by other primitive also =
-    let found = divisor_exists a.coef in
-    let same : by.divisor ≡ other.divisor = sym (divisor_is a q by found.0 primitive found.1) ∙ divisor_is a r other found.0 also found.1 in (
+    let greatest = divisor_is a.coef in
+    let same : by.divisor ≡ other.divisor = sym (divisor_of_quotient a q by (divisor_of a.coef) primitive greatest) ∙ divisor_of_quotient a r other (divisor_of a.coef) also greatest in (
       λ i h. cancel by.divisor (coefficient q i) (coefficient r i) by.positive (sym (by.coefficients i h) ∙ rw same (other.coefficients i h)),
       floor_unique by.divisor a.constant q.constant r.constant by.positive by.at_most by.below_next (rw same other.at_most) (rw same other.below_next),
     )
@@ -107,36 +84,39 @@ row_unique a (Kept row) Never is also = absurd (never_both a row.affine also.0 i
 row_unique a (Kept row) (Kept other) is also =
     ap (λ t. Kept t) (row_same row other (quotient_same a row.affine other.affine is also row.primitive other.primitive))
 
--- the number divided by a positive one, rounded down
-abbrev floor_of : ℕ → ℤ → ℤ
-floor_of g (pos n) = pos (n / g)
-floor_of g (negsuc n) = negsuc (n / g)
-
-floor_low : (g : ℕ) (z : ℤ) → 0 < g → (pos g *ℤ floor_of g z) ≤ℤ z
+floor_low : (g : ℕ) (z : ℤ) → 0 < g → (pos g *ℤ floor_by g z) ≤ℤ z
 floor_low g (pos n) positive = omega (arith, ints)
 floor_low g (negsuc n) positive = omega (arith, ints)
 
-floor_below : (g : ℕ) (z : ℤ) → 0 < g → z <ℤ (pos g *ℤ floor_of g z +ℤ pos g)
+floor_below : (g : ℕ) (z : ℤ) → 0 < g → z <ℤ (pos g *ℤ floor_by g z +ℤ pos g)
 floor_below g (pos n) positive = omega (arith, ints)
 floor_below g (negsuc n) positive = omega (arith, ints)
 
-floor_high : (g : ℕ) (z : ℤ) → 0 < g → z <ℤ (pos g *ℤ (floor_of g z +ℤ pos 1))
-floor_high g z positive = rw (mul_add (pos g) (floor_of g z) (pos 1), mul_one (pos g)) (floor_below g z positive)
+floor_high : (g : ℕ) (z : ℤ) → 0 < g → z <ℤ (pos g *ℤ (floor_by g z +ℤ pos 1))
+floor_high g z positive = rw (mul_add (pos g) (floor_by g z) (pos 1), mul_one (pos g)) (floor_below g z positive)
 
-quotient_exists : (a : Affine) (g : ℕ) → 0 < g → IsDivisorOf a.coef g → (row : Row) × IsQuotient a row.affine
-quotient_exists a g positive divisor =
-    let q : Affine = record { coef = at_places (λ i. floor_of g (coefficient a i)); constant = floor_of g a.constant } in
-    let exact : (i : ℕ) → i < 16 → coefficient a i ≡ pos g *ℤ coefficient q i =
-    λ i h. rw number_at_places (exact_quotient g (coefficient a i) (floor_of g (coefficient a i)) positive (divisor.divides i h) (floor_low g (coefficient a i) positive) (floor_high g (coefficient a i) positive)) in
-    let row : Row = record { affine = q; primitive = primitive_quotients g a.coef q.coef positive divisor exact } in
-    (row, record { divisor = g; positive = positive; places = length-at_places _; coefficients = exact; at_most = floor_low g a.constant positive; below_next = floor_high g a.constant positive })
+quotient_is : (a : Affine) (g : ℕ) → 0 < g → IsDivisorOf a.coef g → IsQuotient a (quotient_by g a)
+quotient_is a g positive divisor = record {
+  divisor = g;
+  positive = positive;
+  places = length-at_places _;
+  coefficients = λ i h. rw number_at_places (exact_quotient g (coefficient a i) (floor_by g (coefficient a i)) positive (divisor.divides i h) (floor_low g (coefficient a i) positive) (floor_high g (coefficient a i) positive));
+  at_most = floor_low g a.constant positive;
+  below_next = floor_high g a.constant positive;
+}
 
-pub row_exists : (a : Affine) → (kind : RowKind) × IsRowOf a kind
-row_exists a =
-    let found = divisor_exists a.coef in
-    ⊎_elim
-    (λ (some : 0 < found.0). let row = quotient_exists a found.0 some found.1 in (Kept row.0, row.1))
-    (λ (none : found.0 ≤ 0).
-    let constant : IsConstant a = divisor_zero a found.0 (omega arith) found.1 in
-    by_lt_z a.constant (pos 0) (λ less. (Never, (constant, less))) (λ from. (Always, (constant, from))))
-    (cases_lt 0 found.0)
+constant_kind : (a : Affine) (b : Bool) → int_lt a.constant (pos 0) ≡ b → IsConstant a → IsRowOf a (cond b Never Always)
+constant_kind a true is none = (none, omega (arith, ints))
+constant_kind a false is none = (none, omega (arith, ints))
+
+kind_by_is : (a : Affine) (g : ℕ) (divisor : IsDivisorOf a.coef g) → IsRowOf a (kind_by a g divisor)
+kind_by_is a zero divisor = constant_kind a (int_lt a.constant (pos 0)) refl (divisor_zero a 0 refl divisor)
+kind_by_is a (suc n) divisor = let positive : 0 < suc n = omega arith in quotient_is a (suc n) positive divisor
+
+-- the row kind is the one that `IsRowOf` names, and no other is
+pub row_kind_is : (a : Affine) → IsRowOf a (row_kind_of a)
+unfolding row_kind_of
+row_kind_is a = kind_by_is a (divisor_of a.coef) (divisor_is a.coef)
+
+pub row_kind_unique : (a : Affine) (kind : RowKind) → IsRowOf a kind → kind ≡ row_kind_of a
+row_kind_unique a kind is = row_unique a kind (row_kind_of a) is (row_kind_is a)

@@ -3,7 +3,8 @@ use Rattle.std.specs.Prelude.{ℕ, ◌<◌, ℤ, ◌-ℤ◌, ◌≤ℤ◌, List,
 use Rattle.linear_cons.specs.declared.bounds.Bounds.{Bounds}
 use Rattle.linear_cons.specs.declared.bounds.Linear.{Linear}
 use Rattle.linear_cons.specs.Numbers.{number_at}
-use Rattle.linear_cons.specs.Functions.{value_at}
+use Rattle.linear_cons.specs.Functions.{NumbersFit, constant_of, sum_of, value_at}
+use Rattle.linear_cons.specs.declared.affine.Affine.{Affine}
 
 -- the number is at least the end; no end asks nothing
 abbrev pub IsFrom : Option ℤ → ℤ → Type 0
@@ -32,3 +33,17 @@ pub record LiesIn (bounds : Bounds) (store : List ℤ) : Type 0 where
 pub record Covers (linear : Linear) (store : List ℤ) (z : ℤ) : Type 0 where
   pub lower : IsFrom linear.lo (z -ℤ value_at linear.affine store)
   pub upper : IsUpTo linear.hi (z -ℤ value_at linear.affine store)
+
+-- the linear expression's affine function plus a number
+abbrev pub end_of : Linear → ℤ → Affine
+end_of linear n = sum_of linear.affine (constant_of n)
+
+-- that function with an end, where there is the end
+abbrev pub with_end : Linear → Option ℤ → Option Affine
+with_end linear None = None
+with_end linear (Some n) = Some (end_of linear n)
+
+-- the numbers of that function fit 128 bits; without an end nothing is asked
+abbrev pub FitsWithEnd : Linear → Option ℤ → Type 0
+FitsWithEnd linear None = ⊤
+FitsWithEnd linear (Some n) = NumbersFit (end_of linear n)

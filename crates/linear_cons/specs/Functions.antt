@@ -1,9 +1,9 @@
 -- Affine functions with unbounded numbers: their values, and the exact sum, difference, multiple and substitution.
-use Rattle.std.specs.Prelude.{◌≡◌, ℕ, ◌<◌, ◌≤◌, ◌==◌, ℤ, pos, negsuc, neg_ℤ, ◌+ℤ◌, ◌-ℤ◌, ◌*ℤ◌, ◌≤ℤ◌, ◌<ℤ◌, List, length, slice_set, if◌then◌else◌}
+use Rattle.std.specs.Prelude.{◌≡◌, ◌≢◌, ℕ, ◌<◌, ◌≤◌, ◌==◌, ℤ, pos, negsuc, neg_ℤ, ◌+ℤ◌, ◌-ℤ◌, ◌*ℤ◌, ◌≤ℤ◌, ◌<ℤ◌, List, length, slice_set, if◌then◌else◌}
 use Rattle.linear_cons.specs.declared.affine.Affine.{Affine}
 use Rattle.linear_cons.specs.declared.exact.Op.{Op}
 use Rattle.linear_cons.specs.Exact.{exact_result}
-use Rattle.linear_cons.specs.Numbers.{Fits128, number_at, at_places}
+use Rattle.linear_cons.specs.Numbers.{Fits128, at_places, floor_by, number_at}
 use Rattle.linear_cons.specs.LinearForm.{products_below, linear_form}
 
 -- the coefficient of the variable at a place
@@ -73,6 +73,22 @@ pub record PartsFit (a : Affine) (store : List ℤ) : Type 0 where
 -- no variable occurs: all coefficients are 0
 abbrev pub IsConstant : Affine → Type 0
 IsConstant a = (i : ℕ) → i < 16 → coefficient a i ≡ pos 0
+
+-- the variable at the place occurs
+abbrev pub Mentions : ℕ → Affine → Type 0
+Mentions place a = coefficient a place ≢ pos 0
+
+-- no variable but the one at the place occurs
+abbrev pub MentionsOnly : ℕ → Affine → Type 0
+MentionsOnly place a = (i : ℕ) → i < 16 → i ≢ place → coefficient a i ≡ pos 0
+
+-- no variable at the place or past it occurs
+abbrev pub MentionsOnlyBelow : ℕ → Affine → Type 0
+MentionsOnlyBelow place a = (i : ℕ) → i < 16 → place ≤ i → coefficient a i ≡ pos 0
+
+-- the function divided by a positive number, each of its numbers rounded down
+abbrev pub quotient_by : ℕ → Affine → Affine
+quotient_by g a = record { coef = at_places (λ i. floor_by g (coefficient a i)); constant = floor_by g a.constant }
 
 -- the second function is the first divided by a positive number, its constant rounded down
 pub record IsQuotient (a quotient : Affine) : Type 0 where

@@ -3,5 +3,7 @@ pub mod Exact
 pub mod LinearForm
 pub mod Functions
 pub mod Divisor
+pub mod Laws
 pub mod Rows
+pub mod Settling
 pub mod Bounds

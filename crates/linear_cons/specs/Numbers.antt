@@ -1,5 +1,5 @@
 -- Whole numbers of 128 bits, and lists of them that are read by place.
-use Rattle.std.specs.Prelude.{ℕ, ℤ, pos, List, map, slice_index_or, FitsSigned}
+use Rattle.std.specs.Prelude.{ℕ, ◌/◌, ℤ, pos, negsuc, List, map, slice_index_or, FitsSigned}
 use Rattle.std.specs.Int.{w128}
 use Rattle.std.specs.List.{range_with_len}
 
@@ -14,3 +14,8 @@ number_at xs i = slice_index_or xs i (pos 0)
 -- the sixteen numbers f 0, f 1, .. f 15
 unfoldable pub at_places : (ℕ → ℤ) → List ℤ
 at_places f = map f (range_with_len 0 16)
+
+-- the number divided by a positive one, rounded down
+abbrev pub floor_by : ℕ → ℤ → ℤ
+floor_by g (pos n) = pos (n / g)
+floor_by g (negsuc n) = negsuc (n / g)

@@ -8,7 +8,7 @@ use crate::divisor::floor_quotient;
 use crate::exact::{Op, Wide};
 
 /// How many places a store has.
-const PLACES: usize = 16;
+pub const PLACES: usize = 16;
 
 /// The function `coef[0] * x0 + .. + coef[15] * x15 + constant` of a store of sixteen whole numbers.
 #[derive(Clone, Copy, PartialEq, Eq, Debug)]
@@ -67,6 +67,17 @@ impl Affine {
         Ok(Affine { coef, constant })
     }
 
+    /// The function plus the number, or `Wide` exactly where its constant leaves `i128`.
+    pub fn plus(&self, number: i128) -> Result<Affine, Wide>
+        ensures exact { OkIff result (NumbersFit (sum_of self.now (constant_of number))) (sum_of self.now (constant_of number)) }
+        ensures wide { IfErr result IsOutside }
+    {
+        self.numbers_fit();
+        let mut sum = *self;
+        sum.constant = Op::Add.exact(self.constant, number)?;
+        Ok(sum)
+    }
+
     /// The function with `by` put in for the variable at the place. `Wide` comes exactly where a
     /// number of the result, or one of the products that are added up, lies outside `i128`.
     pub fn subst(&self, place: u8, by: &Affine) -> Result<Affine, Wide>
@@ -74,6 +85,10 @@ impl Affine {
         ensures exact { OkIff result (SubstitutionFits self.now place by.now) (substituted self.now place by.now) }
         ensures wide { IfErr result IsOutside }
     {
+        if self.coef[place as usize] == 0 {
+            self.numbers_fit();
+            return Ok(*self);
+        }
         let mut rest = *self;
         rest.coef[place as usize] = 0;
         let products = by.scale(self.coef[place as usize])?;
@@ -92,6 +107,17 @@ impl Affine {
             sum = Op::Add.exact(sum, product)?;
         }
         Op::Add.exact(sum, self.constant)
+    }
+
+    /// Shows that each number of a function lies in `i128`, as one that is read does. It has no effect, so
+    /// that a compiler leaves nothing of it.
+    fn numbers_fit(&self)
+        ensures { NumbersFit self.now }
+    {
+        for place in 0..PLACES {
+            let _coefficient = self.coef[place];
+        }
+        let _constant = self.constant;
     }
 
     /// The operation on each number of the one function and the number at the same place of the other.

@@ -3,8 +3,29 @@ ghost use Rattle.std.specs.Prelude.{◌≡◌, ◌<◌, pos, ◌+ℤ◌, ◌*ℤ
 ghost use Rattle.std.specs.Int.{IsGcd};
 ghost use Rattle.linear_cons.specs.Divisor.{IsDivisorOf};
 
-/// The greatest common divisor by Euclid's algorithm; that of 0 and `b` is `b`.
-fn common_divisor(a: u128, b: u128) -> u128
+/// The greatest number of 64 bits.
+const MOST_64: u128 = u64::MAX as u128;
+
+/// The greatest common divisor by Euclid's algorithm; that of 0 and `b` is `b`. It goes over to 64 bits
+/// once both numbers have no more.
+pub fn common_divisor(a: u128, b: u128) -> u128
+    ensures { IsGcd a b result }
+{
+    let mut x = a;
+    let mut y = b;
+    while y != 0 {
+        if x <= MOST_64 && y <= MOST_64 {
+            return small_divisor(x as u64, y as u64) as u128;
+        }
+        let rest = x % y;
+        x = y;
+        y = rest;
+    }
+    x
+}
+
+/// The greatest common divisor of numbers of 64 bits.
+fn small_divisor(a: u64, b: u64) -> u64
     ensures { IsGcd a b result }
 {
     let mut x = a;

@@ -1,12 +1,13 @@
 //! Laws of the definitions, each the contract of a function that does nothing: the values of
 //! combined functions, and which stores and points meet which rows.
-ghost use Rattle.std.specs.Prelude.{◌≡◌, ℕ, ◌<◌, ◌↔◌, ◌⊎◌, ℤ, pos, ◌+ℤ◌, ◌-ℤ◌, ◌*ℤ◌, ◌≤ℤ◌, ◌<ℤ◌, List, length, slice_set, negsuc};
+ghost use Rattle.std.specs.Prelude.{◌≡◌, IsTrue, Some, true, false, ℕ, ◌<◌, ◌↔◌, ◌⊎◌, ℤ, pos, ◌+ℤ◌, ◌-ℤ◌, ◌*ℤ◌, ◌≤ℤ◌, ◌<ℤ◌, List, length, slice_set, negsuc};
 ghost use Rattle.linear_cons.specs.declared.affine.Affine.{Affine};
 ghost use Rattle.linear_cons.specs.declared.row.Row.{Row};
 ghost use Rattle.linear_cons.specs.declared.row.RowKind.{RowKind};
 ghost use Rattle.linear_cons.specs.Functions.{complement_of, constant_of, difference_of, form_at, multiple_of, substituted, sum_of, value_at, variable_at};
 ghost use Rattle.linear_cons.specs.Numbers.{number_at};
-ghost use Rattle.linear_cons.specs.Rows.{AreOpposed, IsRowOf, PointMeets};
+ghost use Rattle.linear_cons.specs.Rows.{AreOpposed, IsRowOf, Meets, MeetsAll, PointMeets, complement, row_kind_of};
+ghost use Rattle.linear_cons.specs.Settling.{settles, tells};
 
 /// The forms of combined functions at each point, and so, with the denominator 1, their values.
 pub fn forms_of_combinations()
@@ -37,13 +38,27 @@ pub fn opposed_rows_exclude_each_other()
     ensures { (row other : Row) → AreOpposed row other → (num : List ℤ) (den : ℤ) → pos 0 <ℤ den → PointMeets num den row → PointMeets num den other → ⊥ }
 {}
 
+/// A row that other rows settle to hold is met by each store that meets them, one that they settle to
+/// fail by none.
+pub fn settled_rows_hold_or_fail()
+    ensures holds { (rows : List Row) (row : Row) (store : List ℤ) → settles rows row ≡ Some true → MeetsAll store rows → Meets store row }
+    ensures fails { (rows : List Row) (row : Row) (store : List ℤ) → settles rows row ≡ Some false → MeetsAll store rows → Meets store row → ⊥ }
+{}
+
+/// A row tells the complement of another exactly where the two are opposed; so rows that tell a row
+/// and its complement have two opposed rows among them.
+pub fn opposed_rows_tell_complements()
+    ensures opposed { (given row : Row) → length given.affine.coef ≡ 16 → IsTrue (tells given.affine (complement row).affine) ↔ AreOpposed given row }
+    ensures both { (given other row : Row) → length other.affine.coef ≡ 16 → IsTrue (tells given.affine row.affine) → IsTrue (tells other.affine (complement row).affine) → AreOpposed given other }
+{}
+
 /// Two rows with one function are one row.
 pub fn rows_are_their_functions()
     ensures { (row other : Row) → row.affine ≡ other.affine → row ≡ other }
 {}
 
-/// A constraint is exactly one of: always met, never met, a row.
+/// What a constraint is as a row: it is that kind, and no other.
 pub fn constraints_have_one_kind()
-    ensures some { (a : Affine) → (kind : RowKind) × IsRowOf a kind }
-    ensures one { (a : Affine) (kind other : RowKind) → IsRowOf a kind → IsRowOf a other → kind ≡ other }
+    ensures is { (a : Affine) → IsRowOf a (row_kind_of a) }
+    ensures one { (a : Affine) (kind : RowKind) → IsRowOf a kind → kind ≡ row_kind_of a }
 {}

@@ -3,8 +3,8 @@
 //!
 //! It stands on the standard library alone. The numbers of the code are `i128`; each call answers
 //! the exact function over unbounded whole numbers, or `Wide` where one of its numbers does not fit.
-//! The front door: `Affine` and its calls, `Row::of`, and the words of `specs/` for values, points
-//! and rows that are met.
+//! The front door: `Affine` and its calls, `Row::of`, `settles`, and the words of `specs/` for values,
+//! points and rows that are met. `specs/Laws/` holds proofs that these words need.
 #![tactic(auto)]
 
 mod affine;
@@ -14,12 +14,14 @@ mod exact;
 pub mod laws;
 mod row;
 mod rows;
+mod settling;
 #[cfg(test)]
 mod tests;
 
-pub use affine::Affine;
+pub use affine::{Affine, PLACES};
 pub use bounds::{Bounds, Linear};
-pub use divisor::floor_quotient;
+pub use divisor::{common_divisor, floor_quotient};
 pub use exact::{Op, Wide};
 pub use row::{Row, RowKind};
-pub use rows::Rows;
+pub use rows::{MOST_ROWS, Rows};
+pub use settling::settles;

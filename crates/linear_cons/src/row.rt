@@ -24,12 +24,14 @@ pub enum RowKind {
 impl Row {
     ghost use Rattle.linear_cons.specs.Exact.{IsOutside};
     ghost use Rattle.linear_cons.specs.Functions.{NumbersFit, complement_of, value_at};
-    ghost use Rattle.linear_cons.specs.Rows.{AreOpposed, IsRowOf, MeetsKind};
+    ghost use Rattle.linear_cons.specs.Rows.{AreOpposed, IsRowOf, MeetsKind, row_kind_of};
+    ghost use Rattle.linear_cons.specs.Settling.{tells};
 
     /// The constraint `a >= 0`, divided by the greatest common divisor of its coefficients, with the
     /// constant rounded down: it is met at the same stores. `Always` and `Never` come exactly where
     /// all coefficients are 0.
     pub fn of(a: Affine) -> RowKind
+        ensures kind { result ≡ row_kind_of a }
         ensures normal { IsRowOf a result }
         ensures same_stores { (store : List ℤ) → MeetsKind store result ↔ (pos 0 ≤ℤ value_at a store) }
     {
@@ -61,5 +63,20 @@ impl Row {
     {
         // `a + b < 0` without a sum: `!b` is `-b - 1`.
         self.affine.constant <= !other.affine.constant && self.affine.has_negatives(&other.affine)
+    }
+
+    /// True exactly where the linear parts are the same and this constant is not greater: then the other
+    /// row is met wherever this one is.
+    pub fn tells(&self, other: &Row) -> bool
+        ensures { result ≡ tells self.now.affine other.now.affine }
+    {
+        self.affine.coef == other.affine.coef && self.affine.constant <= other.affine.constant
+    }
+
+    /// True exactly where the two are opposed, as the test that this row tells the other's complement.
+    pub(crate) fn refutes(&self, other: &Row) -> bool
+        ensures { result ≡ tells self.now.affine (complement_of other.now.affine) }
+    {
+        self.opposed(other)
     }
 }

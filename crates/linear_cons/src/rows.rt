@@ -4,6 +4,9 @@ ghost use Rattle.std.specs.Prelude.{◌≡◌};
 use crate::row::Row;
 use std::marker::Model;
 
+/// The most rows that a system may have, and that an elimination may leave.
+pub const MOST_ROWS: usize = 4096;
+
 /// A list of rows; contracts see it as the list.
 #[derive(Drop)]
 pub struct Rows {
@@ -32,5 +35,12 @@ impl Rows {
         ensures { result.now ≡ self.now }
     {
         &self.rows
+    }
+
+    /// The vector of the rows. It takes no memory.
+    pub fn into_vec(self) -> Vec<Row>
+        ensures { result.items ≡ self }
+    {
+        self.rows
     }
 }

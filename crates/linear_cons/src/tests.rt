@@ -1,5 +1,6 @@
 //! Tables of worked examples, computed by hand.
 use crate::affine::Affine;
+use crate::bounds::Linear;
 use crate::exact::{Op, Wide};
 use crate::row::{Row, RowKind};
 use crate::rows::Rows;
@@ -33,7 +34,9 @@ fn combinations(rt: HostRuntime) {
     assert_eq!(rt; a.subst(0, &b), Ok(line(15, 4, 4)));
     // 3 * x0 - 2 * (5 * x0 + 2 * x1 - 1) + 7
     assert_eq!(rt; a.subst(1, &b), Ok(line(-7, -4, 9)));
-    assert_eq!(rt; a.subst(2, &b), Ok(a));
+    // x2 doesn't occur, so nothing is formed.
+    assert_eq!(rt; a.subst(2, &line(i128::MIN, 0, 0)), Ok(a));
+    assert_eq!(rt; a.plus(-9), Ok(line(3, -2, -2)));
     assert_eq!(rt;
         Affine::var(1).sub(&Affine::constant(4)),
         Ok(line(0, 1, -4))
@@ -160,6 +163,45 @@ fn opposed_rows(rt: HostRuntime) -> Result<(), Fail> {
 }
 
 #[test]
+fn told_rows(rt: HostRuntime) -> Result<(), Fail> {
+    let table = [
+        (line(1, -2, 3), line(1, -2, 3), true),
+        (line(1, -2, 3), line(1, -2, 4), true),
+        (line(1, -2, 4), line(1, -2, 3), false),
+        (line(1, -2, 3), line(-1, 2, 9), false),
+        (line(1, -2, 3), line(1, 2, 9), false),
+    ];
+    for (left, right, expected) in table {
+        assert_eq!(rt; row(left)?.tells(&row(right)?), expected);
+    }
+    Ok(())
+}
+
+#[test]
+fn expressions_at_their_ends(rt: HostRuntime) {
+    let range = Linear {
+        affine: line(2, 0, 5),
+        lo: None,
+        hi: Some(-7),
+    };
+    assert_eq!(rt; range.with_lower(), Ok(None));
+    assert_eq!(rt; range.with_upper(), Ok(Some(line(2, 0, -2))));
+    let most = Linear {
+        affine: line(0, 0, i128::MAX),
+        lo: Some(1),
+        hi: None,
+    };
+    assert_eq!(rt;
+        most.with_lower(),
+        Err(Wide {
+            left: i128::MAX,
+            right: 1,
+            op: Op::Add
+        })
+    );
+}
+
+#[test]
 fn lists_of_rows(rt: HostRuntime) -> Result<(), Fail> {
     let first = row(line(1, 0, -1))?;
     let second = row(line(0, 1, 3))?;
@@ -168,5 +210,6 @@ fn lists_of_rows(rt: HostRuntime) -> Result<(), Fail> {
     list.push(second)?;
     let rows = Rows::of(list);
     assert_eq!(rt; rows.items(), [first, second].as_slice());
+    assert_eq!(rt; rows.into_vec().as_slice(), [first, second].as_slice());
     Ok(())
 }

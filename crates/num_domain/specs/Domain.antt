@@ -1,10 +1,10 @@
 -- What a domain's operations keep, over the relation "the store is a member".
-use Rattle.std.specs.Prelude.{◌≡◌, ◌≢◌, ℕ, ◌<◌, ◌≤◌, ◌^◌, ◌↔◌, ℤ, pos, Bool, List, length, slice_set, unsigned_abs}
+use Rattle.std.specs.Prelude.{◌≡◌, ℕ, ◌<◌, ◌≤◌, ◌^◌, ◌↔◌, ℤ, Bool, List, length, slice_set, unsigned_abs}
 use Rattle.linear_cons.specs.declared.bounds.Bounds.{Bounds}
 use Rattle.linear_cons.specs.declared.bounds.Linear.{Linear}
 use Rattle.linear_cons.specs.declared.row.Row.{Row}
 use Rattle.linear_cons.specs.Bounds.{Covers}
-use Rattle.linear_cons.specs.Functions.{coefficient}
+use Rattle.linear_cons.specs.Functions.{MentionsOnly}
 use Rattle.linear_cons.specs.Rows.{Meets}
 
 -- a store has sixteen places
@@ -35,7 +35,7 @@ KeepsAssigned place value old new = (store : List ℤ) (z : ℤ) → IsStore sto
 -- no variable but the place's occurs in the row, and its constant is at most 2^64 in size
 pub record IsPlain (row : Row) (place : ℕ) : Type 0 where
   pub inside : place < 16
-  pub alone : (i : ℕ) → i < 16 → i ≢ place → coefficient row.affine i ≡ pos 0
+  pub alone : MentionsOnly place row.affine
   pub small : unsigned_abs row.affine.constant ≤ 2 ^ 64
 
 -- each store of the set meets the row

@@ -1,5 +1,7 @@
 //! Ends of ranges that may be missing.
-ghost use Rattle.std.specs.Prelude.{◌≡◌, ◌+ℤ◌, ◌*ℤ◌, Some};
+ghost use Rattle.std.specs.Prelude.{◌≡◌, ◌↔◌, ℤ, ◌+ℤ◌, ◌*ℤ◌, ◌≤ℤ◌, Some};
+ghost use Rattle.std.specs.Int.{int_max, int_min};
+ghost use Rattle.linear_cons.specs.Bounds.{IsFrom, IsUpTo};
 ghost use Rattle.num_domain.specs.Ends.{IsExactEnd, end_of, both_ends, some_end};
 
 use num_traits::{CheckedAdd, CheckedMul};
@@ -64,6 +66,48 @@ impl<T: CheckedMul> Bound<T> {
     }
 }
 
+impl Bound<i128> {
+    /// The lower of two lower ends: missing where one of them is.
+    pub fn lesser(self, other: Bound<i128>) -> Bound<i128>
+        ensures { some_end result ≡ both_ends int_min (some_end self) (some_end other) }
+    {
+        match (self, other) {
+            (Bound::At(own), Bound::At(other)) => Bound::At(own.min(other)),
+            _ => Bound::Without,
+        }
+    }
+
+    /// The higher of two upper ends: missing where one of them is.
+    pub fn greater(self, other: Bound<i128>) -> Bound<i128>
+        ensures { some_end result ≡ both_ends int_max (some_end self) (some_end other) }
+    {
+        match (self, other) {
+            (Bound::At(own), Bound::At(other)) => Bound::At(own.max(other)),
+            _ => Bound::Without,
+        }
+    }
+
+    /// The lower end that asks for `least` too.
+    pub fn raised(self, least: i128) -> Bound<i128>
+        ensures { (z : ℤ) → IsFrom (some_end result) z ↔ (IsFrom (some_end self) z × (least ≤ℤ z)) }
+    {
+        match self {
+            Bound::At(lower) if least <= lower => Bound::At(lower),
+            _ => Bound::At(least),
+        }
+    }
+
+    /// The upper end that asks for `greatest` too.
+    pub fn lowered(self, greatest: i128) -> Bound<i128>
+        ensures { (z : ℤ) → IsUpTo (some_end result) z ↔ (IsUpTo (some_end self) z × (z ≤ℤ greatest)) }
+    {
+        match self {
+            Bound::At(upper) if upper <= greatest => Bound::At(upper),
+            _ => Bound::At(greatest),
+        }
+    }
+}
+
 #[cfg(test)]
 mod tests {
     use super::*;
@@ -84,6 +128,10 @@ mod tests {
         assert_eq!(rt; Bound::At(-7i128).times(&3), Bound::At(-21));
         assert_eq!(rt; Bound::At(i128::MIN).times(&-1), Bound::Without);
         assert_eq!(rt; Bound::Without.times(&0i128), Bound::Without);
+        assert_eq!(rt; Bound::At(4i128).lesser(Bound::At(-2)), Bound::At(-2));
+        assert_eq!(rt; Bound::At(4i128).greater(Bound::Without), Bound::Without);
+        assert_eq!(rt; Bound::Without.raised(3), Bound::At(3));
+        assert_eq!(rt; Bound::At(2i128).lowered(3), Bound::At(2));
         assert_eq!(rt; Bound::of(Some(4i128)), Bound::At(4));
         assert_eq!(rt; Bound::of(None::<i128>), Bound::Without);
         assert_eq!(rt; Bound::At(4i128).end(), Some(4));

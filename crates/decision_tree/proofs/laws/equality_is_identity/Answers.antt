@@ -1,5 +1,5 @@
 use Rattle.linear_cons.proofs.RowLaws.{row_eq-Decides}
-use Rattle.decision_tree.specs.EqualityLaws.{cause_eq-Decides, pick_eq-Decides, plan_eq-Decides, why_eq-Decides}
+use Rattle.decision_tree.specs.Laws.EqualityLaws.{cause_eq-Decides, pick_eq-Decides, plan_eq-Decides, why_eq-Decides}
 use Rattle.decision_tree.proofs.laws.equality_is_identity.Goals as goal
 
 pub returns-clause-rows : goal.returns-clause-rows

@@ -1,4 +1,4 @@
-use Rattle.decision_tree.specs.EqualityLaws.{plan_eq-Decides}
+use Rattle.decision_tree.specs.Laws.EqualityLaws.{plan_eq-Decides}
 use Rattle.decision_tree.specs.Plans.{plan_of}
 use Rattle.decision_tree.proofs.tree.TreePartialEq.eq.Goals as goal
 

@@ -1,6 +1,6 @@
 use Rattle.std.proofs.Common.{◌≡◌, ◌<◌, ℕ, length, get_or, None}
 use Rattle.interval_dom.specs.Boxes.{ends_of}
-use Rattle.interval_dom.specs.Laws.{interval_at}
+use Rattle.interval_dom.specs.Laws.BoxLaws.{interval_at}
 use Rattle.interval_dom.proofs.boxes.Boxes.ends.Given as goal
 
 abbrev pub invariant-loop-place : goal.invariant-loop-place

@@ -1,7 +1,7 @@
 use Rattle.std.proofs.Common.{◌≡◌, ℕ, length, arith, rules}
 use Rattle.interval_dom.specs.Intervals.{IsHull}
 use Rattle.interval_dom.specs.declared.interval.Interval.{Interval}
-use Rattle.interval_dom.specs.Laws.{interval_at}
+use Rattle.interval_dom.specs.Laws.BoxLaws.{interval_at}
 use Rattle.interval_dom.proofs.BoxLaws.{empty_within, hull_least, places_more, within_places}
 use Rattle.interval_dom.proofs.boxes.Boxes.hull.Goals as goal
 

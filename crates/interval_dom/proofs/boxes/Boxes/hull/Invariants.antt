@@ -1,6 +1,6 @@
 use Rattle.interval_dom.specs.Intervals.{IsHull}
 use Rattle.interval_dom.proofs.BoxLaws.{PlacesBelow}
-use Rattle.interval_dom.specs.Laws.{interval_at}
+use Rattle.interval_dom.specs.Laws.BoxLaws.{interval_at}
 use Rattle.interval_dom.proofs.boxes.Boxes.hull.Given as goal
 
 abbrev pub invariant-loop-place : goal.invariant-loop-place

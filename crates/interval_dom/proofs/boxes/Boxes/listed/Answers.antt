@@ -1,6 +1,6 @@
 use Rattle.std.proofs.Common.{◌≡◌, ◌∙◌, arith, refl, sym}
 use Rattle.interval_dom.specs.Boxes.{bounds_of, rows_of}
-use Rattle.interval_dom.specs.Laws.{ends_at}
+use Rattle.interval_dom.specs.Laws.BoxLaws.{ends_at}
 use Rattle.interval_dom.proofs.LineRows.{rows_below_more, rows_below_none}
 use Rattle.interval_dom.proofs.boxes.Boxes.listed.Goals as goal
 

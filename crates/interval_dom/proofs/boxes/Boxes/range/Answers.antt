@@ -20,8 +20,8 @@ pub loop-place-preserved : goal.loop-place-preserved
 loop-place-preserved c =
     let fits : Fits128 (coefficient c.args.affine.now c.loop-place.place) = search rules in
     let some : coefficient c.args.affine.now c.loop-place.place ≢ pos 0 = λ none. c.if-factor-eq0.false (omega (arith, ints, none)) in
-    let times = simp to_z-of_z at c.times.ensures in
-    range_more _ _ _ _ _ _ (omega arith) some c.loop-place.invariant times c.plus-sum.ensures
+    let times = simp to_z-of_z at c.times.ensures.holds in
+    range_more _ _ _ _ _ _ (omega arith) some c.loop-place.invariant times c.plus-sum.ensures.holds
 
 pub returns-clause-values : goal.returns-clause-values
 returns-clause-values c =

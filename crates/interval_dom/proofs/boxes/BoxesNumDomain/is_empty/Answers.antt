@@ -1,5 +1,5 @@
 use Rattle.std.proofs.Common.{◌≡◌, ◌∙◌, length, rules, sym}
-use Rattle.interval_dom.specs.Laws.{empty_none}
+use Rattle.interval_dom.specs.Laws.BoxLaws.{empty_none}
 use Rattle.interval_dom.proofs.BoxLaws.{empty_exact}
 use Rattle.interval_dom.proofs.boxes.BoxesNumDomain.is_empty.Goals as goal
 

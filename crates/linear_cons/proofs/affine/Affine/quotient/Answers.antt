@@ -2,7 +2,7 @@ use Rattle.std.proofs.Common.{◌≡◌, arith, rules}
 use Rattle.std.proofs.lemmas.Int.{to_z-of_z}
 use Rattle.linear_cons.specs.Functions.{coefficient}
 use Rattle.linear_cons.specs.Numbers.{Fits128}
-use Rattle.linear_cons.proofs.Dividing.{exact_quotient, primitive_one, primitive_quotients, quotient_more}
+use Rattle.linear_cons.proofs.Dividing.{exact_quotient, primitive_one, primitive_quotients, quotient_more, quotient_sizes}
 use Rattle.linear_cons.proofs.affine.Affine.quotient.Goals as goal
 
 pub returns-then-divisor-eq1-clause-primitive : goal.returns-then-divisor-eq1-clause-primitive
@@ -36,5 +36,5 @@ returns c =
         at_most = low;
         below_next = high;
       };
-      primitive = primitive_quotients _ _ _ c.requires.positive c.requires.greatest quotients.numbers;
+      primitive = primitive_quotients _ _ _ c.requires.positive c.requires.greatest (quotient_sizes _ _ _ quotients.numbers);
     })

@@ -1,0 +1,206 @@
+//! The rows in hand on a walk over a tree.
+ghost use Rattle.std.specs.Prelude.{◌≡◌, List, [], ◌∷◌, ◌++◌, Err, IfOk, OnOk, OnErr, length};
+ghost use Rattle.linear_cons.specs.Exact.{IsOutside};
+ghost use Rattle.linear_cons.specs.Functions.{NumbersFit, complement_of};
+ghost use Rattle.linear_cons.specs.Settling.{settles};
+ghost use Rattle.linear_cons.specs.declared.exact.Wide.{Wide};
+ghost use Rattle.linear_cons.specs.declared.row.Row.{Row};
+ghost use Rattle.decision_tree.specs.Trails.{IsEntered, IsLeft, IsPlaceOf, IsTightening, undone};
+
+use crate::path::PathFault;
+use linear_cons::{Row, settles};
+use std::alloc::{AllocError, Global};
+use std::marker::Model;
+
+/// The rows from the root of a tree to where a walk stands: a node's own row on its yes side, the
+/// complement on its no side. Contracts see it as the list of these rows, the first one first.
+///
+/// A walk goes `down` with a node's row to its yes side, `turn`s to its no side, and goes `up` from it.
+/// Of rows with the same coefficients the trail holds the one with the least constant, and each step
+/// knows how to put back what it changed. So a look-up takes a scan of the linear parts on the way, and
+/// no step takes memory but for the lists' growth.
+#[derive(Drop)]
+pub struct Trail {
+    held: Vec<Row>,
+    steps: Vec<Step>,
+}
+
+/// One step of a walk: the row that it added to the way, and what that did to the rows that are held.
+#[derive(Clone, Copy)]
+pub(crate) struct Step {
+    pub(crate) row: Row,
+    pub(crate) change: Change,
+}
+
+/// What a row did to the rows that are held.
+#[derive(Clone, Copy)]
+pub(crate) enum Change {
+    /// It was added behind them.
+    Added,
+    /// Nothing, since one of them tells it.
+    Kept,
+    /// It took the place of a looser one.
+    Tightened { place: usize, looser: Row },
+}
+
+impl Model for Trail {
+    ghost use Rattle.std.specs.Prelude.{List, reverse};
+    ghost use Rattle.linear_cons.specs.declared.row.Row.{Row};
+    ghost use Rattle.decision_tree.specs.Trails.{HaveLed, way_of};
+
+    ghost Value = { List Row };
+
+    ghost view = { λ inside. way_of inside.steps.items };
+
+    ghost invariant = { λ inside. HaveLed (reverse inside.steps.items) inside.held.items };
+}
+
+impl Trail {
+    ghost use Rattle.decision_tree.specs.Trails.{AreTightestOf, IsShortened, IsTurned};
+    ghost use Rattle.decision_tree.specs.declared.path.PathFault.TheVariants.{Memory, Wide as TooWide};
+    ghost use Rattle.std.specs.declared.alloc.AllocError.{AllocError};
+
+    /// The start of a walk, at the root. It takes no memory.
+    pub fn new(alloc: Global) -> Trail
+        ensures { result ≡ [] }
+    {
+        Trail {
+            held: Vec::new(alloc),
+            steps: Vec::new(alloc),
+        }
+    }
+
+    /// Goes down to the yes side of a node with the row. After want of memory the walk is where it was.
+    #[inline(never)]
+    pub fn down(&mut self, row: &Row) -> Result<(), AllocError>
+        ensures down { OnOk result (self.new ≡ self.old ++ row.now ∷ []) }
+        ensures stays { OnErr result (self.new ≡ self.old) }
+    {
+        enter(&mut self.held, &mut self.steps, row)
+    }
+
+    /// Goes over from the yes side of the last node to its no side. `Wide` comes exactly where the
+    /// complement of its row has a number outside `i128`; then the walk is where it was. After want of memory
+    /// it is at the last node. At the root it stays.
+    #[inline(never)]
+    pub fn turn(&mut self) -> Result<(), PathFault>
+        ensures turned { OnOk result (IsTurned self.old self.new) }
+        ensures fits { OnOk result ((front : List Row) (row : Row) → self.old ≡ front ++ row ∷ [] → NumbersFit (complement_of row.affine)) }
+        ensures wide { (w : Wide) → result ≡ Err (TooWide w) → (front : List Row) (row : Row) → self.old ≡ front ++ row ∷ [] → NumbersFit (complement_of row.affine) → ⊥ }
+        ensures operands { (w : Wide) → result ≡ Err (TooWide w) → IsOutside w }
+        ensures stays { (w : Wide) → result ≡ Err (TooWide w) → self.new ≡ self.old }
+        ensures shortened { (e : AllocError) → result ≡ Err (Memory e) → IsShortened self.old self.new }
+        ensures start { self.old ≡ [] → self.new ≡ [] }
+    {
+        let Some(step) = self.steps.last() else {
+            return Ok(());
+        };
+        let complement = step.row.not()?;
+        leave(&mut self.held, &mut self.steps);
+        enter(&mut self.held, &mut self.steps, &complement)?;
+        Ok(())
+    }
+
+    /// Goes up to the last node; at the root it stays.
+    #[inline(never)]
+    pub fn up(&mut self)
+        ensures shortened { IsShortened self.old self.new }
+        ensures start { self.old ≡ [] → self.new ≡ [] }
+    {
+        leave(&mut self.held, &mut self.steps);
+    }
+
+    /// The tightest rows of the way. They are met by the same stores.
+    pub fn rows(&self) -> &[Row]
+        ensures { AreTightestOf self.now result.now }
+    {
+        &self.held
+    }
+
+    /// Whether the rows of the way settle one more by their linear parts: it holds behind a row with the
+    /// same coefficients and a constant not greater, and fails behind an opposed one.
+    #[inline(never)]
+    pub fn settles(&self, row: &Row) -> Option<bool>
+        ensures { result ≡ settles self.now row.now }
+    {
+        settles(&self.held, row)
+    }
+}
+
+/// Adds a step with the row.
+fn enter(held: &mut Vec<Row>, steps: &mut Vec<Step>, row: &Row) -> Result<(), AllocError>
+    ensures entered { OnOk result (IsEntered held.old.items held.new.items steps.old.items steps.new.items row.now) }
+    ensures places { OnOk result (length row.now.affine.coef ≡ 16) }
+    ensures stays { OnErr result ((held.new.items ≡ held.old.items) × (steps.new.items ≡ steps.old.items)) }
+{
+    has_sixteen_places(row);
+    let change = tighten(held, row)?;
+    let step = Step { row: *row, change };
+    if let Err(error) = steps.push(step) {
+        undo(held, change);
+        return Err(error.into());
+    }
+    Ok(())
+}
+
+/// Takes the last step back, where there is one.
+fn leave(held: &mut Vec<Row>, steps: &mut Vec<Step>)
+    ensures { IsLeft held.old.items held.new.items steps.old.items steps.new.items }
+{
+    if let Some(step) = steps.pop() {
+        undo(held, step.change);
+    }
+}
+
+/// Makes the row one of the tightest where none of them tells it, and answers what that did.
+fn tighten(held: &mut Vec<Row>, row: &Row) -> Result<Change, AllocError>
+    ensures tightened { IfOk result (λ change. IsTightening held.old.items row.now change held.new.items) }
+    ensures stays { OnErr result (held.new.items ≡ held.old.items) }
+{
+    let Some(place) = place_of(held, row) else {
+        held.push(*row)?;
+        return Ok(Change::Added);
+    };
+    let looser = held[place];
+    if looser.affine.constant <= row.affine.constant {
+        return Ok(Change::Kept);
+    }
+    held[place] = *row;
+    Ok(Change::Tightened { place, looser })
+}
+
+/// Puts the rows back as they were before the change.
+fn undo(held: &mut Vec<Row>, change: Change)
+    ensures { held.new.items ≡ undone change held.old.items }
+{
+    match change {
+        Change::Added => {
+            let _ = held.pop();
+        }
+        Change::Kept => {}
+        Change::Tightened { place, looser } => {
+            if let Some(row) = held.get_mut(place) {
+                *row = looser;
+            }
+        }
+    }
+}
+
+/// Where the row with the same coefficients stands, if there is one.
+fn place_of(rows: &[Row], row: &Row) -> Option<usize>
+    ensures { IsPlaceOf rows.now row.now result }
+{
+    for place in 0..rows.len() {
+        if rows[place].affine.coef == row.affine.coef {
+            return Some(place);
+        }
+    }
+    None
+}
+
+/// A row of the type has sixteen coefficients. It has no effect.
+fn has_sixteen_places(row: &Row)
+    ensures { length row.now.affine.coef ≡ 16 }
+{
+    let _ = row.affine.coef[0];
+}

@@ -1,0 +1,2 @@
+-- Proofs, not definitions: what the definitions of rows need to be well formed.
+pub mod Primitive
