@@ -1,10 +1,12 @@
 #!/usr/bin/env python3
-"""Times solve_cli on four sets of systems and prints each time as a ratio to the last.
+"""Asks solve_cli about seven sets of systems: what share of each it gives up, its answers, and its time
+as a ratio to that on the last set.
 
-    python3 bench/solve.py [PROGRAM]
+    python3 bench/solve.py [PROGRAM] [OTHER ..]
 
 PROGRAM is the built program, crates/solve_cli/out/solve_cli by default (`rt run` in crates/solve_cli
-builds it). The sets are the same at each run: random numbers come from a fixed seed.
+builds it). Of each other program, as a build of an older commit, the times are printed as parts of the
+first's too. The sets are the same at each run: random numbers come from a fixed seed.
 """
 
 import random
@@ -70,27 +72,106 @@ def opposed(source):
         yield rows
 
 
+def paths(source):
+    """1,000 systems as a check of a path asks them: a region, an edge that sets a place, and the tests
+    of a way through a tree, 10 rows over 5 places."""
+    for _ in range(1000):
+        first, second, third, fourth, fifth = source.sample(range(5), 5)
+        shift = source.randint(-3, 3)
+        rows = [
+            row({first: 1}, source.randint(-4, 9)),
+            row({first: -1}, source.randint(0, 12)),
+            row({second: 1, first: -1}, shift),
+            row({second: -1, first: 1}, -shift),
+            row({third: 1, second: -1, fourth: source.randint(-2, 2)}, source.randint(-5, 5)),
+            row({third: -1, fourth: source.randint(1, 3)}, source.randint(-5, 5)),
+            row({fourth: 1, fifth: -source.randint(1, 3)}, source.randint(-4, 4)),
+            row({fourth: -1, first: source.randint(-1, 1)}, source.randint(-4, 4)),
+            row({fifth: 1, second: source.choice((-1, 1))}, source.randint(-6, 2)),
+            row({third: -1, fifth: -1, first: source.randint(-1, 1)}, source.randint(-6, 4)),
+        ]
+        source.shuffle(rows)
+        yield rows
+
+
+def tight_octagons(source):
+    """40 octagon lists over 10 places with every linear part, each tight at some store or nearly so;
+    every other one has a cycle of differences that sums below 0."""
+    for number in range(40):
+        store = [source.randint(-50, 50) for _ in range(10)]
+        parts = [{place: sign} for place in range(10) for sign in (1, -1)]
+        parts += [
+            {first: sign, second: other}
+            for first in range(10)
+            for second in range(first)
+            for sign in (1, -1)
+            for other in (1, -1)
+        ]
+        rows = [
+            row(part, source.randint(0, 3) - sum(by * store[place] for place, by in part.items()))
+            for part in parts
+        ]
+        if number % 2:
+            cycle = source.sample(range(10), 5)
+            for low, high in zip(cycle, cycle[1:] + cycle[:1]):
+                rows.append(row({low: -1, high: 1}, store[low] - store[high] - (low == cycle[0])))
+        source.shuffle(rows)
+        yield rows
+
+
+def few_parts(source):
+    """20 systems of 2,000 rows with 24 linear parts over 6 places; a store meets every other one."""
+    for number in range(20):
+        parts = [{place: source.randint(-9, 9) or 1 for place in source.sample(range(6), 3)} for _ in range(24)]
+        store = [source.randint(-50, 50) for _ in range(6)]
+        rows = []
+        for _ in range(2000):
+            part = source.choice(parts)
+            value = sum(by * store[place] for place, by in part.items())
+            rows.append(row(part, source.randint(0, 500) - value if number % 2 else source.randint(-20, 500)))
+        yield rows
+
+
+def asked(program, text):
+    """The answers' kinds, and the least time of three runs."""
+    least = None
+    for _ in range(3):
+        start = time.perf_counter()
+        done = subprocess.run([program], input=text, capture_output=True, text=True, check=True)
+        seconds = time.perf_counter() - start
+        least = seconds if least is None else min(least, seconds)
+    return [line.split()[0] for line in done.stdout.splitlines()], least
+
+
+def report(program, sets):
+    """Prints a line for each set: what share is given up, the time, its ratio to that on the last set, the answers."""
+    found = {name: asked(program, text) for name, text in sets}
+    last = found[sets[-1][0]][1]
+    print(program)
+    for name, (kinds, seconds) in found.items():
+        given_up = sum(kind in ("wide", "rows") for kind in kinds) / len(kinds)
+        answers = ", ".join(f"{kinds.count(kind)} {kind}" for kind in sorted(set(kinds)))
+        print(f"{name:<12} given up {given_up:6.1%}  {seconds:7.3f} s  ratio {seconds / last:6.2f}  {answers}")
+    return {name: seconds for name, (_, seconds) in found.items()}
+
+
 def main():
     root = Path(__file__).resolve().parent.parent
-    program = sys.argv[1] if len(sys.argv) > 1 else root / "crates/solve_cli/out/solve_cli"
-    sets = [
+    programs = sys.argv[1:] or [root / "crates/solve_cli/out/solve_cli"]
+    makers = [
         ("a random", random_systems),
         ("b chains", chains),
         ("c octagons", octagons),
+        ("e paths", paths),
+        ("f tight", tight_octagons),
+        ("g few parts", few_parts),
         ("d opposed", opposed),
     ]
-    seconds = {}
-    answers = {}
-    for name, make in sets:
-        text = "\n\n".join("\n".join(rows) for rows in make(random.Random(7))) + "\n"
-        start = time.perf_counter()
-        done = subprocess.run([program], input=text, capture_output=True, text=True, check=True)
-        seconds[name] = time.perf_counter() - start
-        kinds = [line.split()[0] for line in done.stdout.splitlines()]
-        answers[name] = ", ".join(f"{kinds.count(kind)} {kind}" for kind in sorted(set(kinds)))
-    last = seconds[sets[-1][0]]
-    for name, _ in sets:
-        print(f"{name:<12} {seconds[name]:7.3f} s  ratio {seconds[name] / last:6.2f}  {answers[name]}")
+    sets = [(name, "\n\n".join("\n".join(rows) for rows in make(random.Random(7))) + "\n") for name, make in makers]
+    first = report(programs[0], sets)
+    for program in programs[1:]:
+        seconds = report(program, sets)
+        print("as parts of the first:", ", ".join(f"{name} {seconds[name] / first[name]:.2f}" for name, _ in sets))
 
 
 if __name__ == "__main__":

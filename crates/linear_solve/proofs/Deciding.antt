@@ -1,5 +1,6 @@
 -- From the tightest rows to the rows given, and the bounds as the callers read them.
-use Rattle.std.proofs.Common.{◌≡◌, ◌≢◌, inl, inr, ℕ, add-one, ◌+◌, ◌*◌, ◌<◌, ◌≤◌, ◌^◌, ℤ, pos, ◌*ℤ◌, List, length, refl, sym, ap, subst, ◌∙◌, arith, All, ⊎_elim, cond}
+use Rattle.std.proofs.Common.{◌≡◌, ◌≢◌, inl, inr, ℕ, add-one, ◌+◌, ◌*◌, ◌<◌, ◌≤◌, ◌^◌, ℤ, pos, ◌*ℤ◌, List, length, refl, sym, ap, subst, ◌∙◌, arith, All, ⊎_elim, cond, Option, None, Some, MatchOption}
+use Rattle.std.specs.Bool.{⊤}
 use Rattle.std.proofs.lemmas.Int.{ints}
 use Rattle.std.proofs.lemmas.Bool.{cases_lt}
 use Rattle.std.proofs.Math.Nat.{le_trans, pow-suc, pow-zero}
@@ -7,11 +8,16 @@ use Rattle.std.proofs.Math.Pow.{pow_mono}
 use Rattle.linear_cons.specs.declared.row.Row.{Row}
 use Rattle.linear_cons.specs.Functions.{multiple_of}
 use Rattle.linear_cons.specs.Numbers.{number_at}
-use Rattle.linear_cons.specs.Rows.{Meets, MeetsAll}
+use Rattle.linear_cons.specs.Rows.{Meets, MeetsAll, PointMeets}
 use Rattle.linear_cons.proofs.Places.{eqb_apart, length-at_places, number_at-set, number_at_places}
 use Rattle.linear_cons.proofs.Ring.{mul_assoc, mul_commutes}
 use Rattle.linear_cons.proofs.RowLaws.{opposed_never}
-use Rattle.linear_solve.specs.Answers.{HasNoStore, KeepsStores, MayOutgrow, MayOverflow, PointsExtend}
+use Rattle.linear_solve.specs.Answers.{HasNoStore, IsAnswerTo, IsDecided, IsEmpty, IsPointOf, KeepsStores, MayOutgrow, MayOverflow, PointsExtend}
+use Rattle.linear_solve.specs.declared.answer.Answer.{Answer}
+use Rattle.linear_solve.specs.declared.answer.Answer.TheVariants.{Empty, Point as Found, Wide, Rows}
+use Rattle.linear_solve.specs.Findings.{IsFinding}
+use Rattle.linear_solve.specs.declared.attempt.Finding.{Finding}
+use Rattle.linear_solve.specs.declared.attempt.Finding.TheVariants.{Nothing, Point as Proposed}
 use Rattle.linear_solve.specs.Elimination.{HasUnfitPair, IsEliminated, IsNothing, StandFor, made_of}
 use Rattle.linear_solve.specs.Points.{IsFree, IsPutBack, IsTightest, cleared, moved, numbers_of, numerator_of}
 use Rattle.linear_solve.specs.Solving.{IsModest, IsTame}
@@ -31,6 +37,20 @@ pub no_store_of_opposed : (rows : List Row) → HasOpposed rows → HasNoStore r
 no_store_of_opposed rows two store met =
     opposed_never two.row two.other two.opposed store (pos 1) (omega (arith, ints)) (member_of (λ r. Meets store r) rows two.row met two.row_in) (member_of (λ r. Meets store r) rows two.other met two.other_in)
 
+-- a point shows that no two rows are opposed
+pub opposed_empty : (rows : List Row) (answer : Answer) → IsAnswerTo rows answer → HasOpposed rows → IsEmpty answer
+opposed_empty rows Empty is two = tt
+opposed_empty rows (Found num den) is two =
+    opposed_never two.row two.other two.opposed num den is.positive (member_of (λ r. PointMeets num den r) rows two.row is.meets two.row_in) (member_of (λ r. PointMeets num den r) rows two.other is.meets two.other_in)
+opposed_empty rows (Wide operands) is two = is.1.unopposed two
+opposed_empty rows (Rows count) is two = is.1.unopposed two
+
+pub octagons_decided : (rows : List Row) (answer : Answer) → IsAnswerTo rows answer → IsOctagonList rows → IsDecided answer
+octagons_decided rows Empty is octagons = tt
+octagons_decided rows (Found num den) is octagons = tt
+octagons_decided rows (Wide operands) is octagons = is.1.no_octagons octagons
+octagons_decided rows (Rows count) is octagons = is.1.no_octagons octagons
+
 pub kept_met : (rows kept : List Row) (store : List ℤ) → StandFor rows kept → MeetsAll store rows → MeetsAll store kept
 kept_met rows kept store stand met = all_of (λ r. Meets store r) kept (λ row member. member_of (λ r. Meets store r) rows row met (stand.among row member))
 
@@ -39,6 +59,16 @@ no_store_of_kept rows kept stand none store met = none store (kept_met rows kept
 
 pub kept_occurs : (rows kept : List Row) → StandFor rows kept → occurring kept ≤ occurring rows
 kept_occurs rows kept stand = occurring_le 16 kept rows (λ i low is. let found = occurs_in i kept is in occurs_of i rows found.0 (stand.among found.0 found.1.0) found.1.1)
+
+-- a point of the kept rows is one of the rows
+pub kept_point : (rows kept : List Row) (num : List ℤ) (den : ℤ) → StandFor rows kept → IsPointOf kept num den → IsPointOf rows num den
+kept_point rows kept num den stand point = record { positive = point.positive; meets = stand.implies num den point.positive point.meets }
+
+-- what is found of the kept rows is found of the rows
+pub finding_of_kept : (rows kept : List Row) (found : Option Finding) → StandFor rows kept → MatchOption found ⊤ (IsFinding kept) → MatchOption found ⊤ (IsFinding rows)
+finding_of_kept rows kept None stand is = tt
+finding_of_kept rows kept (Some Nothing) stand is = no_store_of_kept rows kept stand is
+finding_of_kept rows kept (Some (Proposed point)) stand is = kept_point rows kept point.num point.den stand is
 
 kept_sized : (rows kept : List Row) (bound : ℕ) → StandFor rows kept → All (IsSized bound) rows → All (IsSized bound) kept
 kept_sized rows kept bound stand sized = all_of (IsSized bound) kept (λ row member. member_of (IsSized bound) rows row sized (stand.among row member))

@@ -13,3 +13,7 @@ pub mod Tame
 pub mod Deciding
 pub mod Counting
 pub mod Nothing
+pub mod Certifying
+pub mod Opposing
+pub mod Choosing
+pub mod Reducing

@@ -1,5 +1,5 @@
 -- The places that occur: fewer once one is eliminated.
-use Rattle.std.proofs.Common.{◌≡◌, ◌≢◌, ◌⊎◌, inl, inr, ℕ, zero, suc, ◌+◌, ◌<◌, ◌≤◌, ℤ, pos, negsuc, Bool, true, false, cond, not, ◌||◌, List, [], ◌∷◌, length, get_or, refl, sym, ap, subst, ◌∙◌, arith, Contains, ⊎_elim, Option, None, Some, MatchOption, below_more}
+use Rattle.std.proofs.Common.{◌≡◌, ◌≢◌, ◌⊎◌, inl, inr, ℕ, zero, suc, ◌+◌, ◌<◌, ◌≤◌, ℤ, pos, negsuc, Bool, true, false, cond, not, ◌||◌, List, [], ◌∷◌, length, get_or, refl, sym, ap, subst, ◌∙◌, arith, Contains, ⊎_elim}
 use Rattle.std.specs.Ordering.{int_eq}
 use Rattle.std.proofs.lemmas.Bool.{false_from_ne_true, false≢true, not-true, not_from_false, not_from_true, true_from_ne_false}
 use Rattle.std.proofs.Math.Nat.{eq-zero-or-pos}
@@ -9,7 +9,6 @@ use Rattle.linear_cons.specs.Functions.{coefficient}
 use Rattle.linear_cons.proofs.RowLaws.{row_not_constant}
 use Rattle.linear_solve.specs.Elimination.{lowers_of, one_above, one_below, uppers_of}
 use Rattle.linear_solve.specs.Systems.{occurring_below, occurs}
-use Rattle.linear_solve.specs.declared.order.Choice.{Choice}
 
 apart_test : (z : ℤ) → not (int_eq z (pos 0)) ≡ true → z ≢ pos 0
 apart_test z test is = false≢true (sym (not-true (int_eq z (pos 0)) test) ∙ (Decides-int_eq z (pos 0)).1 is)
@@ -129,30 +128,6 @@ sides_some place (x ∷ xs) some = ⊎_elim
     (λ (here : 0 < one_above (coefficient x.affine place) + one_below (coefficient x.affine place)).
     left_true _ (occurs place xs) (test_apart (coefficient x.affine place) (side_some (coefficient x.affine place) (λ e. absurd (omega (arith, e, here))))))
     (eq-zero-or-pos (one_above (coefficient x.affine place) + one_below (coefficient x.affine place)))
-
--- a choice for the places that were looked at
-pub choice_more : (rows : List Row) (place : ℕ) (best : Option Choice) (next result : Choice) → place < 16 → next.place ≡ place → occurs place rows ≡ true
-    → MatchOption best ((i : ℕ) → i < place → occurs i rows ≡ false) (λ choice. (choice.place < 16) × (occurs choice.place rows ≡ true))
-    → MatchOption best (result ≡ next) (λ old. (result ≡ next) ⊎ (result ≡ old))
-    → (result.place < 16) × (occurs result.place rows ≡ true)
-choice_more rows place None next result low is some before same =
-    let at : result.place ≡ place = ap (λ (t : Choice). t.place) same ∙ is in
-    (omega (arith, at), ap (λ t. occurs t rows) at ∙ some)
-choice_more rows place (Some old) next result low is some before same = ⊎_elim
-    (λ (new : result ≡ next).
-    let at : result.place ≡ place = ap (λ (t : Choice). t.place) new ∙ is in
-    (omega (arith, at), ap (λ t. occurs t rows) at ∙ some))
-    (λ (kept : result ≡ old).
-    let at : result.place ≡ old.place = ap (λ (t : Choice). t.place) kept in
-    (omega (arith, at, before.0), ap (λ t. occurs t rows) at ∙ before.1))
-    same
-
--- a place that does not occur leaves the choice
-pub choice_same : (rows : List Row) (place : ℕ) (best : Option Choice) → occurs place rows ≡ false
-    → MatchOption best ((i : ℕ) → i < place → occurs i rows ≡ false) (λ choice. (choice.place < 16) × (occurs choice.place rows ≡ true))
-    → MatchOption best ((i : ℕ) → i < place + 1 → occurs i rows ≡ false) (λ choice. (choice.place < 16) × (occurs choice.place rows ≡ true))
-choice_same rows place None none before = below_more _ _ before none
-choice_same rows place (Some old) none before = before
 
 pub occurs_positive : (rows : List Row) (place : ℕ) → place < 16 → occurs place rows ≡ true → 0 < occurring_below 16 rows
 occurs_positive rows place low some =

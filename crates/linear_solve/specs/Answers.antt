@@ -1,11 +1,12 @@
 -- What the answers of the solver mean.
-use Rattle.std.specs.Prelude.{◌≡◌, ◌≢◌, ℕ, ◌+◌, ◌*◌, ◌<◌, ◌^◌, ℤ, pos, ◌*ℤ◌, ◌<ℤ◌, List, length, slice_set, All, ⊤}
-use Rattle.std.specs.Global.{Vec}
+use Rattle.std.specs.Prelude.{◌≡◌, ◌≢◌, ℕ, ◌+◌, ◌*◌, ◌<◌, ◌^◌, ◌≤◌, ℤ, pos, ◌*ℤ◌, ◌<ℤ◌, List, length, map, slice_set, All, ⊤}
 use Rattle.linear_cons.specs.declared.row.Row.{Row}
-use Rattle.linear_cons.specs.declared.exact.Wide.{Wide as Operands}
+use Rattle.linear_cons.specs.Exact.{IsOutside}
 use Rattle.linear_cons.specs.Numbers.{number_at}
 use Rattle.linear_cons.specs.Rows.{MeetsAll, PointMeetsAll}
-use Rattle.linear_solve.specs.Systems.{IsSized, rows_after}
+use Rattle.linear_solve.specs.Elimination.{NeverGrows}
+use Rattle.linear_solve.specs.Tightest.{AreTightest}
+use Rattle.linear_solve.specs.Systems.{HasOpposed, IsOctagonList, IsSized, occurring, rows_after}
 use Rattle.linear_solve.specs.declared.answer.Answer.{Answer}
 use Rattle.linear_solve.specs.declared.answer.Answer.TheVariants.{Empty, Point, Wide, Rows}
 use Rattle.linear_solve.specs.declared.answer.Projected.{Projected}
@@ -29,22 +30,36 @@ MayOutgrow n rows = (bound : ℕ) → All (IsSized bound) rows → 2 ^ 126 < (34
 abbrev pub MayOverflow : ℕ → List Row → Type 0
 MayOverflow n rows = 4096 < rows_after n (length rows)
 
--- the answer, where it is of the kind, has the property
-abbrev pub IfEmpty : Answer → Type 0 → Type 0
-IfEmpty Empty P = P
-IfEmpty _ P = ⊤
+-- what an answer that the numbers outgrow 128 bits excludes: opposed rows, octagon lists, small numbers
+pub record MayBeWide (rows : List Row) : Type 0 where
+  pub unopposed : ¬ HasOpposed rows
+  pub no_octagons : ¬ IsOctagonList rows
+  pub large : MayOutgrow (occurring rows) rows
 
-abbrev pub IfPoint : Answer → (List ℤ → ℤ → Type 0) → Type 0
-IfPoint (Point num den) P = P num den
-IfPoint _ P = ⊤
+-- whichever tightest rows are left of the list, eliminations in the order chosen never make their list longer
+abbrev pub NeverOutgrows : List Row → Type 0
+NeverOutgrows rows = (kept : List Row) → AreTightest (map (λ (row : Row). row.affine) rows) kept → NeverGrows 16 kept
 
-abbrev pub IfWide : Answer → (Operands → Type 0) → Type 0
-IfWide (Wide operands) P = P operands
-IfWide _ P = ⊤
+-- what an answer that the rows are too many excludes: opposed rows, octagon lists, few rows, and lists that never grow
+pub record MayBeMany (rows : List Row) : Type 0 where
+  pub unopposed : ¬ HasOpposed rows
+  pub no_octagons : ¬ IsOctagonList rows
+  pub many : MayOverflow (occurring rows) rows
+  pub grows : ¬ NeverOutgrows rows
 
-abbrev pub IfRows : Answer → (ℕ → Type 0) → Type 0
-IfRows (Rows count) P = P count
-IfRows _ P = ⊤
+-- what each answer says of the rows
+abbrev pub IsAnswerTo : List Row → Answer → Type 0
+IsAnswerTo rows Empty = HasNoStore rows
+IsAnswerTo rows (Point num den) = IsPointOf rows num den
+IsAnswerTo rows (Wide operands) = IsOutside operands × MayBeWide rows
+IsAnswerTo rows (Rows count) = (4096 < count) × MayBeMany rows
+
+-- the answer is that no store meets the rows
+abbrev pub IsEmpty : Answer → Type 0
+IsEmpty Empty = ⊤
+IsEmpty (Point num den) = ⊥
+IsEmpty (Wide operands) = ⊥
+IsEmpty (Rows count) = ⊥
 
 -- the system was decided: it has no store, or a point was found
 abbrev pub IsDecided : Answer → Type 0
@@ -52,25 +67,6 @@ IsDecided Empty = ⊤
 IsDecided (Point num den) = ⊤
 IsDecided (Wide operands) = ⊥
 IsDecided (Rows count) = ⊥
-
--- the projection, where it is of the kind, has the property
-abbrev pub IfLeft : Projected → (Vec Row → Type 0) → Type 0
-IfLeft (Left left) P = P left
-IfLeft _ P = ⊤
-
-abbrev pub IfTooWide : Projected → (Operands → Type 0) → Type 0
-IfTooWide (TooWide operands) P = P operands
-IfTooWide _ P = ⊤
-
-abbrev pub IfTooMany : Projected → (ℕ → Type 0) → Type 0
-IfTooMany (TooMany count) P = P count
-IfTooMany _ P = ⊤
-
--- the place was eliminated
-abbrev pub IsProjected : Projected → Type 0
-IsProjected (Left left) = ⊤
-IsProjected (TooWide operands) = ⊥
-IsProjected (TooMany count) = ⊥
 
 -- each store that meets the rows meets the others with any number at the place
 abbrev pub KeepsStores : List Row → ℕ → List Row → Type 0
@@ -87,9 +83,14 @@ pub record Extends (rows : List Row) (place : ℕ) (num : List ℤ) (den : ℤ) 
 abbrev pub PointsExtend : List Row → ℕ → List Row → Type 0
 PointsExtend rows place left = (num : List ℤ) (den : ℤ) → length num ≡ 16 → IsPointOf left num den → Extends rows place num den
 
--- the answer is that no store meets the rows
-abbrev pub IsEmpty : Answer → Type 0
-IsEmpty Empty = ⊤
-IsEmpty (Point num den) = ⊥
-IsEmpty (Wide operands) = ⊥
-IsEmpty (Rows count) = ⊥
+-- rows that stand for others without the place: at most 4,096
+pub record IsProjection (rows : List Row) (place : ℕ) (left : List Row) : Type 0 where
+  pub stores : KeepsStores rows place left
+  pub points : PointsExtend rows place left
+  pub short : length left ≤ 4096
+
+-- what each outcome of a projection says of the rows
+abbrev pub IsProjected : List Row → ℕ → Projected → Type 0
+IsProjected rows place (Left left) = IsProjection rows place left.items
+IsProjected rows place (TooWide operands) = IsOutside operands × (¬ IsOctagonList rows) × MayOutgrow 1 rows
+IsProjected rows place (TooMany count) = (4096 < count) × (¬ IsOctagonList rows) × MayOverflow 1 rows

@@ -1,11 +1,12 @@
 -- One elimination: the rows that it makes, what they imply, and how many they are.
-use Rattle.std.specs.Prelude.{◌≡◌, ◌⊎◌, ℕ, zero, suc, ◌+◌, ◌-◌, ◌*◌, ◌≤◌, ℤ, pos, negsuc, ◌-ℤ◌, ◌<ℤ◌, ◌≤ℤ◌, List, [], ◌∷◌, length, All, Contains}
+use Rattle.std.specs.Prelude.{◌≡◌, ◌⊎◌, ℕ, zero, suc, ◌+◌, ◌-◌, ◌*◌, ◌<◌, ◌≤◌, ℤ, pos, negsuc, ◌-ℤ◌, ◌<ℤ◌, ◌≤ℤ◌, List, [], ◌∷◌, length, All, Contains, true, ⊤}
 use Rattle.linear_cons.specs.declared.affine.Affine.{Affine}
 use Rattle.linear_cons.specs.declared.row.Row.{Row}
 use Rattle.linear_cons.specs.declared.row.RowKind.TheVariants.{Never, Row as Kept}
 use Rattle.linear_cons.specs.Functions.{NumbersFit, coefficient, form_at, multiple_of, sum_of}
 use Rattle.linear_cons.specs.Numbers.{Fits128}
 use Rattle.linear_cons.specs.Rows.{IsRowOf, PointMeets, PointMeetsAll}
+use Rattle.linear_solve.specs.Systems.{occurs}
 use Rattle.linear_solve.specs.Tightest.{AreDistinct}
 
 -- the row bounds the place from below, from above
@@ -110,9 +111,13 @@ uppers_of place (row ∷ rows) = one_below (coefficient row.affine place) + uppe
 abbrev pub others_of : ℕ → List Row → ℕ
 others_of place rows = length rows - lowers_of place rows - uppers_of place rows
 
+-- how many pairs there are of a row from below and one from above
+abbrev pub pairs_of : ℕ → List Row → ℕ
+pairs_of place rows = lowers_of place rows * uppers_of place rows
+
 -- how many rows an elimination makes: the pairs, and the rows without the place
 abbrev pub made_of : ℕ → List Row → ℕ
-made_of place rows = lowers_of place rows * uppers_of place rows + others_of place rows
+made_of place rows = pairs_of place rows + others_of place rows
 
 -- what the elimination of a place leaves
 pub record IsEliminated (rows : List Row) (place : ℕ) (left : List Row) : Type 0 where
@@ -125,3 +130,12 @@ pub record IsEliminated (rows : List Row) (place : ℕ) (left : List Row) : Type
 -- no point meets the rows
 abbrev pub IsNothing : List Row → Type 0
 IsNothing rows = (num : List ℤ) (den : ℤ) → pos 0 <ℤ den → PointMeetsAll num den rows → ⊥
+
+-- a place that may be eliminated next: it occurs, and no place that does has fewer pairs
+abbrev pub IsNext : List Row → ℕ → Type 0
+IsNext rows place = (place < 16) × (occurs place rows ≡ true) × ((other : ℕ) → other < 16 → occurs other rows ≡ true → pairs_of place rows ≤ pairs_of other rows)
+
+-- n eliminations, each of a place that may be next, never make more rows than there were
+abbrev pub NeverGrows : ℕ → List Row → Type 0
+NeverGrows zero rows = ⊤
+NeverGrows (suc n) rows = (place : ℕ) → IsNext rows place → (made_of place rows ≤ length rows) × ((left : List Row) → IsEliminated rows place left → NeverGrows n left)

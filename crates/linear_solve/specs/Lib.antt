@@ -4,3 +4,4 @@ pub mod Tightest
 pub mod Elimination
 pub mod Points
 pub mod Solving
+pub mod Findings

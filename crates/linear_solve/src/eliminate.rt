@@ -1,5 +1,5 @@
 //! The elimination of a place.
-ghost use Rattle.std.specs.Prelude.{◌≡◌, ◌<◌, ◌≤◌, ◌+◌, ◌++◌, ◌∷◌, [], OnOk, IfOk, IfErr, MatchOption, Contains, length, Err, Ok, false, true, IsTrue};
+ghost use Rattle.std.specs.Prelude.{◌≡◌, ◌<◌, ◌≤◌, ◌+◌, ◌++◌, ◌∷◌, [], OnOk, IfOk, IfErr, MatchOption, Contains, length, Err, Ok, false, true, ⊤};
 ghost use Rattle.linear_cons.specs.Exact.{IsOutside};
 ghost use Rattle.linear_cons.specs.declared.row.Row.{Row};
 ghost use Rattle.linear_solve.specs.Elimination.{Grows, HasNeverPair, HasUnfitPair, ImpliesMixtures, ImpliesRest, IsEliminated, IsLower, made_of, others_of, uppers_of};
@@ -20,6 +20,7 @@ const MOST_ROWS: usize = 4_096;
 pub(crate) fn eliminate(alloc: Global, rows: &[Row], place: u8) -> Result<Option<Vec<Row>>, Stop>
     requires { place < 16 }
     ensures left { IfOk result (λ found. MatchOption found (HasNeverPair rows.now place) (λ left. IsEliminated rows.now place left.items)) }
+    ensures few { IfOk result (λ found. MatchOption found ⊤ (λ left. length left.items ≤ 4096)) }
     ensures wide { IfErr result (λ stop. IfStopWide stop IsOutside) }
     ensures unfit { IfErr result (λ stop. IfStopWide stop (λ _. HasUnfitPair rows.now place)) }
     ensures many { IfErr result (λ stop. IfStopRows stop (λ count. 4096 < count)) }
@@ -33,7 +34,7 @@ pub(crate) fn eliminate(alloc: Global, rows: &[Row], place: u8) -> Result<Option
         let count = u32::try_from(count).unwrap_or(u32::MAX);
         return Err(Stop::Rows { count });
     }
-    let mut made = rows_without(alloc, rows, place)?;
+    let mut made = rows_without(alloc, rows, place, count)?;
     for lower in rows {
         if lower.affine.coef[place as usize] > 0 && !add_mixtures(&mut made, lower, rows, place)? {
             return Ok(None);
@@ -42,14 +43,19 @@ pub(crate) fn eliminate(alloc: Global, rows: &[Row], place: u8) -> Result<Option
     Ok(Some(tightest(made)))
 }
 
-/// The rows in which the place does not occur.
-fn rows_without(alloc: Global, rows: &[Row], place: u8) -> Result<Vec<Row>, AllocError>
+/// The rows in which the place does not occur, with room for so many in all.
+fn rows_without(
+    alloc: Global,
+    rows: &[Row],
+    place: u8,
+    count: usize,
+) -> Result<Vec<Row>, AllocError>
     requires { place < 16 }
     ensures grows { IfOk result (λ made. Grows rows.now place [] made.items) }
     ensures rest { IfOk result (λ made. ImpliesRest rows.now place made.items) }
     ensures short { IfOk result (λ made. length made.items ≤ others_of place rows.now) }
 {
-    let mut made = Vec::new(alloc);
+    let mut made = Vec::with_capacity(alloc, count)?;
     for row in rows {
         if row.affine.coef[place as usize] == 0 {
             made.push(*row)?;

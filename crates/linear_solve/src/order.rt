@@ -1,6 +1,6 @@
 //! Which place is eliminated next.
-ghost use Rattle.std.specs.Prelude.{◌≡◌, ◌<◌, ◌+◌, ◌≤◌, ◌⊎◌, ℕ, MatchOption, length, false, true};
-ghost use Rattle.linear_solve.specs.Elimination.{lowers_of, uppers_of};
+ghost use Rattle.std.specs.Prelude.{◌≡◌, ◌<◌, ◌+◌, ◌≤◌, ◌⊎◌, ℕ, MatchOption, length, false};
+ghost use Rattle.linear_solve.specs.Elimination.{IsNext, lowers_of, uppers_of};
 ghost use Rattle.linear_solve.specs.Systems.{occurs};
 
 use linear_cons::Row;
@@ -29,19 +29,19 @@ pub(crate) fn sides(rows: &[Row], place: u8) -> (usize, usize)
 #[derive(Clone, Copy, PartialEq, Eq, Debug)]
 struct Choice {
     place: u8,
-    pairs: usize,
+    pairs: u128,
 }
 
 /// Of the places that occur, the least of those with the fewest pairs of a row from below and one
 /// from above. `None` where no place occurs.
 pub(crate) fn next_place(rows: &[Row]) -> Option<u8>
-    ensures { MatchOption result ((place : ℕ) → place < 16 → occurs place rows.now ≡ false) (λ place. (place < 16) × (occurs place rows.now ≡ true)) }
+    ensures { MatchOption result ((place : ℕ) → place < 16 → occurs place rows.now ≡ false) (IsNext rows.now) }
 {
     let mut best = None;
     for place in 0..16 {
         let (lowers, uppers) = sides(rows, place);
         if lowers + uppers != 0 {
-            let pairs = lowers.saturating_mul(uppers);
+            let pairs = lowers as u128 * uppers as u128;
             best = Some(fewer(best, Choice { place, pairs }));
         }
     }
@@ -53,7 +53,7 @@ pub(crate) fn next_place(rows: &[Row]) -> Option<u8>
 
 /// The choice with fewer pairs; the older where both have as many.
 fn fewer(best: Option<Choice>, next: Choice) -> Choice
-    ensures { MatchOption best (result ≡ next) (λ old. (result ≡ next) ⊎ (result ≡ old)) }
+    ensures { MatchOption best (result ≡ next) (λ old. ((result ≡ next) × (next.pairs < old.pairs)) ⊎ ((result ≡ old) × (old.pairs ≤ next.pairs))) }
 {
     match best {
         Some(old) => { if next.pairs < old.pairs { next } else { old } }

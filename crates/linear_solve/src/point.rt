@@ -1,5 +1,5 @@
 //! Rational points, and the value of an eliminated place.
-ghost use Rattle.std.specs.Prelude.{◌≡◌, ◌<◌, pos, ◌<ℤ◌, ◌*ℤ◌, ◌≤ℤ◌, IfOk, IfErr, OnErr, OkIff, IfSome, MatchOption, None, Some};
+ghost use Rattle.std.specs.Prelude.{◌≡◌, ◌<◌, pos, IfOk, IfErr, OnErr, OkIff, MatchOption, None, Some};
 ghost use Rattle.linear_cons.specs.Exact.{IsOutside};
 ghost use Rattle.linear_cons.specs.Functions.{form_at};
 ghost use Rattle.linear_cons.specs.Numbers.{Fits128, at_places};
@@ -16,7 +16,7 @@ pub(crate) struct Point {
 
 /// From which side a row bounds a place.
 #[derive(Clone, Copy, PartialEq, Eq, Debug)]
-enum Side {
+pub(crate) enum Side {
     Below,
     Above,
 }
@@ -24,9 +24,9 @@ enum Side {
 /// A bound on a place at a point: the row's value there without the place, times the denominator,
 /// over the size of the place's coefficient.
 #[derive(Clone, Copy, PartialEq, Eq, Debug)]
-struct Bound {
-    form: i128,
-    slope: i128,
+pub(crate) struct Bound {
+    pub(crate) form: i128,
+    pub(crate) slope: i128,
 }
 
 impl Side {
@@ -54,7 +54,7 @@ impl Point {
     }
 
     /// The function's value at the point, times the denominator.
-    fn form(&self, a: &Affine) -> Result<i128, Wide>
+    pub(crate) fn form(&self, a: &Affine) -> Result<i128, Wide>
         ensures exact { OkIff result (FormFits a.now self.now.num self.now.den) (form_at a.now self.now.num self.now.den) }
         ensures wide { IfErr result IsOutside }
     {
@@ -68,7 +68,12 @@ impl Point {
     }
 
     /// The tightest bound from a side on a place where the point has 0.
-    fn tightest(&self, rows: &[Row], place: u8, side: Side) -> Result<Option<Bound>, Wide>
+    pub(crate) fn tightest(
+        &self,
+        rows: &[Row],
+        place: u8,
+        side: Side,
+    ) -> Result<Option<Bound>, Wide>
         requires { place < 16 }
         ensures best { IfOk result (λ best. MatchOption best (IsFree rows.now place side) (IsTightest rows.now place side self.now.num self.now.den)) }
         ensures unfit { OnErr result (¬ BoundsFit rows.now place self.now.num self.now.den) }

@@ -1,12 +1,10 @@
 //! A system without one of its places.
-ghost use Rattle.std.specs.Prelude.{◌≡◌, ◌<◌, pos, negsuc, ℕ, ℤ, List, ◌-ℤ◌, ◌<ℤ◌, ◌≤ℤ◌, IfOk, OnOk};
-ghost use Rattle.linear_cons.specs.Exact.{IsOutside};
+ghost use Rattle.std.specs.Prelude.{◌≡◌, ◌<◌, ◌≤◌, ◌+◌, length, pos, negsuc, ℤ, List, ◌-ℤ◌, ◌<ℤ◌, ◌≤ℤ◌, IfOk, OnOk};
 ghost use Rattle.linear_cons.specs.Functions.{IsConstant, coefficient, form_at};
 ghost use Rattle.linear_cons.specs.Numbers.{number_at};
 ghost use Rattle.linear_cons.specs.Rows.{PointMeetsAll};
-ghost use Rattle.linear_solve.specs.Answers.{IfLeft, IfTooMany, IfTooWide, IsProjected, KeepsStores, MayOutgrow, MayOverflow, PointsExtend};
+ghost use Rattle.linear_solve.specs.Answers.{IsProjected};
 ghost use Rattle.linear_solve.specs.Elimination.{IsNothing};
-ghost use Rattle.linear_solve.specs.Systems.{IsOctagonList};
 
 use crate::answer::{Projected, Stop};
 use crate::eliminate::eliminate;
@@ -19,13 +17,7 @@ use std::alloc::{AllocError, Global};
 /// two opposed rows at another place may stand for them.
 pub fn project(alloc: Global, rows: &[Row], place: u8) -> Result<Projected, AllocError>
     requires { place < 16 }
-    ensures stores { IfOk result (λ projected. IfLeft projected (λ left. KeepsStores rows.now place left.items)) }
-    ensures points { IfOk result (λ projected. IfLeft projected (λ left. PointsExtend rows.now place left.items)) }
-    ensures wide { IfOk result (λ projected. IfTooWide projected IsOutside) }
-    ensures wide_past_the_bound { IfOk result (λ projected. IfTooWide projected (λ _. MayOutgrow 1 rows.now)) }
-    ensures many { IfOk result (λ projected. IfTooMany projected (λ count. 4096 < count)) }
-    ensures many_past_the_bound { IfOk result (λ projected. IfTooMany projected (λ _. MayOverflow 1 rows.now)) }
-    ensures octagon { IfOk result (λ projected. IsOctagonList rows.now → IsProjected projected) }
+    ensures { IfOk result (IsProjected rows.now place) }
 {
     let kept = tightest_of(alloc, rows)?;
     match eliminate(alloc, &kept, place) {
@@ -44,7 +36,8 @@ pub fn project(alloc: Global, rows: &[Row], place: u8) -> Result<Projected, Allo
 /// The rows `x - 1 >= 0` and `-x >= 0` of the place, which no point meets.
 fn opposed_pair(alloc: Global, place: u8) -> Result<Vec<Row>, AllocError>
     requires { place < 16 }
-    ensures { IfOk result (λ rows. IsNothing rows.items) }
+    ensures nothing { IfOk result (λ rows. IsNothing rows.items) }
+    ensures short { IfOk result (λ rows. length rows.items ≤ 2) }
 {
     let mut rows = Vec::new(alloc);
     add_row(&mut rows, less_one(place))?;
@@ -55,7 +48,8 @@ fn opposed_pair(alloc: Global, place: u8) -> Result<Vec<Row>, AllocError>
 /// Adds the row of a function in which a variable occurs.
 fn add_row(rows: &mut Vec<Row>, a: Affine) -> Result<(), AllocError>
     requires { IsConstant a → ⊥ }
-    ensures { OnOk result ((num : List ℤ) (den : ℤ) → pos 0 <ℤ den → PointMeetsAll num den rows.new.items → PointMeetsAll num den rows.old.items × (pos 0 ≤ℤ form_at a num den)) }
+    ensures meets { OnOk result ((num : List ℤ) (den : ℤ) → pos 0 <ℤ den → PointMeetsAll num den rows.new.items → PointMeetsAll num den rows.old.items × (pos 0 ≤ℤ form_at a num den)) }
+    ensures short { OnOk result (length rows.new.items ≤ length rows.old.items + 1) }
 {
     if let RowKind::Row(row) = Row::of(a) {
         rows.push(row)?;

@@ -1,11 +1,13 @@
 //! Whether a system has a store or a point.
-ghost use Rattle.std.specs.Prelude.{◌≡◌, ◌<◌, ◌≤◌, ℕ, List, ℤ, IfOk, IfErr, IfSome, MatchOption, length};
+ghost use Rattle.std.specs.Prelude.{◌<◌, ◌≤◌, ℕ, IfOk, IfErr, IfSome, MatchOption, length};
 ghost use Rattle.linear_cons.specs.Exact.{IsOutside};
-ghost use Rattle.linear_solve.specs.Answers.{HasNoStore, IfEmpty, IfPoint, IfRows, IfWide, IsDecided, IsEmpty, IsPointOf, MayOutgrow, MayOverflow};
+ghost use Rattle.linear_solve.specs.Answers.{HasNoStore, IsAnswerTo, IsPointOf};
+ghost use Rattle.linear_solve.specs.Elimination.{NeverGrows};
 ghost use Rattle.linear_solve.specs.Solving.{IfStopRows, IfStopWide, IsMemory, IsModest, IsModestPoint, IsTame, IsTamePoint};
-ghost use Rattle.linear_solve.specs.Systems.{HasOpposed, IsOctagonList, occurring, rows_after};
+ghost use Rattle.linear_solve.specs.Systems.{occurring, rows_after};
 
 use crate::answer::{Answer, Stop};
+use crate::attempt::{Finding, attempt, simplest};
 use crate::eliminate::eliminate;
 use crate::opposed::has_opposed;
 use crate::order::next_place;
@@ -16,19 +18,22 @@ use std::alloc::{AllocError, Global};
 
 /// Looks for a point that meets all rows.
 ///
-/// Two opposed rows are looked for first. Then the places that occur are eliminated, the one with
+/// A search that is checked comes first: places are eliminated while that makes no longer list, and
+/// what is left is pivoted. Where it finds nothing, all places that occur are eliminated, the one with
 /// the fewest combinations first (ties: the least), and values are put back in the other order.
 pub fn decide(alloc: Global, rows: &[Row]) -> Result<Answer, AllocError>
     requires { length rows.now ≤ 4096 }
-    ensures empty { IfOk result (λ answer. IfEmpty answer (HasNoStore rows.now)) }
-    ensures point { IfOk result (λ answer. IfPoint answer (IsPointOf rows.now)) }
-    ensures opposed { IfOk result (λ answer. HasOpposed rows.now → IsEmpty answer) }
-    ensures wide { IfOk result (λ answer. IfWide answer IsOutside) }
-    ensures wide_past_the_bound { IfOk result (λ answer. IfWide answer (λ _. MayOutgrow (occurring rows.now) rows.now)) }
-    ensures many { IfOk result (λ answer. IfRows answer (λ count. 4096 < count)) }
-    ensures rows_past_the_bound { IfOk result (λ answer. IfRows answer (λ _. MayOverflow (occurring rows.now) rows.now)) }
-    ensures octagon { IfOk result (λ answer. IsOctagonList rows.now → IsDecided answer) }
+    ensures { IfOk result (IsAnswerTo rows.now) }
 {
+    match attempt(alloc, rows)? {
+        Some(Finding::Nothing) => return Ok(Answer::Empty),
+        Some(Finding::Point(point)) => {
+            let num = point.num;
+            let den = point.den;
+            return Ok(Answer::Point { num, den });
+        }
+        None => {}
+    }
     if has_opposed(rows) {
         return Ok(Answer::Empty);
     }
@@ -36,8 +41,9 @@ pub fn decide(alloc: Global, rows: &[Row]) -> Result<Answer, AllocError>
     match solve(alloc, &kept) {
         Ok(None) => Ok(Answer::Empty),
         Ok(Some(point)) => {
-            let num = point.num;
-            let den = point.den;
+            let simplest = simplest(&kept, &point);
+            let num = simplest.num;
+            let den = simplest.den;
             Ok(Answer::Point { num, den })
         }
         Err(Stop::Wide(wide)) => Ok(Answer::Wide(wide)),
@@ -55,6 +61,7 @@ fn solve(alloc: Global, rows: &[Row]) -> Result<Option<Point>, Stop>
     ensures immodest { IfErr result (λ stop. IfStopWide stop (λ _. (size c root : ℕ) → IsModest size c root rows.now → ⊥)) }
     ensures many { IfErr result (λ stop. IfStopRows stop (λ count. 4096 < count)) }
     ensures counted { IfErr result (λ stop. IfStopRows stop (λ _. 4096 < rows_after (occurring rows.now) (length rows.now))) }
+    ensures growing { IfErr result (λ stop. IfStopRows stop (λ _. (n : ℕ) → occurring rows.now ≤ n → length rows.now ≤ 4096 → NeverGrows n rows.now → ⊥)) }
     ensures wild { IfErr result (λ stop. (bound : ℕ) → IsTame bound rows.now → IsMemory stop) }
 {
     let place = match next_place(rows) {

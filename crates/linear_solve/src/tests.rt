@@ -176,7 +176,7 @@ fn systems_with_a_whole_point(rt: HostRuntime) -> Result<(), Fail> {
     assert_eq!(rt; verdict_of(alloc, &rows)?, whole);
     // 3 * x + 5 * y = 1: (2, -1) and others; x is free and y follows.
     let rows = [[1, 0, 0, -2], [-1, 0, 0, 2], [3, 5, 0, -1], [-3, -5, 0, 1]];
-    assert_eq!(rt; verdict_of(alloc, &rows)?, Verdict::Fraction);
+    assert_eq!(rt; verdict_of(alloc, &rows)?, whole);
     Ok(())
 }
 
@@ -226,21 +226,34 @@ fn systems_past_the_bounds(rt: HostRuntime) -> Result<(), Fail> {
         [-3, -1, 0, 9],
     ];
     assert_eq!(rt; verdict_of(alloc, &rows)?, Verdict::Wide);
-    // At each of three places 65 rows from below and 65 from above, each with its own linear part:
-    // no place has fewer than 65 * 65 = 4,225 pairs, and 260 rows are without it.
+    // The pivots outgrow 128 bits, and each elimination makes more than 4,096 rows.
+    let rows = slabs(alloc, large, -1)?;
+    match judged(alloc, &rows)? {
+        Verdict::Rows(count) => assert!(rt; count > 4096),
+        other => assert_eq!(rt; other, Verdict::Rows(0)),
+    }
+    // With small numbers the pivots decide such a list.
+    let rows = slabs(alloc, 2, -1)?;
+    assert_eq!(rt; judged(alloc, &rows)?, Verdict::Empty);
+    Ok(())
+}
+
+/// At each of three places 65 rows from below and 65 from above, each with its own linear part: no
+/// place has fewer than 65 * 65 = 4,225 pairs, and 260 rows are without it.
+fn slabs(alloc: Global, slope: i128, constant: i128) -> Result<Vec<Row>, Fail> {
     let mut rows = Vec::new(alloc);
     for place in 0..3 {
         for other in 0..65 {
             let mut numbers = [0; 4];
-            numbers[place] = 1;
+            numbers[place] = slope;
             numbers[(place + 1) % 3] = 101 + 2 * other as i128;
             let negated = [
                 numbers[0].wrapping_neg(),
                 numbers[1].wrapping_neg(),
                 numbers[2].wrapping_neg(),
-                1,
+                constant.wrapping_neg(),
             ];
-            numbers[3] = 1;
+            numbers[3] = constant;
             for signed in [numbers, negated] {
                 if let RowKind::Row(row) = Row::of(plane(signed)) {
                     rows.push(row)?;
@@ -248,11 +261,7 @@ fn systems_past_the_bounds(rt: HostRuntime) -> Result<(), Fail> {
             }
         }
     }
-    match judged(alloc, &rows)? {
-        Verdict::Rows(count) => assert!(rt; count > 4096),
-        other => assert_eq!(rt; other, Verdict::Rows(0)),
-    }
-    Ok(())
+    Ok(rows)
 }
 
 #[test]
@@ -262,6 +271,14 @@ fn projections(rt: HostRuntime) -> Result<(), Fail> {
     let rows = system(alloc, &[[1, 0, 0, -1], [-1, 1, 0, 0]])?;
     let expected = system(alloc, &[[0, 1, 0, -1]])?;
     match project(alloc, &rows, 0)? {
+        Projected::Rows(left) => assert_eq!(rt; left.as_slice(), expected.as_slice()),
+        _ => return Err(Fail::from("given up")),
+    }
+    // huge * x + y >= 0 and -huge * x + y >= 0 leave y >= 0: the factors are divided before the rows are combined.
+    let huge = 0x10_0000_0000_0000_0000_0000_0000;
+    let steep = system(alloc, &[[huge, 1, 0, 0], [-huge, 1, 0, 0]])?;
+    let expected = system(alloc, &[[0, 1, 0, 0]])?;
+    match project(alloc, &steep, 0)? {
         Projected::Rows(left) => assert_eq!(rt; left.as_slice(), expected.as_slice()),
         _ => return Err(Fail::from("given up")),
     }

@@ -29,7 +29,8 @@ pub fn tightest(mut rows: Vec<Row>) -> Vec<Row>
 
 /// The tightest of the slice's rows, which stand for them all.
 pub(crate) fn tightest_of(alloc: Global, rows: &[Row]) -> Result<Vec<Row>, AllocError>
-    ensures { IfOk result (λ kept. StandFor rows.now kept.items) }
+    ensures stands { IfOk result (λ kept. StandFor rows.now kept.items) }
+    ensures tightest { IfOk result (λ kept. AreTightest (map (λ (row : Row). row.affine) rows.now) kept.items) }
 {
     let copied = rows.to_vec(alloc)?;
     Ok(tightest(copied))
