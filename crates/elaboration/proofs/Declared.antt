@@ -1,5 +1,6 @@
 -- What is true of the declared names whatever is declared.
 use Rattle.std.proofs.Common.{◌≡◌, ◌≢◌, ℕ, ◌≤◌, Bool, true, false, nat_lt, List, [], ◌∷◌, ◌++◌, length, refl, arith, if◌then◌else◌, AllPairs}
+use Rattle.std.proofs.lemmas.Bool.{ltb-true}
 use Rattle.std.proofs.lemmas.List.{length-append}
 use Rattle.std.proofs.lemmas.List.Quantifiers.{all_pairs_push}
 use Rattle.concrete_syntax.specs.Trees.{Part, Declaration, Statement, simple, skip, braces, conditional, while_loop, do_loop, for_loop, return, Otherwise, without, otherwise, Items, none, declaration, statement, Start, starts_with_nothing, starts_with, declares}
@@ -69,6 +70,19 @@ no_fewer n names x h = by_known (is_among names x)
     by_known : (known : Bool) → n ≤ length (if known then names else if nat_lt (length names) most_variables then names ++ x ∷ [] else names)
     by_known true = h
     by_known false = by_room (nat_lt (length names) most_variables)
+
+-- a sixteenth variable isn't added
+pub few_kept : IsKept (λ names. length names ≤ 15)
+few_kept names x h = by_known (is_among names x)
+  where
+    by_room : (room : Bool) → nat_lt (length names) most_variables ≡ room → length (if room then names ++ x ∷ [] else names) ≤ 15
+    by_room true less = let below = ltb-true _ _ less in simp length-append (omega (arith, below))
+    by_room false less = h
+
+    by_known : (known : Bool)
+        → length (if known then names else if nat_lt (length names) most_variables then names ++ x ∷ [] else names) ≤ 15
+    by_known true = h
+    by_known false = by_room (nat_lt (length names) most_variables) refl
 
 -- no two variables have one name
 pub distinct_kept : IsKept (λ names. AllPairs (λ a b. a ≢ b) names)

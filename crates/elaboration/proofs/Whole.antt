@@ -12,7 +12,7 @@ use Rattle.elaboration.specs.Faults.{IsFirstOf, earliest}
 use Rattle.elaboration.specs.Statements.{items_scope, items_faults, items_meaning}
 use Rattle.elaboration.specs.Elaborates.{no_names, faults_of, names_of, body_of, StandsFor}
 use Rattle.elaboration.proofs.Firsts.{first_is, none_is}
-use Rattle.elaboration.proofs.Declared.{distinct_kept, items_keep}
+use Rattle.elaboration.proofs.Declared.{distinct_kept, few_kept, items_keep}
 use Rattle.elaboration.proofs.Valid.{IsSound}
 use Rattle.elaboration.proofs.Bodies.{items_valid}
 
@@ -42,13 +42,22 @@ stands p scope behind n least names before out body empty begins found clean goe
 nothing_sound : IsSound no_names
 nothing_sound x seen = absurd (false≢true seen)
 
--- a program that a tree stands for is valid
-pub valid : (p : Program) (names : List Name) (block : Block) → length names ≤ 15 → StandsFor p names (statements block) → IsValid names block
-valid p names block few is =
-    let distinct : AllPairs (λ a b. a ≢ b) (names_of p) = items_keep (λ xs. AllPairs (λ a b. a ≢ b) xs) distinct_kept no_names p.items (λ i j d lt within. absurd (omega arith)) in
+pub names_are_few : (p : Program) (names : List Name) (body : Statements) → StandsFor p names body → length names ≤ 15
+names_are_few p names body is =
+    subst (λ xs. length xs ≤ 15) (sym is.declares) (items_keep (λ xs. length xs ≤ 15) few_kept no_names p.items (omega arith))
+
+-- a body that a tree stands for is over its names, each operand of its sort
+pub body_is_valid : (p : Program) (names : List Name) (body : Statements) → StandsFor p names body → IsBody (length names) body
+body_is_valid p names body is =
     let sorted : IsBody (length (names_of p)) (body_of p) = items_valid (length (names_of p)) no_names nothing_sound (head_width p) p.items (omega arith) is.faultless in
+    subst (λ b. IsBody (length names) b) (sym is.means) (subst (λ xs. IsBody (length xs) (body_of p)) (sym is.declares) sorted)
+
+-- a program that a tree stands for is valid
+pub valid : (p : Program) (names : List Name) (block : Block) → StandsFor p names (statements block) → IsValid names block
+valid p names block is =
+    let distinct : AllPairs (λ a b. a ≢ b) (names_of p) = items_keep (λ xs. AllPairs (λ a b. a ≢ b) xs) distinct_kept no_names p.items (λ i j d lt within. absurd (omega arith)) in
     record {
-      few = few;
+      few = names_are_few p names (statements block) is;
       distinct = subst (λ xs. AllPairs (λ a b. a ≢ b) xs) (sym is.declares) distinct;
-      sorted = subst (λ b. IsBody (length names) b) (sym is.means) (subst (λ xs. IsBody (length xs) (body_of p)) (sym is.declares) sorted);
+      well_sorted = body_is_valid p names (statements block) is;
     }

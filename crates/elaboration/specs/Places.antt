@@ -11,8 +11,8 @@ use Rattle.elaboration.specs.Statements.{behind_test}
 abbrev pub place_in : List Token → ℕ → ℕ
 place_in tokens number = start_of tokens number 0
 
--- the tokens, by their numbers, of the statements of a tree whose first token is the token `n`: that of a statement, then those of its
--- parts. First declared names: one without an initialiser is no statement
+-- The tokens, by their numbers, of the statements of a tree whose first token is the token `n`: that of a statement, then those of its
+-- parts, but that of a `do` behind those of its body. First declared names: one without an initialiser is no statement
 abbrev pub initialiser_tokens : ℕ → Option Expression → List ℕ
 initialiser_tokens n (Some e) = n ∷ []
 initialiser_tokens n None = []
@@ -45,7 +45,7 @@ abbrev mutual
   statement_tokens n (conditional test part other) =
       n ∷ (statement_tokens (behind_test n test) part ++ otherwise_tokens (behind_test n test + statement_width part) other)
   statement_tokens n (while_loop test body) = n ∷ statement_tokens (behind_test n test) body
-  statement_tokens n (do_loop body test) = (n + 1 + statement_width body) ∷ statement_tokens (n + 1) body
+  statement_tokens n (do_loop body test) = statement_tokens (n + 1) body ++ (n + 1 + statement_width body) ∷ []
   statement_tokens n (for_loop start test step body) =
       start_tokens (n + 2) start
       ++ n ∷ (statement_tokens (n + 2 + start_width start + optional_width test + 1 + optional_simple_width step + 1) body

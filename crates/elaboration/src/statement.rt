@@ -99,7 +99,7 @@ fn add(out: &mut Vec<Stmt>, found: (Stmt, usize)) -> Result<usize, AllocError>
 
 fn stmt(at: u32, kind: StmtKind) -> Stmt
     ensures meaning { syntax.statement result.kind ≡ syntax.statement kind }
-    ensures places { step_places.statement_places result ≡ at ∷ step_places.inner_places kind }
+    ensures places { step_places.statement_places result ≡ step_places.places_at at kind }
 {
     Stmt { at, kind }
 }

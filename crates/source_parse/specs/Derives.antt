@@ -1,7 +1,6 @@
 -- Which program a text is.
 use Rattle.std.specs.Prelude.{◌≡◌, ℕ, List}
 use Rattle.step_meaning.specs.Syntax.{Statements, statements}
-use Rattle.step_meaning.specs.Places.{places}
 use Rattle.step_meaning.specs.declared.program.Program.{Program}
 use Rattle.source_lex.specs.declared.token.Token.{Token}
 use Rattle.source_lex.specs.Tokens.{TokensOf}
@@ -21,13 +20,13 @@ pub record IsTextOf (text : List ℕ) (names : List (List ℕ)) (body : Statemen
 abbrev pub Derives : List ℕ → Program → Type 0
 Derives text program = IsTextOf text program.names (statements program.body)
 
--- the program's statements hold the places at which they stand in the text
-pub record HasPlacesOf (text : List ℕ) (program : Program) : Type 0 where
+-- the text is a program, and these are the places at which its statements stand, in the order of the tree (`Places` of `step_meaning`)
+pub record HasPlaces (text places : List ℕ) : Type 0 where
   pub tree : Tree
   pub spelled : IsSyntaxOf text tree
   pub tokens : List Token
   pub lexed : TokensOf text tokens
-  pub stand : places program.body ≡ program_places tokens tree
+  pub stand : places ≡ program_places tokens tree
 
 -- the text is no program
 abbrev pub DerivesNone : List ℕ → Type 0

@@ -9,7 +9,7 @@ ghost use Rattle.concrete_syntax.specs.Trees.{Program as Concrete};
 ghost use Rattle.elaboration.specs.Elaborates.{HasFirstFault, StandsFor};
 ghost use Rattle.elaboration.specs.Places.{program_places};
 ghost use Rattle.source_syntax.specs.Texts.{IsTextOf as IsSyntaxOf, IsFaultOf as IsSyntaxFaultOf, place_in};
-ghost use Rattle.source_parse.specs.Derives.{Derives, HasPlacesOf};
+ghost use Rattle.source_parse.specs.Derives.{Derives, HasPlaces};
 ghost use Rattle.source_parse.specs.Faults.{IsFaultOf, limit_of};
 
 use crate::fault::{ParseFault, Which};
@@ -30,7 +30,7 @@ use step_meaning::Program;
 pub fn parse(alloc: Global, text: &[u8]) -> Result<Program, ParseFault>
     requires { length text.now ≤ 65536 }
     ensures program { IfOk result (Derives text.now) }
-    ensures places { IfOk result (HasPlacesOf text.now) }
+    ensures places { IfOk result (λ program. HasPlaces text.now (places program.body)) }
     ensures fault { IfErr result (IsFaultOf text.now) }
     ensures size { IfOk result (λ program. size_of (statements program.body) ≤ length text.now) }
 {

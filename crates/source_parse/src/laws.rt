@@ -1,6 +1,6 @@
 //! Laws of derivations, each the contract of a function that does nothing.
 
-ghost use Rattle.source_parse.specs.Laws.{TextsAreUnique, ProgramsHaveNoFault, FaultsAgree, ProgramsAreSmall, NamesAreDistinct, NamesAreNames};
+ghost use Rattle.source_parse.specs.Laws.{TextsAreUnique, ProgramsHaveNoFault, FaultsAgree, ProgramsAreSmall, ProgramsAreValid, NamesAreDistinct, NamesAreNames};
 
 use source_lex::{tokens_are_in_order, tokens_are_unique, tokens_spell_their_kinds};
 use source_syntax::{
@@ -38,6 +38,11 @@ pub fn a_program_is_no_larger_than_its_text()
 {
     tokens_are_in_order();
 }
+
+/// A text that is a program is a valid one: at most 15 names, and each operand of the sort that its place needs.
+pub fn a_text_is_a_valid_program()
+    ensures { ProgramsAreValid }
+{}
 
 /// The names of a program are spelled as names: a letter or `_`, and then letters, digits and `_`.
 pub fn names_are_spelled_as_names()

@@ -13,5 +13,6 @@ pub use fault::{ParseFault, Which};
 pub use front::parse;
 pub use laws::{
     a_program_has_no_fault, a_program_is_no_larger_than_its_text, a_text_has_one_fault,
-    a_text_is_one_program, names_are_distinct, names_are_spelled_as_names,
+    a_text_is_a_valid_program, a_text_is_one_program, names_are_distinct,
+    names_are_spelled_as_names,
 };

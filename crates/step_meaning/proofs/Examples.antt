@@ -1,18 +1,13 @@
--- The definitions at work on small programs: what they say of a program that a reader can run by hand.
-use Rattle.std.proofs.Common.{◌≡◌, ℕ, zero, suc, ℤ, pos, ◌<ℤ◌, ◌-ℤ◌, true, false, inl, inr, IsTrue, List, [], ◌∷◌, ◌++◌, slice_set, refl, sym, ◌∙◌, ap, subst, arith}
+-- The definitions at work on small programs: what they say of a program that a reader can run by hand. The variable x is at place 0, and a
+-- store has sixteen places.
+use Rattle.std.proofs.Common.{◌≡◌, ℕ, zero, suc, ℤ, pos, ◌≤ℤ◌, ◌<ℤ◌, ◌-ℤ◌, Bool, true, false, inl, inr, IsTrue, [], ◌∷◌, ◌++◌, None, Some, slice_set, refl, sym, ◌∙◌, ap, subst, arith}
 use Rattle.std.proofs.lemmas.Int.{ints}
-use Rattle.step_meaning.specs.declared.expression.Op2.TheVariants.{Sub, Greater}
-use Rattle.step_meaning.specs.Syntax.{Expression, number, variable, pair, Statement, Statements, list_of, assign, skip, while_loop, do_while, empty, sequence}
-use Rattle.step_meaning.specs.Outcome.{Store, MayTest}
-use Rattle.step_meaning.specs.Step.{Configuration, Step, IsFinal, front}
-use Rattle.step_meaning.specs.Run.{start, EndsWithin, Longest}
+use Rattle.step_meaning.specs.declared.expression.Op2.TheVariants.{Sub, Greater, And, Or}
+use Rattle.step_meaning.specs.Syntax.{Expression, number, variable, free, range, truth, negation, pair, Statement, Statements, list_of, assign, skip, return, if_else, while_loop, do_while, empty, sequence}
+use Rattle.step_meaning.specs.Outcome.{Store, May, MayTest}
+use Rattle.step_meaning.specs.Step.{Configuration, Todo, Step, Next, IsFinal, behind_body, front}
+use Rattle.step_meaning.specs.Run.{start, EndsWithin, EndsInTests, Longest}
 use Rattle.step_meaning.proofs.Progress.{holds, fails}
-
--- a first `do` in a list stands for its body followed by a `while`
-do_is_body_and_while : (body : Statements) (c : Expression) (rest : List Statement)
-    → front (do_while body c ∷ rest) ≡ front (list_of body ++ (while_loop c body empty ∷ rest))
-do_is_body_and_while empty c rest = refl
-do_is_body_and_while (sequence first more) c rest = refl
 
 same : (d e : Configuration) → d.todo ≡ e.todo → d.store ≡ e.store → d ≡ e
 same d e todo store =
@@ -30,10 +25,15 @@ longest_by_step (suc n) c e unfinished step only longest = (
 )
 
 -- a configuration of a list and a store
-abbrev at : List Statement → Store → Configuration
+abbrev at : Todo → Store → Configuration
 at todo s = record { todo = todo; store = s }
 
--- `x > 0` and `x = x - 1;`, where x is the only variable
+-- the store in which x is this number and every other place is 0
+abbrev store_of : ℤ → Store
+store_of x =
+    x ∷ pos 0 ∷ pos 0 ∷ pos 0 ∷ pos 0 ∷ pos 0 ∷ pos 0 ∷ pos 0 ∷ pos 0 ∷ pos 0 ∷ pos 0 ∷ pos 0 ∷ pos 0 ∷ pos 0 ∷ pos 0 ∷ pos 0 ∷ []
+
+-- `x > 0` and `x = x - 1;`
 abbrev positive : Expression
 positive = pair Greater (variable 0) (number (pos 0))
 
@@ -43,10 +43,10 @@ down = assign 0 (pair Sub (variable 0) (number (pos 1)))
 abbrev only_down : Statements
 only_down = sequence down empty
 
-when_positive : (z : ℤ) → pos 0 <ℤ z → MayTest positive (z ∷ []) true
+when_positive : (z : ℤ) → pos 0 <ℤ z → MayTest positive (store_of z) true
 when_positive z lt = inl (z, pos 0, refl, refl, holds lt)
 
-positive_only : (z : ℤ) → pos 0 <ℤ z → ¬ MayTest positive (z ∷ []) false
+positive_only : (z : ℤ) → pos 0 <ℤ z → ¬ MayTest positive (store_of z) false
 positive_only z lt (inl m) =
     let below : pos 0 <ℤ m.0 = omega (arith, ints) in
     let at_zero : m.1 <ℤ m.0 = omega (arith, ints) in
@@ -54,10 +54,10 @@ positive_only z lt (inl m) =
     cc
 positive_only z lt (inr m) = m.4
 
-when_zero : MayTest positive (pos 0 ∷ []) false
+when_zero : MayTest positive (store_of (pos 0)) false
 when_zero = inl (pos 0, pos 0, refl, refl, fails (λ lt. omega (arith, ints)))
 
-zero_only : ¬ MayTest positive (pos 0 ∷ []) true
+zero_only : ¬ MayTest positive (store_of (pos 0)) true
 zero_only (inl m) =
     let above : m.1 <ℤ m.0 = m.4.0 refl in
     omega (arith, ints)
@@ -67,39 +67,39 @@ one_positive : pos 0 <ℤ pos 1
 one_positive = omega (arith, ints)
 
 -- from x = 1, `x = x - 1;` gives 0
-down_from_one : (rest : List Statement) → Step (at (down ∷ rest) (pos 1 ∷ [])) (at rest (pos 0 ∷ []))
+down_from_one : (rest : Todo) → Step (at (down ∷ rest) (store_of (pos 1))) (at rest (store_of (pos 0)))
 down_from_one rest = (refl, (pos 0, (pos 1, pos 1, refl, refl, refl), refl))
 
-down_from_one_only : (rest : List Statement) (d : Configuration) → Step (at (down ∷ rest) (pos 1 ∷ [])) d → d ≡ at rest (pos 0 ∷ [])
+down_from_one_only : (rest : Todo) (d : Configuration) → Step (at (down ∷ rest) (store_of (pos 1))) d → d ≡ at rest (store_of (pos 0))
 down_from_one_only rest d step =
     let m = step.1.1 in
     let gives : step.1.0 ≡ pos 0 = m.4 ∙ ap (λ a. a -ℤ m.1) m.2 ∙ ap (λ b. pos 1 -ℤ b) m.3 in
-    same d (at rest (pos 0 ∷ [])) step.0 (step.1.2 ∙ ap (λ v. slice_set (pos 1 ∷ []) 0 v) gives)
+    same d (at rest (store_of (pos 0))) step.0 (step.1.2 ∙ ap (λ v. slice_set (store_of (pos 1)) 0 v) gives)
 
 -- `while (x > 0) body`, from x = 1 and from x = 0
-module _ (body step : Statements) (rest : List Statement) where
+module _ (body step : Statements) (rest : Todo) where
   abbrev loop : Statement
   loop = while_loop positive body step
 
-  abbrev inside : List Statement
-  inside = list_of body ++ (list_of step ++ (loop ∷ rest))
+  abbrev inside : Todo
+  inside = list_of body ++ behind_body positive body step rest
 
-  enters : Step (at (loop ∷ rest) (pos 1 ∷ [])) (at inside (pos 1 ∷ []))
+  enters : Step (at (loop ∷ rest) (store_of (pos 1))) (at inside (store_of (pos 1)))
   enters = (inl (when_positive (pos 1) one_positive, refl), refl)
 
-  enters_only : (d : Configuration) → Step (at (loop ∷ rest) (pos 1 ∷ [])) d → d ≡ at inside (pos 1 ∷ [])
-  enters_only d (inl taken, store) = same d (at inside (pos 1 ∷ [])) taken.1 store
+  enters_only : (d : Configuration) → Step (at (loop ∷ rest) (store_of (pos 1))) d → d ≡ at inside (store_of (pos 1))
+  enters_only d (inl taken, store) = same d (at inside (store_of (pos 1))) taken.1 store
   enters_only d (inr taken, store) = absurd (positive_only (pos 1) one_positive taken.0)
 
-  leaves : Step (at (loop ∷ rest) (pos 0 ∷ [])) (at rest (pos 0 ∷ []))
+  leaves : Step (at (loop ∷ rest) (store_of (pos 0))) (at rest (store_of (pos 0)))
   leaves = (inr (when_zero, refl), refl)
 
-  leaves_only : (d : Configuration) → Step (at (loop ∷ rest) (pos 0 ∷ [])) d → d ≡ at rest (pos 0 ∷ [])
+  leaves_only : (d : Configuration) → Step (at (loop ∷ rest) (store_of (pos 0))) d → d ≡ at rest (store_of (pos 0))
   leaves_only d (inl taken, store) = absurd (zero_only taken.0)
-  leaves_only d (inr taken, store) = same d (at rest (pos 0 ∷ [])) taken.1 store
+  leaves_only d (inr taken, store) = same d (at rest (store_of (pos 0))) taken.1 store
 
-  leaving : Longest 0 (at rest (pos 0 ∷ [])) → Longest 1 (at (loop ∷ rest) (pos 0 ∷ []))
-  leaving final = longest_by_step 0 (at (loop ∷ rest) (pos 0 ∷ [])) (at rest (pos 0 ∷ [])) (λ e. cc) leaves leaves_only final
+  leaving : Longest 0 (at rest (store_of (pos 0))) → Longest 1 (at (loop ∷ rest) (store_of (pos 0)))
+  leaving final = longest_by_step 0 (at (loop ∷ rest) (store_of (pos 0))) (at rest (store_of (pos 0))) (λ e. cc) leaves leaves_only final
 
 -- `x = 5;` ends within 1 step and not within 0
 assignment_ends : (s : Store) → EndsWithin 1 (start (sequence (assign 0 (number (pos 5))) empty) s)
@@ -108,28 +108,125 @@ assignment_ends s = inr (λ d step. ap front step.0)
 assignment_takes_a_step : (s : Store) → ¬ EndsWithin 0 (start (sequence (assign 0 (number (pos 5))) empty) s)
 assignment_takes_a_step s e = cc
 
+-- `return; x = 5;` ends with the `return`
+return_ends : (s : Store) → EndsWithin 1 (start (sequence return (sequence (assign 0 (number (pos 5))) empty)) s)
+return_ends s = inr (λ d step. ap front step.0)
+
 -- from x = 1 the longest run of `while (x > 0) x = x - 1;` takes 3 steps
-while_takes_three : Longest 3 (start (sequence (while_loop positive only_down empty) empty) (pos 1 ∷ []))
+while_takes_three : Longest 3 (start (sequence (while_loop positive only_down empty) empty) (store_of (pos 1)))
 while_takes_three =
     let loop = while_loop positive only_down empty in
-    longest_by_step 2 (at (loop ∷ []) (pos 1 ∷ [])) (at (down ∷ loop ∷ []) (pos 1 ∷ [])) (λ e. cc) (enters only_down empty []) (enters_only only_down empty [])
-    (longest_by_step 1 (at (down ∷ loop ∷ []) (pos 1 ∷ [])) (at (loop ∷ []) (pos 0 ∷ [])) (λ e. cc) (down_from_one _) (down_from_one_only _)
-    (leaving only_down empty [] refl))
+    longest_by_step 2 (at (loop ∷ []) (store_of (pos 1))) (at (down ∷ loop ∷ []) (store_of (pos 1))) (λ e. cc)
+    (enters only_down empty []) (enters_only only_down empty [])
+    (longest_by_step 1 (at (down ∷ loop ∷ []) (store_of (pos 1))) (at (loop ∷ []) (store_of (pos 0))) (λ e. cc) (down_from_one _)
+    (down_from_one_only _) (leaving only_down empty [] refl))
 
--- from x = 1 the longest run of `do x = x - 1; while (x > 0);` takes 2 steps
-do_takes_two : Longest 2 (start (sequence (do_while only_down positive) empty) (pos 1 ∷ []))
+-- from x = 1 the longest run of `do x = x - 1; while (x > 0);` takes 2 steps, and so does that of `do do x = x - 1; while (x > 0); while (x > 0);`
+-- with a third for the outer test
+do_takes_two : Longest 2 (start (sequence (do_while only_down positive) empty) (store_of (pos 1)))
 do_takes_two =
     let loop = while_loop positive only_down empty in
-    longest_by_step 1 (at (do_while only_down positive ∷ []) (pos 1 ∷ [])) (at (loop ∷ []) (pos 0 ∷ [])) (λ e. cc) (down_from_one _) (down_from_one_only _)
-    (leaving only_down empty [] refl)
+    longest_by_step 1 (at (do_while only_down positive ∷ []) (store_of (pos 1))) (at (loop ∷ []) (store_of (pos 0))) (λ e. cc)
+    (down_from_one _) (down_from_one_only _) (leaving only_down empty [] refl)
+
+nested_do_takes_three : Longest 3 (start (sequence (do_while (sequence (do_while only_down positive) empty) positive) empty) (store_of (pos 1)))
+nested_do_takes_three =
+    let inner = sequence (do_while only_down positive) empty in
+    let outer_loop = while_loop positive inner empty in
+    let inner_loop = while_loop positive only_down empty in
+    longest_by_step 2 (at (do_while inner positive ∷ []) (store_of (pos 1))) (at (inner_loop ∷ outer_loop ∷ []) (store_of (pos 0))) (λ e. cc)
+    (down_from_one _) (down_from_one_only _)
+    (longest_by_step 1 (at (inner_loop ∷ outer_loop ∷ []) (store_of (pos 0))) (at (outer_loop ∷ []) (store_of (pos 0))) (λ e. cc)
+    (leaves only_down empty (outer_loop ∷ [])) (leaves_only only_down empty (outer_loop ∷ [])) (leaving inner empty [] refl))
 
 -- from x = 1 the longest run of `for (; x > 0; x = x - 1) ;` takes 4 steps: a test, the `;`, the step and a test
-for_takes_four : Longest 4 (start (sequence (while_loop positive (sequence skip empty) only_down) empty) (pos 1 ∷ []))
+for_takes_four : Longest 4 (start (sequence (while_loop positive (sequence skip empty) only_down) empty) (store_of (pos 1)))
 for_takes_four =
     let body = sequence skip empty in
     let loop = while_loop positive body only_down in
-    longest_by_step 3 (at (loop ∷ []) (pos 1 ∷ [])) (at (skip ∷ down ∷ loop ∷ []) (pos 1 ∷ [])) (λ e. cc) (enters body only_down []) (enters_only body only_down [])
-    (longest_by_step 2 (at (skip ∷ down ∷ loop ∷ []) (pos 1 ∷ [])) (at (down ∷ loop ∷ []) (pos 1 ∷ [])) (λ e. cc) (refl, refl)
-    (λ d step. same d (at (down ∷ loop ∷ []) (pos 1 ∷ [])) step.0 step.1)
-    (longest_by_step 1 (at (down ∷ loop ∷ []) (pos 1 ∷ [])) (at (loop ∷ []) (pos 0 ∷ [])) (λ e. cc) (down_from_one _) (down_from_one_only _)
-    (leaving body only_down [] refl)))
+    longest_by_step 3 (at (loop ∷ []) (store_of (pos 1))) (at (skip ∷ down ∷ loop ∷ []) (store_of (pos 1))) (λ e. cc)
+    (enters body only_down []) (enters_only body only_down [])
+    (longest_by_step 2 (at (skip ∷ down ∷ loop ∷ []) (store_of (pos 1))) (at (down ∷ loop ∷ []) (store_of (pos 1))) (λ e. cc) (refl, refl)
+    (λ d step. same d (at (down ∷ loop ∷ []) (store_of (pos 1))) step.0 step.1)
+    (longest_by_step 1 (at (down ∷ loop ∷ []) (store_of (pos 1))) (at (loop ∷ []) (store_of (pos 0))) (λ e. cc) (down_from_one _)
+    (down_from_one_only _) (leaving body only_down [] refl)))
+
+-- `if (x > 0) ; else { ; ; }` from x = 1: the shorter side is taken
+abbrev unequal_sides : Statements
+unequal_sides = sequence (if_else positive (sequence skip empty) (sequence skip (sequence skip empty))) empty
+
+if_takes_two : Longest 2 (start unequal_sides (store_of (pos 1)))
+if_takes_two =
+    longest_by_step 1 (start unequal_sides (store_of (pos 1))) (at (skip ∷ []) (store_of (pos 1))) (λ e. cc)
+    (inl (when_positive (pos 1) one_positive, refl), refl)
+    (λ d step. elim step.0 [
+      | inl taken ↦ same d (at (skip ∷ []) (store_of (pos 1))) taken.1 step.1
+      | inr taken ↦ absurd (positive_only (pos 1) one_positive taken.0)
+    ])
+    (longest_by_step 0 (at (skip ∷ []) (store_of (pos 1))) (at [] (store_of (pos 1))) (λ e. cc) (refl, refl)
+    (λ d step. same d (at [] (store_of (pos 1))) step.0 step.1) refl)
+
+-- `while (x > 0) x = x - 1;` takes one loop test from x = 0 and two from x = 1, and no fewer
+abbrev counting : Statements
+counting = sequence (while_loop positive only_down empty) empty
+
+leaves_in_one_test : EndsInTests 1 1 (start counting (store_of (pos 0)))
+leaves_in_one_test = inr (λ d step. ap (λ c. front c.todo) (leaves_only only_down empty [] d step))
+
+no_test_is_free : (n : ℕ) → ¬ EndsInTests 0 n (start counting (store_of (pos 0)))
+no_test_is_free zero final = cc
+no_test_is_free (suc n) (inl final) = cc
+no_test_is_free (suc n) (inr tests) = tests
+
+ends_in_two_tests : EndsInTests 2 3 (start counting (store_of (pos 1)))
+ends_in_two_tests =
+    inr (λ d enter. subst (EndsInTests 1 2) (sym (enters_only only_down empty [] d enter))
+    (inr (λ e fall. subst (EndsInTests 1 1) (sym (down_from_one_only _ e fall)) leaves_in_one_test)))
+
+two_tests_are_needed : (n : ℕ) → ¬ EndsInTests 1 n (start counting (store_of (pos 1)))
+two_tests_are_needed zero final = cc
+two_tests_are_needed (suc n) (inl final) = cc
+two_tests_are_needed (suc n) (inr successors) =
+    elim n as (λ m. EndsInTests 0 m (at (down ∷ while_loop positive only_down empty ∷ []) (store_of (pos 1))) → ⊥) [
+      | zero ↦ λ h. cc
+      | suc m ↦ λ h. elim h [
+        | inl final ↦ cc
+        | inr left ↦ no_test_is_free m (left _ (down_from_one _))
+      ]
+    ] (successors _ (enters only_down empty []))
+
+-- a final configuration has itself as its only successor, and any other has those of its steps
+end_stays : (s : Store) → Next (at [] s) (at [] s)
+end_stays s = inr (refl, refl)
+
+end_stays_only : (s : Store) (d : Configuration) → Next (at [] s) d → d ≡ at [] s
+end_stays_only s d (inl step) = absurd step
+end_stays_only s d (inr final) = final.1
+
+next_is_a_step : (s : Store) (d : Configuration) → Next (at (skip ∷ []) s) d → d ≡ at [] s
+next_is_a_step s d (inl step) = same d (at [] s) step.0 step.1
+next_is_a_step s d (inr final) = absurd (cc)
+
+-- `[3, inf]` may be 7 and not 2; `? - ?` may be any number, also of one name's own value less itself only 0
+range_has_seven : May (range (Some (pos 3)) None) (store_of (pos 0)) (pos 7)
+range_has_seven = (omega (arith, ints), tt)
+
+range_lacks_two : ¬ May (range (Some (pos 3)) None) (store_of (pos 0)) (pos 2)
+range_lacks_two h = let low : pos 3 ≤ℤ pos 2 = h.0 in omega (arith, ints)
+
+itself_less_itself : (s : Store) (v : ℤ) → May (pair Sub (variable 0) (variable 0)) s v → v ≡ pos 0
+itself_less_itself s v m = m.4 ∙ ap (λ a. a -ℤ m.1) (m.2 ∙ sym m.3) ∙ (omega (arith, ints))
+
+free_less_free : (s : Store) (v : ℤ) → May (pair Sub free free) s v
+free_less_free s v = (v, pos 0, tt, tt, omega (arith, ints))
+
+-- `? && ?` may be either, `! true` is false alone, `false || ?` may be true
+free_and_free : (s : Store) (t : Bool) → MayTest (pair And free free) s t
+free_and_free s true = inr (true, true, tt, tt, refl)
+free_and_free s false = inr (false, true, tt, tt, refl)
+
+not_true : (s : Store) → ¬ MayTest (negation (truth true)) s true
+not_true s m = cc
+
+false_or_free : (s : Store) → MayTest (pair Or (truth false) free) s true
+false_or_free s = inr (false, true, refl, tt, refl)

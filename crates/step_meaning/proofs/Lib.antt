@@ -1,3 +1,5 @@
 pub mod Progress
+pub mod Stores
+pub mod Front
 mod Examples
 pub mod Lists

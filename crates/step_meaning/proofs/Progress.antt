@@ -10,10 +10,11 @@ use Rattle.std.specs.declared.cmp.Ordering.TheVariants.{Less as Below, Equal as 
 use Rattle.step_meaning.specs.declared.expression.Op2.{Op2}
 use Rattle.step_meaning.specs.declared.expression.Op2.TheVariants.{Add, Sub, Mul, Less, LessEqual, Greater, GreaterEqual, Equal, NotEqual, And, Or}
 use Rattle.step_meaning.specs.Syntax.{Expression, number, variable, free, range, truth, negative, negation, pair, Statement, Statements, list_of, assign, skip, return, if_else, while_loop, do_while, empty, sequence}
-use Rattle.step_meaning.specs.Outcome.{Store, value_at, IsFrom, IsUpTo, May, MayTest, Compares}
-use Rattle.step_meaning.specs.Step.{Configuration, Step, StepsFrom, IsFinal, front, front_of_statement, front_of_list}
-use Rattle.step_meaning.specs.Run.{IsReachable, Reaches, here, by_step}
-use Rattle.step_meaning.specs.Valid.{IsInOrder, IsNumber, IsTest, IsStatement, IsBody}
+use Rattle.linear_cons.specs.Bounds.{IsFrom, IsUpTo}
+use Rattle.linear_cons.specs.Numbers.{number_at}
+use Rattle.step_meaning.specs.Outcome.{Store, May, MayTest, Compares}
+use Rattle.step_meaning.specs.Step.{Configuration, Step, StepsFrom, IsFinal, behind_body, front, front_of_statement, front_of_list}
+use Rattle.step_meaning.specs.Valid.{IsInOrder, IsNumber, IsTest, IsStatement, IsBody, AreStatements}
 
 -- of two numbers the first is smaller, equal or greater
 ranked : (o : Ordering) {A B C : Type 0} → MatchOrdering o A B C → A ⊎ (B ⊎ C)
@@ -70,7 +71,7 @@ range_has_number None None h = (pos 0, (tt, tt))
 -- each number expression has an outcome
 pub number_has_outcome : (vars : ℕ) (s : Store) (e : Expression) → IsNumber vars e → (v : ℤ) × May e s v
 number_has_outcome vars s (number z) h = (z, refl)
-number_has_outcome vars s (variable x) h = (value_at s x, refl)
+number_has_outcome vars s (variable x) h = (number_at s x, refl)
 number_has_outcome vars s free h = (pos 0, tt)
 number_has_outcome vars s (range lo hi) h = range_has_number lo hi h
 number_has_outcome vars s (negative e) h =
@@ -124,11 +125,7 @@ test_has_outcome vars s (pair Or l r) h =
 test_has_outcome vars s (pair _ l r) h = absurd h
 test_has_outcome vars s _ h = absurd h
 
--- each statement of a list is over `vars` variables
-abbrev AreStatements : ℕ → List Statement → Type 0
-AreStatements vars [] = ⊤
-AreStatements vars (first ∷ rest) = IsStatement vars first × AreStatements vars rest
-
+-- a body before a list
 AreStatements-list_of : (vars : ℕ) (body : Statements) (rest : List Statement) → IsBody vars body → AreStatements vars rest
     → AreStatements vars (list_of body ++ rest)
 AreStatements-list_of vars empty rest h k = k
@@ -151,12 +148,12 @@ mutual
   AreStatements-front_of_list vars (sequence first more) rest h k =
       AreStatements-front_of_statement vars first (list_of more ++ rest) h.0 (AreStatements-list_of vars more rest h.1 k)
 
-AreStatements-front : (vars : ℕ) (todo : List Statement) → AreStatements vars todo → AreStatements vars (front todo)
+pub AreStatements-front : (vars : ℕ) (todo : List Statement) → AreStatements vars todo → AreStatements vars (front todo)
 AreStatements-front vars [] h = h
 AreStatements-front vars (first ∷ rest) h = AreStatements-front_of_statement vars first rest h.0 h.1
 
 -- what is left to do stays over `vars` variables
-stays : (vars : ℕ) (ahead : List Statement) (s : Store) (d : Configuration) → AreStatements vars ahead → StepsFrom ahead s d
+pub stays : (vars : ℕ) (ahead : List Statement) (s : Store) (d : Configuration) → AreStatements vars ahead → StepsFrom ahead s d
     → AreStatements vars d.todo
 stays vars [] s d h step = absurd step
 stays vars (assign x e ∷ rest) s d h step = subst (AreStatements vars) (sym step.0) h.1
@@ -169,7 +166,7 @@ stays vars (if_else c y n ∷ rest) s d h step = elim step.0 [
 stays vars (while_loop c b t ∷ rest) s d h step = elim step.0 [
   | inl taken ↦
       subst (AreStatements vars) (sym taken.1)
-      (AreStatements-list_of vars b (list_of t ++ (while_loop c b t ∷ rest)) h.0.1
+      (AreStatements-list_of vars b (behind_body c b t rest) h.0.1
       (AreStatements-list_of vars t (while_loop c b t ∷ rest) h.0.2 h))
   | inr taken ↦ subst (AreStatements vars) (sym taken.1) h.1
 ]
@@ -216,21 +213,21 @@ unstuck vars (if_else c y n ∷ rest) s ready h =
 unstuck vars (while_loop c b p ∷ rest) s ready h =
     let t = test_has_outcome vars s c h.0.0 in
     inr (elim t.0 as (λ u. MayTest c s u → (d : Configuration) × StepsFrom (while_loop c b p ∷ rest) s d) [
-      | true ↦ λ m. (record { todo = list_of b ++ (list_of p ++ (while_loop c b p ∷ rest)); store = s }, (inl (m, refl), refl))
+      | true ↦ λ m. (record { todo = list_of b ++ behind_body c b p rest; store = s }, (inl (m, refl), refl))
       | false ↦ λ m. (record { todo = rest; store = s }, (inr (m, refl), refl))
     ] t.1)
 unstuck vars (do_while b c ∷ rest) s ready h = absurd ready
 
--- whatever steps lead to is over `vars` variables too
-reached : (vars : ℕ) {c d : Configuration} → Reaches c d → AreStatements vars c.todo → AreStatements vars d.todo
-reached vars here h = h
-reached vars (by_step {c} {d} {e} step more) h =
-    reached vars more (stays vars (front c.todo) c.store d (AreStatements-front vars c.todo h) step)
+-- a configuration of valid statements isn't stuck
+pub unstuck_at : (vars : ℕ) (c : Configuration) → AreStatements vars c.todo → IsFinal c ⊎ ((d : Configuration) × Step c d)
+unstuck_at vars c h = unstuck vars (front c.todo) c.store (IsReady-front c.todo) (AreStatements-front vars c.todo h)
 
--- no configuration that a valid body reaches is stuck
-pub unstuck_from : (vars : ℕ) (body : Statements) → IsBody vars body → (c : Configuration) → IsReachable vars body c
-    → IsFinal c ⊎ ((d : Configuration) × Step c d)
-unstuck_from vars body valid c reachable =
-    let at_start : AreStatements vars (list_of body ++ []) = AreStatements-list_of vars body [] valid tt in
-    let h = reached vars reachable.2 (subst (AreStatements vars) (append-nil (list_of body)) at_start) in
-    unstuck vars (front c.todo) c.store (IsReady-front c.todo) (AreStatements-front vars c.todo h)
+-- a step keeps the statements valid
+pub step_stays : (vars : ℕ) (c d : Configuration) → AreStatements vars c.todo → Step c d → AreStatements vars d.todo
+step_stays vars c d h step = stays vars (front c.todo) c.store d (AreStatements-front vars c.todo h) step
+
+-- a valid body is a list of valid statements
+pub body_is_valid : (vars : ℕ) (body : Statements) → IsBody vars body → AreStatements vars (list_of body)
+body_is_valid vars body valid =
+    let with_end : AreStatements vars (list_of body ++ []) = AreStatements-list_of vars body [] valid tt in
+    subst (AreStatements vars) (append-nil (list_of body)) with_end

@@ -5,3 +5,5 @@ pub mod Run
 pub mod Valid
 pub mod ValidOnce
 pub mod Places
+pub mod Naming
+pub mod AffineExpressions

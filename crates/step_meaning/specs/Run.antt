@@ -1,13 +1,14 @@
 -- Runs of a program from its inputs, and how long they are.
-use Rattle.std.specs.Prelude.{◌≡◌, ℕ, zero, suc, ◌≤◌, ℤ, pos, negsuc, ◌⊎◌, List, ◌∷◌, length, Option, None, Some}
-use Rattle.step_meaning.specs.Syntax.{Statement, Statements, list_of, while_loop}
-use Rattle.step_meaning.specs.Outcome.{Store, value_at}
-use Rattle.step_meaning.specs.Step.{Configuration, Step, IsFinal, front}
+use Rattle.std.specs.Prelude.{◌≡◌, ℕ, zero, suc, ◌≤◌, ℤ, pos, negsuc, ◌⊎◌, [], ◌∷◌, length}
+use Rattle.step_meaning.specs.Syntax.{Statements, list_of, assign, skip, return, if_else, while_loop, do_while}
+use Rattle.linear_cons.specs.Numbers.{number_at}
+use Rattle.step_meaning.specs.Outcome.{Store}
+use Rattle.step_meaning.specs.Step.{Configuration, Todo, Step, IsFinal, front}
 
--- an input of a program of `vars` variables: 16 whole numbers, of which those past the variables are 0
+-- an input of a program of `vars` variables: sixteen whole numbers, of which those past the variables are 0
 pub record IsInput (vars : ℕ) (input : Store) : Type 0 where
   pub places : length input ≡ 16
-  pub zeros : (x : ℕ) → vars ≤ x → value_at input x ≡ pos 0
+  pub zeros : (x : ℕ) → vars ≤ x → number_at input x ≡ pos 0
 
 -- where the runs of a program with this body begin
 abbrev pub start : Statements → Store → Configuration
@@ -37,15 +38,20 @@ abbrev pub Longest : ℕ → Configuration → Type 0
 Longest zero c = EndsWithin zero c
 Longest (suc n) c = EndsWithin (suc n) c × ¬ EndsWithin n c
 
--- how many loop tests are left behind the next step, of `tests` before it; `None` where that step is a loop test and none is left
-abbrev pub tests_after : ℕ → List Statement → Option ℕ
-tests_after zero (while_loop c body step ∷ rest) = None
-tests_after (suc tests) (while_loop c body step ∷ rest) = Some tests
-tests_after tests _ = Some tests
+-- With `tests` tests of a loop left, the next step of this list may be taken, and of the number left behind it `Behind` is said: a test of a
+-- loop needs one and leaves one less.
+abbrev pub TestsAllow : Todo → ℕ → (ℕ → Type 0) → Type 0
+TestsAllow (while_loop c body step ∷ rest) zero Behind = ⊥
+TestsAllow (while_loop c body step ∷ rest) (suc tests) Behind = Behind tests
+TestsAllow (assign x e ∷ rest) tests Behind = Behind tests
+TestsAllow (skip ∷ rest) tests Behind = Behind tests
+TestsAllow (return ∷ rest) tests Behind = Behind tests
+TestsAllow (if_else c first second ∷ rest) tests Behind = Behind tests
+TestsAllow (do_while body c ∷ rest) tests Behind = Behind tests
+TestsAllow [] tests Behind = Behind tests
 
 -- every run from `c` ends within `n` steps, of which at most `tests` are tests of a loop
 abbrev pub EndsInTests : ℕ → ℕ → Configuration → Type 0
 EndsInTests tests zero c = IsFinal c
 EndsInTests tests (suc n) c =
-    IsFinal c
-    ⊎ ((left : ℕ) × (tests_after tests (front c.todo) ≡ Some left) × ((d : Configuration) → Step c d → EndsInTests left n d))
+    IsFinal c ⊎ TestsAllow (front c.todo) tests (λ left. (d : Configuration) → Step c d → EndsInTests left n d)

@@ -1,29 +1,44 @@
 -- Valid programs: what the type `Program` promises of its names and its body.
-use Rattle.std.specs.Prelude.{◌≢◌, ℕ, ◌<◌, ◌≤◌, ℤ, ◌≤ℤ◌, List, length, Option, Some, AllPairs, ⊤}
+use Rattle.std.specs.Prelude.{◌≢◌, ℕ, ◌<◌, ◌≤◌, ℤ, ◌≤ℤ◌, List, length, Option, None, Some, AllPairs, [], ◌∷◌, ⊤}
 use Rattle.step_meaning.specs.declared.expression.Op2.{Op2}
-use Rattle.step_meaning.specs.declared.expression.Op2.TheVariants.{Add, Sub, Mul, And, Or}
+use Rattle.step_meaning.specs.declared.expression.Op2.TheVariants.{Add, Sub, Mul, Less, LessEqual, Greater, GreaterEqual, Equal, NotEqual, And, Or}
 use Rattle.step_meaning.specs.declared.statement.Block.{Block}
 use Rattle.step_meaning.specs.Syntax.{Expression, number, variable, free, range, truth, negative, negation, pair, Statement, Statements, assign, skip, return, if_else, while_loop, do_while, empty, sequence, statements}
+use Rattle.step_meaning.specs.Step.{Todo}
 
 -- the lower end of a range isn't above its upper end
 abbrev pub IsInOrder : Option ℤ → Option ℤ → Type 0
 IsInOrder (Some lo) (Some hi) = lo ≤ℤ hi
-IsInOrder _ _ = ⊤
+IsInOrder (Some lo) None = ⊤
+IsInOrder None hi = ⊤
 
--- an operator between two operands, of which `N` says that both are numbers and `B` that both are tests: it makes a number, or a test
+-- an operator makes a number of two operands of which `both` says that they are numbers; it makes a test of two operands of which `numbers`
+-- says that they are numbers, and `tests` that they are tests
 abbrev pub MakesNumber : Op2 → Type 0 → Type 0
 MakesNumber Add both = both
 MakesNumber Sub both = both
 MakesNumber Mul both = both
-MakesNumber _ both = ⊥
+MakesNumber Less both = ⊥
+MakesNumber LessEqual both = ⊥
+MakesNumber Greater both = ⊥
+MakesNumber GreaterEqual both = ⊥
+MakesNumber Equal both = ⊥
+MakesNumber NotEqual both = ⊥
+MakesNumber And both = ⊥
+MakesNumber Or both = ⊥
 
 abbrev pub MakesTest : Op2 → Type 0 → Type 0 → Type 0
 MakesTest Add numbers tests = ⊥
 MakesTest Sub numbers tests = ⊥
 MakesTest Mul numbers tests = ⊥
+MakesTest Less numbers tests = numbers
+MakesTest LessEqual numbers tests = numbers
+MakesTest Greater numbers tests = numbers
+MakesTest GreaterEqual numbers tests = numbers
+MakesTest Equal numbers tests = numbers
+MakesTest NotEqual numbers tests = numbers
 MakesTest And numbers tests = tests
 MakesTest Or numbers tests = tests
-MakesTest _ numbers tests = numbers
 
 -- a number expression over `vars` variables
 abbrev pub IsNumber : ℕ → Expression → Type 0
@@ -31,17 +46,21 @@ IsNumber vars (number z) = ⊤
 IsNumber vars (variable x) = x < vars
 IsNumber vars free = ⊤
 IsNumber vars (range lo hi) = IsInOrder lo hi
+IsNumber vars (truth b) = ⊥
 IsNumber vars (negative e) = IsNumber vars e
+IsNumber vars (negation c) = ⊥
 IsNumber vars (pair op l r) = MakesNumber op (IsNumber vars l × IsNumber vars r)
-IsNumber vars _ = ⊥
 
 -- a test over `vars` variables
 abbrev pub IsTest : ℕ → Expression → Type 0
+IsTest vars (number z) = ⊥
+IsTest vars (variable x) = ⊥
 IsTest vars free = ⊤
+IsTest vars (range lo hi) = ⊥
 IsTest vars (truth b) = ⊤
+IsTest vars (negative e) = ⊥
 IsTest vars (negation c) = IsTest vars c
 IsTest vars (pair op l r) = MakesTest op (IsNumber vars l × IsNumber vars r) (IsTest vars l × IsTest vars r)
-IsTest vars _ = ⊥
 
 -- a statement, and a list of them, over `vars` variables
 abbrev mutual
@@ -49,7 +68,7 @@ abbrev mutual
   IsStatement vars (assign x e) = (x < vars) × IsNumber vars e
   IsStatement vars skip = ⊤
   IsStatement vars return = ⊤
-  IsStatement vars (if_else c yes_part no_part) = IsTest vars c × IsBody vars yes_part × IsBody vars no_part
+  IsStatement vars (if_else c first second) = IsTest vars c × IsBody vars first × IsBody vars second
   IsStatement vars (while_loop c body step) = IsTest vars c × IsBody vars body × IsBody vars step
   IsStatement vars (do_while body c) = IsBody vars body × IsTest vars c
 
@@ -57,8 +76,13 @@ abbrev mutual
   IsBody vars empty = ⊤
   IsBody vars (sequence first more) = IsStatement vars first × IsBody vars more
 
+-- each statement still to do is over `vars` variables: so it is along the runs of a valid program
+abbrev pub AreStatements : ℕ → Todo → Type 0
+AreStatements vars [] = ⊤
+AreStatements vars (first ∷ rest) = IsStatement vars first × AreStatements vars rest
+
 -- at most 15 names, no two of them equal, and a body over that many variables
 pub record IsValid (names : List (List ℕ)) (body : Block) : Type 0 where
   pub few : length names ≤ 15
   pub distinct : AllPairs (λ a b. a ≢ b) names
-  pub sorted : IsBody (length names) (statements body)
+  pub well_sorted : IsBody (length names) (statements body)

@@ -1,16 +1,28 @@
 //! Laws of the definitions, each the contract of a function that does nothing.
 
-ghost use Rattle.std.specs.Prelude.{◌⊎◌, length};
+ghost use Rattle.std.specs.Prelude.{◌⊎◌, ℕ, length};
 ghost use Rattle.step_meaning.specs.Syntax.{statements};
+ghost use Rattle.step_meaning.specs.Outcome.{Store};
 ghost use Rattle.step_meaning.specs.Step.{Configuration, Step, IsFinal};
-ghost use Rattle.step_meaning.specs.Run.{IsReachable};
+ghost use Rattle.step_meaning.specs.Run.{IsInput, start};
+ghost use Rattle.step_meaning.specs.Valid.{AreStatements};
 
 use crate::program::Program;
 
-/// A law: from whatever input, no run of a program is stuck. Each configuration that it reaches is final or has a successor.
-pub fn no_run_is_stuck(program: &Program)
-    ensures { (c : Configuration) → IsReachable (length program.now.names) (statements program.now.body) c
-        → IsFinal c ⊎ ((d : Configuration) × Step c d) }
+/// A law: no configuration of valid statements is stuck. It is final or has a successor.
+pub fn no_configuration_is_stuck()
+    ensures { (vars : ℕ) (c : Configuration) → AreStatements vars c.todo → IsFinal c ⊎ ((d : Configuration) × Step c d) }
+{}
+
+/// A law: each step keeps the statements valid, and the store with sixteen places and zeros past the variables.
+pub fn steps_keep_configurations_valid()
+    ensures statements { (vars : ℕ) (c d : Configuration) → AreStatements vars c.todo → Step c d → AreStatements vars d.todo }
+    ensures stores { (vars : ℕ) (c d : Configuration) → AreStatements vars c.todo → IsInput vars c.store → Step c d → IsInput vars d.store }
+{}
+
+/// A law: the runs of a program begin at valid statements. So no run of a program is stuck.
+pub fn runs_begin_at_valid_statements(program: &Program)
+    ensures { (input : Store) → AreStatements (length program.now.names) (start (statements program.now.body) input).todo }
 {
     let _ = &program.body;
 }

@@ -1,6 +1,6 @@
 //! The syntax of programs and what they mean: what an expression may give, what a configuration may step to, and how long its runs
 //! are. Every theorem of this product about a program speaks of these definitions, which stand in `specs/`; nothing here analyses.
-//! The front door is `Program`; below it stands only the standard library.
+//! The front door is `Program`; below it stand the words for whole numbers of `linear_cons`.
 #![tactic(auto)]
 
 mod expression;
@@ -10,7 +10,9 @@ mod program;
 mod statement;
 
 pub use expression::{Expr, Op2};
-pub use laws::no_run_is_stuck;
+pub use laws::{
+    no_configuration_is_stuck, runs_begin_at_valid_statements, steps_keep_configurations_valid,
+};
 pub use names::Names;
 pub use program::Program;
 pub use statement::{Block, Stmt, StmtKind};

@@ -1,4 +1,4 @@
-use Rattle.std.proofs.Common.{◌≤◌, length, subst, sym, ap}
+use Rattle.std.proofs.Common.{ap}
 use Rattle.concrete_syntax.specs.Mirror.{program as program_of}
 use Rattle.step_meaning.specs.Syntax.{statements, parts}
 use Rattle.elaboration.proofs.Whole.{refused, stands, valid}
@@ -11,9 +11,8 @@ returns-in-Some-clause-refusal c =
 
 pub invariant_of-result : goal.invariant_of-result
 invariant_of-result c =
-    let few : length c.in_ok-names.names ≤ 15 = subst (λ xs. length xs ≤ 15) (sym c.in_ok-names.ensures.names) c.into_names.ensures.few in
     record {
-      valid = valid (program_of c.args.tree.now) c.in_ok-names.names c.in_ok-body.body few (
+      valid = valid (program_of c.args.tree.now) c.in_ok-names.names c.in_ok-body.body (
           stands (program_of c.args.tree.now) c.new-scope.result c.items.new.scope c.head-first.result c.items.new.least c.in_ok-names.names
           (parts c.new-list.result.items) (parts c.items.new.out.items) (statements c.in_ok-body.body)
           c.new-scope.ensures c.head-first.ensures c.in_ok-items.ensures.faults c.in_default.is c.in_ok-items.ensures.scope c.in_ok-names.ensures.names
