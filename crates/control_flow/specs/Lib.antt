@@ -1,0 +1,5 @@
+pub mod Labels
+pub mod Edges
+pub mod Actions
+pub mod Tables
+pub mod Faults

@@ -1,0 +1,207 @@
+//! The graph of a program: its labels, in a table made in one pass, and readers that answer from it in constant time.
+
+ghost use Rattle.std.specs.Prelude.{◌≡◌, ◌<◌, ◌≤◌, [], IfOk, IfErr, OnOk, option_map, length};
+ghost use Rattle.step_meaning.specs.Syntax.{expression, size_of, statements};
+ghost use Rattle.control_flow.specs.Edges.{assigned_by, choice_by, choice_of_test, choice_of_value, edges_from, is_head_by, test_by};
+ghost use Rattle.control_flow.specs.Faults.{IsFlowFault, wide_places};
+ghost use Rattle.control_flow.specs.Labels.{action_at, all_labels, entry_of};
+ghost use Rattle.control_flow.specs.Tables.{action_of};
+
+use crate::copy;
+use crate::edge::{Choice, Edge, EdgeKind};
+use crate::fault::FlowFault;
+use crate::limit::{CONJUNCTIONS, least_wide, room_behind};
+use crate::node::Node;
+use crate::number::{entry, table};
+use std::alloc::Global;
+use std::marker::Model;
+use step_meaning::{Block, Expr, Program};
+
+/// The most labels of a program, label 0 included.
+const LABELS: u32 = 1024;
+
+/// The labels of a program and the edges between them. Label 0 is the end; each statement has one of the others, in the order of the
+/// tree: a statement stands before its parts, the first part of an `if` before the second, a body before its step; the label of a `do`
+/// loop is that of its test and stands behind its body. Contracts see the equal copy of the program that the graph keeps.
+#[derive(Drop)]
+pub struct Graph {
+    program: Program,
+    entry: u32,
+    nodes: Vec<Node>,
+}
+
+impl Model for Graph {
+    ghost use Rattle.std.specs.Prelude.{◌≡◌};
+    ghost use Rattle.std.specs.Coded.{codes};
+    ghost use Rattle.step_meaning.specs.contracts.program.Program as program_type;
+    ghost use Rattle.step_meaning.specs.declared.program.Program.{Program};
+    ghost use Rattle.step_meaning.specs.Syntax.{statements};
+    ghost use Rattle.control_flow.specs.Labels.{entry_of};
+    ghost use Rattle.control_flow.specs.Tables.{IsTableOf};
+
+    ghost Value = { Program };
+
+    ghost coded = { Prim.hlevel (codes, program_type.the_row.coded) };
+
+    ghost view = { λ inside. inside.program };
+
+    ghost invariant = { λ inside. IsTableOf inside.nodes.items (statements inside.program.body) × (inside.entry ≡ entry_of (statements inside.program.body)) };
+}
+
+impl Graph {
+    /// The graph of a program. `Labels` comes exactly where it has more than 1,024 labels, and else `Conjunctions` exactly where a test
+    /// or its negation spreads to more than 64 conjunctions.
+    pub fn of(alloc: Global, program: &Program) -> Result<Graph, FlowFault>
+        ensures names { IfOk result (λ graph. graph.names ≡ program.now.names) }
+        ensures body { IfOk result (λ graph. statements graph.body ≡ statements program.now.body) }
+        ensures labels { OnOk result (size_of (statements program.now.body) < 1024) }
+        ensures conjunctions { OnOk result (wide_places program.now.body ≡ []) }
+        ensures fault { IfErr result (λ fault. IsFlowFault fault program.now.body) }
+    {
+        check(&program.body)?;
+        let program = copy::program(alloc, program)?;
+        let nodes = table(alloc, &program.body)?;
+        let entry = entry(&program.body, 1, 0);
+        Ok(Graph {
+            program,
+            entry,
+            nodes,
+        })
+    }
+
+    /// The number of labels, from 1 to 1,024.
+    pub fn labels(&self) -> u32
+        ensures count { result ≡ length (all_labels (statements self.now.body)) }
+        ensures few { result ≤ 1024 }
+    {
+        self.nodes.len() as u32
+    }
+
+    /// The label of the first statement to be done, or 0 where there is none.
+    pub fn entry(&self) -> u32
+        ensures { result ≡ entry_of (statements self.now.body) }
+    {
+        self.entry
+    }
+
+    /// True exactly where the label is that of a loop's test.
+    pub fn is_head(&self, label: u32) -> bool
+        requires { label < length (all_labels (statements self.now.body)) }
+        ensures { result ≡ is_head_by (action_at (statements self.now.body) label) }
+    {
+        match self.node(label) {
+            Node::Test { is_head, .. } => *is_head,
+            _ => false,
+        }
+    }
+
+    /// The edges from the label: none from label 0, two from a test, that of the true outcome first, and one from each other label.
+    pub fn edges(&self, label: u32) -> [Option<Edge>; 2]
+        requires { label < length (all_labels (statements self.now.body)) }
+        ensures { result ≡ edges_from label (action_at (statements self.now.body) label) }
+    {
+        match self.node(label) {
+            Node::End => [None, None],
+            Node::Assign { next, .. } => [Some(edge(label, *next, EdgeKind::Assign)), None],
+            Node::Pass { next } => [Some(edge(label, *next, EdgeKind::Skip)), None],
+            Node::Test { yes, no, .. } => [
+                Some(edge(label, *yes, EdgeKind::Test { holds: true })),
+                Some(edge(label, *no, EdgeKind::Test { holds: false })),
+            ],
+        }
+    }
+
+    /// What an existential formula may choose at the label.
+    pub fn choice(&self, label: u32) -> Choice
+        requires { label < length (all_labels (statements self.now.body)) }
+        ensures { result ≡ choice_by (action_at (statements self.now.body) label) }
+    {
+        match self.node(label) {
+            Node::Test { test, .. } => choice_of_test(test),
+            Node::Assign { value, .. } => choice_of_value(value),
+            Node::End | Node::Pass { .. } => Choice::None,
+        }
+    }
+
+    /// The test of the label, where it has one.
+    pub fn test(&self, label: u32) -> Option<&Expr>
+        requires { label < length (all_labels (statements self.now.body)) }
+        ensures { option_map (λ test. expression test.now) result ≡ test_by (action_at (statements self.now.body) label) }
+    {
+        match self.node(label) {
+            Node::Test { test, .. } => Some(test),
+            _ => None,
+        }
+    }
+
+    /// The place that is assigned at the label, and the right side, where there is an assignment.
+    pub fn assigned(&self, label: u32) -> Option<(u8, &Expr)>
+        requires { label < length (all_labels (statements self.now.body)) }
+        ensures { option_map (λ both. (both.0, expression both.1.now)) result ≡ assigned_by (action_at (statements self.now.body) label) }
+    {
+        match self.node(label) {
+            Node::Assign { var, value, .. } => Some((*var, value)),
+            _ => None,
+        }
+    }
+
+    // What is done at the label.
+    fn node(&self, label: u32) -> &Node
+        requires { label < length (all_labels (statements self.now.body)) }
+        ensures { action_of result.now ≡ action_at (statements self.now.body) label }
+    {
+        &self.nodes[label as usize]
+    }
+}
+
+// An edge.
+fn edge(from: u32, to: u32, kind: EdgeKind) -> Edge
+    ensures { result ≡ record { from = from; to = to; kind = kind } }
+{
+    Edge { from, to, kind }
+}
+
+// The choice at a test.
+fn choice_of_test(test: &Expr) -> Choice
+    ensures { result ≡ choice_of_test (expression test.now) }
+{
+    match test {
+        Expr::Free => Choice::Branch,
+        _ => Choice::None,
+    }
+}
+
+// The choice at a right side.
+fn choice_of_value(value: &Expr) -> Choice
+    ensures { result ≡ choice_of_value (expression value.now) }
+{
+    match value {
+        Expr::Free => Choice::Range { lo: None, hi: None },
+        Expr::Range { lo, hi } => Choice::Range { lo: *lo, hi: *hi },
+        _ => Choice::None,
+    }
+}
+
+// Whether the statements keep the limits.
+pub(crate) fn check(body: &Block) -> Result<(), FlowFault>
+    ensures labels { OnOk result (size_of (statements body.now) < 1024) }
+    ensures conjunctions { OnOk result (wide_places body.now ≡ []) }
+    ensures fault { IfErr result (λ fault. IsFlowFault fault body.now) }
+{
+    match room_behind(body, LABELS - 1) {
+        Ok(_) => {}
+        Err(at) => {
+            return Err(FlowFault::Labels {
+                at,
+                count: LABELS + 1,
+            });
+        }
+    }
+    match least_wide(body, None) {
+        None => Ok(()),
+        Some(at) => Err(FlowFault::Conjunctions {
+            at,
+            count: CONJUNCTIONS + 1,
+        }),
+    }
+}

@@ -1,0 +1,52 @@
+//! Laws of the definitions, each the contract of a function that does nothing: what labels, edges and steps have to do with each other.
+
+ghost use Rattle.std.specs.Prelude.{◌≡◌, ◌⊎◌, ℕ, ℤ, ◌<◌, ◌+◌, Bool, Option, Some, [], length, slice_set};
+ghost use Rattle.step_meaning.specs.Syntax.{Expression, Statements, free, list_of, range, size_of};
+ghost use Rattle.step_meaning.specs.Outcome.{Store, May};
+ghost use Rattle.step_meaning.specs.Run.{EndsWithin};
+ghost use Rattle.step_meaning.specs.Step.{Configuration, Next, Step, front};
+ghost use Rattle.step_meaning.specs.Valid.{IsBody};
+ghost use Rattle.control_flow.specs.Actions.{IsSorted, LeadsBelow};
+ghost use Rattle.control_flow.specs.Edges.{EdgesAreSteps, Reached, SomeEdge, BothTaken, LandsAt, configuration, edges_from};
+ghost use Rattle.control_flow.specs.Labels.{action_at, all_labels, assigns, entry_of, rest, tests};
+
+/// The steps of the configurations of a label, its statements with a store, are those of its edges and no others. Each leads to a list
+/// with the same front as that of the edge's target. A run begins with the front of the entry.
+pub fn edges_are_the_steps()
+    ensures steps { (body : Statements) (l : ℕ) → l < length (all_labels body) → EdgesAreSteps body l }
+    ensures entry { (body : Statements) → front (rest body (entry_of body)) ≡ front (list_of body) }
+{}
+
+/// Where a final configuration has itself as its successor, each successor is reached over an edge but that one of label 0, and only the
+/// configurations of label 0 are final.
+pub fn successors_are_reached_over_edges()
+    ensures each { (body : Statements) (l : ℕ) → l < length (all_labels body) → (s : Store) (d : Configuration) → Next (configuration body l s) d
+        → SomeEdge (Reached body l s d) (edges_from l (action_at body l)) ⊎ ((l ≡ 0) × (d ≡ configuration body l s)) }
+    ensures ended { (body : Statements) (l : ℕ) → l < length (all_labels body) → front (rest body l) ≡ [] → l ≡ 0 }
+    ensures last { (body : Statements) → front (rest body 0) ≡ [] }
+{}
+
+/// Both outcomes of a whole test `?` may be taken, each over its edge, and so may each number of a right side.
+pub fn choices_may_be_taken()
+    ensures branches { (body : Statements) (l : ℕ) → l < length (all_labels body) → (head : Bool) (yes no : ℕ) → action_at body l ≡ tests head free yes no
+        → (s : Store) → BothTaken body l yes no s }
+    ensures values { (body : Statements) (l : ℕ) → l < length (all_labels body) → (x : ℕ) (e : Expression) (next : ℕ) → action_at body l ≡ assigns x e next
+        → (s : Store) (v : ℤ) → May e s v → LandsAt body l s (slice_set s x v) next }
+{}
+
+/// Each label that follows a label, and the entry, is a label of the program; there is one label for each statement besides label 0.
+pub fn edges_lead_to_labels()
+    ensures edges { (body : Statements) (l : ℕ) → l < length (all_labels body) → LeadsBelow (length (all_labels body)) (action_at body l) }
+    ensures entry { (body : Statements) → entry_of body < length (all_labels body) }
+    ensures count { (body : Statements) → length (all_labels body) ≡ 1 + size_of body }
+{}
+
+/// What is done at a label of a valid program is over its variables.
+pub fn actions_are_over_the_variables()
+    ensures { (vars : ℕ) (body : Statements) → IsBody vars body → (l : ℕ) → l < length (all_labels body) → IsSorted vars (action_at body l) }
+{}
+
+/// Configurations with the same front and the same store end within the same numbers of steps.
+pub fn the_front_decides()
+    ensures { (n : ℕ) (c d : Configuration) → front c.todo ≡ front d.todo → c.store ≡ d.store → EndsWithin n c → EndsWithin n d }
+{}

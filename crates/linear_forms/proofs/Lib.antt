@@ -1,0 +1,15 @@
+pub mod Known
+pub mod AffineForms
+pub mod Counts
+pub mod Corners
+pub mod PairLists
+pub mod EndLaws
+pub mod Covering
+pub mod Exactness
+pub mod Naming
+pub mod MeetingLaws
+pub mod Comparing
+pub mod SpreadCovering
+pub mod SpreadExactness
+pub mod DualLists
+pub mod Dual

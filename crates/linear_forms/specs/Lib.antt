@@ -1,0 +1,7 @@
+pub mod Ends
+pub mod Linearising
+pub mod Sides
+pub mod Spreading
+pub mod Meeting
+pub mod Counting
+pub mod Duality
