@@ -1,0 +1,3 @@
+pub mod Classical
+pub mod Duality
+pub mod Ends
