@@ -1,24 +1,28 @@
--- What a run wrote is true, and its status says what it wrote.
-use Rattle.std.proofs.Common.{◌≡◌, ℕ, inl, inr, List, [], ◌++◌, length, take, Option, None, Some, IfSome, string_bytes, sym, ◌∙◌, subst, arith, append-nil}
-use Rattle.std.specs.Io.KnownBytes.{Appends}
+-- What a run wrote is true and has a known form, and its status says what it wrote.
+use Rattle.std.proofs.Common.{◌≡◌, ◌≢◌, ℕ, ◌⊎◌, ◌≤◌, inl, inr, List, [], ◌++◌, length, take, Option, None, Some, refl, sym, ◌∙◌, subst, arith, append-nil}
+use Rattle.std.specs.Io.KnownBytes.{Appends, Keeps}
 use Rattle.std.proofs.lemmas.List.{append_cancel_left, take_all}
+use Rattle.std.proofs.lemmas.Option.{same_Some}
+use Rattle.outside.specs.Faults.{Rose}
 use Rattle.outside.specs.Sink.{AppendsFront}
 use Rattle.step_meaning.specs.Syntax.{Statements}
 use Rattle.source_parse.specs.Derives.{IsTextOf}
 use Rattle.source_parse.specs.Laws.{NamesAreDistinct, NamesAreNames, TextsAreUnique}
 use Rattle.line_text.specs.Names.{AreNames}
 use Rattle.report_text.specs.Printed.{IsReportText}
-use Rattle.function_top.specs.declared.due.Due.{Due}
-use Rattle.function_top.specs.declared.due.Due.TheVariants.{Covered, Open, Refused}
 use Rattle.function_top.specs.declared.status.Status.{Status}
-use Rattle.function_top.specs.LongestPath.{HasNoLoop, longest_path}
-use Rattle.function_top.specs.Report.{bounded_report, unknown_report}
-use Rattle.function_top.specs.TrueLine.{IsTrueText}
-use Rattle.function_top.specs.Due.{bytes_due, IsDueFor, IsDue, Settles}
-use Rattle.function_top.specs.Answer.{EndsWith}
-use Rattle.function_top.proofs.Bounded.{longest_path_bounds}
+use Rattle.function_top.specs.declared.status.Status.TheVariants.{AllInputs, SomeInputs, Words, Program, Formula, ReadFault, WriteFault, NoMemory}
+use Rattle.function_top.specs.Answer.{Answers, IsComplete, after_failing}
+use Rattle.function_top.specs.Call.{Call}
+use Rattle.function_top.specs.Due.{IsDueOn}
+use Rattle.function_top.specs.Form.{IsKnown}
+use Rattle.function_top.specs.LongestPath.{longest_path}
+use Rattle.function_top.specs.Report.{report_by, usage_text}
+use Rattle.function_top.specs.Text.{IsRead}
+use Rattle.function_top.proofs.Formed.{fault_known, report_known}
 use Rattle.function_top.proofs.Named.{program_names}
-use Rattle.function_top.proofs.Truth.{EndAsLines, KnownLines, bounded_true, unknown_true, fault_true, front_true}
+use Rattle.function_top.proofs.Truth.{EndAsLines, KnownLines, SaysTrue, fault_true, report_true}
+use Rattle.function_top.proofs.Written.{Bytes, EachWhole, of_front, of_nothing}
 
 -- what is known of programs' texts and of the lines of reports
 pub record KnownTexts : Type 0 where
@@ -26,31 +30,74 @@ pub record KnownTexts : Type 0 where
   pub spelled : NamesAreNames
   pub distinct : NamesAreDistinct
   pub ending : EndAsLines
-  pub lines : (names : List (List ℕ)) → AreNames names → KnownLines names
+  pub lines : (names : List Bytes) → AreNames names → KnownLines names
 
--- what is due for the text of a program is true of it
-due_true : KnownTexts → (text : List ℕ) (names : List (List ℕ)) (body : Statements) (due : Due) → IsTextOf text names body → IsDueFor text due
-    → IsTrueText names body (bytes_due due)
-due_true known text names body (Covered report) h d =
-    let found = d.1 in
-    let same = known.unique text found.0 names found.1 body found.2 h in
-    let free = subst (λ b. HasNoLoop b) same.1 found.3 in
-    let printed = subst (λ ns. IsReportText ns (bounded_report (longest_path body)) report.items) same.0
-    (subst (λ b. IsReportText found.0 (bounded_report (longest_path b)) report.items) same.1 found.4)
-    in
-    bounded_true names body known.ending (known.lines names (program_names known.spelled known.distinct text names body h)) (longest_path body) report.items
-    (λ input is_input. longest_path_bounds body input free) printed
-due_true known text names body (Open report) h d =
-    let found = d.1 in
-    let same = known.unique text found.0 names found.1 body found.2 h in
-    unknown_true names body known.ending (known.lines names (program_names known.spelled known.distinct text names body h)) report.items
-    (subst (λ ns. IsReportText ns unknown_report report.items) same.0 found.4)
-due_true known text names body (Refused line) h (inl d) =
-    subst (IsTrueText names body) (sym d.1) (fault_true names body known.ending 14 65536 (omega arith) (omega arith))
-due_true known text names body (Refused line) h (inr d) = absurd (d.1 names body h)
+-- ---- what is due is true, and of a known form
+
+due_report : KnownTexts → (text : Bytes) (names : List Bytes) (body : Statements) (bytes : Bytes) → IsTextOf text names body
+    → IsReportText names (report_by (longest_path body)) bytes → EachWhole (SaysTrue names body) bytes
+due_report known text names body bytes h printed =
+    report_true names body known.ending (known.lines names (program_names known.spelled known.distinct text names body h)) (longest_path body) bytes
+    refl printed
+
+report_on : KnownTexts → (text : Bytes) (names : List Bytes) (body : Statements) (bytes : Bytes) → IsTextOf text names body
+    → (n : List Bytes) (b : Statements) → IsTextOf text n b → IsReportText n (report_by (longest_path b)) bytes → EachWhole (SaysTrue names body) bytes
+report_on known text names body bytes h n b found printed =
+    let same = known.unique text n names b body found h in
+    due_report known text names body bytes h
+    (subst (λ ns. IsReportText ns (report_by (longest_path body)) bytes) same.0
+    (subst (λ bs. IsReportText n (report_by (longest_path bs)) bytes) same.1 printed))
+
+pub due_true : KnownTexts → (text : Bytes) (names : List Bytes) (body : Statements) (status : Status) (bytes : Bytes) → IsTextOf text names body
+    → IsDueOn text status bytes → EachWhole (SaysTrue names body) bytes
+due_true known text names body AllInputs bytes h due =
+    report_on known text names body bytes h due.1.names due.1.body due.1.program (subst (λ r. IsReportText due.1.names r bytes) due.1.due due.1.printed)
+due_true known text names body SomeInputs bytes h due =
+    report_on known text names body bytes h due.1.names due.1.body due.1.program (subst (λ r. IsReportText due.1.names r bytes) due.1.due due.1.printed)
+due_true known text names body Program bytes h (inl long) = subst (EachWhole (SaysTrue names body)) (sym long.line_is) (fault_true names body known.ending 14 65536)
+due_true known text names body Program bytes h (inr none) = absurd (none.none names body h)
+due_true known text names body Words bytes h due = absurd due
+due_true known text names body Formula bytes h due = absurd due
+due_true known text names body ReadFault bytes h due = absurd due
+due_true known text names body WriteFault bytes h due = absurd due
+due_true known text names body NoMemory bytes h due = absurd due
+
+-- the text that was read is the one that was told
+pub told_read : (left : Option Bytes) (text told : Bytes) → IsRead left text → left ≡ Some told → told ≡ text
+told_read left text told read is = subst (λ l. IsRead l text) is read
+
+known_report : KnownTexts → (left : Option Bytes) (text : Bytes) → IsRead left text → (bytes : Bytes) (names : List Bytes) (body : Statements)
+    → IsTextOf text names body → IsReportText names (report_by (longest_path body)) bytes → EachWhole (IsKnown left) bytes
+known_report known left text read bytes names body h printed =
+    report_known left names (known.lines names (program_names known.spelled known.distinct text names body h))
+    (λ told declared other is own. (known.unique text names declared body other h
+    (subst (λ t. IsTextOf t declared other) (told_read left text told read is) own)).0)
+    (longest_path body) bytes printed
+
+pub due_known : KnownTexts → (left : Option Bytes) (text : Bytes) → IsRead left text → (status : Status) (bytes : Bytes)
+    → IsDueOn text status bytes → EachWhole (IsKnown left) bytes
+due_known known left text read AllInputs bytes due =
+    known_report known left text read bytes due.1.names due.1.body due.1.program (subst (λ r. IsReportText due.1.names r bytes) due.1.due due.1.printed)
+due_known known left text read SomeInputs bytes due =
+    known_report known left text read bytes due.1.names due.1.body due.1.program (subst (λ r. IsReportText due.1.names r bytes) due.1.due due.1.printed)
+due_known known left text read Program bytes (inl long) = subst (EachWhole (IsKnown left)) (sym long.line_is) (fault_known left 14 65536)
+due_known known left text read Program bytes (inr none) = subst (EachWhole (IsKnown left)) (sym none.line_is) (fault_known left none.number none.place)
+due_known known left text read Words bytes due = absurd due
+due_known known left text read Formula bytes due = absurd due
+due_known known left text read ReadFault bytes due = absurd due
+due_known known left text read WriteFault bytes due = absurd due
+due_known known left text read NoMemory bytes due = absurd due
+
+-- ---- what was written
+
+-- the writing of bytes with a status: all of them, or a front of them with the status of a failed write
+abbrev pub Settles : Status → Status → Bytes → (taken taken' : Option Bytes) → (writes writes' : ℕ) → Type 0
+Settles status result bytes taken taken' writes writes' =
+    ((result ≡ status) × Appends taken taken' bytes)
+    ⊎ ((result ≡ after_failing status) × AppendsFront taken taken' bytes × Rose writes writes')
 
 -- what the sink took in the call is what was appended
-written_is : (taken taken' : Option (List ℕ)) (before written bytes : List ℕ) → taken ≡ Some before → taken' ≡ Some (before ++ written)
+written_is : (taken taken' : Option Bytes) (before written bytes : Bytes) → taken ≡ Some before → taken' ≡ Some (before ++ written)
     → Appends taken taken' bytes → written ≡ bytes
 written_is taken taken' before written bytes told told' h =
     let both : Appends (Some before) (Some (before ++ written)) bytes =
@@ -58,53 +105,102 @@ written_is taken taken' before written bytes told told' h =
     in
     append_cancel_left before written bytes both
 
--- a front of a true text was written
-pub front_written : (names : List (List ℕ)) (body : Statements) (text : List ℕ) (taken taken' : Option (List ℕ)) (before written : List ℕ)
-    → EndAsLines → IsTrueText names body text → AppendsFront taken taken' text → taken ≡ Some before → taken' ≡ Some (before ++ written)
-    → IsTrueText names body written
-front_written names body text taken taken' before written ending true_text front told told' =
-    subst (IsTrueText names body) (sym (written_is taken taken' before written (take front.0 text) told told' front.2))
-    (front_true names body ending text front.0 true_text)
-
--- nothing was written
-pub nothing_written : (names : List (List ℕ)) (body : Statements) (taken : Option (List ℕ)) (before written : List ℕ) → taken ≡ Some before
-    → taken ≡ Some (before ++ written) → IsTrueText names body written
-nothing_written names body taken before written told told' =
-    let same : before ++ [] ≡ before ++ written = append-nil before ∙ (let both : Some before ≡ Some (before ++ written) = sym told ∙ told' in cc) in
-    subst (IsTrueText names body) (append_cancel_left before [] written same) (λ line condition claim whole s. absurd (omega (arith, whole.1)))
-
 -- all of a text is a front of it
-all_is_front : (taken taken' : Option (List ℕ)) (text : List ℕ) → Appends taken taken' text → AppendsFront taken taken' text
+all_is_front : (taken taken' : Option Bytes) (text : Bytes) → Appends taken taken' text → AppendsFront taken taken' text
 all_is_front taken taken' text h = (length text, omega arith, subst (Appends taken taken') (sym (take_all (length text) text (omega arith))) h)
 
-settled_front : (due : Due) (status : Status) (taken taken' : Option (List ℕ)) (writes writes' : ℕ) → Settles due status taken taken' writes writes'
-    → AppendsFront taken taken' (bytes_due due)
-settled_front (Covered text) status taken taken' writes writes' (inl h) = all_is_front taken taken' text.items h.1
-settled_front (Covered text) status taken taken' writes writes' (inr h) = h.1
-settled_front (Open text) status taken taken' writes writes' (inl h) = all_is_front taken taken' text.items h.1
-settled_front (Open text) status taken taken' writes writes' (inr h) = h.1
-settled_front (Refused text) status taken taken' writes writes' h = h.1
+settled_front : (status result : Status) (bytes : Bytes) (taken taken' : Option Bytes) (writes writes' : ℕ)
+    → Settles status result bytes taken taken' writes writes' → AppendsFront taken taken' bytes
+settled_front status result bytes taken taken' writes writes' (inl h) = all_is_front taken taken' bytes h.1
+settled_front status result bytes taken taken' writes writes' (inr h) = h.1
 
-pub settled_true : KnownTexts → (left : Option (List ℕ)) (text : List ℕ) (names : List (List ℕ)) (body : Statements)
-    (due : Due) (status : Status) (taken taken' : Option (List ℕ)) (writes writes' : ℕ) (before written : List ℕ) → IsDue left due
-    → Settles due status taken taken' writes writes' → left ≡ Some text → IsTextOf text names body → taken ≡ Some before
-    → taken' ≡ Some (before ++ written) → IsTrueText names body written
-settled_true known left text names body due status taken taken' writes writes' before written is_due settled read h told told' =
-    let for_text : IsDueFor text due = subst (λ l. IsDue l due) read is_due in
-    front_written names body (bytes_due due) taken taken' before written known.ending (due_true known text names body due h for_text)
-    (settled_front due status taken taken' writes writes' settled) told told'
+-- what holds of each whole line of the bytes holds of each that was written
+pub front_written : (P : Bytes → Type 0) (status result : Status) (bytes : Bytes) (taken taken' : Option Bytes) (writes writes' : ℕ)
+    → EachWhole P bytes → Settles status result bytes taken taken' writes writes' → (before written : Bytes) → taken ≡ Some before
+    → taken' ≡ Some (before ++ written) → EachWhole P written
+front_written P status result bytes taken taken' writes writes' h settled before written told told' =
+    let front = settled_front status result bytes taken taken' writes writes' settled in
+    subst (EachWhole P) (sym (written_is taken taken' before written (take front.0 bytes) told told' front.2)) (of_front P bytes front.0 h)
+
+-- nothing was written
+pub nothing_written : (P : Bytes → Type 0) (taken : Option Bytes) (before written : Bytes) → taken ≡ Some before
+    → taken ≡ Some (before ++ written) → EachWhole P written
+nothing_written P taken before written told told' =
+    let same : before ++ [] ≡ before ++ written = append-nil before ∙ same_Some before (before ++ written) (sym told ∙ told') in
+    subst (EachWhole P) (append_cancel_left before [] written same) (of_nothing P)
+
+-- what stays is kept
+pub keeps_itself : (taken : Option Bytes) → Keeps taken taken
+keeps_itself None = tt
+keeps_itself (Some bytes) = refl
+
+-- ---- what the status says
 
 -- the status says what became of what was due
-either : (left : Option (List ℕ)) {P Q : List ℕ → Type 0} → ((text : List ℕ) → P text → Q text) → IfSome left P → IfSome left Q
-either None f h = h
-either (Some text) f h = f text h
+pub settled_answers : (call : Call) (status result : Status) (text bytes : Bytes) → IsRead call.left text
+    → call.read_faults_after ≡ call.read_faults → IsDueOn text status bytes
+    → Settles status result bytes call.taken call.taken_after call.write_faults call.write_faults_after → Answers result call
+settled_answers call AllInputs result text bytes read faultless due (inl h) =
+    rw h.0 (bytes, record { text = text; read = read; faultless = faultless; due = due }, h.1)
+settled_answers call AllInputs result text bytes read faultless due (inr h) =
+    rw h.0 (bytes, inl (record { text = text; read = read; faultless = faultless; due = due }), h.1, h.2)
+settled_answers call SomeInputs result text bytes read faultless due (inl h) =
+    rw h.0 (bytes, record { text = text; read = read; faultless = faultless; due = due }, h.1)
+settled_answers call SomeInputs result text bytes read faultless due (inr h) =
+    rw h.0 (bytes, inr (record { text = text; read = read; faultless = faultless; due = due }), h.1, h.2)
+settled_answers call Program result text bytes read faultless due (inl h) =
+    rw h.0 (bytes, record { text = text; read = read; faultless = faultless; due = due }, inl h.1)
+settled_answers call Program result text bytes read faultless due (inr h) =
+    rw h.0 (bytes, record { text = text; read = read; faultless = faultless; due = due }, inr (h.1, h.2))
+settled_answers call Words result text bytes read faultless due settled = absurd due
+settled_answers call Formula result text bytes read faultless due settled = absurd due
+settled_answers call ReadFault result text bytes read faultless due settled = absurd due
+settled_answers call WriteFault result text bytes read faultless due settled = absurd due
+settled_answers call NoMemory result text bytes read faultless due settled = absurd due
 
-pub settled_ends : (left : Option (List ℕ)) (due : Due) (status : Status) (taken taken' : Option (List ℕ)) (reads reads' writes writes' : ℕ)
-    → IsDue left due → Settles due status taken taken' writes writes' → EndsWith status left taken taken' reads reads' writes writes'
-settled_ends left (Covered text) status taken taken' reads reads' writes writes' d (inl h) = rw h.0 (text.items, d, h.1)
-settled_ends left (Covered text) status taken taken' reads reads' writes writes' d (inr h) =
-    rw h.0 (text.items, either left (λ t k. inl k) d, h.1, h.2)
-settled_ends left (Open text) status taken taken' reads reads' writes writes' d (inl h) = rw h.0 (text.items, d, h.1)
-settled_ends left (Open text) status taken taken' reads reads' writes writes' d (inr h) =
-    rw h.0 (text.items, either left (λ t k. inr k) d, h.1, h.2)
-settled_ends left (Refused text) status taken taken' reads reads' writes writes' d h = rw h.0 (string_bytes text, d, h.1)
+-- words that are refused got the usage line
+pub refused_answers : (call : Call) (result : Status)
+    → Settles Words result usage_text call.taken call.taken_after call.write_faults call.write_faults_after → (result ≡ Words) × Answers result call
+refused_answers call result (inl h) = (h.0, rw h.0 (inl h.1))
+refused_answers call result (inr h) = (h.0, rw h.0 (inr (h.1, h.2)))
+
+-- what is due on a text comes with another status than refused words
+due_accepts : (status result : Status) (text bytes : Bytes) → IsDueOn text status bytes → (result ≡ status) ⊎ (result ≡ after_failing status) → result ≢ Words
+due_accepts AllInputs result text bytes due (inl is) e = let clash : AllInputs ≡ Words = sym is ∙ e in absurd (cc)
+due_accepts AllInputs result text bytes due (inr is) e = let clash : WriteFault ≡ Words = sym is ∙ e in absurd (cc)
+due_accepts SomeInputs result text bytes due (inl is) e = let clash : SomeInputs ≡ Words = sym is ∙ e in absurd (cc)
+due_accepts SomeInputs result text bytes due (inr is) e = let clash : WriteFault ≡ Words = sym is ∙ e in absurd (cc)
+due_accepts Program result text bytes due (inl is) e = let clash : Program ≡ Words = sym is ∙ e in absurd (cc)
+due_accepts Program result text bytes due (inr is) e = let clash : Program ≡ Words = sym is ∙ e in absurd (cc)
+due_accepts Words result text bytes due is e = due
+due_accepts Formula result text bytes due is e = due
+due_accepts ReadFault result text bytes due is e = due
+due_accepts WriteFault result text bytes due is e = due
+due_accepts NoMemory result text bytes due is e = due
+
+pub settled_accepts : (status result : Status) (text bytes : Bytes) (taken taken' : Option Bytes) (writes writes' : ℕ) → IsDueOn text status bytes
+    → Settles status result bytes taken taken' writes writes' → result ≢ Words
+settled_accepts status result text bytes taken taken' writes writes' due (inl h) = due_accepts status result text bytes due (inl h.0)
+settled_accepts status result text bytes taken taken' writes writes' due (inr h) = due_accepts status result text bytes due (inr h.0)
+
+-- no other status is left for the text of a program within the limits
+not_refused : (left : Option Bytes) (told text : Bytes) (names : List Bytes) (body : Statements) (bytes : Bytes) → left ≡ Some told → IsRead left text
+    → IsTextOf told names body → length told ≤ 65536 → IsDueOn text Program bytes → ⊥
+not_refused left told text names body bytes is read h short (inl long) =
+    let same = told_read left text told read is in
+    let fits : length text ≤ 65536 = subst (λ t. length t ≤ 65536) same short in
+    let over = long.long in
+    omega (arith, fits, over)
+not_refused left told text names body bytes is read h short (inr none) =
+    none.none names body (subst (λ t. IsTextOf t names body) (told_read left text told read is) h)
+
+pub complete : {W : Type 0} (words : List W) (status : Status) (call : Call) → status ≢ Words → Answers status call → IsComplete words status call
+complete words AllInputs call accepted h order text names body asked is program short reads writes = inl refl
+complete words SomeInputs call accepted h order text names body asked is program short reads writes = inr (inl refl)
+complete words NoMemory call accepted h order text names body asked is program short reads writes = inr (inr refl)
+complete words Words call accepted h order text names body asked is program short reads writes = absurd (accepted refl)
+complete words Program call accepted h order text names body asked is program short reads writes =
+    absurd (not_refused call.left text h.1.text names body h.0 is h.1.read program short h.1.due)
+complete words Formula call accepted h order text names body asked is program short reads writes = absurd h
+complete words ReadFault call accepted h order text names body asked is program short reads writes = absurd (reads h.0)
+complete words WriteFault call accepted h order text names body asked is program short reads writes = absurd (writes h.3)

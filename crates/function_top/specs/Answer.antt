@@ -1,60 +1,69 @@
 -- What each status of the command says.
-use Rattle.std.specs.Prelude.{◌≡◌, ℕ, ◌<◌, ◌≤◌, ◌⊎◌, List, ◌++◌, length, Option, Some, IfSome}
+use Rattle.std.specs.Prelude.{◌≡◌, ℕ, ◌≤◌, ◌⊎◌, ◌↔◌, List, length, Some}
 use Rattle.std.specs.Io.KnownBytes.{Appends, Keeps}
 use Rattle.outside.specs.Faults.{Rose}
-use Rattle.outside.specs.Sink.{AppendsFront}
+use Rattle.outside.specs.Sink.{AppendsFront, WritesOrFails}
 use Rattle.step_meaning.specs.Syntax.{Statements}
-use Rattle.source_parse.specs.declared.fault.ParseFault.{ParseFault}
-use Rattle.source_parse.specs.Derives.{IsTextOf, DerivesNone}
-use Rattle.source_parse.specs.Faults.{IsFaultOf, numbered}
-use Rattle.report_text.specs.Printed.{IsReportText}
+use Rattle.source_parse.specs.Derives.{IsTextOf}
 use Rattle.function_top.specs.declared.status.Status.{Status}
 use Rattle.function_top.specs.declared.status.Status.TheVariants.{AllInputs, SomeInputs, Words, Program, Formula, ReadFault, WriteFault, NoMemory}
-use Rattle.function_top.specs.LongestPath.{HasNoLoop, HasLoop, longest_path}
-use Rattle.function_top.specs.Report.{usage_text, fault_text, bounded_report, unknown_report}
-use Rattle.function_top.specs.TrueLine.{IsTrueText}
+use Rattle.function_top.specs.Call.{Call}
+use Rattle.function_top.specs.Due.{IsDueOn}
+use Rattle.function_top.specs.Form.{Form}
+use Rattle.function_top.specs.Headline.{Headline}
+use Rattle.function_top.specs.Order.{Order, Ask}
+use Rattle.function_top.specs.Report.{usage_text}
+use Rattle.function_top.specs.Text.{IsRead}
 
--- this is the report on a text of at most 65,536 bytes that is a program without a loop: it has the longest path as bound
-abbrev pub IsCoveringReport : List ℕ → List ℕ → Type 0
-IsCoveringReport text report =
-    (length text ≤ 65536)
-    × ((names : List (List ℕ)) × (body : Statements) × IsTextOf text names body × HasNoLoop body
-    × IsReportText names (bounded_report (longest_path body)) report)
+-- the status where a write of what was due with this status failed: a report has one of its own
+abbrev pub after_failing : Status → Status
+after_failing AllInputs = WriteFault
+after_failing SomeInputs = WriteFault
+after_failing Words = Words
+after_failing Program = Program
+after_failing Formula = Formula
+after_failing ReadFault = ReadFault
+after_failing WriteFault = WriteFault
+after_failing NoMemory = NoMemory
 
--- this is the report on a text of at most 65,536 bytes that is a program with a loop: nothing is known of it
-abbrev pub IsOpenReport : List ℕ → List ℕ → Type 0
-IsOpenReport text report =
-    (length text ≤ 65536)
-    × ((names : List (List ℕ)) × (body : Statements) × IsTextOf text names body × HasLoop body
-    × IsReportText names unknown_report report)
+-- the bytes are those that are due, with this status, on the text that was read without a fault
+pub record WasDue (call : Call) (status : Status) (bytes : List ℕ) : Type 0 where
+  pub text : List ℕ
+  pub read : IsRead call.left text
+  pub faultless : call.read_faults_after ≡ call.read_faults
+  pub due : IsDueOn text status bytes
 
--- this is the line of the first fault of a text: it has more than 65,536 bytes, or it has no more and is no program
-abbrev pub IsFaultLine : List ℕ → List ℕ → Type 0
-IsFaultLine text line =
-    ((65536 < length text) × (line ≡ fault_text 14 65536))
-    ⊎ ((length text ≤ 65536) × DerivesNone text
-    × ((fault : ParseFault) × (number : ℕ) × (at : ℕ) × IsFaultOf text fault × (numbered fault ≡ Some (number, at)) × (line ≡ fault_text number at)))
+-- the bytes were written whole; or a write failed, and a front of them was written
+abbrev pub Writes : Call → List ℕ → Type 0
+Writes call bytes = WritesOrFails call.taken call.taken_after call.write_faults call.write_faults_after bytes
 
--- What a run ended with, by its status, where the source told the bytes `left` and its count of faults went from `reads` to `reads'`, and
--- where the sink's bytes went from `taken` to `taken'` and its count of faults from `writes` to `writes'`.
-abbrev pub EndsWith : Status → (left taken taken' : Option (List ℕ)) → (reads reads' writes writes' : ℕ) → Type 0
-EndsWith AllInputs left taken taken' reads reads' writes writes' =
-    (report : List ℕ) × IfSome left (λ text. IsCoveringReport text report) × Appends taken taken' report
-EndsWith SomeInputs left taken taken' reads reads' writes writes' =
-    (report : List ℕ) × IfSome left (λ text. IsOpenReport text report) × Appends taken taken' report
-EndsWith Words left taken taken' reads reads' writes writes' = AppendsFront taken taken' usage_text
-EndsWith Program left taken taken' reads reads' writes writes' =
-    (line : List ℕ) × IfSome left (λ text. IsFaultLine text line) × AppendsFront taken taken' line
-EndsWith Formula left taken taken' reads reads' writes writes' = ⊥
-EndsWith ReadFault left taken taken' reads reads' writes writes' = Rose reads reads' × Keeps taken taken'
-EndsWith WriteFault left taken taken' reads reads' writes writes' =
-    (report : List ℕ) × IfSome left (λ text. IsCoveringReport text report ⊎ IsOpenReport text report)
-    × AppendsFront taken taken' report × Rose writes writes'
-EndsWith NoMemory left taken taken' reads reads' writes writes' = Keeps taken taken'
+-- What a call of this status did. A report was written whole, with the status that goes with it; where a write failed, a front of it.
+-- Words or a text that are refused got their line, or a front of it where a write failed. Behind a failed read, and where memory ran out,
+-- nothing was written.
+abbrev pub Answers : Status → Call → Type 0
+Answers AllInputs call = (bytes : List ℕ) × WasDue call AllInputs bytes × Appends call.taken call.taken_after bytes
+Answers SomeInputs call = (bytes : List ℕ) × WasDue call SomeInputs bytes × Appends call.taken call.taken_after bytes
+Answers Words call = Writes call usage_text
+Answers Program call = (bytes : List ℕ) × WasDue call Program bytes × Writes call bytes
+Answers Formula call = ⊥
+Answers ReadFault call = Rose call.read_faults call.read_faults_after × Keeps call.taken call.taken_after
+Answers WriteFault call =
+    (bytes : List ℕ) × (WasDue call AllInputs bytes ⊎ WasDue call SomeInputs bytes)
+    × AppendsFront call.taken call.taken_after bytes × Rose call.write_faults call.write_faults_after
+Answers NoMemory call = (call.read_faults_after ≡ call.read_faults) × Keeps call.taken call.taken_after
 
--- The headline: where the source told the text of a program, whatever a whole line among the bytes that the sink took in the call says is
--- true of that program. A write that failed half way is no exception.
-abbrev pub Headline : (left taken taken' : Option (List ℕ)) → Type 0
-Headline left taken taken' =
-    (text before written : List ℕ) (names : List (List ℕ)) (body : Statements) → left ≡ Some text → IsTextOf text names body
-    → taken ≡ Some before → taken' ≡ Some (before ++ written) → IsTrueText names body written
+-- An accepted order and the text of a program within the limits get their report, where no count of faults rose and memory didn't run out.
+abbrev pub IsComplete : {W : Type 0} → List W → Status → Call → Type 0
+IsComplete words status call =
+    (order : Order) (text : List ℕ) (names : List (List ℕ)) (body : Statements) → Ask words order → call.left ≡ Some text
+    → IsTextOf text names body → length text ≤ 65536
+    → ¬ Rose call.read_faults call.read_faults_after → ¬ Rose call.write_faults call.write_faults_after
+    → (status ≡ AllInputs) ⊎ (status ≡ SomeInputs) ⊎ (status ≡ NoMemory)
+
+-- All that is said of a call of the command with these words that ended with this status.
+pub record IsRun {W : Type 0} (words : List W) (status : Status) (call : Call) : Type 0 where
+  pub headline : Headline call
+  pub form : Form call
+  pub answers : Answers status call
+  pub refuses : (status ≡ Words) ↔ (¬ ((order : Order) × Ask words order))
+  pub complete : IsComplete words status call

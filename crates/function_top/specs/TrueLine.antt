@@ -1,4 +1,4 @@
--- When a printed line is true.
+-- When a line is true of a program.
 use Rattle.std.specs.Prelude.{ℕ, ℤ, pos, negsuc, List, length, ⊤}
 use Rattle.step_meaning.specs.Syntax.{Statements}
 use Rattle.step_meaning.specs.Outcome.{Store}
@@ -8,8 +8,7 @@ use Rattle.linear_cons.specs.declared.affine.Affine.{Affine}
 use Rattle.linear_cons.specs.Functions.{value_at}
 use Rattle.line_text.specs.declared.claim.Claim.{Claim}
 use Rattle.line_text.specs.declared.claim.Claim.TheVariants.{Exactly, Within, Holds, Unknown}
-use Rattle.line_text.specs.Spells.{MeetsCondition, Spells}
-use Rattle.report_text.specs.Sections.{IsWholeLine}
+use Rattle.line_text.specs.Spells.{MeetsCondition}
 
 -- the longest run from `c` has exactly that many steps; none has fewer than 0
 abbrev pub IsLongest : ℤ → Configuration → Type 0
@@ -24,12 +23,7 @@ IsTrueAt (Within bound) input c = EndsWithinBound (value_at bound input) c
 IsTrueAt Holds input c = (n : ℕ) × EndsWithin n c
 IsTrueAt Unknown input c = ⊤
 
--- for every input of a program of these names with this body that meets the condition, the claim is true of where its runs begin
-pub record IsTrueOf (names : List (List ℕ)) (body : Statements) (condition : List Affine) (claim : Claim) : Type 0 where
+-- the line of this condition and claim is true of a program of these names with this body: for every input that meets the condition, the
+-- claim is true of where its runs begin
+pub record TrueLine (names : List (List ℕ)) (body : Statements) (condition : List Affine) (claim : Claim) : Type 0 where
   pub holds : (input : Store) → IsInput (length names) input → MeetsCondition input condition → IsTrueAt claim input (start body input)
-
--- whatever a whole line of the text says over the names is true of the program
-abbrev pub IsTrueText : List (List ℕ) → Statements → List ℕ → Type 0
-IsTrueText names body text =
-    (line : List ℕ) (condition : List Affine) (claim : Claim) → IsWholeLine text line → Spells names line condition claim
-    → IsTrueOf names body condition claim

@@ -1,12 +1,10 @@
 //! What is to be written for a source.
 
-/// What is to be written, built whole before its first byte is written.
+use crate::status::Status;
+
+/// What is to be written, built whole before its first byte is written, and the status that comes with it where no write fails.
 #[derive(Drop)]
-pub enum Due {
-    /// The report on a program of which every input is covered.
-    Covered(Vec<u8>),
-    /// The report on a program of which some input is not.
-    Open(Vec<u8>),
-    /// The line of a text that is refused.
-    Refused(String),
+pub struct Due {
+    pub bytes: Vec<u8>,
+    pub status: Status,
 }

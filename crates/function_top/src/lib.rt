@@ -4,6 +4,7 @@
 mod answer;
 mod due;
 mod laws;
+mod order;
 mod path;
 mod report;
 mod status;

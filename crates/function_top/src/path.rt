@@ -1,8 +1,8 @@
 //! The longest path through a program without loops, over the syntax tree.
 
-ghost use Rattle.std.specs.Prelude.{◌≡◌, ◌≤◌, ◌<◌, ◌+◌, ◌^◌, ℕ, MatchOption, IfSome, max, unwrap_or, option_map};
+ghost use Rattle.std.specs.Prelude.{◌≡◌, ◌≤◌, ◌<◌, ◌+◌, ◌^◌, ℕ, IfSome, max, unwrap_or, option_map};
 ghost use Rattle.step_meaning.specs.Syntax.{statements, statement, size_of, size_of_statement};
-ghost use Rattle.function_top.specs.LongestPath.{HasNoLoop, HasLoop, IsLoopFree, IsLooping, most_steps, steps_from, longest_path};
+ghost use Rattle.function_top.specs.LongestPath.{most_steps, steps_from, longest_path};
 ghost use Rattle.function_top.specs.Reach.{at_most, IsWithin};
 
 use step_meaning::{Block, Stmt, StmtKind};
@@ -18,8 +18,7 @@ pub struct Reach {
 /// The most steps of a path through these statements, or `None` where a loop stands among them.
 pub fn longest(block: &Block) -> Option<u64>
     requires { size_of (statements block.now) < 2 ^ 64 }
-    ensures { MatchOption result (HasLoop (statements block.now))
-        (λ steps. HasNoLoop (statements block.now) × (steps ≡ longest_path (statements block.now))) }
+    ensures { result ≡ longest_path (statements block.now) }
 {
     let reach = reach_through(block)?;
     Some(steps(reach, 0))
@@ -29,8 +28,7 @@ pub fn longest(block: &Block) -> Option<u64>
 #[cycle(reach)]
 fn reach_through(block: &Block) -> Option<Reach>
     requires { size_of (statements block.now) < 2 ^ 64 }
-    ensures reaches { MatchOption result (HasLoop (statements block.now))
-        (λ reach. HasNoLoop (statements block.now) × ((after : ℕ) → at_most reach after ≡ most_steps (statements block.now) after)) }
+    ensures reaches { (after : ℕ) → most_steps (statements block.now) after ≡ option_map (λ reach. at_most reach after) result }
     ensures within { IfSome result (IsWithin (size_of (statements block.now))) }
 {
     let mut so_far = Reach {
@@ -49,8 +47,7 @@ fn reach_through(block: &Block) -> Option<Reach>
 #[cycle(reach)]
 fn reach_over(stmt: &Stmt) -> Option<Reach>
     requires { size_of_statement (statement stmt.now.kind) < 2 ^ 64 }
-    ensures reaches { MatchOption result (IsLooping (statement stmt.now.kind))
-        (λ reach. IsLoopFree (statement stmt.now.kind) × ((after : ℕ) → at_most reach after ≡ steps_from (statement stmt.now.kind) after)) }
+    ensures reaches { (after : ℕ) → steps_from (statement stmt.now.kind) after ≡ option_map (λ reach. at_most reach after) result }
     ensures within { IfSome result (IsWithin (size_of_statement (statement stmt.now.kind))) }
 {
     match &stmt.kind {

@@ -1,26 +1,26 @@
 //! The texts that the command writes.
 
-ghost use Rattle.std.specs.Prelude.{◌≡◌, ◌≤◌, ◌∷◌, [], IfOk, string_bytes, length, All};
+ghost use Rattle.std.specs.Prelude.{◌≡◌, ◌≤◌, ◌∷◌, [], IfOk, Some, None, length, All};
 ghost use Rattle.report_text.specs.Printed.{IsLineOver, IsReportText};
-ghost use Rattle.function_top.specs.Report.{always, bounded_report, fault_text, plain_report, unknown_report, usage_text};
+ghost use Rattle.function_top.specs.Report.{always, fault_text, plain_report, report_by, usage_text};
 
-use line_text::Claim;
+use line_text::{Claim, push_numeral};
 use linear_cons::{Affine, Rows};
 use report_text::{Header, Line, Lines, Report, print};
 use std::alloc::{AllocError, Global};
 use step_meaning::Names;
 
-/// The usage line.
-pub fn usage() -> &'static str
+/// The usage line, with its newline byte.
+pub fn usage() -> &'static [u8]
     ensures { result.now ≡ usage_text }
 {
-    "usage: function [--ctl TEXT] [--domain boxes|octagons|polyhedra] [--delay N] [--at TEXT] [--explain] [--demo N]\n"
+    b"usage: function [--ctl TEXT] [--domain boxes|octagons|polyhedra] [--delay N] [--at TEXT] [--explain] [--demo N]\n"
 }
 
 /// The report on a program of which every run ends within so many steps. The only error is want of memory.
 pub fn bounded(alloc: Global, steps: u64, names: &Names) -> Result<Vec<u8>, AllocError>
     requires { length names.now ≤ 15 }
-    ensures { IfOk result (λ text. IsReportText names.now (bounded_report steps) text.items) }
+    ensures { IfOk result (λ text. IsReportText names.now (report_by (Some steps)) text.items) }
 {
     let bound = Affine::constant(i128::from(steps));
     let proved = always(alloc, Claim::Within(bound))?;
@@ -29,7 +29,7 @@ pub fn bounded(alloc: Global, steps: u64, names: &Names) -> Result<Vec<u8>, Allo
 
 /// The report on a program of which nothing is known. The only error is want of memory.
 pub fn unknown(alloc: Global, names: &Names) -> Result<Vec<u8>, AllocError>
-    ensures { IfOk result (λ text. IsReportText names.now unknown_report text.items) }
+    ensures { IfOk result (λ text. IsReportText names.now (report_by None) text.items) }
 {
     let unknown = always(alloc, Claim::Unknown)?;
     plain(alloc, none(alloc), unknown, names)
@@ -70,9 +70,15 @@ fn plain(alloc: Global, proved: Lines, unknown: Lines, names: &Names) -> Result<
     print(alloc, &report, names)
 }
 
-/// The line of a program's fault, by its number and its place.
-pub fn fault(alloc: Global, number: u8, place: u32) -> Result<String, AllocError>
-    ensures { IfOk result (λ text. string_bytes text ≡ fault_text number place) }
+/// The line of a program's fault, by its number and its place. The only error is want of memory.
+pub fn fault(alloc: Global, number: u8, place: u32) -> Result<Vec<u8>, AllocError>
+    ensures { IfOk result (λ text. text.items ≡ fault_text number place) }
 {
-    format!(in alloc; "program: {number} at {place}\n")
+    let mut text = Vec::new(alloc);
+    text.extend_from_slice(b"program: ")?;
+    push_numeral(&mut text, u128::from(number))?;
+    text.extend_from_slice(b" at ")?;
+    push_numeral(&mut text, u128::from(place))?;
+    text.push(b'\n')?;
+    Ok(text)
 }

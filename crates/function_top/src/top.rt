@@ -1,12 +1,14 @@
 //! The top call.
 
-ghost use Rattle.std.specs.Prelude.{◌≡◌, ◌≤◌, ◌<◌, ◌+◌, ◌↔◌, ℕ, length, if◌then◌else◌};
+ghost use Rattle.std.specs.Prelude.{◌≡◌, ◌≤◌, ◌<◌, ◌+◌, ◌⊎◌, ℕ, length};
+ghost use Rattle.std.specs.Io.KnownBytes.{Appends};
+ghost use Rattle.outside.specs.Faults.{Rose};
+ghost use Rattle.outside.specs.Sink.{AppendsFront};
 ghost use Rattle.outside.specs.Source.{ConsumesUpTo};
-ghost use Rattle.function_top.specs.Answer.{EndsWith, Headline};
-ghost use Rattle.function_top.specs.Due.{Settles};
+ghost use Rattle.function_top.specs.Answer.{IsRun, after_failing};
 
 use crate::answer::answer;
-use crate::due::Due;
+use crate::order::accepts;
 use crate::report::usage;
 use crate::status::Status;
 use line_text::laws::{a_line_spells_at_most_one_claim, lines_have_their_own_form};
@@ -25,11 +27,16 @@ pub fn run<S: Source, K: Sink>(
     source: &mut S,
     sink: &mut K,
 ) -> Status
-    ensures headline { Headline (S.left source.old) (K.taken sink.old) (K.taken sink.new) }
-    ensures ends { EndsWith result (S.left source.old) (K.taken sink.old) (K.taken sink.new)
-        (S.faults source.old) (S.faults source.new) (K.faults sink.old) (K.faults sink.new) }
-    ensures words { (result ≡ Status.Words) ↔ (1 < length words.now) }
-    ensures unread { 1 < length words.now → source.new ≡ source.old }
+    ensures run { IsRun words.now result record {
+      left = S.left source.old;
+      taken = K.taken sink.old;
+      taken_after = K.taken sink.new;
+      read_faults = S.faults source.old;
+      read_faults_after = S.faults source.new;
+      write_faults = K.faults sink.old;
+      write_faults_after = K.faults sink.new;
+    } }
+    ensures unread { result ≡ Status.Words → source.new ≡ source.old }
     ensures stops { ConsumesUpTo (65536 + 1) (S.left source.old) (S.left source.new) }
     ensures reads_never_fall { S.faults source.old ≤ S.faults source.new }
     ensures writes_never_fall { K.faults sink.old ≤ K.faults sink.new }
@@ -39,35 +46,36 @@ pub fn run<S: Source, K: Sink>(
     names_are_distinct();
     lines_have_their_own_form();
     a_line_spells_at_most_one_claim();
-    if words.len() > 1 {
-        let _ = write_all(sink, usage().as_bytes());
-        return Status::Words;
+    if !accepts(words) {
+        return settle(sink, usage(), Status::Words);
     }
     match answer(alloc, source) {
-        Ok(Some(due)) => settle(sink, due),
+        Ok(Some(due)) => settle(sink, &due.bytes, due.status),
         Ok(None) => Status::ReadFault,
         Err(_) => Status::NoMemory,
     }
 }
 
-// Writes what is due, and answers the status that goes with it.
-fn settle<K: Sink>(sink: &mut K, due: Due) -> Status
-    ensures settles { Settles due result (K.taken sink.old) (K.taken sink.new) (K.faults sink.old) (K.faults sink.new) }
+// Writes the bytes, and answers the status that goes with them. A report of which a write failed has a status of its own.
+fn settle<K: Sink>(sink: &mut K, bytes: &[u8], status: Status) -> Status
+    ensures settles { ((result ≡ status) × Appends (K.taken sink.old) (K.taken sink.new) bytes.now)
+        ⊎ ((result ≡ after_failing status) × AppendsFront (K.taken sink.old) (K.taken sink.new) bytes.now
+        × Rose (K.faults sink.old) (K.faults sink.new)) }
     ensures never_falls { K.faults sink.old ≤ K.faults sink.new }
 {
-    match due {
-        Due::Covered(text) => reported(write_all(sink, &text), Status::AllInputs),
-        Due::Open(text) => reported(write_all(sink, &text), Status::SomeInputs),
-        Due::Refused(text) => {
-            let _ = write_all(sink, text.as_bytes());
-            Status::Program
-        }
+    if write_all(sink, bytes) {
+        status
+    } else {
+        after_failing(status)
     }
 }
 
-// The status of a report, of which all was written or not.
-fn reported(written: bool, status: Status) -> Status
-    ensures { result ≡ (if written then status else Status.WriteFault) }
+// The status where a write failed: a refusal keeps its own.
+fn after_failing(status: Status) -> Status
+    ensures { result ≡ after_failing status }
 {
-    if written { status } else { Status::WriteFault }
+    match status {
+        Status::AllInputs | Status::SomeInputs => Status::WriteFault,
+        other => other,
+    }
 }

@@ -10,3 +10,4 @@ pub mod Sums
 pub mod Terms
 pub mod Lines
 pub mod LineForms
+pub mod Joined

@@ -7,7 +7,7 @@ use Rattle.linear_cons.specs.declared.affine.Affine.{Affine}
 use Rattle.line_text.specs.declared.claim.Claim.{Claim}
 use Rattle.line_text.specs.declared.claim.Claim.TheVariants.{Exactly, Within, Holds, Unknown}
 use Rattle.line_text.specs.AffineText.{Term, affine_text, front_sign, joining_sign, later_text, number_text, product_text, sum_text, terms_of}
-use Rattle.line_text.specs.LineText.{claim_text, condition_text, is_one, more_rows_text, steps_word}
+use Rattle.line_text.specs.LineText.{claim_text, condition_text, is_one, more_joined, row_texts, steps_word}
 use Rattle.line_text.specs.Names.{AreNames}
 use Rattle.line_text.specs.Numeral.{numeral}
 use Rattle.line_text.specs.Spells.{EndsAsLine, Spells}
@@ -70,17 +70,17 @@ affine_clean names affine are = sum_clean (terms_of names affine) (terms_proper 
 row_end_clean : IsClean (codes " >= 0")
 row_end_clean = (refl, (refl, (refl, (refl, (refl, tt)))))
 
-more_rows_clean : (names : List (List ℕ)) (rows : List Affine) → AreDistinct names → IsClean (more_rows_text names rows)
+more_rows_clean : (names : List (List ℕ)) (rows : List Affine) → AreDistinct names → IsClean (more_joined (row_texts names rows))
 more_rows_clean names [] are = tt
 more_rows_clean names (row ∷ more) are =
     clean_append (codes " and ") _ (refl, (refl, (refl, (refl, (refl, tt)))))
-    (clean_append _ (more_rows_text names more) (clean_append (affine_text names row) (codes " >= 0") (affine_clean names row are)
+    (clean_append _ (more_joined (row_texts names more)) (clean_append (affine_text names row) (codes " >= 0") (affine_clean names row are)
     row_end_clean) (more_rows_clean names more are))
 
 condition_clean : (names : List (List ℕ)) (rows : List Affine) → AreDistinct names → IsClean (condition_text names rows)
 condition_clean names [] are = (refl, (refl, (refl, (refl, (refl, (refl, tt))))))
 condition_clean names (row ∷ more) are =
-    clean_append _ (more_rows_text names more) (clean_append (affine_text names row) (codes " >= 0") (affine_clean names row are)
+    clean_append _ (more_joined (row_texts names more)) (clean_append (affine_text names row) (codes " >= 0") (affine_clean names row are)
     row_end_clean) (more_rows_clean names more are)
 
 steps_clean : (one : Bool) → IsClean (steps_word one)

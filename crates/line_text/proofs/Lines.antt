@@ -5,7 +5,7 @@ use Rattle.linear_cons.specs.declared.affine.Affine.{Affine}
 use Rattle.line_text.specs.declared.claim.Claim.{Claim}
 use Rattle.line_text.specs.declared.claim.Claim.TheVariants.{Exactly, Within, Holds, Unknown}
 use Rattle.line_text.specs.AffineText.{affine_text, front_sign, number_text, terms_of}
-use Rattle.line_text.specs.LineText.{claim_text, condition_text, is_one, more_rows_text, row_text, steps_word}
+use Rattle.line_text.specs.LineText.{claim_text, condition_text, is_one, more_joined, row_text, row_texts, steps_word}
 use Rattle.line_text.specs.Names.{AreNames, IsOver}
 use Rattle.line_text.specs.Numeral.{numeral}
 use Rattle.line_text.specs.Spells.{IsClaimOver, Spells}
@@ -88,16 +88,16 @@ all_rest names row more all = λ k d low. all (suc k) d (omega arith)
 
 rows_cut :
     (names : List (List ℕ)) (rows others : List Affine) (x y : List ℕ) → AreDistinct names → All (IsOver names) rows
-    → All (IsOver names) others → more_rows_text names rows ++ 58 ∷ x ≡ more_rows_text names others ++ 58 ∷ y → (rows ≡ others) × (x ≡ y)
+    → All (IsOver names) others → more_joined (row_texts names rows) ++ 58 ∷ x ≡ more_joined (row_texts names others) ++ 58 ∷ y → (rows ≡ others) × (x ≡ y)
 rows_cut names [] [] x y are over over' e = (refl, cc)
 rows_cut names [] (b ∷ others) x y are over over' e = absurd (heads_differ 58 32 _ _ refl e)
 rows_cut names (a ∷ rows) [] x y are over over' e = absurd (heads_differ 32 58 _ _ refl e)
 rows_cut names (a ∷ rows) (b ∷ others) x y are over over' e =
-    let inner : (row_text names a ++ more_rows_text names rows) ++ 58 ∷ x ≡ (row_text names b ++ more_rows_text names others) ++ 58 ∷ y =
+    let inner : (row_text names a ++ more_joined (row_texts names rows)) ++ 58 ∷ x ≡ (row_text names b ++ more_joined (row_texts names others)) ++ 58 ∷ y =
     cc in
-    let cut = row_cut names a b (more_rows_text names rows ++ 58 ∷ x) (more_rows_text names others ++ 58 ∷ y) are
-    (all_first names a rows over) (all_first names b others over') (sym (row_parts names a (more_rows_text names rows) (58 ∷ x))
-    ∙ (inner ∙ row_parts names b (more_rows_text names others) (58 ∷ y))) in
+    let cut = row_cut names a b (more_joined (row_texts names rows) ++ 58 ∷ x) (more_joined (row_texts names others) ++ 58 ∷ y) are
+    (all_first names a rows over) (all_first names b others over') (sym (row_parts names a (more_joined (row_texts names rows)) (58 ∷ x))
+    ∙ (inner ∙ row_parts names b (more_joined (row_texts names others)) (58 ∷ y))) in
     let more = rows_cut names rows others x y are (all_rest names a rows over) (all_rest names b others over') cut.1 in
     (cc (cut.0, more.0), more.1)
 
@@ -107,7 +107,7 @@ always_cut :
     → codes "always" ++ 58 ∷ x ≡ condition_text names (row ∷ more) ++ 58 ∷ y → ⊥
 always_cut names row more x y are e =
     always_apart (terms_of names row) x _ (terms_proper names row.coef row.constant are)
-    (e ∙ row_parts names row (more_rows_text names more) (58 ∷ y))
+    (e ∙ row_parts names row (more_joined (row_texts names more)) (58 ∷ y))
 
 condition_cut :
     (names : List (List ℕ)) (rows others : List Affine) (x y : List ℕ) → AreDistinct names → All (IsOver names) rows
@@ -116,9 +116,9 @@ condition_cut names [] [] x y are over over' e = (refl, cc)
 condition_cut names [] (b ∷ others) x y are over over' e = absurd (always_cut names b others x y are e)
 condition_cut names (a ∷ rows) [] x y are over over' e = absurd (always_cut names a rows y x are (sym e))
 condition_cut names (a ∷ rows) (b ∷ others) x y are over over' e =
-    let cut = row_cut names a b (more_rows_text names rows ++ 58 ∷ x) (more_rows_text names others ++ 58 ∷ y) are
-    (all_first names a rows over) (all_first names b others over') (sym (row_parts names a (more_rows_text names rows) (58 ∷ x))
-    ∙ (e ∙ row_parts names b (more_rows_text names others) (58 ∷ y))) in
+    let cut = row_cut names a b (more_joined (row_texts names rows) ++ 58 ∷ x) (more_joined (row_texts names others) ++ 58 ∷ y) are
+    (all_first names a rows over) (all_first names b others over') (sym (row_parts names a (more_joined (row_texts names rows)) (58 ∷ x))
+    ∙ (e ∙ row_parts names b (more_joined (row_texts names others)) (58 ∷ y))) in
     let more = rows_cut names rows others x y are (all_rest names a rows over) (all_rest names b others over') cut.1 in
     (cc (cut.0, more.0), more.1)
 

@@ -12,15 +12,21 @@ use Rattle.line_text.specs.AffineText.{affine_text, number_text}
 abbrev pub row_text : List (List ℕ) → Affine → List ℕ
 row_text names affine = affine_text names affine ++ codes " >= 0"
 
--- the rows behind the first
-abbrev pub more_rows_text : List (List ℕ) → List Affine → List ℕ
-more_rows_text names [] = []
-more_rows_text names (row ∷ more) = codes " and " ++ (row_text names row ++ more_rows_text names more)
+-- the texts of rows joined: those behind the first, and all of a condition, which is `always` where there are none
+abbrev pub more_joined : List (List ℕ) → List ℕ
+more_joined [] = []
+more_joined (text ∷ more) = codes " and " ++ (text ++ more_joined more)
 
--- a condition: its rows in the order given, or `always` where there are none
+abbrev pub joined : List (List ℕ) → List ℕ
+joined [] = codes "always"
+joined (text ∷ more) = text ++ more_joined more
+
+-- the texts of rows, and a condition: its rows in the order given
+abbrev pub row_texts : List (List ℕ) → List Affine → List (List ℕ)
+row_texts names rows = map (λ row. row_text names row) rows
+
 abbrev pub condition_text : List (List ℕ) → List Affine → List ℕ
-condition_text names [] = codes "always"
-condition_text names (row ∷ more) = row_text names row ++ more_rows_text names more
+condition_text names condition = joined (row_texts names condition)
 
 -- the functions of rows, which are what a condition speaks of
 abbrev pub functions_of : List Row → List Affine

@@ -5,7 +5,7 @@ use linear_cons::Affine;
 /// What a line claims of the runs from each input that meets its condition.
 #[derive(Clone, Copy, PartialEq, Eq, Debug)]
 pub enum Claim {
-    /// Each run takes exactly so many steps.
+    /// The longest run takes exactly so many steps.
     Exactly(i128),
     /// Each run takes at most as many steps as the function's value at the input.
     Within(Affine),

@@ -16,6 +16,6 @@ mod tests;
 
 pub use affine::push_affine;
 pub use claim::Claim;
-pub use line::{line_text, push_claim, push_condition, push_line, push_row, row_text};
+pub use line::{push_claim, push_line, push_row};
 pub use number::{push_number, push_numeral};
 pub use over::{are_over, is_claim_over, is_over};

@@ -1,8 +1,8 @@
 //! Rows on the texts: a value and the bytes that it is written with.
 
 use crate::{
-    Claim, are_over, is_claim_over, is_over, line_text, push_affine, push_claim, push_condition,
-    push_number, row_text,
+    Claim, are_over, is_claim_over, is_over, push_affine, push_claim, push_line, push_number,
+    push_row,
 };
 use linear_cons::{Affine, Row, RowKind};
 use std::alloc::{AllocError, Global};
@@ -155,9 +155,13 @@ fn lines_are_conditions_and_claims(rt: HostRuntime) -> Result<(), Fail> {
     for (count, claim, bytes) in lines {
         assert!(rt; count <= rows.len());
         let condition = &rows[..count];
-        assert!(rt; are_over(condition, &names));
         assert!(rt; is_claim_over(&claim, &names));
-        let line = line_text(alloc, condition, &claim, &names)?;
+        let mut line = Vec::new(alloc);
+        let mut texts = Vec::new(alloc);
+        for row in condition {
+            texts.push(text_of(alloc, row, &names)?)?;
+        }
+        push_line(&mut line, &texts, &claim, &names)?;
         assert_eq!(rt; line.as_slice(), bytes);
     }
     Ok(())
@@ -165,11 +169,11 @@ fn lines_are_conditions_and_claims(rt: HostRuntime) -> Result<(), Fail> {
 
 // The text of a row that is over the names.
 fn text_of(alloc: Global, row: &Row, names: &Names) -> Result<Vec<u8>, AllocError> {
+    let mut text = Vec::new(alloc);
     if is_over(&row.affine, names) {
-        row_text(alloc, row, names)
-    } else {
-        Ok(Vec::new(alloc))
+        push_row(&mut text, row, names)?;
     }
+    Ok(text)
 }
 
 #[test]
@@ -184,9 +188,8 @@ fn parts_of_lines_have_their_texts(rt: HostRuntime) -> Result<(), Fail> {
     assert_eq!(rt; second.as_slice(), b"-x - 2*y + 1 >= 0".as_slice());
     let mut text = b"a".to_vec(alloc)?;
     push_number(&mut text, -10)?;
-    push_condition(&mut text, &[], &names)?;
     push_claim(&mut text, &Claim::Holds, &names)?;
-    assert_eq!(rt; text.as_slice(), b"a-10alwaysholds".as_slice());
+    assert_eq!(rt; text.as_slice(), b"a-10holds".as_slice());
     Ok(())
 }
 

@@ -5,12 +5,13 @@ use Rattle.std.specs.List.{AllZip, swap}
 use Rattle.std.specs.List.Sorted.{IsPermutation, IsSorted}
 use Rattle.std.specs.Cmp.Lexicographic.{slice_cmp}
 use Rattle.std.specs.Ordering.{nat_cmp}
-use Rattle.std.proofs.lemmas.List.{append-nil, append_assoc, get_or-map, length-map, map-append, map-set, length-take-le}
+use Rattle.std.proofs.lemmas.List.{append_assoc, get_or-map, length-map, map-append, map-set, length-take-le}
 use Rattle.std.proofs.Math.ListN.{get_or-map as mapped}
 use Rattle.std.proofs.lemmas.List.Sorted.{All-permutation, IsPermutation-keeps, IsPermutation-map, IsPermutation-refl, IsPermutation-swap, IsPermutation-trans, length_permutation}
 use Rattle.linear_cons.specs.declared.row.Row.{Row}
 use Rattle.linear_solve.proofs.Lists.{take_snoc}
-use Rattle.line_text.specs.LineText.{claim_text, condition_text, functions_of, more_rows_text, row_text}
+use Rattle.line_text.specs.Buffer.{bytes_in}
+use Rattle.line_text.specs.LineText.{claim_text, condition_text, functions_of, joined, row_text, row_texts as function_texts}
 use Rattle.line_text.specs.Names.{IsOver}
 use Rattle.line_text.specs.Numeral.{numeral}
 use Rattle.report_text.specs.declared.line.Line.{Line}
@@ -18,18 +19,14 @@ use Rattle.report_text.specs.declared.report.Header.{Header}
 use Rattle.report_text.specs.declared.report.Header.TheVariants.{Whole, Partial}
 use Rattle.report_text.specs.declared.report.Stop.{Stop}
 use Rattle.report_text.specs.declared.report.Report.{Report}
-use Rattle.report_text.specs.Printed.{AreInOrder, AreRowTexts, AreTextsOf, IsExactAdded, IsLineOver, IsReportText, IsSectionAdded, IsTextOf, adviser_lines, bytes_in, cause_text, ended_lines, exact_part, explain_part, joined, more_joined, row_texts, verdict_line}
+use Rattle.report_text.specs.Printed.{AreInOrder, AreRowTexts, AreTextsOf, IsExactAdded, IsLineOver, IsReportText, IsSectionAdded, IsTextOf, adviser_lines, cause_text, ended_lines, exact_part, explain_part, row_texts, verdict_line}
+use Rattle.line_text.proofs.Joined.{bytes_more}
 
 -- ---- ended lines
 
 pub ended_append : (xs ys : List (List ℕ)) → ended_lines (xs ++ ys) ≡ ended_lines xs ++ ended_lines ys
 ended_append [] ys = refl
 ended_append (x ∷ xs) ys = ap (λ t. x ++ (10 ∷ t)) (ended_append xs ys) ∙ sym (append_assoc x (10 ∷ ended_lines xs) (ended_lines ys))
-
--- the texts of one vector more
-bytes_more : (vectors : List (Vec ℕ)) (i : ℕ) (vector : Vec ℕ) → i < length vectors → vector ≡ get_or vectors i vector →
-    bytes_in (take (i + 1) vectors) ≡ bytes_in (take i vectors) ++ vector.items ∷ []
-bytes_more vectors i vector low is = ap (λ t. bytes_in t) (take_snoc vectors i vector low is) ∙ map-append (λ (v : Vec ℕ). v.items) (take i vectors) (vector ∷ [])
 
 -- one line more
 pub lines_more : (lines : List (Vec ℕ)) (i : ℕ) (line : Vec ℕ) (old text next : List ℕ) → i < length lines → line ≡ get_or lines i line →
@@ -41,26 +38,13 @@ lines_more lines i line old text next low is so_far step =
 
 -- ---- rows joined
 
-more_append : (xs ys : List (List ℕ)) → more_joined (xs ++ ys) ≡ more_joined xs ++ more_joined ys
-more_append [] ys = refl
-more_append (x ∷ xs) ys = ap (λ t. codes " and " ++ (x ++ t)) (more_append xs ys) ∙ ap (λ t. codes " and " ++ t) (sym (append_assoc x (more_joined xs) (more_joined ys)))
-
-pub rows_more : (rows : List (Vec ℕ)) (i : ℕ) (row : Vec ℕ) (old text next : List ℕ) → i < length rows → row ≡ get_or rows i row →
-    text ≡ old ++ more_joined (bytes_in (take i rows)) → next ≡ (text ++ codes " and ") ++ row.items →
-    next ≡ old ++ more_joined (bytes_in (take (i + 1) rows))
-rows_more rows i row old text next low is so_far step =
-    let more : more_joined (bytes_in (take (i + 1) rows)) ≡ more_joined (bytes_in (take i rows)) ++ (codes " and " ++ (row.items ++ [])) = ap (λ t. more_joined t) (bytes_more rows i row low is) ∙ more_append (bytes_in (take i rows)) (row.items ∷ []) in
-    step ∙ append_assoc text (codes " and ") row.items ∙ ap (λ t. t ++ (codes " and " ++ row.items)) so_far ∙ append_assoc old (more_joined (bytes_in (take i rows))) (codes " and " ++ row.items)
-    ∙ ap (λ t. old ++ (more_joined (bytes_in (take i rows)) ++ (codes " and " ++ t))) (sym (append-nil row.items)) ∙ ap (λ t. old ++ t) (sym more)
-
 -- a condition by the texts of its rows
-more_is : (names : List (List ℕ)) (rows : List Row) → more_joined (row_texts names rows) ≡ more_rows_text names (functions_of rows)
-more_is names [] = refl
-more_is names (row ∷ more) = ap (λ t. codes " and " ++ (row_text names row.affine ++ t)) (more_is names more)
+texts_are : (names : List (List ℕ)) (rows : List Row) → row_texts names rows ≡ function_texts names (functions_of rows)
+texts_are names [] = refl
+texts_are names (row ∷ more) = ap (λ t. row_text names row.affine ∷ t) (texts_are names more)
 
 joined_is : (names : List (List ℕ)) (rows : List Row) → joined (row_texts names rows) ≡ condition_text names (functions_of rows)
-joined_is names [] = refl
-joined_is names (row ∷ more) = ap (λ t. row_text names row.affine ++ t) (more_is names more)
+joined_is names rows = ap joined (texts_are names rows)
 
 -- ---- sorting
 
@@ -127,18 +111,19 @@ row_over names rows i row low is over =
     subst (λ a. IsOver names a) (get_or-map (λ (r : Row). r.affine) rows i row row.affine low ∙ ap (λ (r : Row). r.affine) (sym is)) (over i row.affine (omega arith))
 
 -- the text of a line, from those of its rows and its claim
-pub line_spelled : (names : List (List ℕ)) (line : Line) (texts : List (List ℕ)) (empty begun between text : List ℕ) →
-    IsLineOver names line → AreRowTexts names line.rows texts → empty ≡ [] → begun ≡ empty ++ joined texts →
-    between ≡ begun ++ codes ": " → text ≡ between ++ claim_text names line.claim → IsTextOf names line text
-line_spelled names line texts empty begun between text over rows nothing first second third = record {
+pub line_spelled : (names : List (List ℕ)) (line : Line) (texts : List (List ℕ)) (empty text : List ℕ) →
+    IsLineOver names line → AreRowTexts names line.rows texts → empty ≡ [] →
+    text ≡ empty ++ (joined texts ++ (codes ": " ++ claim_text names line.claim)) → IsTextOf names line text
+line_spelled names line texts empty text over rows nothing written = record {
   condition = rows.condition;
   same = rows.same;
   sorted = subst (λ t. AreInOrder t) rows.are rows.sorted;
   spells = record {
     condition_over = All-permutation (IsOver names) (functions_of line.rows) (functions_of rows.condition) (IsPermutation-map (λ (r : Row). r.affine) line.rows rows.condition rows.same) over.rows;
     claim_over = over.claims;
-    text = third ∙ ap (λ t. t ++ claim_text names line.claim) (second ∙ ap (λ t. t ++ codes ": ") (first ∙ ap (λ t. t ++ joined texts) nothing ∙ ap (λ t. joined t) rows.are ∙ joined_is names rows.condition))
-        ∙ append_assoc (condition_text names (functions_of rows.condition)) (codes ": ") (claim_text names line.claim);
+    text = written ∙ ap (λ t. t ++ (joined texts ++ (codes ": " ++ claim_text names line.claim))) nothing
+        ∙ ap (λ t. joined t ++ (codes ": " ++ claim_text names line.claim)) rows.are
+        ∙ ap (λ t. t ++ (codes ": " ++ claim_text names line.claim)) (joined_is names rows.condition);
   };
 }
 

@@ -1,99 +1,161 @@
--- Each store meets exactly one of a tree's lines.
-use Rattle.std.proofs.Common.{◌≡◌, ◌≢◌, ◌⊎◌, ◌↔◌, ℕ, zero, suc, ◌+◌, ◌<◌, ◌≤◌, ℤ, List, [], ◌∷◌, length, refl, sym, ap, subst, ◌∙◌, arith, ⊎_elim, HoldsAt}
+-- Each store meets exactly one of a tree's lines, and exactly one of those that claim something and those that claim nothing together.
+use Rattle.std.proofs.Common.{◌≡◌, inl, inr, suc, ℤ, pos, ◌≤ℤ◌, Bool, true, false, not, cond, int_le, List, [], ◌∷◌, ◌++◌, filter, refl, ◌∙◌, arith}
+use Rattle.std.specs.Bool.{⊤}
+use Rattle.std.proofs.lemmas.Int.{ints}
+use Rattle.std.proofs.lemmas.List.Elements.{All-cons, All-push}
 use Rattle.linear_cons.specs.declared.affine.Affine.{Affine}
+use Rattle.linear_cons.specs.declared.row.Row.{Row}
+use Rattle.linear_cons.specs.Functions.{complement_of, value_at}
 use Rattle.linear_cons.specs.Rows.{MeetsAll}
+use Rattle.linear_cons.proofs.RowLaws.{complement_met}
 use Rattle.decision_tree.specs.declared.affine_rank.AffineRank.{AffineRank}
 use Rattle.decision_tree.specs.Evaluation.{eval}
-use Rattle.decision_tree.specs.Plans.{Plan, leaves_of}
-use Rattle.decision_tree.specs.Paths.{MeetsPath, leaf_numbered, number_met, path_of}
+use Rattle.decision_tree.specs.Plans.{Plan, bottom, top, leaf, branch}
+use Rattle.decision_tree.specs.Paths.{MeetsPath}
 use Rattle.line_text.specs.declared.claim.Claim.{Claim}
 use Rattle.report_text.specs.declared.line.Line.{Line}
 use Rattle.report_text.specs.declared.line.Top.{Top}
-use Rattle.report_text.specs.Leaves.{AreLinesFrom, AreLinesOf, IsLineOf, IsMetNowhere, MeetsOneLine, claim_at}
+use Rattle.report_text.specs.Leaves.{AreLines, AreLinesOf, MeetsOneLine, NoneOf, OneOf, claim_at, claiming, claiming_nothing, is_unknown, leaves_below, none, skipped, stands}
 use Rattle.report_text.proofs.Tightening.{tightest_met}
 
-same_or : (a b : ℕ) → (a ≡ b) ⊎ (a ≢ b)
-same_or a b = grind arith
+-- ---- one of a list
 
-abbrev IsMet : List ℤ → List Line → ℕ → Type 0
-IsMet store lines number = HoldsAt (λ (line : Line). MeetsAll store line.rows) lines number
+module _ {X : Type 0} (Met Is : X → Type 0) where
+  pub none_of_both : (xs ys : List X) → NoneOf Met xs → NoneOf Met ys → NoneOf Met (xs ++ ys)
+  none_of_both [] ys here there = there
+  none_of_both (x ∷ xs) ys here there = (here.0, none_of_both xs ys here.1 there)
 
--- a store that meets no path of some leaves meets none of their lines
-none_met : (count : ℕ) (path : ℕ → List Affine) (claim : ℕ → Claim) (first : ℕ) (lines : List Line) (store : List ℤ) →
-    AreLinesFrom path claim first count lines → ((k : ℕ) → first ≤ k → k < first + count → MeetsPath store (path k) → ⊥) → (other : ℕ) →
-    other < length lines → IsMet store lines other → ⊥
-none_met zero path claim first lines store are none other low met = let e : length lines ≡ 0 = ap length are in omega (arith, e)
-none_met (suc count) path claim first [] store are none other low met = omega arith
-none_met (suc count) path claim first (line ∷ rest) store are none other low met =
-    let later : (k : ℕ) → first + 1 ≤ k → k < first + 1 + count → MeetsPath store (path k) → ⊥ = λ k from to. none k (omega arith) (omega arith) in
-    ⊎_elim
-    (λ (left : IsMetNowhere (path first) × AreLinesFrom path claim (first + 1) count (line ∷ rest)). none_met count path claim (first + 1) (line ∷ rest) store left.1 later other low met)
-    (λ (here : IsLineOf (path first) (claim first) line × AreLinesFrom path claim (first + 1) count rest).
-    not_here other low met here.0 (λ next. none_met count path claim (first + 1) rest store here.1 later next))
-    are
-  where
-    not_here : (other : ℕ) → other < length (line ∷ rest) → IsMet store (line ∷ rest) other → IsLineOf (path first) (claim first) line →
-        ((next : ℕ) → next < length rest → IsMet store rest next → ⊥) → ⊥
-    not_here zero low met here there = none first (omega arith) (omega arith) ((tightest_met (path first) line.rows store here.rows).0 (met line))
-    not_here (suc next) low met here there = there next (omega arith) met
+  pub one_of_first : (xs ys : List X) → OneOf Met Is xs → NoneOf Met ys → OneOf Met Is (xs ++ ys)
+  one_of_first [] ys here there = absurd here
+  one_of_first (x ∷ xs) ys (inl met) there = inl (met.0, met.1, none_of_both xs ys met.2 there)
+  one_of_first (x ∷ xs) ys (inr later) there = inr (later.0, one_of_first xs ys later.1 there)
 
--- of some leaves a store meets the path of one alone: it meets that leaf's line alone
-one_met : (count : ℕ) (path : ℕ → List Affine) (claim : ℕ → Claim) (first : ℕ) (lines : List Line) (store : List ℤ) (leaf : ℕ) →
-    AreLinesFrom path claim first count lines → first ≤ leaf → leaf < first + count → MeetsPath store (path leaf) → ((k : ℕ) →
-    MeetsPath store (path k) → first ≤ k → k < first + count → k ≡ leaf) → MeetsOneLine store (claim leaf) lines
-one_met zero path claim first lines store leaf are from to met only = absurd (omega arith)
-one_met (suc count) path claim first [] store leaf are from to met only = ⊎_elim
-    (λ (here : leaf ≡ first). absurd (are.0 store (rw here at met)))
-    (λ (apart : leaf ≢ first). one_met count path claim (first + 1) [] store leaf are.1 (omega arith) (omega arith) met (λ k m low high. only k m (omega arith) (omega arith)))
-    (same_or leaf first)
-one_met (suc count) path claim first (line ∷ rest) store leaf are from to met only = ⊎_elim
-    (λ (left : IsMetNowhere (path first) × AreLinesFrom path claim (first + 1) count (line ∷ rest)). ⊎_elim
-    (λ (here : leaf ≡ first). absurd (left.0 store (rw here at met)))
-    (λ (apart : leaf ≢ first). one_met count path claim (first + 1) (line ∷ rest) store leaf left.1 (omega arith) (omega arith) met (λ k m low high. only k m (omega arith) (omega arith)))
-    (same_or leaf first))
-    (λ (has : IsLineOf (path first) (claim first) line × AreLinesFrom path claim (first + 1) count rest). ⊎_elim
-    (λ (here : leaf ≡ first). record {
-      number = 0;
-      below = omega arith;
-      meets = λ d. (tightest_met (path first) line.rows store has.0.rows).1 (rw here at met);
-      claims = λ d. has.0.claims ∙ ap claim (sym here);
-      only = λ other low there. first_alone here has.1 other low there;
-    })
-    (λ (apart : leaf ≢ first).
-    let later : MeetsOneLine store (claim leaf) rest = one_met count path claim (first + 1) rest store leaf has.1 (omega arith) (omega arith) met (λ k m low high. only k m (omega arith) (omega arith)) in
-    let below = later.below in
-    record {
-      number = suc later.number;
-      below = omega arith;
-      meets = later.meets;
-      claims = later.claims;
-      only = λ other low there. later_alone apart has.0 later other low there;
-    })
-    (same_or leaf first))
-    are
-  where
-    first_alone : leaf ≡ first → AreLinesFrom path claim (first + 1) count rest → (other : ℕ) → other < length (line ∷ rest) →
-        IsMet store (line ∷ rest) other → other ≡ 0
-    first_alone here others zero low there = refl
-    first_alone here others (suc next) low there = absurd (none_met count path claim (first + 1) rest store others (λ k start end m. let same = only k m (omega arith) (omega arith) in omega arith) next (omega arith) there)
+  pub one_of_second : (xs ys : List X) → NoneOf Met xs → OneOf Met Is ys → OneOf Met Is (xs ++ ys)
+  one_of_second [] ys here there = there
+  one_of_second (x ∷ xs) ys here there = inr (here.0, one_of_second xs ys here.1 there)
 
-    later_alone : leaf ≢ first → IsLineOf (path first) (claim first) line → (later : MeetsOneLine store (claim leaf) rest) → (other : ℕ) →
-        other < length (line ∷ rest) → IsMet store (line ∷ rest) other → other ≡ suc later.number
-    later_alone apart has later zero low there = absurd (apart (sym (only first ((tightest_met (path first) line.rows store has.rows).0 (there line)) (omega arith) (omega arith))))
-    later_alone apart has later (suc next) low there = ap (λ n. suc n) (later.only next (omega arith) there)
+  -- an element may stand between the two parts of a list as well as before both
+  none_between : (x : X) (xs ys : List X) → ¬ Met x → NoneOf Met (xs ++ ys) → NoneOf Met (xs ++ x ∷ ys)
+  none_between x [] ys unmet rest = (unmet, rest)
+  none_between x (y ∷ xs) ys unmet rest = (rest.0, none_between x xs ys unmet rest.1)
 
--- what is known of the leaf at which a store stands
-pub record Stands (plan : Plan AffineRank) (store : List ℤ) : Type 0 where
-  pub numbered : number_met plan store < leaves_of plan
-  pub leaf : eval plan store ≡ leaf_numbered plan (number_met plan store)
-  pub path : (number : ℕ) → number < leaves_of plan → (number_met plan store ≡ number) ↔ MeetsPath store (path_of plan number)
+  one_between : (x : X) (xs ys : List X) → OneOf Met Is (x ∷ (xs ++ ys)) → OneOf Met Is (xs ++ x ∷ ys)
+  one_between x [] ys one = one
+  one_between x (y ∷ xs) ys (inl met) = inr (met.2.0, one_between x xs ys (inl (met.0, met.1, met.2.1)))
+  one_between x (y ∷ xs) ys (inr (unmet, inl met)) = inl (met.0, met.1, none_between x xs ys unmet met.2)
+  one_between x (y ∷ xs) ys (inr (unmet, inr later)) = inr (later.0, one_between x xs ys (inr (unmet, later.1)))
 
-pub one_line_met : (claims : Top) (plan : Plan AffineRank) (lines : List Line) (store : List ℤ) → Stands plan store →
-    AreLinesOf claims plan lines → MeetsOneLine store (claim_at claims (eval plan store)) lines
-one_line_met claims plan lines store stands are =
-    let low = stands.numbered in
-    let claim : ℕ → Claim = λ number. claim_at claims (leaf_numbered plan number) in
-    let is : claim (number_met plan store) ≡ claim_at claims (eval plan store) = ap (λ t. claim_at claims t) (sym stands.leaf) in
-    subst (λ t. MeetsOneLine store t lines) is (one_met (leaves_of plan) (λ number. path_of plan number) claim 0 lines store (number_met plan store) are (omega arith) (omega arith)
-    ((stands.path (number_met plan store) low).0 refl)
-    (λ k m from to. sym ((stands.path k (omega arith)).1 m)))
+  -- a list in the two parts that a test makes
+  module _ (test : X → Bool) where
+    abbrev pub parts : List X → List X
+    parts xs = filter (λ x. not (test x)) xs ++ filter test xs
+
+    at_front : (t : Bool) (x : X) (xs ys : List X) → OneOf Met Is (x ∷ (xs ++ ys)) → OneOf Met Is (cond (not t) (x ∷ xs) xs ++ cond t (x ∷ ys) ys)
+    at_front true x xs ys one = one_between x xs ys one
+    at_front false x xs ys one = one
+
+    none_at_front : (t : Bool) (x : X) (xs ys : List X) → ¬ Met x → NoneOf Met (xs ++ ys)
+        → NoneOf Met (cond (not t) (x ∷ xs) xs ++ cond t (x ∷ ys) ys)
+    none_at_front true x xs ys unmet rest = none_between x xs ys unmet rest
+    none_at_front false x xs ys unmet rest = (unmet, rest)
+
+    none_of_parts : (xs : List X) → NoneOf Met xs → NoneOf Met (parts xs)
+    none_of_parts [] h = h
+    none_of_parts (x ∷ xs) h =
+        none_at_front (test x) x (filter (λ y. not (test y)) xs) (filter test xs) h.0 (none_of_parts xs h.1)
+
+    pub one_of_parts : (xs : List X) → OneOf Met Is xs → OneOf Met Is (parts xs)
+    one_of_parts [] h = absurd h
+    one_of_parts (x ∷ xs) (inl met) =
+        at_front (test x) x (filter (λ y. not (test y)) xs) (filter test xs) (inl (met.0, met.1, none_of_parts xs met.2))
+    one_of_parts (x ∷ xs) (inr later) =
+        at_front (test x) x (filter (λ y. not (test y)) xs) (filter test xs) (inr (later.0, one_of_parts xs later.1))
+
+-- ---- the leaf at which a store stands
+
+module _ (claims : Top) (store : List ℤ) where
+  abbrev LeafMet : List Affine × Claim → Type 0
+  LeafMet leaf_found = MeetsPath store leaf_found.0
+
+  front_met : (above : List Affine) (a : Affine) → MeetsPath store (above ++ a ∷ []) → MeetsPath store above × (pos 0 ≤ℤ value_at a store)
+  front_met [] a met = ((λ k d low. absurd (omega arith)), met 0 a (omega arith))
+  front_met (b ∷ above) a met =
+      let later = front_met above a (λ k d low. met (suc k) d (omega arith)) in
+      (All-cons (λ c. pos 0 ≤ℤ value_at c store) b above (met 0 b (omega arith)) later.0, later.1)
+
+  -- where the path above isn't met no leaf is
+  none_below : (above : List Affine) (plan : Plan AffineRank) → ¬ MeetsPath store above → NoneOf LeafMet (leaves_below claims above plan)
+  none_below above bottom unmet = (unmet, tt)
+  none_below above (top cause) unmet = (unmet, tt)
+  none_below above (leaf why rank) unmet = (unmet, tt)
+  none_below above (branch row this that) unmet =
+      none_of_both LeafMet (λ leaf_found. ⊤) (leaves_below claims (above ++ row.affine ∷ []) this)
+      (leaves_below claims (above ++ complement_of row.affine ∷ []) that)
+      (none_below (above ++ row.affine ∷ []) this (λ met. unmet (front_met above row.affine met).0))
+      (none_below (above ++ complement_of row.affine ∷ []) that (λ met. unmet (front_met above (complement_of row.affine) met).0))
+
+  -- the leaf claims what this one does
+  abbrev ClaimsWhat : Plan AffineRank → List Affine × Claim → Type 0
+  ClaimsWhat found leaf_found = leaf_found.1 ≡ claim_at claims found
+
+  -- at a branch only the leaves of the store's side may be met
+  at_branch : (above : List Affine) (row : Row) (this that : Plan AffineRank) (t : Bool) → int_le (pos 0) (value_at row.affine store) ≡ t
+      → MeetsPath store above
+      → (MeetsPath store (above ++ row.affine ∷ []) → OneOf LeafMet (ClaimsWhat (eval this store)) (leaves_below claims (above ++ row.affine ∷ []) this))
+      → (MeetsPath store (above ++ complement_of row.affine ∷ [])
+      → OneOf LeafMet (ClaimsWhat (eval that store)) (leaves_below claims (above ++ complement_of row.affine ∷ []) that))
+      → OneOf LeafMet (ClaimsWhat (cond t (eval this store) (eval that store))) (leaves_below claims above (branch row this that))
+  at_branch above row this that true is met here there =
+      let holds : pos 0 ≤ℤ value_at row.affine store = omega (arith, ints) in
+      one_of_first LeafMet (ClaimsWhat (eval this store)) (leaves_below claims (above ++ row.affine ∷ []) this)
+      (leaves_below claims (above ++ complement_of row.affine ∷ []) that)
+      (here (All-push (λ a. pos 0 ≤ℤ value_at a store) above row.affine met holds))
+      (none_below (above ++ complement_of row.affine ∷ []) that
+      (λ other. (complement_met row.affine store).0 (front_met above (complement_of row.affine) other).1 holds))
+  at_branch above row this that false is met here there =
+      let fails : ¬ (pos 0 ≤ℤ value_at row.affine store) = λ holds. omega (arith, ints) in
+      one_of_second LeafMet (ClaimsWhat (eval that store)) (leaves_below claims (above ++ row.affine ∷ []) this)
+      (leaves_below claims (above ++ complement_of row.affine ∷ []) that)
+      (none_below (above ++ row.affine ∷ []) this (λ other. fails (front_met above row.affine other).1))
+      (there (All-push (λ a. pos 0 ≤ℤ value_at a store) above (complement_of row.affine) met ((complement_met row.affine store).1 fails)))
+
+  -- where it is met, one leaf is: the one at which the store stands
+  one_below : (above : List Affine) (plan : Plan AffineRank) → MeetsPath store above
+      → OneOf LeafMet (ClaimsWhat (eval plan store)) (leaves_below claims above plan)
+  one_below above bottom met = inl (met, refl, tt)
+  one_below above (top cause) met = inl (met, refl, tt)
+  one_below above (leaf why rank) met = inl (met, refl, tt)
+  one_below above (branch row this that) met =
+      at_branch above row this that (int_le (pos 0) (value_at row.affine store)) refl met
+      (one_below (above ++ row.affine ∷ []) this) (one_below (above ++ complement_of row.affine ∷ []) that)
+
+  -- ---- from leaves to lines
+
+  abbrev LineMet : Line → Type 0
+  LineMet line = MeetsAll store line.rows
+
+  no_line : {leaves : List (List Affine × Claim)} {lines : List Line} → AreLines leaves lines → NoneOf LeafMet leaves → NoneOf LineMet lines
+  no_line none h = h
+  no_line (skipped nowhere more) h = no_line more h.1
+  no_line (stands {path} {claim} {line} is more) h =
+      ((λ met. h.0 ((tightest_met path line.rows store is.rows).0 met)), no_line more h.1)
+
+  one_line : (found : Plan AffineRank) {leaves : List (List Affine × Claim)} {lines : List Line} → AreLines leaves lines
+      → OneOf LeafMet (ClaimsWhat found) leaves → OneOf LineMet (λ line. line.claim ≡ claim_at claims found) lines
+  one_line found none h = absurd h
+  one_line found (skipped nowhere more) (inl met) = absurd (nowhere store met.0)
+  one_line found (skipped nowhere more) (inr later) = one_line found more later.1
+  one_line found (stands {path} {claim} {line} is more) (inl met) =
+      inl ((tightest_met path line.rows store is.rows).1 met.0, is.claims ∙ met.1, no_line more met.2)
+  one_line found (stands {path} {claim} {line} is more) (inr later) =
+      inr ((λ met. later.0 ((tightest_met path line.rows store is.rows).0 met)), one_line found more later.1)
+
+  pub one_line_met : (plan : Plan AffineRank) (lines : List Line) → AreLinesOf claims plan lines
+      → MeetsOneLine store (claim_at claims (eval plan store)) lines
+  one_line_met plan lines are = one_line (eval plan store) are (one_below [] plan (λ k d low. absurd (omega arith)))
+
+-- of the lines in their two parts exactly one is met where exactly one of all is
+pub parted_line_met : (store : List ℤ) (claim : Claim) (lines : List Line) → MeetsOneLine store claim lines
+    → MeetsOneLine store claim (claiming lines ++ claiming_nothing lines)
+parted_line_met store claim lines one =
+    one_of_parts (λ line. MeetsAll store line.rows) (λ line. line.claim ≡ claim) (λ line. is_unknown line.claim) lines one

@@ -2,7 +2,6 @@
 use Rattle.std.specs.Prelude.{◌≡◌, ℕ, ◌+◌, List, [], ◌∷◌, ◌++◌, map, All, Option, None, Some, codes, IsPermutation, IsSorted}
 use Rattle.std.specs.List.{AllZip}
 use Rattle.std.specs.Ordering.{nat_cmp}
-use Rattle.std.specs.Global.{Vec}
 use Rattle.std.specs.Cmp.Lexicographic.{slice_cmp}
 use Rattle.linear_cons.specs.declared.row.Row.{Row}
 use Rattle.line_text.specs.LineText.{functions_of, row_text}
@@ -114,26 +113,12 @@ pub record IsReportOver (names : List (List ℕ)) (report : Report) : Type 0 whe
 
 -- ---- what the calls that print it append
 
--- the texts of vectors of bytes
-abbrev pub bytes_in : List (Vec ℕ) → List (List ℕ)
-bytes_in vectors = map (λ (vector : Vec ℕ). vector.items) vectors
-
 -- the texts of rows in the order of their bytes
 pub record AreRowTexts (names : List (List ℕ)) (rows : List Row) (texts : List (List ℕ)) : Type 0 where
   pub condition : List Row
   pub same : IsPermutation rows condition
   pub sorted : AreInOrder texts
   pub are : texts ≡ row_texts names condition
-
--- the rows behind the first of a condition, by their texts
-abbrev pub more_joined : List (List ℕ) → List ℕ
-more_joined [] = []
-more_joined (row ∷ more) = codes " and " ++ (row ++ more_joined more)
-
--- a condition by the texts of its rows
-abbrev pub joined : List (List ℕ) → List ℕ
-joined [] = codes "always"
-joined (row ∷ more) = row ++ more_joined more
 
 -- the lines of a section were appended
 pub record IsSectionAdded (names : List (List ℕ)) (lines : List Line) (old new : List ℕ) : Type 0 where

@@ -10,14 +10,13 @@ ghost use Rattle.decision_tree.specs.Plans.{Plan};
 ghost use Rattle.decision_tree.specs.declared.affine_rank.AffineRank.{AffineRank};
 ghost use Rattle.report_text.specs.declared.line.Line.{Line};
 ghost use Rattle.report_text.specs.declared.line.Top.{Top};
-ghost use Rattle.report_text.specs.Leaves.{AreLinesOf, MeetsOneLine, claim_at};
+ghost use Rattle.report_text.specs.Leaves.{AreLinesOf, MeetsOneLine, claim_at, claiming, claiming_nothing};
+ghost use Rattle.line_text.specs.declared.claim.Claim.{Claim};
 ghost use Rattle.report_text.specs.Sections.{AreFrontsOf, SaysOnly, sections_of, sections_printed};
 ghost use Rattle.report_text.specs.Printed.{IsReportText};
 ghost use Rattle.report_text.specs.declared.report.Report.{Report};
 ghost use Rattle.line_text.specs.Names.{AreNames};
 
-use decision_tree::AffineRank;
-use decision_tree::laws::stores_stand_where_they_meet_the_path;
 use line_text::laws::{lines_have_their_own_form, numerals_say_their_numbers};
 
 /// A store meets the tightest rows of a path exactly where it meets the path.
@@ -25,13 +24,17 @@ pub fn tightest_rows_are_met_with_the_path()
     ensures { (path : List Affine) (kept : List Row) (store : List ℤ) → AreTightest path kept → MeetsAll store kept ↔ MeetsPath store path }
 {}
 
-/// Each store meets the rows of exactly one of a tree's lines, and that line has the claim of the leaf
-/// at which the store stands.
+/// Each store meets the rows of exactly one of a tree's lines, and that line has the claim of the leaf at which the store stands.
 pub fn each_store_meets_one_line()
-    ensures { (claims : Top) (plan : Plan AffineRank) (lines : List Line) (store : List ℤ) → AreLinesOf claims plan lines → MeetsOneLine store (claim_at claims (eval plan store)) lines }
-{
-    stores_stand_where_they_meet_the_path::<AffineRank>();
-}
+    ensures { (claims : Top) (plan : Plan AffineRank) (lines : List Line) (store : List ℤ) → AreLinesOf claims plan lines
+        → MeetsOneLine store (claim_at claims (eval plan store)) lines }
+{}
+
+/// A store that meets exactly one of some lines meets exactly one of those that claim something and those that claim nothing together.
+pub fn parted_lines_are_met_once()
+    ensures { (store : List ℤ) (claim : Claim) (lines : List Line) → MeetsOneLine store claim lines
+        → MeetsOneLine store claim (claiming lines ++ claiming_nothing lines) }
+{}
 
 /// A front of a text, as a write that failed half way leaves it, is cut into fronts of the text's
 /// sections.

@@ -1,14 +1,15 @@
 //! The text of a report.
 ghost use Rattle.std.specs.Prelude.{◌≡◌, ◌++◌, ◌∷◌, [], All, IfOk, OnOk, codes};
+ghost use Rattle.line_text.specs.Buffer.{bytes_in};
 ghost use Rattle.line_text.specs.LineText.{functions_of};
 ghost use Rattle.line_text.specs.Names.{IsOver};
 ghost use Rattle.line_text.specs.Numeral.{numeral};
-ghost use Rattle.report_text.specs.Printed.{AreRowTexts, AreTextsOf, IsExactAdded, IsLineOver, IsReportOver, IsReportText, IsSectionAdded, IsTextOf, adviser_lines, bytes_in, cause_text, ended_lines, explain_part, joined, verdict_line};
+ghost use Rattle.report_text.specs.Printed.{AreRowTexts, AreTextsOf, IsExactAdded, IsLineOver, IsReportOver, IsReportText, IsSectionAdded, IsTextOf, adviser_lines, cause_text, ended_lines, explain_part, verdict_line};
 
 use crate::line::Line;
 use crate::line_list::Lines;
 use crate::report::{Explain, Header, Report, Stop};
-use line_text::{push_claim, push_numeral, push_row};
+use line_text::{push_line, push_numeral, push_row};
 use linear_cons::Row;
 use std::alloc::{AllocError, Global};
 use step_meaning::Names;
@@ -144,9 +145,7 @@ fn text_of(alloc: Global, line: &Line, names: &Names) -> Result<Vec<u8>, AllocEr
 {
     let rows = sorted_rows(alloc, line.rows.items(), names)?;
     let mut text = Vec::new(alloc);
-    push_joined(&mut text, &rows)?;
-    text.extend_from_slice(b": ")?;
-    push_claim(&mut text, &line.claim, names)?;
+    push_line(&mut text, &rows, &line.claim, names)?;
     Ok(text)
 }
 
@@ -163,21 +162,6 @@ fn sorted_rows(alloc: Global, rows: &[Row], names: &Names) -> Result<Vec<Vec<u8>
     }
     written.sort()?;
     Ok(written)
-}
-
-/// Appends the texts of rows joined by ` and `, or `always` where there are none.
-fn push_joined(text: &mut Vec<u8>, rows: &[Vec<u8>]) -> Result<(), AllocError>
-    ensures { OnOk result (text.new.items ≡ text.old.items ++ joined (bytes_in rows.now)) }
-{
-    let Some((first, more)) = rows.split_first() else {
-        return text.extend_from_slice(b"always");
-    };
-    text.extend_from_slice(first)?;
-    for row in more {
-        text.extend_from_slice(b" and ")?;
-        text.extend_from_slice(row)?;
-    }
-    Ok(())
 }
 
 /// Appends the explanation, if there is one.

@@ -1,15 +1,12 @@
 //! Tables of trees with their lines and of reports with their texts, worked out by hand.
 ghost use Rattle.std.specs.Prelude.{◌≡◌, All, IsTrue, IfOk};
 ghost use Rattle.decision_tree.specs.Plans.{plan_of};
-ghost use Rattle.line_text.specs.LineText.{functions_of};
-ghost use Rattle.line_text.specs.Names.{IsOver};
-ghost use Rattle.line_text.specs.Spells.{IsClaimOver};
 ghost use Rattle.report_text.specs.Leaves.{ComplementsFit, HasConstantRanks};
 ghost use Rattle.report_text.specs.Printed.{IsLineOver};
 
 use crate::{Counts, Explain, Header, Line, Lines, Report, Stop, Top, lines, print};
 use decision_tree::{AffineRank, Cause, Tree, Why};
-use line_text::Claim;
+use line_text::{Claim, are_over, is_claim_over};
 use linear_cons::{Affine, Row, RowKind, Rows};
 use std::alloc::{AllocError, Global};
 use std::test::Fail;
@@ -74,52 +71,14 @@ fn node(
     let row = row(numbers)?;
     match row.not() {
         Ok(_) => {
-            let tree = Tree::node(alloc, row, yes, no)?;
+            let tree = Tree::branch(alloc, row, yes, no)?;
             Ok(tree)
         }
         Err(_) => Err(Fail::from("wide")),
     }
 }
 
-/// True only where the function mentions no variable past the names.
-fn is_over(affine: &Affine, names: &Names) -> bool
-    ensures { IsTrue result → IsOver names.now affine.now }
-{
-    let known = names.items().len();
-    if known > 16 {
-        return false;
-    }
-    for place in known..16 {
-        if affine.coef[place] != 0 {
-            return false;
-        }
-    }
-    true
-}
-
-/// The same of the rows.
-fn are_over(rows: &[Row], names: &Names) -> bool
-    ensures { IsTrue result → All (IsOver names.now) (functions_of rows.now) }
-{
-    for row in rows {
-        if !is_over(&row.affine, names) {
-            return false;
-        }
-    }
-    true
-}
-
-/// The same of the claim.
-fn is_claim_over(claim: &Claim, names: &Names) -> bool
-    ensures { IsTrue result → IsClaimOver names.now claim.now }
-{
-    match claim {
-        Claim::Within(bound) => is_over(bound, names),
-        Claim::Exactly(_) | Claim::Holds | Claim::Unknown => true,
-    }
-}
-
-/// The same of the line.
+/// True only where the rows and the claim of the line mention no variable past the names.
 fn is_line_over(line: &Line, names: &Names) -> bool
     ensures { IsTrue result → IsLineOver names.now line.now }
 {

@@ -1,7 +1,7 @@
-use Rattle.std.proofs.Common.{◌≡◌, ◌+◌, inr, ap, sym, ◌∙◌, subst, arith}
+use Rattle.std.proofs.Common.{◌≡◌, ◌+◌, ap, ◌∙◌, arith}
 use Rattle.step_meaning.specs.Syntax.{sequence, statement, statements, size_of, size_of_statement}
-use Rattle.function_top.specs.LongestPath.{HasNoLoop, HasLoop, most_steps}
-use Rattle.function_top.specs.Reach.{at_most}
+use Rattle.function_top.specs.LongestPath.{most_steps}
+use Rattle.function_top.proofs.Reaching.{goes_on, one_on}
 use Rattle.function_top.proofs.path.+reach.Goals as goal
 
 pub reach_over-returns-in_ok-reach_through-in-If-2-clause-within :
@@ -24,11 +24,9 @@ reach_through-loop-left-preserved t c =
     ≡ (h.0.0 + size_of_statement (statement c.deref.result.now.kind)) + size_of (statements c.deref-left.result.now) = omega (arith, h.0.1)
     in (
       (h.0.0 + size_of_statement (statement c.deref.result.now.kind), passed, c.then-so_far.ensures.within _ _ h.0.2 over.within),
-      (λ after.
-          c.then-so_far.ensures.reaches (most_steps (statements c.deref-left.result.now) after)
-          ∙ ap (at_most c.loop-left.so_far) (over.reaches.1 (most_steps (statements c.deref-left.result.now) after))
-          ∙ ap (λ xs. at_most c.loop-left.so_far (most_steps xs after)) (sym split)
-          ∙ h.1 after),
-      (λ k. h.2 (subst HasNoLoop (sym split) (over.reaches.0, k))),
-      (λ k. h.3 (subst HasLoop (sym split) (inr k))),
+      λ after.
+          h.1 after
+          ∙ ap (λ xs. goes_on c.loop-left.so_far (most_steps xs after)) split
+          ∙ one_on c.loop-left.so_far c.then-so_far.result c.in_ok-reach_over.field-0 (statement c.deref.result.now.kind) c.then-so_far.ensures.reaches over.reaches
+          (most_steps (statements c.deref-left.result.now) after),
     )

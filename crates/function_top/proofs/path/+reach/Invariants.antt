@@ -1,7 +1,8 @@
 use Rattle.std.proofs.Common.{◌≡◌, ◌+◌, ◌*◌, ℕ}
 use Rattle.step_meaning.specs.Syntax.{statements, statement, size_of, size_of_statement}
-use Rattle.function_top.specs.LongestPath.{HasNoLoop, HasLoop, most_steps}
-use Rattle.function_top.specs.Reach.{at_most, IsWithin}
+use Rattle.function_top.specs.LongestPath.{most_steps}
+use Rattle.function_top.specs.Reach.{IsWithin}
+use Rattle.function_top.proofs.Reaching.{goes_on}
 use Rattle.function_top.proofs.path.+reach.Given as goal
 
 abbrev pub decreases-reach_over : goal.decreases-reach_over
@@ -14,6 +15,4 @@ decreases-reach_through l = 2 * size_of (statements l.block.now) + 1
 abbrev pub invariant-reach_through-loop-left : goal.invariant-reach_through-loop-left
 invariant-reach_through-loop-left l =
     ((passed : ℕ) × (size_of (statements l.block) ≡ passed + size_of (statements l.left)) × IsWithin passed l.so_far)
-    × ((after : ℕ) → at_most l.so_far (most_steps (statements l.left) after) ≡ most_steps (statements l.block) after)
-    × (HasNoLoop (statements l.left) → HasNoLoop (statements l.block))
-    × (HasLoop (statements l.left) → HasLoop (statements l.block))
+    × ((after : ℕ) → most_steps (statements l.block) after ≡ goes_on l.so_far (most_steps (statements l.left) after))

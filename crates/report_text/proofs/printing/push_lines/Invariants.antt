@@ -1,5 +1,6 @@
 use Rattle.std.proofs.Common.{◌≡◌, ◌++◌, take}
-use Rattle.report_text.specs.Printed.{bytes_in, ended_lines}
+use Rattle.line_text.specs.Buffer.{bytes_in}
+use Rattle.report_text.specs.Printed.{ended_lines}
 use Rattle.report_text.proofs.printing.push_lines.Given as goal
 
 abbrev pub invariant-loop-line : goal.invariant-loop-line

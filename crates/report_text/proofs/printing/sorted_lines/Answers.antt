@@ -2,7 +2,8 @@ use Rattle.std.proofs.Common.{arith, subst, List}
 use Rattle.std.specs.List.{AllZip}
 use Rattle.std.proofs.lemmas.List.{take_all}
 use Rattle.report_text.specs.declared.line.Line.{Line}
-use Rattle.report_text.specs.Printed.{IsTextOf, bytes_in}
+use Rattle.line_text.specs.Buffer.{bytes_in}
+use Rattle.report_text.specs.Printed.{IsTextOf}
 use Rattle.report_text.proofs.Spelling.{line_texts_more, lines_sorted}
 use Rattle.report_text.proofs.printing.sorted_lines.Goals as goal
 

@@ -1,6 +1,7 @@
 use Rattle.std.proofs.Common.{take}
 use Rattle.std.specs.List.{AllZip}
-use Rattle.report_text.specs.Printed.{IsTextOf, bytes_in}
+use Rattle.line_text.specs.Buffer.{bytes_in}
+use Rattle.report_text.specs.Printed.{IsTextOf}
 use Rattle.report_text.proofs.printing.sorted_lines.Given as goal
 
 abbrev pub invariant-loop-line : goal.invariant-loop-line

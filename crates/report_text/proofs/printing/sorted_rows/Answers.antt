@@ -1,6 +1,7 @@
 use Rattle.std.proofs.Common.{arith, ap, ◌∙◌, ◌≡◌}
 use Rattle.std.proofs.lemmas.List.{take_all}
-use Rattle.report_text.specs.Printed.{bytes_in, row_texts}
+use Rattle.line_text.specs.Buffer.{bytes_in}
+use Rattle.report_text.specs.Printed.{row_texts}
 use Rattle.report_text.proofs.Spelling.{row_over, rows_sorted}
 use Rattle.report_text.proofs.printing.sorted_rows.Goals as goal
 

@@ -1,5 +1,6 @@
 use Rattle.std.proofs.Common.{◌≡◌, take}
-use Rattle.report_text.specs.Printed.{bytes_in, row_texts}
+use Rattle.line_text.specs.Buffer.{bytes_in}
+use Rattle.report_text.specs.Printed.{row_texts}
 use Rattle.report_text.proofs.printing.sorted_rows.Given as goal
 
 abbrev pub invariant-loop-row : goal.invariant-loop-row

@@ -4,5 +4,5 @@ use Rattle.report_text.proofs.printing.text_of.Goals as goal
 pub returns : goal.returns
 returns c =
     let rows = rw c.items.ensures at c.in_ok-rows.ensures in
-    let joined = rw c.deref.ensures.value at c.in_ok-push_joined.ensures in
-    line_spelled _ _ _ _ _ _ _ c.requires rows c.new-text.ensures.items joined c.in_ok-extend_from_slice.ensures.items c.in_ok-push_claim.ensures.text
+    let written = rw c.deref.ensures.value at c.in_ok-push_line.ensures.text in
+    line_spelled _ _ _ _ _ c.requires rows c.new-text.ensures.items written

@@ -1,0 +1,49 @@
+-- Each line that the command writes has one of the known forms.
+use Rattle.std.proofs.Common.{◌≡◌, ℕ, pos, inl, inr, List, [], ◌∷◌, Option, None, Some, All, refl}
+use Rattle.std.proofs.lemmas.List.Elements.{All-cons, All-nil}
+use Rattle.step_meaning.specs.Syntax.{Statements}
+use Rattle.source_parse.specs.Derives.{IsTextOf}
+use Rattle.linear_cons.specs.Functions.{constant_of}
+use Rattle.line_text.specs.declared.claim.Claim.TheVariants.{Within, Unknown}
+use Rattle.line_text.specs.LineText.{functions_of}
+use Rattle.report_text.specs.declared.line.Line.{Line}
+use Rattle.report_text.specs.Printed.{IsReportText}
+use Rattle.function_top.specs.Form.{IsKnown, proved_head, unknown_head, all_verdict, some_verdict, words, program}
+use Rattle.function_top.specs.Report.{always, fault_line, fault_text, report_by, usage_line, usage_text}
+use Rattle.function_top.proofs.Truth.{KnownLines, fault_lacks, usage_lacks}
+use Rattle.function_top.proofs.Written.{Bytes, EachWhole, Frames, Prints, one_good, report_holds}
+
+module _ (left : Option Bytes) where
+  pub usage_known : EachWhole (IsKnown left) usage_text
+  usage_known = one_good (IsKnown left) usage_line usage_text usage_lacks (inr (inr words)) refl
+
+  pub fault_known : (number place : ℕ) → EachWhole (IsKnown left) (fault_text number place)
+  fault_known number place =
+      one_good (IsKnown left) (fault_line number place) (fault_text number place) (fault_lacks number place)
+      (inr (inr (program number place))) refl
+
+  frames : Frames (IsKnown left)
+  frames = record {
+    proved = inr (inl proved_head);
+    unknown = inr (inl unknown_head);
+    all_inputs = inr (inl all_verdict);
+    some_inputs = inr (inl some_verdict);
+  }
+
+  module _ (names : List Bytes) (known : KnownLines names)
+      (own : (text : Bytes) (declared : List Bytes) (body : Statements) → left ≡ Some text → IsTextOf text declared body → names ≡ declared) where
+    spoken : (line : Line) → Prints (IsKnown left) frames names known.newline line
+    spoken line text is =
+        inl (record { names = names; says = record { condition = functions_of is.condition; claim = line.claim; spells = is.spells }; own = own })
+
+    all_spoken : (lines : List Line) → All (Prints (IsKnown left) frames names known.newline) lines
+    all_spoken [] = All-nil (Prints (IsKnown left) frames names known.newline)
+    all_spoken (line ∷ more) = All-cons (Prints (IsKnown left) frames names known.newline) line more (spoken line) (all_spoken more)
+
+    pub report_known : (path : Option ℕ) (text : Bytes) → IsReportText names (report_by path) text → EachWhole (IsKnown left) text
+    report_known (Some n) text printed =
+        (let bound = always (Within (constant_of (pos n))) ∷ [] in
+        report_holds (IsKnown left) frames names known.newline bound [] text (all_spoken bound) (all_spoken []) printed)
+    report_known None text printed =
+        (let nothing = always Unknown ∷ [] in
+        report_holds (IsKnown left) frames names known.newline [] nothing text (all_spoken []) (all_spoken nothing) printed)

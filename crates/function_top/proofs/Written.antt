@@ -1,0 +1,157 @@
+-- Texts line by line: what holds of each line that was printed holds of each whole line of the text, and of any front of it.
+use Rattle.std.proofs.Common.{◌≡◌, ◌≢◌, ℕ, zero, suc, ◌<◌, Bool, true, false, not, ◌&&◌, ◌⊎◌, inl, inr, ◌==◌, if◌then◌else◌, List, [], ◌∷◌, ◌++◌, take, drop, codes, All, Contains, None, refl, sym, ap, ◌∙◌, subst, arith}
+use Rattle.std.specs.Char.{digit_value}
+use Rattle.std.specs.List.{AllZip}
+use Rattle.std.specs.Str.Parse.{AllDigits}
+use Rattle.std.proofs.lemmas.Bool.Decides.{Decides-eqb}
+use Rattle.std.proofs.lemmas.List.{take-append-drop}
+use Rattle.std.proofs.lemmas.List.Elements.{All-append, All-cons, All-contains, All-head, All-nil, All-tail, All-weaker}
+use Rattle.std.proofs.lemmas.List.Sorted.{All-permutation}
+use Rattle.linear_cons.specs.declared.affine.Affine.{Affine}
+use Rattle.line_text.specs.declared.claim.Claim.{Claim}
+use Rattle.line_text.specs.LineText.{functions_of}
+use Rattle.line_text.specs.Spells.{Spells}
+use Rattle.report_text.specs.declared.line.Line.{Line}
+use Rattle.report_text.specs.declared.report.Header.TheVariants.{Absent}
+use Rattle.report_text.specs.Printed.{AreTextsOf, IsReportText, IsTextOf, ended_lines, report_lines, verdict_line}
+use Rattle.report_text.specs.Sections.{IsWholeLine, lines_after, whole_lines}
+use Rattle.report_text.proofs.Cutting.{whole_lines_are}
+use Rattle.function_top.specs.Report.{plain_report}
+
+abbrev pub Bytes : Type 0
+Bytes = List ℕ
+
+-- ---- lines
+
+-- an element of a list is its first or one of the others
+first_or_later : (x : Bytes) (xs : List Bytes) (y : Bytes) → Contains (x ∷ xs) y → (y ≡ x) ⊎ Contains xs y
+first_or_later x xs y (zero, lt, e) = inl (sym e)
+first_or_later x xs y (suc i, lt, e) = inr (i, omega arith, e)
+
+later : (x : Bytes) (xs : List Bytes) (y : Bytes) → Contains xs y → Contains (x ∷ xs) y
+later x xs y (i, lt, e) = (suc i, omega arith, e)
+
+none_in_none : (y : Bytes) → ¬ Contains [] y
+none_in_none y (i, lt, e) = omega arith
+
+-- what a front of a text has as whole lines, the text has
+front_lines : (begun front more line : Bytes) → Contains (lines_after begun front) line → Contains (lines_after begun (front ++ more)) line
+front_lines begun [] more line found = absurd (none_in_none line found)
+front_lines begun (byte ∷ front) more line found =
+    elim (byte == 10) as (λ t. Contains (if t then begun ∷ lines_after [] front else lines_after (begun ++ byte ∷ []) front) line
+    → Contains (if t then begun ∷ lines_after [] (front ++ more) else lines_after (begun ++ byte ∷ []) (front ++ more)) line) [
+      | true ↦ λ f. elim (first_or_later begun (lines_after [] front) line f) [
+        | inl e ↦ (zero, omega arith, sym e)
+        | inr rest ↦ later begun (lines_after [] (front ++ more)) line (front_lines [] front more line rest)
+      ]
+      | false ↦ λ f. front_lines (begun ++ byte ∷ []) front more line f
+    ] found
+
+-- ---- lines without a newline byte
+
+abbrev pub Lacks : Bytes → Type 0
+Lacks line = All (λ byte. byte ≢ 10) line
+
+-- no newline byte stands among the bytes
+abbrev has_no_newline : Bytes → Bool
+has_no_newline [] = true
+has_no_newline (byte ∷ more) = not (byte == 10) && has_no_newline more
+
+pub tested : (bytes : Bytes) → has_no_newline bytes ≡ true → Lacks bytes
+tested [] h = All-nil (λ byte. byte ≢ 10)
+tested (byte ∷ more) h =
+    elim (byte == 10) as (λ t. (byte == 10) ≡ t → (not t && has_no_newline more) ≡ true → Lacks (byte ∷ more)) [
+      | true ↦ λ e k. cc
+      | false ↦ λ e k. All-cons (λ b. b ≢ 10) byte more (λ same. let is = (Decides-eqb byte 10).1 same in cc) (tested more k)
+    ] refl h
+
+-- a digit is no newline byte
+pub digits_lack : (digits : Bytes) → AllDigits 10 digits → Lacks digits
+digits_lack [] h = All-nil (λ byte. byte ≢ 10)
+digits_lack (digit ∷ more) h =
+    All-cons (λ b. b ≢ 10) digit more (λ e. let bad : digit_value 10 < 10 = subst (λ b. digit_value b < 10) e h.0 in absurd (omega arith))
+    (digits_lack more h.1)
+
+pub both_lack : (xs ys : Bytes) → Lacks xs → Lacks ys → Lacks (xs ++ ys)
+both_lack = All-append (λ byte. byte ≢ 10)
+
+-- ---- what holds of each line
+
+module _ (P : Bytes → Type 0) where
+  -- of each whole line of the text
+  abbrev pub EachWhole : Bytes → Type 0
+  EachWhole text = (line : Bytes) → IsWholeLine text line → P line
+
+  pub record IsGood (line : Bytes) : Type 0 where
+    pub lacking : Lacks line
+    pub holds : P line
+
+  pub each_good : (lines : List Bytes) (text : Bytes) → All IsGood lines → text ≡ ended_lines lines → EachWhole text
+  each_good lines text all is line whole =
+      let cut : whole_lines text ≡ lines = ap whole_lines is ∙ whole_lines_are lines (All-weaker IsGood Lacks (λ l good. good.lacking) lines all) in
+      (All-contains IsGood lines line all (subst (λ ls. Contains ls line) cut whole)).holds
+
+  pub one_good : (line text : Bytes) → Lacks line → P line → text ≡ ended_lines (line ∷ []) → EachWhole text
+  one_good line text lacks h =
+      each_good (line ∷ []) text (All-cons IsGood line [] (record { lacking = lacks; holds = h }) (All-nil IsGood))
+
+  -- a front of the text
+  pub of_front : (text : Bytes) (n : ℕ) → EachWhole text → EachWhole (take n text)
+  of_front text n h line whole =
+      h line (subst (λ t. Contains (lines_after [] t) line) (take-append-drop n text) (front_lines [] (take n text) (drop n text) line whole))
+
+  pub of_nothing : EachWhole []
+  of_nothing line whole = absurd (none_in_none line whole)
+
+  -- of the lines that frame a report without an exact part and an explanation
+  pub record Frames : Type 0 where
+    pub proved : P (codes "proved:")
+    pub unknown : P (codes "unknown:")
+    pub all_inputs : P (codes "verdict: all inputs")
+    pub some_inputs : P (codes "verdict: some inputs")
+
+  module _ (frames : Frames) (names : List Bytes)
+      (newline : (line : Bytes) (condition : List Affine) (claim : Claim) → Spells names line condition claim → Lacks line) where
+    -- of whatever the line is printed as
+    abbrev pub Prints : Line → Type 0
+    Prints line = (text : Bytes) → IsTextOf names line text → P text
+
+    good_frame : (line : Bytes) → has_no_newline line ≡ true → P line → IsGood line
+    good_frame line clean h = record { lacking = tested line clean; holds = h }
+
+    good_verdict : (unknown : List Bytes) → IsGood (verdict_line unknown)
+    good_verdict [] = good_frame (codes "verdict: all inputs") refl frames.all_inputs
+    good_verdict (line ∷ more) = good_frame (codes "verdict: some inputs") refl frames.some_inputs
+
+    good_lines : (proved unknown : List Bytes) → All IsGood proved → All IsGood unknown → All IsGood (report_lines Absent [] proved unknown None)
+    good_lines proved unknown first second =
+        let last = All-cons IsGood (verdict_line unknown) [] (good_verdict unknown) (All-nil IsGood) in
+        let behind = All-append IsGood unknown (verdict_line unknown ∷ []) second last in
+        All-cons IsGood (codes "proved:") (proved ++ (codes "unknown:" ∷ (unknown ++ (verdict_line unknown ∷ []))))
+        (good_frame (codes "proved:") refl frames.proved)
+        (All-append IsGood proved (codes "unknown:" ∷ (unknown ++ (verdict_line unknown ∷ []))) first
+        (All-cons IsGood (codes "unknown:") (unknown ++ (verdict_line unknown ∷ [])) (good_frame (codes "unknown:") refl frames.unknown) behind))
+
+    good_zipped : (lines : List Line) (texts : List Bytes) → All Prints lines → AllZip (λ line text. IsTextOf names line text) lines texts
+        → All IsGood texts
+    good_zipped [] [] h zipped = All-nil IsGood
+    good_zipped [] (text ∷ texts) h zipped = absurd zipped
+    good_zipped (line ∷ lines) [] h zipped = absurd zipped
+    good_zipped (line ∷ lines) (text ∷ texts) h zipped =
+        All-cons IsGood text texts
+        (record {
+          lacking = newline text (functions_of zipped.0.condition) line.claim zipped.0.spells;
+          holds = All-head Prints line lines h text zipped.0;
+        })
+        (good_zipped lines texts (All-tail Prints line lines h) zipped.1)
+
+    good_texts : (lines : List Line) (texts : List Bytes) → All Prints lines → AreTextsOf names lines texts → All IsGood texts
+    good_texts lines texts h are = All-permutation IsGood are.unsorted texts are.same (good_zipped lines are.unsorted h are.each)
+
+    pub report_holds : (proved unknown : List Line) (text : Bytes) → All Prints proved → All Prints unknown
+        → IsReportText names (plain_report proved unknown) text → EachWhole text
+    report_holds proved unknown text first second printed =
+        each_good (report_lines Absent [] printed.proved printed.unknown None) text
+        (good_lines printed.proved printed.unknown (good_texts proved printed.proved first printed.proved_are)
+        (good_texts unknown printed.unknown second printed.unknown_are))
+        printed.is
