@@ -54,7 +54,7 @@ nought_is (Some z) h = ap Some ((Decides-int_eq z (pos 0)).0 h)
 nought_is None h = absurd (cc)
 
 -- an exact form covers its function's value alone
-exact_value : (x : Linear) (s : List ℤ) (v : ℤ) → is_exact x ≡ true → Covers x s v → v ≡ value_at x.affine s
+pub exact_value : (x : Linear) (s : List ℤ) (v : ℤ) → is_exact x ≡ true → Covers x s v → v ≡ value_at x.affine s
 exact_value x s v exact covers =
     let ends = both_true (is_nought x.lo) (is_nought x.hi) exact in
     let low : IsFrom (Some (pos 0)) (v -ℤ value_at x.affine s) = subst (λ end. IsFrom end (v -ℤ value_at x.affine s)) (nought_is x.lo ends.0) covers.lower in

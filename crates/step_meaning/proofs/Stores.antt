@@ -9,7 +9,7 @@ use Rattle.step_meaning.specs.Valid.{AreStatements}
 use Rattle.step_meaning.proofs.Progress.{AreStatements-front}
 
 -- an assignment to a variable keeps it
-assigned : (vars : ℕ) (s : Store) (x : ℕ) (v : ℤ) → x < vars → IsInput vars s → IsInput vars (slice_set s x v)
+pub assigned : (vars : ℕ) (s : Store) (x : ℕ) (v : ℤ) → x < vars → IsInput vars s → IsInput vars (slice_set s x v)
 assigned vars s x v below h = record {
   places = length-set s x v ∙ h.places;
   zeros = λ place past. get_or-set_other s x place v (pos 0) (λ e. omega arith) ∙ h.zeros place past;

@@ -1,0 +1,12 @@
+//! Invariants: for each label of a program a set of stores that has each store with which the label is reached.
+//!
+//! It stands on `control_flow` for the labels and the edges between them, and on `num_domain` for sets of stores. The front door:
+//! `invariants`, and `Inv`, which holds one set for each label; `laws` says which states are reached.
+#![tactic(auto)]
+
+pub mod laws;
+mod sets;
+#[cfg(test)]
+mod tests;
+
+pub use sets::{Inv, invariants};

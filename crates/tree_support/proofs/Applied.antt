@@ -1,0 +1,112 @@
+-- The theorem on a program of one `;`, by hand: the premises can be met, and the bound is its one step.
+use Rattle.std.proofs.Common.{ℕ, zero, suc, ℤ, pos, negsuc, ◌<ℤ◌, false, List, [], ◌∷◌, ◌++◌, None, All, refl, subst, arith}
+use Rattle.std.proofs.lemmas.Int.{ints}
+use Rattle.std.proofs.lemmas.List.Elements.{All-cons}
+use Rattle.step_meaning.specs.Syntax.{Statements, empty, sequence, skip}
+use Rattle.step_meaning.specs.Outcome.{Store}
+use Rattle.step_meaning.specs.Run.{EndsWithin, EndsWithinBound, IsInput, start}
+use Rattle.linear_cons.specs.declared.affine.Affine.{Affine}
+use Rattle.linear_cons.specs.Functions.{complement_of, constant_of, difference_of, sum_of, value_at}
+use Rattle.linear_cons.specs.Rows.{MeetsKind, row_kind_of}
+use Rattle.linear_cons.proofs.Forms.{value_complement, value_constant, value_difference, value_sum}
+use Rattle.linear_forms.proofs.MeetingLaws.{row_meets}
+use Rattle.decision_tree.specs.AffineRanks.{excess_of}
+use Rattle.decision_tree.specs.declared.affine_rank.AffineRank.{AffineRank}
+use Rattle.decision_tree.specs.declared.reason.Pick.TheVariants.{All as Every}
+use Rattle.decision_tree.specs.declared.reason.Why.TheVariants.{End, Atom, Step}
+use Rattle.decision_tree.specs.Plans.{bottom, leaf}
+use Rattle.ctl_formula.specs.Formulas.{af_exit, exit}
+use Rattle.linear_cons.proofs.Places.{number_at_places}
+use Rattle.tree_support.specs.Certificates.{ShowsEnding, SparesPlace, affine_ranks}
+use Rattle.tree_support.specs.Setting.{Trees}
+use Rattle.tree_support.specs.Support.{HasNoStore, IsSupported}
+use Rattle.tree_support.specs.Systems.{System, exceeding, unedged, unnatural}
+use Rattle.tree_support.specs.Told.{IsTrueOfReached, Told, no_bounds, setting_of}
+use Rattle.tree_support.proofs.Ending.{bounds_from_start}
+use Rattle.tree_support.proofs.Lists.{all_first, all_none, all_one}
+
+-- `;`
+abbrev body : Statements
+body = sequence skip empty
+
+-- nothing is told
+abbrev told : Told
+told = record { bounds = λ label. no_bounds; rows = λ label. []; dead = λ label. false }
+
+nothing_is_true : IsTrueOfReached 0 body told
+nothing_is_true = record {
+  bounds = λ label store z reached. record { lower = λ i low. tt; upper = λ i low. tt };
+  rows = λ label store z reached k d low. absurd (omega arith);
+  dead = λ label store reached. refl;
+}
+
+abbrev number : ℤ → AffineRank
+number z = record { value = constant_of z }
+
+-- 0 at the end, 1 before the `;`
+abbrev family : Trees AffineRank
+family zero = leaf End (number (pos 0))
+family (suc zero) = leaf (Step Every) (number (pos 1))
+family (suc (suc n)) = bottom
+
+-- the truth everywhere, and the end
+abbrev parts : ℕ → Trees AffineRank
+parts zero label = leaf Atom (number (pos 0))
+parts (suc n) zero = leaf End (number (pos 0))
+parts (suc n) (suc label) = bottom
+
+-- a function below 0 is at least 0 nowhere
+never : (a : Affine) → ((store : List ℤ) → value_at a store <ℤ pos 0)
+    → All (λ choice. (store : List ℤ) → All (λ kind. MeetsKind store kind) ([] ++ choice) → ⊥) ((row_kind_of a ∷ []) ∷ [])
+never a below =
+    all_one (λ choice. (store : List ℤ) → All (λ kind. MeetsKind store kind) choice → ⊥) (row_kind_of a ∷ []) (λ store met.
+    let at_least = (row_meets a store).0 (all_first (λ kind. MeetsKind store kind) (row_kind_of a) [] met) in
+    let value = below store in
+    absurd (omega (arith, ints)))
+
+-- no store refutes that a constant rank is a natural, or that 0 and one more is at most 1
+natural : (n : ℕ) → HasNoStore affine_ranks (record { edge = unedged; asks = []; claim = unnatural (number (pos n)) })
+natural n = never (complement_of (constant_of (pos n))) (λ store.
+    let complement = value_complement (constant_of (pos n)) store in
+    let constant = value_constant (pos n) store in
+    omega (arith, ints))
+
+less : HasNoStore affine_ranks (record { edge = 0; asks = []; claim = exceeding (number (pos 0)) None (number (pos 1)) })
+less =
+    let more : Affine = sum_of (constant_of (pos 0)) (constant_of (pos 1)) in
+    never (excess_of more (constant_of (pos 1))) (λ store.
+    let sum = value_sum (constant_of (pos 0)) (constant_of (pos 1)) store in
+    let nought = value_constant (pos 0) store in
+    let one = value_constant (pos 1) store in
+    let difference = value_difference more (constant_of (pos 1)) store in
+    let excess = value_sum (difference_of more (constant_of (pos 1))) (constant_of (negsuc 0)) store in
+    let minus_one = value_constant (negsuc 0) store in
+    omega (arith, ints))
+
+-- both families are supported
+goal_supported : IsSupported affine_ranks (setting_of body told exit (λ part label. bottom)) (parts 1)
+goal_supported zero place low = all_none (HasNoStore affine_ranks)
+goal_supported (suc label) place low = all_none (HasNoStore affine_ranks)
+
+supported : IsSupported affine_ranks (setting_of body told af_exit parts) family
+supported zero place low = all_one (HasNoStore affine_ranks) _ (natural 0)
+supported (suc zero) place low =
+    let ranked : System AffineRank = record { edge = unedged; asks = []; claim = unnatural (number (pos 1)) } in
+    let stepped : System AffineRank = record { edge = 0; asks = []; claim = exceeding (number (pos 0)) None (number (pos 1)) } in
+    All-cons (HasNoStore affine_ranks) ranked (stepped ∷ []) (natural 1) (all_one (HasNoStore affine_ranks) stepped less)
+supported (suc (suc n)) place low = all_none (HasNoStore affine_ranks)
+
+spares : (label : ℕ) → SparesPlace 15 (family label)
+spares zero = number_at_places (λ i. pos 0) 15 (omega arith)
+spares (suc zero) = number_at_places (λ i. pos 0) 15 (omega arith)
+spares (suc (suc n)) = tt
+
+shows : ShowsEnding body told parts family
+shows = record { inner = λ part label. bottom; goal = goal_supported; whole = supported; spares = spares }
+
+-- so each run ends within one step
+one_step : (input : Store) → IsInput 0 input → EndsWithin 1 (start body input)
+one_step input is_input =
+    let bound : EndsWithinBound (value_at (constant_of (pos 1)) input) (start body input) =
+    bounds_from_start 0 body told (omega arith) (tt, tt) nothing_is_true parts family shows input (Step Every) (number (pos 1)) is_input refl in
+    subst (λ n. EndsWithinBound n (start body input)) (value_constant (pos 1) input) bound

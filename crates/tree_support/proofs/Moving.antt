@@ -1,0 +1,57 @@
+-- How the states of a program move: what the theorem on supported families needs of the program and of what is told of its stores.
+use Rattle.std.proofs.Common.{◌≡◌, ℕ, suc, ◌<◌, ℤ, pos, ◌≤ℤ◌, Bool, false, List, [], Option, None, Some, length, slice_set, All, Contains}
+use Rattle.std.specs.Bool.{⊤}
+use Rattle.step_meaning.specs.Syntax.{Statements}
+use Rattle.step_meaning.specs.Outcome.{Store}
+use Rattle.step_meaning.specs.Step.{Configuration, IsFinal, Next, front}
+use Rattle.linear_cons.specs.declared.affine.Affine.{Affine}
+use Rattle.linear_cons.specs.declared.row.Row.{Row}
+use Rattle.linear_cons.specs.Functions.{value_at}
+use Rattle.linear_cons.specs.Numbers.{number_at}
+use Rattle.linear_cons.specs.Rows.{MeetsAll}
+use Rattle.control_flow.specs.Edges.{configuration}
+use Rattle.control_flow.specs.Labels.{rest}
+use Rattle.forward_inv.specs.States.{IsReachedState}
+use Rattle.tree_support.specs.Flow.{Arc, Flow}
+use Rattle.tree_support.specs.Forming.{Formed, exact}
+
+-- the store meets what is asked
+abbrev pub StoreMeets : Store → List Formed → Type 0
+StoreMeets store asks = All (λ a. pos 0 ≤ℤ value_at (exact a) store) asks
+
+-- the store behind what an arc sets
+abbrev pub store_after : Option (ℕ × Affine) → Store → Store
+store_after None store = store
+store_after (Some (place, by)) store = slice_set store place (value_at by store)
+
+-- the place that is set is a variable's
+abbrev pub SetsVariable : Option (ℕ × Affine) → Type 0
+SetsVariable None = ⊤
+SetsVariable (Some (place, by)) = place < 15
+
+module _ (vars : ℕ) (body : Statements) where
+  -- The arc leads from the store to the configuration: with some number at place 15 the store meets what the arc asks, and behind what it
+  -- sets that place has its old number again.
+  pub record LeadsOver (arc : Arc) (store : Store) (next : Configuration) : Type 0 where
+    pub chosen : ℤ
+    pub variable : SetsVariable arc.sets
+    pub asked : StoreMeets (slice_set store 15 chosen) arc.asks
+    pub after : next.store ≡ slice_set (store_after arc.sets (slice_set store 15 chosen)) 15 (number_at store 15)
+    pub same_front : front next.todo ≡ front (rest body arc.target)
+    pub reached : IsReachedState vars body arc.target next.store
+
+  -- one of the arcs does
+  abbrev pub Taken : List Arc → Store → Configuration → Type 0
+  Taken arcs store next = (arc : Arc) × Contains arcs arc × LeadsOver arc store next
+
+  -- what holds of the states that are reached
+  pub record Moves (flow : Flow) (dead : ℕ → Bool) (rows : ℕ → List Row) : Type 0 where
+    pub ends : IsFinal (configuration body 0 [])
+    pub goes_on : (label : ℕ) (store : Store) → IsReachedState vars body (suc label) store → ¬ IsFinal (configuration body (suc label) store)
+    pub places : (label : ℕ) (store : Store) → IsReachedState vars body label store → length store ≡ 16
+    pub alive : (label : ℕ) (store : Store) → IsReachedState vars body label store → dead label ≡ false
+    pub members : (label : ℕ) (store : Store) (z : ℤ) → IsReachedState vars body label store → MeetsAll (slice_set store 15 z) (rows label)
+    pub each : (label : ℕ) (store : Store) → IsReachedState vars body label store → (next : Configuration)
+        → Next (configuration body label store) next → Taken (flow.arcs label) store next
+    pub some : (label : ℕ) (store : Store) → IsReachedState vars body label store
+        → (next : Configuration) × Next (configuration body label store) next

@@ -1,0 +1,80 @@
+//! Laws of the definitions, each the contract of a function that does nothing: why what a supported family says is true.
+ghost use Rattle.std.specs.Prelude.{◌≡◌, ◌<◌, ◌≤◌, ℕ, Bool, List, All, AllPairs};
+ghost use Rattle.step_meaning.specs.Syntax.{Statements};
+ghost use Rattle.step_meaning.specs.Outcome.{Store};
+ghost use Rattle.step_meaning.specs.Run.{EndsWithinBound, IsInput, start};
+ghost use Rattle.step_meaning.specs.Step.{IsFinal};
+ghost use Rattle.step_meaning.specs.Valid.{IsBody};
+ghost use Rattle.linear_cons.specs.Functions.{value_at};
+ghost use Rattle.control_flow.specs.Edges.{configuration};
+ghost use Rattle.control_flow.specs.Labels.{entry_of};
+ghost use Rattle.ctl_formula.specs.Formulas.{exit};
+ghost use Rattle.decision_tree.specs.declared.affine_rank.AffineRank.{AffineRank};
+ghost use Rattle.decision_tree.specs.declared.reason.Why.{Why};
+ghost use Rattle.decision_tree.specs.Evaluation.{eval};
+ghost use Rattle.decision_tree.specs.Paths.{leaf_numbered, path_of};
+ghost use Rattle.decision_tree.specs.Plans.{leaf, leaves_of, top};
+ghost use Rattle.forward_inv.specs.Invariants.{AreInvariants};
+ghost use Rattle.forward_inv.specs.States.{IsReachedState};
+ghost use Rattle.tree_support.specs.Certificates.{ShowsEnding, affine_ranks};
+ghost use Rattle.tree_support.specs.Elimination.{EachOfSet, Eliminates, IsByPoint, IsByStore, IsElsewhere, KeepsSet, cause_of, within};
+ghost use Rattle.tree_support.specs.Setting.{Setting, Trees};
+ghost use Rattle.tree_support.specs.declared.dropped.Dropped.{Dropped};
+ghost use Rattle.tree_support.specs.Support.{IsFirm, IsSupported};
+ghost use Rattle.tree_support.specs.Told.{IsTrueOfReached, Told, setting_of, told_by};
+
+use decision_tree::Rank;
+use num_domain::NumDomain;
+
+/// What invariants tell by their bounds, their rows and whether they are empty is true of each state that is reached.
+pub fn invariants_tell_the_truth<D: NumDomain>()
+    ensures { (vars : ℕ) (body : Statements) (states : List D) → AreInvariants D.has vars body states
+        → IsTrueOfReached vars body (told_by D.told_bounds D.told_rows D.seen_empty states) }
+{}
+
+/// A supported family for `exit` is defined at final configurations alone.
+pub fn supported_families_for_exit_are_at_the_end()
+    ensures { (vars : ℕ) (body : Statements) (told : Told) → vars ≤ 15 → IsBody vars body → IsTrueOfReached vars body told
+        → (parts : ℕ → Trees AffineRank) (family : Trees AffineRank) → IsSupported affine_ranks (setting_of body told exit parts) family
+        → (label : ℕ) (store : Store) (why : Why) (rank : AffineRank) → IsReachedState vars body label store → eval (family label) store ≡ leaf why rank
+        → IsFinal (configuration body label store) }
+{}
+
+/// Where a supported family for `AF exit` is defined, every run ends within the value of the leaf's rank, which is a natural: from each
+/// state that is reached, and so from the start with each input.
+pub fn supported_families_bound_runs()
+    ensures states { (vars : ℕ) (body : Statements) (told : Told) → vars ≤ 15 → IsBody vars body → IsTrueOfReached vars body told
+        → (parts : ℕ → Trees AffineRank) (family : Trees AffineRank) → ShowsEnding body told parts family
+        → (label : ℕ) (store : Store) (why : Why) (rank : AffineRank) → IsReachedState vars body label store → eval (family label) store ≡ leaf why rank
+        → EndsWithinBound (value_at rank.value store) (configuration body label store) }
+    ensures inputs { (vars : ℕ) (body : Statements) (told : Told) → vars ≤ 15 → IsBody vars body → IsTrueOfReached vars body told
+        → (parts : ℕ → Trees AffineRank) (family : Trees AffineRank) → ShowsEnding body told parts family
+        → (input : Store) (why : Why) (rank : AffineRank) → IsInput vars input → eval (family (entry_of body)) input ≡ leaf why rank
+        → EndsWithinBound (value_at rank.value input) (start body input) }
+{}
+
+/// A legal elimination gives up each leaf that it lists, for the reason that it names, and lists none twice; all other leaves, all paths
+/// and the number of leaves are as before.
+pub fn eliminations_give_up_what_they_list<R: Rank>()
+    ensures listed { (at : Setting R) (old new : Trees R) (drops : List Dropped) → Eliminates R.Rank.own at old drops new
+        → All (λ dropped. leaf_numbered (new dropped.label) dropped.leaf ≡ top (cause_of dropped.reason)) drops }
+    ensures once { (at : Setting R) (old new : Trees R) (drops : List Dropped) → Eliminates R.Rank.own at old drops new
+        → AllPairs (λ dropped later. IsElsewhere dropped.label dropped.leaf later) drops }
+    ensures others { (at : Setting R) (old new : Trees R) (drops : List Dropped) → Eliminates R.Rank.own at old drops new
+        → (label place : ℕ) → place < leaves_of (old label) → All (IsElsewhere label place) drops
+        → leaf_numbered (new label) place ≡ leaf_numbered (old label) place }
+    ensures paths { (at : Setting R) (old new : Trees R) (drops : List Dropped) → Eliminates R.Rank.own at old drops new
+        → (label place : ℕ) → path_of (new label) place ≡ path_of (old label) place }
+    ensures leaves { (at : Setting R) (old new : Trees R) (drops : List Dropped) → Eliminates R.Rank.own at old drops new
+        → (label : ℕ) → leaves_of (new label) ≡ leaves_of (old label) }
+{}
+
+/// A firmly supported set of leaves is kept whole by each legal elimination in which every drop of a leaf of the set shows a point: only
+/// numbers outside 128 bits and too many rows cost more. A set that is supported, firmly or not, is kept whole where every such drop
+/// shows a store, a point with denominator 1: where the first of its leaves to be dropped shows a point, that is none.
+pub fn what_supports_itself_is_kept<R: Rank>()
+    ensures firm { (at : Setting R) (set : ℕ → ℕ → Bool) (old new : Trees R) (drops : List Dropped) → Eliminates R.Rank.own at old drops new
+        → EachOfSet set IsByPoint drops → IsFirm R.Rank.own at (within set old) → KeepsSet set old new }
+    ensures supported { (at : Setting R) (set : ℕ → ℕ → Bool) (old new : Trees R) (drops : List Dropped) → Eliminates R.Rank.own at old drops new
+        → EachOfSet set IsByStore drops → IsSupported R.Rank.own at (within set old) → KeepsSet set old new }
+{}
