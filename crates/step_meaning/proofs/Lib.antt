@@ -3,3 +3,9 @@ pub mod Stores
 pub mod Front
 mod Examples
 pub mod Lists
+pub mod Turning
+pub mod FunctionLaws
+pub mod SizeSums
+pub mod Differences
+pub mod Finding
+mod CountdownExamples

@@ -7,3 +7,6 @@ pub mod ValidOnce
 pub mod Places
 pub mod Naming
 pub mod AffineExpressions
+pub mod Counts
+pub mod Countdown
+pub mod Turns

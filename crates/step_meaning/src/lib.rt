@@ -3,13 +3,19 @@
 //! The front door is `Program`; below it stand the words for whole numbers of `linear_cons`.
 #![tactic(auto)]
 
+mod count;
+mod countdown;
 mod expression;
+mod function;
 mod laws;
 mod names;
 mod program;
 mod statement;
 
+pub use count::{Count, assigned_change};
+pub use countdown::Countdown;
 pub use expression::{Expr, Op2};
+pub use function::function_of;
 pub use laws::{
     no_configuration_is_stuck, runs_begin_at_valid_statements, steps_keep_configurations_valid,
 };

@@ -1,0 +1,10 @@
+pub mod Modest
+pub mod Leading
+pub mod Measured
+pub mod Listing
+pub mod Labelling
+pub mod Finding
+pub mod CountingLaws
+pub mod Clashing
+pub mod AskingLaws
+pub mod Moving
