@@ -3,7 +3,7 @@
 
     python3 bench/walk.py [PROGRAM]
 
-PROGRAM is the built program, crates/walk_cli/out/walk_cli by default (`rt run` in crates/walk_cli
+PROGRAM is the built program, crates/tree_cli/out/tree_cli by default (`rt run` in crates/tree_cli
 builds it). The tree is a line of 32,767 rows of eight linear parts, 65,535 nodes in all. At each row the
 walk asks whether those above it settle it, and goes to both its sides.
 """
@@ -29,7 +29,7 @@ def seconds(program, job, times):
 
 
 def main():
-    default = Path(__file__).resolve().parent.parent / "crates/walk_cli/out/walk_cli"
+    default = Path(__file__).resolve().parent.parent / "crates/tree_cli/out/tree_cli"
     program = sys.argv[1] if len(sys.argv) > 1 else str(default)
     building = seconds(program, "copy", 0)
     copy = (seconds(program, "copy", TIMES) - building) / TIMES

@@ -1,0 +1,54 @@
+#!/usr/bin/env python3
+"""Times the calls that trim, join and prune trees, each as a ratio to a copy of the tree that it makes.
+
+    python3 bench/joins.py [PROGRAM]
+
+PROGRAM is the built program, crates/tree_cli/out/tree_cli by default (`rt run < stdin` in crates/tree_cli
+builds it). A line of 65,535 nodes is trimmed by paths of 10 and of 1,000 rows that settle nothing, no two
+of them with one linear part, and joined with itself; two trees of 201 nodes that share no row are joined
+to one of 40,201; and a line of 4,095 nodes is pruned by a box of all stores.
+"""
+
+import subprocess
+import sys
+import time
+from pathlib import Path
+
+# What is timed: a job with how often it is done, and the copy that it is compared with.
+LINE = 32767
+JOBS = [
+    ("trim by 10 rows", f"trim {LINE}", 10, "10", f"copy {LINE}"),
+    ("trim by 1,000 rows", f"trim {LINE}", 2, "1000", f"copy {LINE}"),
+    ("either with itself", f"either {LINE}", 10, "", f"copy {LINE}"),
+    ("later of two trees", "later 100", 20, "", "grown 100"),
+    ("prune by a box", "prune 2047", 40, "", "copy 2047"),
+]
+
+
+def seconds(program, job, times, rest=""):
+    """What the job takes when it is done that many times: the least of five runs."""
+    line = f"{job} {times} {rest}\n".encode()
+    best = float("inf")
+    for _ in range(5):
+        start = time.perf_counter()
+        subprocess.run([program], input=line, check=True, stdout=subprocess.DEVNULL)
+        best = min(best, time.perf_counter() - start)
+    return best
+
+
+def each(program, job, times, rest=""):
+    """What the job takes when it is done once, the making of its trees left out."""
+    return (seconds(program, job, times, rest) - seconds(program, job, 0, rest)) / times
+
+
+def main():
+    default = Path(__file__).resolve().parent.parent / "crates/tree_cli/out/tree_cli"
+    program = sys.argv[1] if len(sys.argv) > 1 else str(default)
+    for name, job, times, rest, copy in JOBS:
+        one = each(program, copy, 4 * times)
+        took = each(program, job, times, rest)
+        print(f"{name}: copy {one * 1000:.2f} ms, {took * 1000:.2f} ms, ratio {took / one:.2f}")
+
+
+if __name__ == "__main__":
+    main()

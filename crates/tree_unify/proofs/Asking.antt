@@ -1,0 +1,194 @@
+-- What stands at a store where constraints are asked, and where trees are joined.
+use Rattle.std.proofs.Common.{◌≡◌, ◌↔◌, ◌⊎◌, inl, inr, ℤ, Bool, true, false, cond, List, [], ◌∷◌, Option, Some, None, IsTrue, refl, sym, ap, ◌∙◌, ⊎_elim, arith}
+use Rattle.std.proofs.lemmas.Bool.{false≢true}
+use Rattle.linear_cons.specs.Rows.{MeetsAll, complement}
+use Rattle.linear_cons.specs.declared.row.Row.{Row}
+use Rattle.linear_cons.specs.declared.row.RowKind.{RowKind}
+use Rattle.linear_cons.specs.declared.row.RowKind.TheVariants.{Always, Never, Row as Kept}
+use Rattle.linear_cons.proofs.RowLaws.{complement_met}
+use Rattle.decision_tree.specs.Alternatives.{MeetsAny, MeetsEach, MeetsOneOf}
+use Rattle.decision_tree.specs.Evaluation.{eval}
+use Rattle.decision_tree.specs.Nodes.{node}
+use Rattle.decision_tree.specs.Plans.{IsEnd, Plan, bottom, branch, is_defined, leaf, top}
+use Rattle.decision_tree.specs.declared.rank.Alternatives.{Alternatives}
+use Rattle.decision_tree.specs.declared.reason.Why.{Why}
+use Rattle.tree_unify.specs.Choosing.{all_asked, alternatives_of, any_asked, chosen, chosen_by, only_row, present, row_alone}
+use Rattle.tree_unify.specs.Shapes.{asks_second, joined, joined_at, leaf_met, trimmed_with}
+use Rattle.tree_unify.specs.declared.join.Join.{Join}
+use Rattle.tree_unify.specs.declared.join.Join.TheVariants.{Both, Either, Later}
+use Rattle.tree_unify.proofs.Meeting.{eval_end, eval_is_end, eval_met, eval_missed, grafted_eval, meets_or_not, node_eval, trimmed_eval}
+
+each_or_not : (store : List ℤ) (kinds : List (Option RowKind)) → MeetsEach store kinds ⊎ (MeetsEach store kinds → ⊥)
+each_or_not store [] = inl tt
+each_or_not store (None ∷ rest) = each_or_not store rest
+each_or_not store (Some Always ∷ rest) = ⊎_elim (λ met. inl (tt, met)) (λ missed. inr (λ met. missed met.1)) (each_or_not store rest)
+each_or_not store (Some Never ∷ rest) = inr (λ met. met.0)
+each_or_not store (Some (Kept row) ∷ rest) =
+    ⊎_elim (λ here. ⊎_elim (λ met. inl (here, met)) (λ missed. inr (λ met. missed met.1)) (each_or_not store rest)) (λ apart. inr (λ met. apart met.0)) (meets_or_not row store)
+
+alone : (kinds : List RowKind) (row : Row) → row_alone kinds ≡ Some row → kinds ≡ Kept row ∷ []
+alone [] row is = absurd (cc)
+alone (Always ∷ rest) row is = absurd (cc)
+alone (Never ∷ rest) row is = absurd (cc)
+alone (Kept held ∷ []) row is = cc
+alone (Kept held ∷ other ∷ rest) row is = absurd (cc)
+
+only : (alternatives : List (List RowKind)) (row : Row) → only_row alternatives ≡ Some row → alternatives ≡ (Kept row ∷ []) ∷ []
+only [] row is = absurd (cc)
+only (kinds ∷ []) row is = ap (λ t. t ∷ []) (alone kinds row is)
+only (kinds ∷ other ∷ rest) row is = absurd (cc)
+
+module _ {R : Type 0} (same : R → R → Bool) (alike : (rank other : R) → IsTrue (same rank other) ↔ (rank ≡ other)) where
+  all_met : (store : List ℤ) (kinds : List (Option RowKind)) (this that : Plan R) → MeetsEach store kinds
+      → eval (all_asked same (present kinds) this that) store ≡ eval this store
+  all_met store [] this that met = refl
+  all_met store (None ∷ rest) this that met = all_met store rest this that met
+  all_met store (Some Always ∷ rest) this that met = all_met store rest this that met.1
+  all_met store (Some Never ∷ rest) this that met = absurd met.0
+  all_met store (Some (Kept row) ∷ rest) this that met =
+      node_eval same alike row (all_asked same (present rest) this that) that store
+      ∙ eval_met row (all_asked same (present rest) this that) that store met.0 ∙ all_met store rest this that met.1
+
+  all_missed : (store : List ℤ) (kinds : List (Option RowKind)) (this that : Plan R) → (MeetsEach store kinds → ⊥)
+      → eval (all_asked same (present kinds) this that) store ≡ eval that store
+  all_missed store [] this that missed = absurd (missed tt)
+  all_missed store (None ∷ rest) this that missed = all_missed store rest this that missed
+  all_missed store (Some Always ∷ rest) this that missed = all_missed store rest this that (λ met. missed (tt, met))
+  all_missed store (Some Never ∷ rest) this that missed = refl
+  all_missed store (Some (Kept row) ∷ rest) this that missed =
+      node_eval same alike row (all_asked same (present rest) this that) that store ∙ ⊎_elim
+      (λ here. eval_met row (all_asked same (present rest) this that) that store here ∙ all_missed store rest this that (λ met. missed (here, met)))
+      (λ apart. eval_missed row (all_asked same (present rest) this that) that store apart)
+      (meets_or_not row store)
+
+  any_met : (store : List ℤ) (list : List (Option (List (Option RowKind)))) (this that : Plan R) → MeetsOneOf store list
+      → eval (any_asked same (alternatives_of list) this that) store ≡ eval this store
+  any_met store [] this that met = absurd met
+  any_met store (None ∷ rest) this that met = any_met store rest this that met
+  any_met store (Some kinds ∷ rest) this that met =
+      ⊎_elim
+      (λ here. all_met store kinds this (any_asked same (alternatives_of rest) this that) here)
+      (λ apart. all_missed store kinds this (any_asked same (alternatives_of rest) this that) apart ∙ any_met store rest this that (⊎_elim (λ here. absurd (apart here)) (λ later. later) met))
+      (each_or_not store kinds)
+
+  any_missed : (store : List ℤ) (list : List (Option (List (Option RowKind)))) (this that : Plan R) → (MeetsOneOf store list → ⊥)
+      → eval (any_asked same (alternatives_of list) this that) store ≡ eval that store
+  any_missed store [] this that missed = refl
+  any_missed store (None ∷ rest) this that missed = any_missed store rest this that missed
+  any_missed store (Some kinds ∷ rest) this that missed =
+      all_missed store kinds this (any_asked same (alternatives_of rest) this that) (λ met. missed (inl met))
+      ∙ any_missed store rest this that (λ met. missed (inr met))
+
+  -- to ask a row's complement with the sides changed is to ask the row
+  turned : (row : Row) (this that : Plan R) (store : List ℤ)
+      → eval (node same (complement row) that this) store ≡ eval (node same row this that) store
+  turned row this that store =
+      node_eval same alike (complement row) that this store ∙ ⊎_elim
+      (λ met. eval_missed (complement row) that this store (λ opposite. (complement_met row.affine store).0 opposite met) ∙ sym (eval_met row this that store met))
+      (λ missed. eval_met (complement row) that this store ((complement_met row.affine store).1 missed) ∙ sym (eval_missed row this that store missed))
+      (meets_or_not row store)
+      ∙ sym (node_eval same alike row this that store)
+
+  chosen_as_asked : (alternatives : List (List RowKind)) (greater other : Plan R) (store : List ℤ) (t : Option Row) → only_row alternatives ≡ t
+      → eval (chosen_by same t alternatives greater other) store ≡ eval (any_asked same alternatives greater other) store
+  chosen_as_asked alternatives greater other store None is = refl
+  chosen_as_asked alternatives greater other store (Some row) is =
+      turned row greater other store ∙ ap (λ (t : List (List RowKind)). eval (any_asked same t greater other) store) (sym (only alternatives row is))
+
+  pub chosen_met : (store : List ℤ) (list : List (Option (List (Option RowKind)))) (greater other : Plan R) → MeetsOneOf store list
+      → eval (chosen same (alternatives_of list) greater other) store ≡ eval greater store
+  chosen_met store list greater other met = chosen_as_asked (alternatives_of list) greater other store (only_row (alternatives_of list)) refl ∙ any_met store list greater other met
+
+  pub chosen_missed : (store : List ℤ) (list : List (Option (List (Option RowKind)))) (greater other : Plan R) → (MeetsOneOf store list → ⊥)
+      → eval (chosen same (alternatives_of list) greater other) store ≡ eval other store
+  chosen_missed store list greater other missed = chosen_as_asked (alternatives_of list) greater other store (only_row (alternatives_of list)) refl ∙ any_missed store list greater other missed
+
+  -- a tree trimmed by a path has its own leaves there
+  pub trimmed_leaf : (path : List Row) (plan : Plan R) (store : List ℤ) → MeetsAll store path
+      → eval (trimmed_with same (λ end. end) path plan) store ≡ eval plan store
+  trimmed_leaf path plan store all = trimmed_eval same alike (λ end. end) path plan store all ∙ eval_end (eval plan store) store (eval_is_end plan store)
+
+  module _ (where_greater : R → R → Alternatives) (greater_fits : R → R → Type 0) where
+    -- what stands where the first tree's leaf meets the second's
+    abbrev at_leaf : Join → List ℤ → Plan R → Plan R → Plan R
+    at_leaf join store first second = cond (asks_second join first) (eval (leaf_met same where_greater greater_fits join first second) store) first
+
+    joined_at_eval : (join : Join) (b : Plan R) (store : List ℤ) (path : List Row) (end : Plan R) (t : Bool) → IsEnd end → MeetsAll store path
+        → eval (cond t (trimmed_with same (leaf_met same where_greater greater_fits join end) path b) end) store
+        ≡ cond t (eval (leaf_met same where_greater greater_fits join end (eval b store)) store) end
+    joined_at_eval join b store path end true ends all = trimmed_eval same alike (leaf_met same where_greater greater_fits join end) path b store all
+    joined_at_eval join b store path end false ends all = eval_end end store ends
+
+    joined_eval : (join : Join) (a b : Plan R) (store : List ℤ)
+        → eval (joined same where_greater greater_fits join a b) store ≡ at_leaf join store (eval a store) (eval b store)
+    joined_eval join a b store =
+        grafted_eval same alike (joined_at same where_greater greater_fits join b) (λ end. at_leaf join store end (eval b store)) store
+        (λ path end ends all. joined_at_eval join b store path end (asks_second join end) ends all)
+        [] a (λ k d h. absurd (omega arith))
+
+    either_defined : (store : List ℤ) (first second : Plan R) → is_defined first ≡ true → at_leaf Either store first second ≡ first
+    either_defined store first second is = rw is refl
+
+    either_other : (store : List ℤ) (first second : Plan R) → is_defined first ≡ false → is_defined second ≡ true
+        → at_leaf Either store first second ≡ second
+    either_other store first bottom none is = absurd (false≢true is)
+    either_other store first (top cause) none is = absurd (false≢true is)
+    either_other store first (branch row this that) none is = absurd (false≢true is)
+    either_other store first (leaf why rank) none is = rw none refl
+
+    either_neither : (store : List ℤ) (first second : Plan R) → IsEnd first → IsEnd second → is_defined first ≡ false → is_defined second ≡ false
+        → at_leaf Either store first second ≡ first
+    either_neither store first bottom ends end none is = rw none (eval_end first store ends)
+    either_neither store first (top cause) ends end none is = rw none (eval_end first store ends)
+    either_neither store first (leaf why rank) ends end none is = absurd (cc)
+    either_neither store first (branch row this that) ends end none is = absurd end
+
+    pub either_first : (a b : Plan R) (store : List ℤ) → is_defined (eval a store) ≡ true
+        → eval (joined same where_greater greater_fits Either a b) store ≡ eval a store
+    either_first a b store is = joined_eval Either a b store ∙ either_defined store (eval a store) (eval b store) is
+
+    pub either_second : (a b : Plan R) (store : List ℤ) → is_defined (eval a store) ≡ false → is_defined (eval b store) ≡ true
+        → eval (joined same where_greater greater_fits Either a b) store ≡ eval b store
+    either_second a b store none is = joined_eval Either a b store ∙ either_other store (eval a store) (eval b store) none is
+
+    pub either_none : (a b : Plan R) (store : List ℤ) → is_defined (eval a store) ≡ false → is_defined (eval b store) ≡ false
+        → eval (joined same where_greater greater_fits Either a b) store ≡ eval a store
+    either_none a b store none is = joined_eval Either a b store ∙ either_neither store (eval a store) (eval b store) (eval_is_end a store) (eval_is_end b store) none is
+
+    pub both_second : (a b : Plan R) (store : List ℤ) → is_defined (eval a store) ≡ true
+        → eval (joined same where_greater greater_fits Both a b) store ≡ eval b store
+    both_second a b store is = joined_eval Both a b store ∙ rw is (eval_end (eval b store) store (eval_is_end b store))
+
+    pub both_first : (a b : Plan R) (store : List ℤ) → is_defined (eval a store) ≡ false
+        → eval (joined same where_greater greater_fits Both a b) store ≡ eval a store
+    both_first a b store none = joined_eval Both a b store ∙ rw none refl
+
+    pub later_second : (a b : Plan R) (store : List ℤ) (why other : Why) (rank next : R) → eval a store ≡ leaf why rank
+        → eval b store ≡ leaf other next
+        → MeetsAny store (where_greater next rank) → eval (joined same where_greater greater_fits Later a b) store ≡ leaf other next
+    later_second a b store why other rank next first second met =
+        joined_eval Later a b store ∙ rw (first, second) (chosen_met store (where_greater next rank).list (leaf other next) (leaf why rank) met)
+
+    pub later_first : (a b : Plan R) (store : List ℤ) (why other : Why) (rank next : R) → eval a store ≡ leaf why rank
+        → eval b store ≡ leaf other next
+        → (MeetsAny store (where_greater next rank) → ⊥) → eval (joined same where_greater greater_fits Later a b) store ≡ leaf why rank
+    later_first a b store why other rank next first second missed =
+        joined_eval Later a b store ∙ rw (first, second) (chosen_missed store (where_greater next rank).list (leaf other next) (leaf why rank) missed)
+
+    pub later_none : (a b : Plan R) (store : List ℤ) → is_defined (eval a store) ≡ false
+        → eval (joined same where_greater greater_fits Later a b) store ≡ eval a store
+    later_none a b store none = joined_eval Later a b store ∙ rw none refl
+
+    undefined_met : (store : List ℤ) (first second : Plan R) → IsEnd second → is_defined first ≡ true → is_defined second ≡ false
+        → at_leaf Later store first second ≡ second
+    undefined_met store bottom second end is none = absurd (false≢true is)
+    undefined_met store (top cause) second end is none = absurd (false≢true is)
+    undefined_met store (branch row this that) second end is none = absurd (false≢true is)
+    undefined_met store (leaf why rank) bottom end is none = refl
+    undefined_met store (leaf why rank) (top cause) end is none = refl
+    undefined_met store (leaf why rank) (leaf other next) end is none = absurd (cc)
+    undefined_met store (leaf why rank) (branch row this that) end is none = absurd end
+
+    pub later_undefined : (a b : Plan R) (store : List ℤ) → is_defined (eval a store) ≡ true → is_defined (eval b store) ≡ false
+        → eval (joined same where_greater greater_fits Later a b) store ≡ eval b store
+    later_undefined a b store is none = joined_eval Later a b store ∙ undefined_met store (eval a store) (eval b store) (eval_is_end b store) is none
