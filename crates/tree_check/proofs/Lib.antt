@@ -1,0 +1,12 @@
+pub mod Holding
+pub mod Choosing
+pub mod Justifying
+pub mod Walking
+pub mod Following
+pub mod Leaving
+pub mod Surveying
+pub mod Settling
+pub mod Sparing
+pub mod Reading
+pub mod Marking
+pub mod Counting

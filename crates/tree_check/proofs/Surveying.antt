@@ -1,0 +1,235 @@
+-- The leaves of a label's tree, one after the other.
+use Rattle.std.proofs.Common.{◌≡◌, ℕ, zero, suc, ◌+◌, ◌-◌, ◌<◌, inl, inr, Bool, true, false, nat_lt, List, [], ◌∷◌, ◌++◌, length, map, get_or, All, Option, None, Some, refl, sym, ap, subst, arith}
+use Rattle.std.proofs.lemmas.Bool.{cases_lt, le-ltb, lt-ltb}
+use Rattle.std.proofs.lemmas.List.{append_assoc, append-nil}
+use Rattle.std.proofs.lemmas.List.Concat.{flat_map-cons}
+use Rattle.std.proofs.lemmas.List.Elements.{All-append, All-cons, All-nil}
+use Rattle.linear_cons.specs.Functions.{complement_of}
+use Rattle.linear_cons.specs.declared.exact.Wide.{Wide}
+use Rattle.linear_cons.specs.declared.row.Row.{Row}
+use Rattle.decision_tree.specs.declared.rank.Rank.{Ghosts as Ranks}
+use Rattle.decision_tree.specs.declared.reason.Pick.{Pick}
+use Rattle.decision_tree.specs.declared.reason.Pick.TheVariants.{All as Every, Yes, No, Value}
+use Rattle.decision_tree.specs.declared.reason.Why.{Why}
+use Rattle.decision_tree.specs.declared.reason.Why.TheVariants.{End, Atom, Both, Left, Right, Now, Dead, Step}
+use Rattle.decision_tree.specs.Paths.{leaf_numbered, path_of}
+use Rattle.decision_tree.specs.Plans.{Plan, bottom, branch, leaf, leaves_of, plan_of, top}
+use Rattle.decision_tree.specs.declared.tree.Tree.{Tree}
+use Rattle.ctl_formula.specs.Formulas.{af_exit}
+use Rattle.tree_support.specs.Flow.{Arc, rows_given}
+use Rattle.tree_support.specs.Forming.{Formed, given}
+use Rattle.tree_support.specs.Setting.{Setting, Trees, trees_in}
+use Rattle.tree_support.specs.Support.{HasNoStore}
+use Rattle.tree_support.specs.Systems.{System, of_arcs, of_leaf, of_now, of_pick, of_why, systems, undefined_at, unedged, unnatural}
+use Rattle.tree_check.specs.declared.finding.Finding.{Finding}
+use Rattle.tree_check.specs.declared.leaf.Part.{Part}
+use Rattle.tree_check.specs.declared.leaf.Part.TheVariants.{True, Exit, Ending}
+use Rattle.tree_check.specs.Hands.{Held, IsMetNowhere, all_asked}
+use Rattle.tree_check.specs.Leaves.{IsEndTried, IsExitTried, IsTruthTried, part_formula}
+use Rattle.tree_check.specs.Moves.{less_over, less_over_each}
+use Rattle.tree_check.specs.Searches.{Finds, IsSearched}
+use Rattle.tree_check.specs.Surveys.{IsReviewed, IsSurveyed, systems_within}
+use Rattle.tree_check.specs.Walks.{side_of}
+use Rattle.tree_check.proofs.Following.{nowhere_more}
+use Rattle.tree_check.proofs.Leaving.{end_searched, exit_searched, other_searched, pick_searched, rank_searched, step_searched, truth_searched}
+use Rattle.tree_check.proofs.Walking.{nowhere_behind, nowhere_system}
+
+module _ {R : Type 0} (ranks : Ranks R) where
+  -- ---- behind what is met nowhere no leaf has a system with a store
+
+  end_tried : (label : ℕ) (asks : List Formed) → IsMetNowhere (all_asked asks) → IsEndTried label asks false None
+  end_tried zero asks none = refl
+  end_tried (suc label) asks none = none
+
+  truth_tried : (why : Why) (asks : List Formed) → IsMetNowhere (all_asked asks) → IsTruthTried why asks false None
+  truth_tried Atom asks none = refl
+  truth_tried End asks none = none
+  truth_tried Both asks none = none
+  truth_tried Left asks none = none
+  truth_tried Right asks none = none
+  truth_tried Now asks none = none
+  truth_tried Dead asks none = none
+  truth_tried (Step pick) asks none = none
+
+  exit_tried : (why : Why) (label : ℕ) (asks : List Formed) → IsMetNowhere (all_asked asks) → IsExitTried why label asks false None
+  exit_tried End label asks none = end_tried label asks none
+  exit_tried Atom label asks none = none
+  exit_tried Both label asks none = none
+  exit_tried Left label asks none = none
+  exit_tried Right label asks none = none
+  exit_tried Now label asks none = none
+  exit_tried Dead label asks none = none
+  exit_tried (Step pick) label asks none = none
+
+  part_nowhere : (plan : Plan R) (asks : List Formed) → IsMetNowhere (all_asked asks) → All (HasNoStore ranks) (undefined_at plan asks)
+  part_nowhere plan asks none = nowhere_behind ranks 2 None None plan asks none
+
+  arcs_nowhere : (family : Trees R) (rank : R) (arcs : List Arc) (asks : List Formed) → IsMetNowhere (all_asked asks)
+      → All (HasNoStore ranks) (less_over_each family rank arcs asks)
+  arcs_nowhere family rank [] asks none = All-nil (HasNoStore ranks)
+  arcs_nowhere family rank (arc ∷ arcs) asks none =
+      subst (All (HasNoStore ranks)) (sym (flat_map-cons (λ (arc : Arc). less_over family rank asks arc) arc arcs))
+      (All-append (HasNoStore ranks) (less_over family rank asks arc) (less_over_each family rank arcs asks)
+      (nowhere_behind ranks arc.edge arc.sets (Some rank) (family arc.target) (asks ++ arc.asks) (nowhere_more asks arc.asks none))
+      (arcs_nowhere family rank arcs asks none))
+
+  pick_nowhere : (at : Setting R) (pick : Pick) (rank : R) (family : Trees R) (label : ℕ) (asks : List Formed) → at.formula ≡ af_exit
+      → IsMetNowhere (all_asked asks) → IsSearched ranks (of_pick at pick family rank label asks) false None
+  pick_nowhere at Every rank family label asks is none = subst (λ f. IsSearched ranks (of_arcs at f family rank (at.flow.arcs label) asks) false None) (sym is) (arcs_nowhere family rank (at.flow.arcs label) asks none)
+  pick_nowhere at Yes rank family label asks is none = pick_searched ranks at Yes rank family label asks false None is (λ same. absurd (cc)) none
+  pick_nowhere at No rank family label asks is none = pick_searched ranks at No rank family label asks false None is (λ same. absurd (cc)) none
+  pick_nowhere at (Value a) rank family label asks is none = pick_searched ranks at (Value a) rank family label asks false None is (λ same. absurd (cc)) none
+
+  why_nowhere : (at : Setting R) (why : Why) (rank : R) (family : Trees R) (label : ℕ) (asks : List Formed) → at.formula ≡ af_exit
+      → IsMetNowhere (all_asked asks) → IsSearched ranks (of_why at why family rank label asks) false None
+  why_nowhere at End rank family label asks is none = end_searched ranks at rank family label asks false None is (end_tried label asks none)
+  why_nowhere at Now rank family label asks is none = subst (λ f. IsSearched ranks (of_now at f label asks) false None) (sym is) (part_nowhere (at.parts 1 label) asks none)
+  why_nowhere at (Step pick) rank family label asks is none =
+      step_searched ranks at at.parts pick rank family label asks false None is refl (part_nowhere (at.parts 0 label) asks none)
+      (pick_nowhere at pick rank family label asks is none)
+  why_nowhere at Atom rank family label asks is none = other_searched ranks at Atom rank family label asks false None is (λ same. absurd (cc)) (λ same. absurd (cc)) (λ pick same. absurd (cc)) none
+  why_nowhere at Both rank family label asks is none = other_searched ranks at Both rank family label asks false None is (λ same. absurd (cc)) (λ same. absurd (cc)) (λ pick same. absurd (cc)) none
+  why_nowhere at Left rank family label asks is none = other_searched ranks at Left rank family label asks false None is (λ same. absurd (cc)) (λ same. absurd (cc)) (λ pick same. absurd (cc)) none
+  why_nowhere at Right rank family label asks is none = other_searched ranks at Right rank family label asks false None is (λ same. absurd (cc)) (λ same. absurd (cc)) (λ pick same. absurd (cc)) none
+  why_nowhere at Dead rank family label asks is none = other_searched ranks at Dead rank family label asks false None is (λ same. absurd (cc)) (λ same. absurd (cc)) (λ pick same. absurd (cc)) none
+
+  leaf_nowhere : (at : Setting R) (part : Part) (end : Plan R) (family : Trees R) (label : ℕ) (asks : List Formed) → at.formula ≡ part_formula part
+      → IsMetNowhere (all_asked asks) → All (HasNoStore ranks) (of_leaf at end family label asks)
+  leaf_nowhere at part bottom family label asks is none = All-nil (HasNoStore ranks)
+  leaf_nowhere at part (top cause) family label asks is none = All-nil (HasNoStore ranks)
+  leaf_nowhere at part (branch row this that) family label asks is none = All-nil (HasNoStore ranks)
+  leaf_nowhere at True (leaf why rank) family label asks is none =
+      truth_searched ranks at why rank family label asks false None is (truth_tried why asks none)
+  leaf_nowhere at Exit (leaf why rank) family label asks is none =
+      exit_searched ranks at why rank family label asks false None is (exit_tried why label asks none)
+  leaf_nowhere at Ending (leaf why rank) family label asks is none =
+      rank_searched ranks at why rank family label asks false None is
+      (All-cons (HasNoStore ranks) (record { edge = unedged; asks = asks; claim = unnatural rank }) []
+      (nowhere_system ranks (record { edge = unedged; asks = asks; claim = unnatural rank }) none) (All-nil (HasNoStore ranks)))
+      (why_nowhere at why rank family label asks is none)
+
+  module _ (at : Setting R) (family : Trees R) (label : ℕ) where
+    -- ---- a side's leaves are the tree's
+
+    on_first : (row : Row) (this that : Plan R) (asks : List Formed) (place : ℕ) → place < leaves_of this
+        → systems_within ranks at family label this (asks ++ given row.affine ∷ []) place ≡ systems_within ranks at family label (branch row this that) asks place
+    on_first row this that asks place low =
+        let lower : nat_lt place (leaves_of this) ≡ true = lt-ltb place (leaves_of this) low in
+        rw (lower, append_assoc asks (given row.affine ∷ []) (map (λ a. given a) (path_of this place))) refl
+
+    on_second : (row : Row) (this that : Plan R) (asks : List Formed) (place : ℕ)
+        → systems_within ranks at family label that (asks ++ given (complement_of row.affine) ∷ []) place
+        ≡ systems_within ranks at family label (branch row this that) asks (leaves_of this + place)
+    on_second row this that asks place =
+        let higher : nat_lt (leaves_of this + place) (leaves_of this) ≡ false = le-ltb (leaves_of this + place) (leaves_of this) (omega arith) in
+        let rest : (leaves_of this + place) - leaves_of this ≡ place = omega arith in
+        rw (higher, rest, append_assoc asks (given (complement_of row.affine) ∷ []) (map (λ a. given a) (path_of that place))) refl
+
+    moved_finds : (systems others : List (System R)) (f : Finding) → systems ≡ others → Finds ranks systems f → Finds ranks others f
+    moved_finds systems others f is finds = subst (λ all. Finds ranks all f) is finds
+
+    moved_none : (systems others : List (System R)) → systems ≡ others → All (HasNoStore ranks) systems → All (HasNoStore ranks) others
+    moved_none systems others is none = subst (All (HasNoStore ranks)) is none
+
+    pub surveyed_first : (first : ℕ) (row : Row) (this that : Plan R) (asks : List Formed) (passed after : ℕ) (found : Option Finding)
+        → IsSurveyed ranks at family label first this (asks ++ given (side_of row.affine true) ∷ []) passed after true found
+        → IsSurveyed ranks at family label first (branch row this that) asks passed after true found
+    surveyed_first first row this that asks passed after None surveyed = surveyed
+    surveyed_first first row this that asks passed after (Some f) surveyed =
+        (surveyed.0, surveyed.1, (let low = surveyed.2 in omega arith), moved_finds (systems_within ranks at family label this (asks ++ given row.affine ∷ []) surveyed.0) (systems_within ranks at family label (branch row this that) asks surveyed.0) f (on_first row this that asks surveyed.0 surveyed.2) surveyed.3)
+
+    pub surveyed_then : (first : ℕ) (row : Row) (this that : Plan R) (asks : List Formed) (passed mid after : ℕ) (refuted : Bool) (before found : Option Finding)
+        → mid ≡ passed + leaves_of this
+        → IsSurveyed ranks at family label first this (asks ++ given (side_of row.affine true) ∷ []) passed mid false before
+        → IsSurveyed ranks at family label first that (asks ++ given (side_of row.affine false) ∷ []) mid after refuted found
+        → IsSurveyed ranks at family label first (branch row this that) asks passed after refuted found
+    surveyed_then first row this that asks passed mid after true before None count none surveyed = surveyed
+    surveyed_then first row this that asks passed mid after true before (Some f) count none surveyed = (
+      leaves_of this + surveyed.0,
+      (let is = surveyed.1 in omega arith),
+      (let low = surveyed.2 in omega arith),
+      moved_finds (systems_within ranks at family label that (asks ++ given (complement_of row.affine) ∷ []) surveyed.0) (systems_within ranks at family label (branch row this that) asks (leaves_of this + surveyed.0)) f (on_second row this that asks surveyed.0) surveyed.3,
+    )
+    surveyed_then first row this that asks passed mid after false before found count none surveyed = λ place low from.
+        elim (cases_lt place (leaves_of this)) [
+          | inl near ↦ moved_none (systems_within ranks at family label this (asks ++ given row.affine ∷ []) place) (systems_within ranks at family label (branch row this that) asks place) (on_first row this that asks place near) (none place near from)
+          | inr far ↦
+              let behind : leaves_of this + (place - leaves_of this) ≡ place = omega arith in
+              subst (λ p. All (HasNoStore ranks) (systems_within ranks at family label (branch row this that) asks p)) behind
+              (moved_none (systems_within ranks at family label that (asks ++ given (complement_of row.affine) ∷ []) (place - leaves_of this))
+              (systems_within ranks at family label (branch row this that) asks (leaves_of this + (place - leaves_of this)))
+              (on_second row this that asks (place - leaves_of this))
+              (surveyed (place - leaves_of this) (omega arith) (omega arith)))
+        ]
+
+    -- ---- one leaf
+
+    pub surveyed_end : (first : ℕ) (end : Plan R) (asks : List Formed) (passed after : ℕ) (found : Option Finding) → leaves_of end ≡ 1
+        → All (HasNoStore ranks) (of_leaf at (leaf_numbered end 0) family label (asks ++ map (λ a. given a) (path_of end 0)))
+        → IsSurveyed ranks at family label first end asks passed after false found
+    surveyed_end first end asks passed after found one none = λ place low from.
+        let is : place ≡ 0 = omega arith in subst (λ p. All (HasNoStore ranks) (systems_within ranks at family label end asks p)) (sym is) none
+
+    pub surveyed_leaf : (first : ℕ) (why : Why) (rank : R) (asks : List Formed) (passed : ℕ) (refuted : Bool) (found : Option Finding)
+        → IsSearched ranks (of_leaf at (leaf why rank) family label asks) refuted found
+        → IsSurveyed ranks at family label first (leaf why rank) asks passed passed refuted found
+    surveyed_leaf first why rank asks passed true None searched = searched
+    surveyed_leaf first why rank asks passed true (Some f) searched =
+        (0, omega arith, omega arith, subst (λ all. Finds ranks (of_leaf at (leaf why rank) family label all) f) (sym (append-nil asks)) searched)
+    surveyed_leaf first why rank asks passed false found searched =
+        surveyed_end first (leaf why rank) asks passed passed found refl
+        (subst (λ all. All (HasNoStore ranks) (of_leaf at (leaf why rank) family label all)) (sym (append-nil asks)) searched)
+
+    pub surveyed_before : (first : ℕ) (why : Why) (rank : R) (asks : List Formed) (passed : ℕ) (found : Option Finding) → passed < first
+        → IsSurveyed ranks at family label first (leaf why rank) asks passed passed false found
+    surveyed_before first why rank asks passed found before = λ place low from. absurd (omega arith)
+
+    pub surveyed_nowhere : (first : ℕ) (part : Part) (plan : Plan R) (asks : List Formed) (passed after : ℕ) (found : Option Finding)
+        → at.formula ≡ part_formula part → IsMetNowhere (all_asked asks)
+        → IsSurveyed ranks at family label first plan asks passed after false found
+    surveyed_nowhere first part plan asks passed after found is none = λ place low from.
+        leaf_nowhere at part (leaf_numbered plan place) family label (asks ++ map (λ a. given a) (path_of plan place)) is
+        (nowhere_more asks (map (λ a. given a) (path_of plan place)) none)
+
+    -- ---- the label's own tree
+
+    systems_are : (at.dead label ≡ false) → (place : ℕ)
+        → systems_within ranks at family label (family label) (rows_given (at.rows label)) place ≡ systems at family label place
+    systems_are alive place = rw alive refl
+
+    pub reviewed_none : (first : ℕ) (found : Option Finding) (after : ℕ) → at.dead label ≡ false
+        → IsSurveyed ranks at family label first (family label) (rows_given (at.rows label)) 0 after false found
+        → IsReviewed ranks at family label first None
+    reviewed_none first found after alive surveyed = λ place low from.
+        moved_none (systems_within ranks at family label (family label) (rows_given (at.rows label)) place) (systems at family label place)
+        (systems_are alive place) (surveyed place low (omega (arith, from)))
+
+    pub reviewed_some : (first after : ℕ) (f : Finding) → at.dead label ≡ false
+        → IsSurveyed ranks at family label first (family label) (rows_given (at.rows label)) 0 after true (Some f)
+        → IsReviewed ranks at family label first (Some (record { leaf = after; finding = f }))
+    reviewed_some first after f alive surveyed =
+        let is : after ≡ surveyed.0 = (let is = surveyed.1 in omega (arith, is)) in
+        subst (λ place. (place < leaves_of (family label)) × Finds ranks (systems at family label place) f) (sym is) (
+          surveyed.2,
+          moved_finds (systems_within ranks at family label (family label) (rows_given (at.rows label)) surveyed.0) (systems at family label surveyed.0) f
+              (systems_are alive surveyed.0) surveyed.3,
+        )
+
+-- nothing is in hand for nothing
+pub held_empty : (rows : List Row) (wide : Option Wide) → rows ≡ [] → wide ≡ None → Held [] rows wide
+held_empty rows wide empty none =
+    rw (empty, none) (record {
+      among = λ k d low. absurd (omega arith);
+      shown = λ item row member. absurd (let low = member.1 in omega arith);
+      there = λ item member. absurd (let low = member.1 in omega arith);
+      whole = λ is. (refl, λ k d low. absurd (omega arith));
+      few = omega arith;
+      missing = λ item member. absurd (let low = member.1 in omega arith);
+      outside = tt;
+    })
+
+pub tree_at : {R : Type 0} (trees : List (Tree R)) (label : ℕ) (tree : Tree R) → label < length trees → tree ≡ get_or trees label tree
+    → trees_in (map plan_of trees) label ≡ plan_of tree
+tree_at [] label tree low is = absurd (omega (arith, low))
+tree_at (first ∷ trees) zero tree low is = ap plan_of (sym is)
+tree_at (first ∷ trees) (suc label) tree low is = tree_at trees label tree (omega (arith, low)) is

@@ -1,0 +1,29 @@
+use Rattle.std.proofs.Common.{◌-◌, arith, map}
+use Rattle.decision_tree.specs.Plans.{plan_of}
+use Rattle.tree_check.specs.Rounds.{setting_on}
+use Rattle.tree_check.proofs.Settling.{advances_then, leaves_stay, supported_more}
+use Rattle.tree_check.proofs.rounds.Premises.settle_each.Goals as goal
+
+pub visit-requires-clause-leaves : goal.visit-requires-clause-leaves
+visit-requires-clause-leaves g c label =
+    let is = leaves_stay g.R.Rank (setting_on g.D.NumDomain c.args.self.now) (map plan_of c.args.trees.now) (map plan_of c.loop-label.trees) c.args.drops.now.items c.loop-label.drops.items c.loop-label.invariant.0 label in
+    rw is (c.requires.leaves label)
+
+pub returns-in_err-visit-clause-advances : goal.returns-in_err-visit-clause-advances
+returns-in_err-visit-clause-advances g c =
+    advances_then g.R.Rank (setting_on g.D.NumDomain c.args.self.now) (map plan_of c.args.trees.now) (map plan_of c.loop-label.trees) (map plan_of c.visit.new.trees) c.args.drops.now.items c.loop-label.drops.items c.visit.new.drops.items
+    c.loop-label.invariant.0 c.visit.ensures.advances
+
+pub loop-label-preserved : goal.loop-label-preserved
+loop-label-preserved g c = (
+  advances_then g.R.Rank (setting_on g.D.NumDomain c.args.self.now) (map plan_of c.args.trees.now) (map plan_of c.loop-label.trees) (map plan_of c.visit.new.trees) c.args.drops.now.items c.loop-label.drops.items c.visit.new.drops.items
+      c.loop-label.invariant.0 c.visit.ensures.advances,
+  λ same. supported_more g.R.Rank (setting_on g.D.NumDomain c.args.self.now) (map plan_of c.args.trees.now) (map plan_of c.loop-label.trees) (map plan_of c.visit.new.trees) c.args.drops.now.items c.loop-label.drops.items c.visit.new.drops.items
+      c.loop-label.label (c.loop-label.label - 1) (omega arith) c.loop-label.invariant.0 c.visit.ensures.advances same c.loop-label.invariant.1 c.in_ok-visit.ensures.supported,
+  c.in_ok-visit.ensures.clean,
+)
+
+pub returns-clause-supported : goal.returns-clause-supported
+returns-clause-supported g c same label =
+    let start = c.loop-label-test.false in
+    c.loop-label.invariant.1 same label (omega (arith, start))

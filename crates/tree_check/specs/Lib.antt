@@ -1,0 +1,8 @@
+pub mod Checking
+pub mod Hands
+pub mod Searches
+pub mod Walks
+pub mod Moves
+pub mod Leaves
+pub mod Surveys
+pub mod Rounds

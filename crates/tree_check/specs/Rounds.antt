@@ -1,0 +1,70 @@
+-- The rounds: refuted leaves are given up until none is left.
+use Rattle.std.specs.Prelude.{◌≡◌, ◌≢◌, ℕ, ◌+◌, ◌<◌, Bool, true, false, List, ◌++◌, length, All, Contains, slice_index_or, slice_set}
+use Rattle.std.specs.List.{sum_by}
+use Rattle.step_meaning.specs.Syntax.{statements}
+use Rattle.decision_tree.specs.declared.rank.Rank.{Ghosts as Ranks}
+use Rattle.decision_tree.specs.Paths.{with_leaf}
+use Rattle.decision_tree.specs.Plans.{Plan, bottom, branch, leaf, leaves_of, top}
+use Rattle.num_domain.specs.declared.domain.NumDomain.{Ghosts as Domain}
+use Rattle.tree_support.specs.declared.dropped.Dropped.{Dropped}
+use Rattle.tree_support.specs.Elimination.{Eliminates, cause_of}
+use Rattle.tree_support.specs.Flow.{Arc}
+use Rattle.tree_support.specs.Setting.{Setting, Trees, trees_in}
+use Rattle.tree_support.specs.Support.{HasNoStore}
+use Rattle.tree_support.specs.Systems.{systems}
+use Rattle.tree_support.specs.Told.{setting_of, told_by}
+use Rattle.tree_check.specs.Leaves.{part_formula}
+use Rattle.tree_check.specs.Checking.{families_of}
+use Rattle.tree_check.specs.declared.rounds.Premises.{Premises}
+use Rattle.tree_check.specs.declared.survey.Refuted.{Refuted}
+
+-- the drop of a refuted leaf
+abbrev pub dropped_by : ℕ → Refuted → Dropped
+dropped_by label refuted = record { label = label; leaf = refuted.leaf; edge = refuted.finding.edge; reason = refuted.finding.reason }
+
+module _ {R : Type 0} where
+  -- the number of a tree's defined leaves, and of those of all trees
+  abbrev pub defined_of : Plan R → ℕ
+  defined_of (branch row this that) = defined_of this + defined_of that
+  defined_of (leaf why rank) = 1
+  defined_of bottom = 0
+  defined_of (top cause) = 0
+
+  abbrev pub defined_in : List (Plan R) → ℕ
+  defined_in plans = sum_by defined_of plans
+
+  -- the trees without the refuted leaf
+  abbrev pub without_refuted : List (Plan R) → ℕ → Refuted → List (Plan R)
+  without_refuted plans label refuted =
+      slice_set plans label (with_leaf (trees_in plans label) refuted.leaf (top (cause_of refuted.finding.reason)))
+
+  -- at all labels but this one the trees are as before
+  abbrev pub IsSameElsewhere : ℕ → List (Plan R) → List (Plan R) → Type 0
+  IsSameElsewhere label old new = (other : ℕ) → other ≢ label → trees_in new other ≡ trees_in old other
+
+  -- the label isn't the other, and no arc leads from it there
+  abbrev pub IsApart : Setting R → ℕ → ℕ → Type 0
+  IsApart at label other = (label ≢ other) × ((arc : Arc) → Contains (at.flow.arcs label) arc → arc.target ≢ other)
+
+-- the setting that they make
+abbrev pub setting_on : {D R : Type 0} → Domain D → Premises D R → Setting R
+setting_on domain premises =
+    setting_of (statements premises.graph.now.body) (told_by domain.told_bounds domain.told_rows domain.seen_empty premises.inv.now) (part_formula premises.part)
+    (families_of premises.parts.now)
+
+module _ {R : Type 0} (ranks : Ranks R) (at : Setting R) where
+  -- legal drops lead from the old trees to the new, and were appended to the list
+  pub record Advances (old : List (Plan R)) (drops : List Dropped) (new : List (Plan R)) (dropped : List Dropped) : Type 0 where
+    pub more : List Dropped
+    pub listed : dropped ≡ drops ++ more
+    pub legal : Eliminates ranks at (trees_in old) more (trees_in new)
+    pub labels : length new ≡ length old
+    pub fewer : defined_in new + length more ≡ defined_in old
+
+  -- each leaf at the label is supported
+  abbrev pub IsSupportedAt : Trees R → ℕ → Type 0
+  IsSupportedAt family label = (place : ℕ) → place < leaves_of (family label) → All (HasNoStore ranks) (systems at family label place)
+
+  -- each label that is marked is supported
+  abbrev pub AreClean : Trees R → List Bool → Type 0
+  AreClean family marks = (label : ℕ) → slice_index_or marks label false ≡ true → IsSupportedAt family label

@@ -1,0 +1,167 @@
+//! The walk over the leaves of another tree.
+ghost use Rattle.std.specs.Prelude.{◌≡◌, ◌++◌, ◌∷◌, ◌<◌, List, [], Bool, true, false, IfOk, IfSome, map};
+ghost use Rattle.linear_cons.specs.Functions.{complement_of};
+ghost use Rattle.decision_tree.specs.Plans.{leaf, plan_of};
+ghost use Rattle.decision_tree.specs.declared.reason.Why.{Why};
+ghost use Rattle.tree_support.specs.Forming.{Formed};
+ghost use Rattle.tree_support.specs.Support.{HasNoStore};
+ghost use Rattle.tree_support.specs.Systems.{exceeding, moved_by};
+ghost use Rattle.tree_check.specs.Hands.{Adds, Forms, Held, IsMetNowhere, Item, all_asked, asked};
+ghost use Rattle.tree_check.specs.Searches.{IsSame, IsSearched, IsLonger, IsClaimFormed};
+ghost use Rattle.tree_check.specs.Walks.{ending, side_of, systems_behind};
+
+use crate::claim::try_claim;
+use crate::finding::Finding;
+use crate::hand::Hand;
+use decision_tree::{Alternatives, Rank, Tree};
+use linear_cons::{Affine, Row, RowKind, Wide};
+use std::alloc::AllocError;
+
+/// How the leaves of a tree are looked at: over an edge, which may set a place to the value of a function, and with the rank that
+/// those of the leaves are to be less than, where there is one.
+#[derive(Clone, Copy)]
+pub(crate) struct Way<R: Rank> {
+    pub(crate) edge: u32,
+    pub(crate) sets: Option<(u8, Affine)>,
+    pub(crate) limit: Option<R>,
+}
+
+impl<R: Rank> Way<R> {
+    /// Looks for a reason against the systems of the tree's leaves, behind the rows in hand.
+    #[cycle(walk)]
+    pub(crate) fn refute(
+        &self,
+        tree: &Tree<R>,
+        hand: &mut Hand,
+        found: &mut Option<Finding>,
+    ) -> Result<bool, AllocError>
+        requires { IfSome self.now.sets (λ s. s.0 < 16) }
+        ensures same { IfOk result (λ refuted. refuted ≡ false → IsSame hand.old hand.new) }
+        ensures searched { IfOk result (λ refuted. (asks : List Formed) → Held (all_asked asks) hand.old.rows.items hand.old.wide → IsSearched R.Rank.own (systems_behind self.now.edge self.now.sets self.now.limit (plan_of tree.now) asks) refuted found.new) }
+    {
+        match tree {
+            Tree::Node { row, yes, no } => {
+                if self.refute_behind(row, true, yes, hand, found)? {
+                    return Ok(true);
+                }
+                let refuted = self.refute_behind(row, false, no, hand, found)?;
+                Ok(refuted)
+            }
+            Tree::Leaf { why: _, rank } => self.refute_less(rank, hand, found),
+            Tree::Bottom | Tree::Top(_) => {
+                let refuted = hand.settle(self.edge, found)?;
+                Ok(refuted)
+            }
+        }
+    }
+
+    /// Looks at the leaves of a side, behind the row where it holds and its complement where it doesn't.
+    #[cycle(walk)]
+    fn refute_behind(
+        &self,
+        row: &Row,
+        holds: bool,
+        side: &Tree<R>,
+        hand: &mut Hand,
+        found: &mut Option<Finding>,
+    ) -> Result<bool, AllocError>
+        requires { IfSome self.now.sets (λ s. s.0 < 16) }
+        ensures same { IfOk result (λ refuted. refuted ≡ false → IsSame hand.old hand.new) }
+        ensures searched { IfOk result (λ refuted. (asks : List Formed) → Held (all_asked asks) hand.old.rows.items hand.old.wide → IsSearched R.Rank.own (systems_behind self.now.edge self.now.sets self.now.limit (plan_of side.now) (asks ++ moved_by self.now.sets (side_of row.now.affine holds) ∷ [])) refuted found.new) }
+    {
+        let mark = hand.mark();
+        if !self.enter(row, holds, hand)? {
+            return Ok(false);
+        }
+        if self.refute(side, hand, found)? {
+            return Ok(true);
+        }
+        hand.back(mark);
+        Ok(false)
+    }
+
+    /// Adds the row of a side, moved back.
+    #[inline(never)]
+    pub(crate) fn enter(&self, row: &Row, holds: bool, hand: &mut Hand) -> Result<bool, AllocError>
+        requires { IfSome self.now.sets (λ s. s.0 < 16) }
+        ensures same { IfOk result (λ entered. entered ≡ false → IsSame hand.old hand.new) }
+        ensures longer { IfOk result (λ entered. IsLonger hand.old hand.new) }
+        ensures held { IfOk result (λ entered. entered ≡ true → (asks : List Formed) → Held (all_asked asks) hand.old.rows.items hand.old.wide → Held (all_asked (asks ++ moved_by self.now.sets (side_of row.now.affine holds) ∷ [])) hand.new.rows.items hand.new.wide) }
+        ensures nowhere { IfOk result (λ entered. entered ≡ false → (asks : List Formed) → Held (all_asked asks) hand.old.rows.items hand.old.wide → IsMetNowhere (all_asked (asks ++ moved_by self.now.sets (side_of row.now.affine holds) ∷ []))) }
+    {
+        let formed = self.moved_side(row, holds);
+        let added = hand.add(formed)?;
+        Ok(added)
+    }
+
+    /// The row of a side, moved back.
+    fn moved_side(&self, row: &Row, holds: bool) -> Result<RowKind, Wide>
+        requires { IfSome self.now.sets (λ s. s.0 < 16) }
+        ensures { Forms (asked (moved_by self.now.sets (side_of row.now.affine holds))) result }
+    {
+        if holds {
+            self.moved(row)
+        } else {
+            self.moved_complement(row)
+        }
+    }
+
+    /// The row, moved back.
+    fn moved(&self, row: &Row) -> Result<RowKind, Wide>
+        requires { IfSome self.now.sets (λ s. s.0 < 16) }
+        ensures { Forms (asked (moved_by self.now.sets row.now.affine)) result }
+    {
+        match &self.sets {
+            None => Ok(Row::of(row.affine)),
+            Some((place, by)) => {
+                let moved = row.affine.subst(*place, by)?;
+                Ok(Row::of(moved))
+            }
+        }
+    }
+
+    /// The row's complement, moved back.
+    fn moved_complement(&self, row: &Row) -> Result<RowKind, Wide>
+        requires { IfSome self.now.sets (λ s. s.0 < 16) }
+        ensures { Forms (asked (moved_by self.now.sets (complement_of row.now.affine))) result }
+    {
+        let complement = row.not()?;
+        self.moved(&complement)
+    }
+
+    /// Looks for a reason against a leaf's rank, where it is to be less.
+    #[inline(never)]
+    fn refute_less(
+        &self,
+        rank: &R,
+        hand: &mut Hand,
+        found: &mut Option<Finding>,
+    ) -> Result<bool, AllocError>
+        requires { IfSome self.now.sets (λ s. s.0 < 16) }
+        ensures same { IfOk result (λ refuted. refuted ≡ false → IsSame hand.old hand.new) }
+        ensures searched { IfOk result (λ refuted. (why : Why) (asks : List Formed) → Held (all_asked asks) hand.old.rows.items hand.old.wide → IsSearched R.Rank.own (ending self.now.edge self.now.sets self.now.limit (leaf why rank.now) asks) refuted found.new) }
+    {
+        match &self.limit {
+            None => Ok(false),
+            Some(limit) => {
+                let formed = self.excess(rank, limit);
+                let refuted = try_claim(&formed, self.edge, hand, found)?;
+                Ok(refuted)
+            }
+        }
+    }
+
+    /// The stores at which the leaf's rank, moved back and one more, exceeds the limit.
+    fn excess(&self, rank: &R, limit: &R) -> Result<Alternatives, Wide>
+        requires { IfSome self.now.sets (λ s. s.0 < 16) }
+        ensures { IsClaimFormed R.Rank.own (exceeding rank.now self.now.sets limit.now) result }
+    {
+        let moved = match &self.sets {
+            None => *rank,
+            Some((place, by)) => rank.subst(*place, by)?,
+        };
+        let more = moved.add_one()?;
+        let greater = more.greater(limit)?;
+        Ok(greater)
+    }
+}
