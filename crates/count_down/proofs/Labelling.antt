@@ -54,7 +54,7 @@ length_behind s free =
     length-map (counts_of (change_by nothing) s none) most_within
     ∙ length_counts nothing (change_by nothing) s none (free_measured s free)
 
-length_turn : (e : Affine) (body step : Statements) → CountsDown body step e → length (turn_counts e body step) ≡ size_of body + size_of step
+pub length_turn : (e : Affine) (body step : Statements) → CountsDown body step e → length (turn_counts e body step) ≡ size_of body + size_of step
 length_turn e body step counts =
     let by = change_by e in
     let one = length_counts e by body (before by step none) (counting_measured e body counts.in_body) in
@@ -95,7 +95,7 @@ map_whole : {A : Type 0} (f : A → Plan AffineRank) → ((x : A) → IsWhole (f
 map_whole f each [] = λ k d low. absurd (omega arith)
 map_whole f each (x ∷ xs) = All-cons IsWhole (f x) (map f xs) (each x) (map_whole f each xs)
 
-tree_whole : (m s : ℕ) (e : Affine) (k : ℕ) → IsWhole (count_tree m s e k)
+pub tree_whole : (m s : ℕ) (e : Affine) (k : ℕ) → IsWhole (count_tree m s e k)
 tree_whole m s e k = split_whole (row_kind_of e) _ _
 
 behind_whole : (s : Statements) → All IsWhole (behind s)

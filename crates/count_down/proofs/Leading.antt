@@ -33,28 +33,33 @@ factors_small row p (sequence (do_while body test) more) small counts = absurd c
 factors_small row p empty small counts = absurd counts
 
 -- the products that a substitution adds up, and its result, have numbers at most so many times as large
-sizes_products : (m : ℕ) (e : Affine) (x : ℕ) (v : Affine) → x < 16 → SizesAtMost m e → SizesAtMost (total_size v * m) (products_added e x v)
+pub sizes_products : (m : ℕ) (e : Affine) (x : ℕ) (v : Affine) → x < 16 → SizesAtMost m e → SizesAtMost (total_size v * m) (products_added e x v)
 sizes_products m e x v low own = sizes_multiple (total_size v) m v (coefficient e x) (total_sizes v) (own.coefficients x low)
 
-sizes_substituted : (m : ℕ) (e : Affine) (x : ℕ) (v : Affine) → x < 16 → SizesAtMost m e → SizesAtMost (m + total_size v * m) (substituted e x v)
-sizes_substituted m e x v low own = sizes_sum m (total_size v * m) (without e x) (products_added e x v) (sizes_without m e x own) (sizes_products m e x v low own)
+pub sizes_substituted : (m : ℕ) (e : Affine) (x : ℕ) (v : Affine) → x < 16 → SizesAtMost m e → SizesAtMost (m + total_size v * m) (substituted e x v)
+sizes_substituted m e x v low own = sizes_sum m (total_size v * m) (without e x) (products_added e x v) (sizes_without m e x own)
+    (sizes_products m e x v low own)
 
 -- how large the function is before the assignments
-abbrev size_before : Statements → ℕ
+abbrev pub size_before : Statements → ℕ
 size_before s = 2 ^ 31 * factors s
 
 grown : (a f : ℕ) → 2 ^ 31 * ((1 + a) * f) ≡ 2 ^ 31 * f + a * (2 ^ 31 * f)
 grown a f =
-    let turned : a * (2 ^ 31 * f) ≡ 2 ^ 31 * (a * f) = sym (mul_assoc a (2 ^ 31) f) ∙ ap (λ t. t * f) (mul_comm a (2 ^ 31)) ∙ mul_assoc (2 ^ 31) a f in
+    let turned : a * (2 ^ 31 * f) ≡ 2 ^ 31 * (a * f) = sym (mul_assoc a (2 ^ 31) f) ∙ ap (λ t. t * f) (mul_comm a (2 ^ 31)) ∙ mul_assoc
+    (2 ^ 31) a f in
     let whole : (1 + a) * f ≡ f + a * f = omega (arith, suc-mul a f) in
     omega arith
 
-sizes_carried : (row : Row) (p vars : ℕ) (s : Statements) → CountsFrom row p s → vars ≤ 15 → IsBody vars s → SizesAtMost (size_before s) (carried row.affine s)
+sizes_carried : (row : Row) (p vars : ℕ) (s : Statements) → CountsFrom row p s → vars ≤ 15 → IsBody vars s
+    → SizesAtMost (size_before s) (carried row.affine s)
 sizes_carried row p vars (sequence (assign x v) more) counts few sorted =
     let own = sizes_carried row (p * (1 + total_size (form_of v))) vars more counts.3 few sorted.1 in
     let place = sorted.0.0 in
-    rw (grown (total_size (form_of v)) (factors more)) (sizes_substituted (size_before more) (carried row.affine more) x (form_of v) (omega arith) own)
-sizes_carried row p vars (sequence (while_loop test body step) more) counts few sorted = sizes_grown (2 ^ 31) (2 ^ 31 * 1) row.affine (omega arith) (small_sizes row.affine counts.1.small)
+    rw (grown (total_size (form_of v)) (factors more)) (sizes_substituted (size_before more) (carried row.affine more) x (form_of v)
+    (omega arith) own)
+sizes_carried row p vars (sequence (while_loop test body step) more) counts few sorted = sizes_grown (2 ^ 31) (2 ^ 31 * 1) row.affine (omega arith)
+    (small_sizes row.affine counts.1.small)
 sizes_carried row p vars (sequence skip more) counts few sorted = absurd counts
 sizes_carried row p vars (sequence return more) counts few sorted = absurd counts
 sizes_carried row p vars (sequence (if_else test first second) more) counts few sorted = absurd counts
@@ -76,7 +81,7 @@ led_modest row s led =
 
 -- ---- numbers of steps
 
-most_turn : (e : Affine) (body step : Statements) → turn_steps e body step ≤ 1 + (size_of body + size_of step)
+pub most_turn : (e : Affine) (body step : Statements) → turn_steps e body step ≤ 1 + (size_of body + size_of step)
 most_turn e body step =
     let m = most_before (change_by e) body (before (change_by e) step none) in
     let n = most_before (change_by e) step none in
@@ -117,24 +122,25 @@ lengths_short e s few = record {
 
 -- ---- an assignment before the loop
 module _ (row : Row) (x : ℕ) (v : Expression) (more : Statements) (led : IsLed row (sequence (assign x v) more)) where
-  pub behind : IsLed row more
-  behind = record {
+  pub led_behind : IsLed row more
+  led_behind = record {
     vars = led.vars;
     few = led.few;
     sorted = led.sorted.1;
     product = led.product * (1 + total_size (form_of v));
-    some = let some = led.some in let one : 1 ≤ 1 + total_size (form_of v) = omega arith in let product : 1 * 1 ≤ led.product * (1 + total_size (form_of v)) = mul-le-mul some one in omega arith;
+    some = let some = led.some in let one : 1 ≤ 1 + total_size (form_of v) = omega arith in let product : 1 * 1 ≤ led.product *
+        (1 + total_size (form_of v)) = mul-le-mul some one in omega arith;
     small = led.counts.2;
     counts = led.counts.3;
   }
 
-  below : x < 16
+  pub below : x < 16
   below = let place = led.sorted.0.0 in let few = led.few in omega arith
 
-  sizes : SizesAtMost (size_before more) (carried row.affine more)
+  pub sizes : SizesAtMost (size_before more) (carried row.affine more)
   sizes = sizes_carried row (led.product * (1 + total_size (form_of v))) led.vars more led.counts.3 led.few led.sorted.1
 
-  limit : size_before more + total_size (form_of v) * size_before more ≤ 2 ^ 91
+  pub limit : size_before more + total_size (form_of v) * size_before more ≤ 2 ^ 91
   limit = let whole = size_limit row (sequence (assign x v) more) led in let same = grown (total_size (form_of v)) (factors more) in omega arith
 
   pub may_carry : IsCarried (carried row.affine more) x v
@@ -143,7 +149,9 @@ module _ (row : Row) (x : ℕ) (v : Expression) (more : Statements) (led : IsLed
     affine = led.counts.0;
     fits = led.counts.1;
     put_in = record {
-      products = sizes_fit (total_size (form_of v) * size_before more) _ (omega (arith, limit)) (sizes_products (size_before more) (carried row.affine more) x (form_of v) below sizes);
-      sums = sizes_fit (size_before more + total_size (form_of v) * size_before more) _ (omega (arith, limit)) (sizes_substituted (size_before more) (carried row.affine more) x (form_of v) below sizes);
+      products = sizes_fit (total_size (form_of v) * size_before more) _ (omega (arith, limit))
+          (sizes_products (size_before more) (carried row.affine more) x (form_of v) below sizes);
+      sums = sizes_fit (size_before more + total_size (form_of v) * size_before more) _ (omega (arith, limit))
+          (sizes_substituted (size_before more) (carried row.affine more) x (form_of v) below sizes);
     };
   }

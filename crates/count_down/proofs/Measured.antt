@@ -12,7 +12,7 @@ use Rattle.step_meaning.specs.Syntax.{Expression, Statement, Statements, assign,
 use Rattle.count_down.specs.Building.{AreMeasured, IsMeasured}
 use Rattle.count_down.specs.Candidates.{nothing}
 
-nothing_at : (place : ℕ) → coefficient nothing place ≡ pos 0
+pub nothing_at : (place : ℕ) → coefficient nothing place ≡ pos 0
 nothing_at place = ⊎_elim
     (λ (low : place < 16). number_at_places (λ i. pos 0) place low)
     (λ (past : 16 ≤ place). get_or_past nothing.coef place (pos 0) (let long = length-at_places (λ i. pos 0) in omega arith))

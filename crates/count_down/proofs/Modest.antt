@@ -18,7 +18,7 @@ sizes_grown m n a le sizes = record {
   constants = let size = sizes.constants in omega arith;
 }
 
-sizes_constant : (z : ℤ) (n : ℕ) → unsigned_abs z ≤ n → SizesAtMost n (constant_of z)
+pub sizes_constant : (z : ℤ) (n : ℕ) → unsigned_abs z ≤ n → SizesAtMost n (constant_of z)
 sizes_constant z n small = record {
   coefficients = λ i h. rw number_at_places (omega arith);
   constants = small;

@@ -1,5 +1,5 @@
 -- An assignment of a loop's body changes the function that is counted down by the change that is counted.
-use Rattle.std.proofs.Common.{◌≡◌, ◌≢◌, ℕ, ◌<◌, ◌==◌, if◌then◌else◌, true, false, eqb, ℤ, pos, ◌+ℤ◌, ◌-ℤ◌, ◌*ℤ◌, inl, inr, ⊎_elim, None, Some, List, length, set, refl, sym, ap, ◌∙◌, arith}
+use Rattle.std.proofs.Common.{◌≡◌, ◌≢◌, ℕ, ◌<◌, ◌==◌, if◌then◌else◌, true, false, eqb, ℤ, pos, ◌+ℤ◌, ◌-ℤ◌, ◌*ℤ◌, inl, inr, ⊎_elim, None, Some, List, length, set, refl, sym, subst, ap, ◌∙◌, arith}
 use Rattle.std.proofs.lemmas.Bool.Decides.{eqb_tells}
 use Rattle.std.proofs.lemmas.Int.{ints}
 use Rattle.linear_cons.specs.declared.affine.Affine.{Affine}
@@ -58,52 +58,62 @@ literal_value And x z store low h = absurd h
 literal_value Or x z store low h = absurd h
 
 -- a literal is added by an assignment of `x + c` or `x - c` alone
-added_value : (x : ℕ) (v : Expression) (store : List ℤ) → x < 16 → IsShort (added x v) → value_at (form_of v) store ≡ number_at store x +ℤ amount (added x v)
-added_value x (pair op (variable y) (number z)) store low h = ⊎_elim
+pub short_form : (x : ℕ) (v : Expression) → IsShort (added x v)
+    → (op : Op2) × (z : ℤ) × (v ≡ pair op (variable x) (number z)) × IsShort (added_by op (Some z))
+short_form x (pair op (variable y) (number z)) h = ⊎_elim
     (λ (same : (eqb x y ≡ true) × (x ≡ y)).
     let own : IsShort (added_by op (Some z)) = rw same.0 at h in
-    rw (same.0, ← same.1) (literal_value op x z store low own))
+    (op, z, ap (λ t. pair op (variable t) (number z)) (sym same.1), own))
     (λ (apart : (eqb x y ≡ false) × (x ≢ y)). absurd (let none : IsShort None = rw apart.0 at h in none))
     (eqb_tells x y)
-added_value x (pair op (variable y) (variable w)) store low h = no_literal op x y h
-added_value x (pair op (variable y) free) store low h = no_literal op x y h
-added_value x (pair op (variable y) (range lo hi)) store low h = no_literal op x y h
-added_value x (pair op (variable y) (truth b)) store low h = no_literal op x y h
-added_value x (pair op (variable y) (negative e)) store low h = no_literal op x y h
-added_value x (pair op (variable y) (negation c)) store low h = no_literal op x y h
-added_value x (pair op (variable y) (pair other l r)) store low h = no_literal op x y h
-added_value x (pair op (number z) b) store low h = absurd h
-added_value x (pair op free b) store low h = absurd h
-added_value x (pair op (range lo hi) b) store low h = absurd h
-added_value x (pair op (truth t) b) store low h = absurd h
-added_value x (pair op (negative e) b) store low h = absurd h
-added_value x (pair op (negation c) b) store low h = absurd h
-added_value x (pair op (pair other l r) b) store low h = absurd h
-added_value x (number z) store low h = absurd h
-added_value x (variable y) store low h = absurd h
-added_value x free store low h = absurd h
-added_value x (range lo hi) store low h = absurd h
-added_value x (truth t) store low h = absurd h
-added_value x (negative e) store low h = absurd h
-added_value x (negation c) store low h = absurd h
+short_form x (pair op (variable y) (variable w)) h = no_literal op x y h
+short_form x (pair op (variable y) free) h = no_literal op x y h
+short_form x (pair op (variable y) (range lo hi)) h = no_literal op x y h
+short_form x (pair op (variable y) (truth b)) h = no_literal op x y h
+short_form x (pair op (variable y) (negative e)) h = no_literal op x y h
+short_form x (pair op (variable y) (negation c)) h = no_literal op x y h
+short_form x (pair op (variable y) (pair other l r)) h = no_literal op x y h
+short_form x (pair op (number z) b) h = absurd h
+short_form x (pair op free b) h = absurd h
+short_form x (pair op (range lo hi) b) h = absurd h
+short_form x (pair op (truth t) b) h = absurd h
+short_form x (pair op (negative e) b) h = absurd h
+short_form x (pair op (negation c) b) h = absurd h
+short_form x (pair op (pair other l r) b) h = absurd h
+short_form x (number z) h = absurd h
+short_form x (variable y) h = absurd h
+short_form x free h = absurd h
+short_form x (range lo hi) h = absurd h
+short_form x (truth t) h = absurd h
+short_form x (negative e) h = absurd h
+short_form x (negation c) h = absurd h
+
+eqb_same : (x : ℕ) → eqb x x ≡ true
+eqb_same x = ⊎_elim
+    (λ (same : (eqb x x ≡ true) × (x ≡ x)). same.0)
+    (λ (apart : (eqb x x ≡ false) × (x ≢ x)). absurd (apart.1 refl))
+    (eqb_tells x x)
+
+added_value : (x : ℕ) (v : Expression) (store : List ℤ) → x < 16 → IsShort (added x v)
+    → value_at (form_of v) store ≡ number_at store x +ℤ amount (added x v)
+added_value x v store low h =
+    let found = short_form x v h in
+    subst (λ t. value_at (form_of t) store ≡ number_at store x +ℤ amount (added x t)) (sym found.2)
+    (rw (eqb_same x) (literal_value found.0 x found.1 store low found.3))
 
 -- ---- the value behind an assignment
 module _ (e : Affine) (x : ℕ) (store : List ℤ) (long : length store ≡ 16) (low : x < 16) where
   inside : x < length store
   inside = omega arith
 
-  same_place : eqb x x ≡ true
-  same_place = ⊎_elim
-      (λ (same : (eqb x x ≡ true) × (x ≡ x)). same.0)
-      (λ (apart : (eqb x x ≡ false) × (x ≢ x)). absurd (apart.1 refl))
-      (eqb_tells x x)
-
   value_set : (z : ℤ) → value_at e (set store x z) ≡ value_at e store +ℤ coefficient e x *ℤ (z -ℤ number_at store x)
   value_set z =
-      let none : coefficient (without e x) x ≡ pos 0 = number_at-clear e.coef x x ∙ rw same_place refl in
-      let there : number_at (set store x z) x ≡ z = number_at-set store x x z inside ∙ rw same_place refl in
-      let rest : value_at (without e x) (set store x z) ≡ value_at (without e x) store = form_unmentioned (without e x) x store (pos 1) z inside none in
-      let behind : value_at e (set store x z) ≡ value_at (without e x) (set store x z) +ℤ coefficient e x *ℤ number_at (set store x z) x = form_apart e x (set store x z) (pos 1) low in
+      let none : coefficient (without e x) x ≡ pos 0 = number_at-clear e.coef x x ∙ rw (eqb_same x) refl in
+      let there : number_at (set store x z) x ≡ z = number_at-set store x x z inside ∙ rw (eqb_same x) refl in
+      let rest : value_at (without e x) (set store x z) ≡ value_at (without e x) store = form_unmentioned (without e x) x store
+      (pos 1) z inside none in
+      let behind : value_at e (set store x z) ≡ value_at (without e x) (set store x z) +ℤ coefficient e x *ℤ number_at (set store x z) x =
+      form_apart e x (set store x z) (pos 1) low in
       let before : value_at e store ≡ value_at (without e x) store +ℤ coefficient e x *ℤ number_at store x = form_apart e x store (pos 1) low in
       let product = ap (λ t. coefficient e x *ℤ t) there in
       let spread = mul_sub (coefficient e x) z (number_at store x) in

@@ -1,8 +1,8 @@
 -- What is known while a candidate is built.
-use Rattle.std.specs.Prelude.{ℕ, ◌^◌, ◌≤◌, ◌<◌, List, map, ⊤}
+use Rattle.std.specs.Prelude.{ℕ, ◌+◌, ◌^◌, ◌≤◌, ◌<◌, List, map, ⊤}
 use Rattle.linear_cons.specs.declared.affine.Affine.{Affine}
 use Rattle.linear_cons.specs.declared.row.Row.{Row}
-use Rattle.linear_cons.specs.Functions.{SubstitutionFits}
+use Rattle.linear_cons.specs.Functions.{SubstitutionFits, substituted}
 use Rattle.linear_cons.proofs.Sizes.{SizesAtMost}
 use Rattle.decision_tree.specs.Plans.{Plan, plan_of}
 use Rattle.decision_tree.specs.declared.affine_rank.AffineRank.{AffineRank}
@@ -16,6 +16,7 @@ use Rattle.step_meaning.specs.Countdown.{CountsFrom, form_of}
 use Rattle.step_meaning.specs.Turns.{IsModerate, MayAssign}
 use Rattle.step_meaning.specs.Valid.{IsBody}
 use Rattle.count_down.specs.Candidates.{behind, carried, counting, last_of_loop, last_steps, steps_before, turn_of_loop, turn_steps}
+use Rattle.count_down.specs.Trees.{count_tree}
 use Rattle.count_down.specs.declared.loop_trees.Lead.{Lead}
 use Rattle.count_down.specs.declared.loop_trees.Lengths.{Lengths}
 
@@ -62,6 +63,14 @@ lengths_of e body step more = record { turn = turn_steps e body step; last = las
 
 abbrev pub lead_of : Affine → Statements → Lead
 lead_of e s = record { function = carried e s; steps = steps_before s; lengths = record { turn = turn_of_loop e s; last = last_of_loop s } }
+
+-- what stands before an assignment in front
+abbrev pub lead_before : Lead → ℕ → Expression → Lead
+lead_before behind x v = record { function = substituted behind.function x (form_of v); steps = 1 + behind.steps; lengths = behind.lengths }
+
+-- the tree at the label of the first of these statements
+abbrev pub tree_of : Lead → Plan AffineRank
+tree_of lead = count_tree lead.lengths.turn lead.lengths.last lead.function lead.steps
 
 -- each is at most 1,024
 pub record AreShort (lengths : Lengths) : Type 0 where

@@ -1,10 +1,10 @@
 //! The trees of a candidate, last label first.
 
-ghost use Rattle.std.specs.Prelude.{◌≡◌, ◌+◌, ◌≤◌, ◌<◌, ◌++◌, [], pos, map, reverse, All, IfOk, OnOk, unsigned_abs};
+ghost use Rattle.std.specs.Prelude.{◌≡◌, ◌+◌, ◌≤◌, ◌<◌, ◌++◌, ◌∷◌, [], pos, map, reverse, All, IfOk, OnOk, unsigned_abs};
 ghost use Rattle.step_meaning.specs.Syntax.{expression, size_of, statements};
 ghost use Rattle.step_meaning.specs.Counts.{HasNoLoop};
-ghost use Rattle.step_meaning.specs.Countdown.{CountsDown, IsSmall, form_of};
-ghost use Rattle.linear_cons.specs.Functions.{constant_of, multiple_of, substituted, sum_of};
+ghost use Rattle.step_meaning.specs.Countdown.{CountsDown, IsSmall};
+ghost use Rattle.linear_cons.specs.Functions.{constant_of, multiple_of, sum_of};
 ghost use Rattle.decision_tree.specs.Plans.{plan_of};
 ghost use Rattle.count_down.specs.Building as building;
 ghost use Rattle.count_down.specs.Candidates as candidates;
@@ -77,9 +77,7 @@ pub(crate) fn add_all(
         Block::Then { first, rest } => match &first.kind {
             StmtKind::Assign { var, value } => {
                 let behind = add_all(alloc, rest, row, list)?;
-                let lead = behind.carried(*var, value);
-                list.push(count_tree(alloc, lead.lengths, &lead.function, lead.steps)?)?;
-                Ok(lead)
+                add_before(alloc, &behind, *var, value, list)
             }
             StmtKind::While {
                 test: _,
@@ -99,12 +97,34 @@ pub(crate) fn add_all(
     }
 }
 
+// Adds the tree at the label of an assignment in front. It is a call of its own so that a level of the recursion in `add_all` holds two
+// functions and few words else.
+#[inline(never)]
+fn add_before(
+    alloc: Global,
+    behind: &Lead,
+    var: u8,
+    value: &Expr,
+    list: &mut Vec<Tree<AffineRank>>,
+) -> Result<Lead, AllocError>
+    requires known { building.IsCarried behind.now.function var (expression value.now) }
+    requires modest { building.IsModest (building.lead_before behind.now var (expression value.now)).function }
+    requires short { building.AreShort behind.now.lengths }
+    requires few { behind.now.steps < 1024 }
+    ensures list { OnOk result (building.plans list.new.items ≡ building.plans list.old.items ++ building.tree_of (building.lead_before behind.now var (expression value.now)) ∷ []) }
+    ensures lead { IfOk result (λ lead. lead ≡ building.lead_before behind.now var (expression value.now)) }
+{
+    let lead = behind.carried(var, value);
+    list.push(count_tree(alloc, lead.lengths, &lead.function, lead.steps)?)?;
+    Ok(lead)
+}
+
 impl Lead {
     // What stands before an assignment in front.
     fn carried(&self, var: u8, value: &Expr) -> Lead
         requires known { building.IsCarried self.now.function var (expression value.now) }
         requires few { self.now.steps < 1024 }
-        ensures { result ≡ record { function = substituted self.now.function var (form_of (expression value.now)); steps = 1 + self.now.steps; lengths = self.now.lengths } }
+        ensures { result ≡ building.lead_before self.now var (expression value.now) }
     {
         let value = match function_of(value) {
             Some(value) => value,
@@ -119,6 +139,7 @@ impl Lead {
 }
 
 // Adds the trees at the labels of the loop and of the statements behind it.
+#[inline(never)]
 fn add_loop(
     alloc: Global,
     function: &Affine,

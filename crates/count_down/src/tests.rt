@@ -171,3 +171,87 @@ fn other_programs_have_none(rt: HostRuntime) -> Result<(), Fail> {
     }
     Ok(())
 }
+
+/// Long programs: what stands before a part of `main` that is repeated, the part, how often, what stands behind it; some labels, and the
+/// trees of the candidate there.
+const LONG: [(&str, &str, u32, &str, &[usize], &[&str]); 2] = [
+    (
+        "int x; ",
+        "x = 0; ",
+        1000,
+        "while (x > 0) x = x - 1;",
+        &[0, 1, 1000, 1001, 1002],
+        &[
+            "end 0",
+            "1001",
+            "2",
+            "[1x0 -1: 2x0 1 | 1]",
+            "[1x0 -2: 2x0 0 | 2]",
+        ],
+    ),
+    (
+        "int x; while (x > 0) { ",
+        "; ",
+        999,
+        "x = x - 1; }",
+        &[0, 1, 2, 1001],
+        &[
+            "end 0",
+            "[1x0 -1: 1001x0 1 | 1]",
+            "[1x0 -2: 1001x0 0 | 1001]",
+            "[1x0 -2: 1001x0 -999 | 2]",
+        ],
+    ),
+];
+
+/// A program in whose `main` the part is repeated so many times.
+fn long_text(
+    alloc: Global,
+    front: &str,
+    part: &str,
+    times: u32,
+    back: &str,
+) -> Result<String, AllocError> {
+    let mut text = format!(in alloc; "int main() {{ {front}")?;
+    for _ in 0..times {
+        text.push_str(part)?;
+    }
+    text.push_str(back)?;
+    text.push_str(" }")?;
+    Ok(text)
+}
+
+/// The tree of the label, if there is one.
+fn shown_at(alloc: Global, trees: &[Tree<AffineRank>], label: usize) -> Result<String, AllocError> {
+    match trees.get(label) {
+        Some(tree) => shown(alloc, tree),
+        None => format!(in alloc; "no label"),
+    }
+}
+
+#[test]
+fn long_programs_have_candidates(rt: HostRuntime) -> Result<(), Fail> {
+    for (front, part, times, back, labels, wanted) in LONG {
+        let text = long_text(rt.alloc(), front, part, times, back)?;
+        assert!(rt; text.len() <= 65536);
+        let Ok(program) = parse(rt.alloc(), text.as_bytes()) else {
+            panic!(rt; "{front}.. has a fault")
+        };
+        let Ok(graph) = Graph::of(rt.alloc(), &program) else {
+            panic!(rt; "{front}.. has no graph")
+        };
+        let Some(family) = candidate(rt.alloc(), &graph, &program)? else {
+            panic!(rt; "{front}.. has no candidate")
+        };
+        let trees = family.trees.items();
+        for (label, wanted) in labels.iter().zip(wanted.iter()) {
+            let found = shown_at(rt.alloc(), trees, *label)?;
+            assert_eq!(rt;
+                found.as_bytes(),
+                wanted.as_bytes(),
+                "of {front}.. at {label}: {found}"
+            );
+        }
+    }
+    Ok(())
+}
