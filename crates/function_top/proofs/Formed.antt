@@ -1,15 +1,16 @@
 -- Each line that the command writes has one of the known forms.
-use Rattle.std.proofs.Common.{◌≡◌, ℕ, pos, inl, inr, List, [], ◌∷◌, Option, None, Some, All, refl}
+use Rattle.std.proofs.Common.{◌≡◌, ℕ, inl, inr, List, [], ◌∷◌, Option, Some, All, refl, subst}
 use Rattle.std.proofs.lemmas.List.Elements.{All-cons, All-nil}
 use Rattle.step_meaning.specs.Syntax.{Statements}
 use Rattle.source_parse.specs.Derives.{IsTextOf}
-use Rattle.linear_cons.specs.Functions.{constant_of}
-use Rattle.line_text.specs.declared.claim.Claim.TheVariants.{Within, Unknown}
 use Rattle.line_text.specs.LineText.{functions_of}
 use Rattle.report_text.specs.declared.line.Line.{Line}
+use Rattle.report_text.specs.declared.report.Report.{Report}
+use Rattle.report_text.specs.Leaves.{claiming, claiming_nothing}
 use Rattle.report_text.specs.Printed.{IsReportText}
+use Rattle.function_top.specs.Analysis.{IsReportOf}
 use Rattle.function_top.specs.Form.{IsKnown, proved_head, unknown_head, all_verdict, some_verdict, words, program}
-use Rattle.function_top.specs.Report.{always, fault_line, fault_text, report_by, usage_line, usage_text}
+use Rattle.function_top.specs.Refusals.{fault_line, fault_text, usage_line, usage_text}
 use Rattle.function_top.proofs.Truth.{KnownLines, fault_lacks, usage_lacks}
 use Rattle.function_top.proofs.Written.{Bytes, EachWhole, Frames, Prints, one_good, report_holds}
 
@@ -40,10 +41,8 @@ module _ (left : Option Bytes) where
     all_spoken [] = All-nil (Prints (IsKnown left) frames names known.newline)
     all_spoken (line ∷ more) = All-cons (Prints (IsKnown left) frames names known.newline) line more (spoken line) (all_spoken more)
 
-    pub report_known : (path : Option ℕ) (text : Bytes) → IsReportText names (report_by path) text → EachWhole (IsKnown left) text
-    report_known (Some n) text printed =
-        (let bound = always (Within (constant_of (pos n))) ∷ [] in
-        report_holds (IsKnown left) frames names known.newline bound [] text (all_spoken bound) (all_spoken []) printed)
-    report_known None text printed =
-        (let nothing = always Unknown ∷ [] in
-        report_holds (IsKnown left) frames names known.newline [] nothing text (all_spoken []) (all_spoken nothing) printed)
+    pub report_known : (report : Report) (body : Statements) (text : Bytes) → IsReportOf names body report → IsReportText names report text
+        → EachWhole (IsKnown left) text
+    report_known report body text due printed =
+        report_holds (IsKnown left) frames names known.newline (claiming due.lines) (claiming_nothing due.lines) text
+        (all_spoken (claiming due.lines)) (all_spoken (claiming_nothing due.lines)) (subst (λ r. IsReportText names r text) due.sections printed)

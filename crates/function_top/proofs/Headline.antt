@@ -1,28 +1,42 @@
 -- What a run wrote is true and has a known form, and its status says what it wrote.
-use Rattle.std.proofs.Common.{◌≡◌, ◌≢◌, ℕ, ◌⊎◌, ◌≤◌, inl, inr, List, [], ◌++◌, length, take, Option, None, Some, refl, sym, ◌∙◌, subst, arith, append-nil}
+use Rattle.std.proofs.Common.{◌≡◌, ◌≢◌, ℕ, ◌⊎◌, ◌≤◌, false, inl, inr, List, [], ◌∷◌, ◌++◌, length, take, All, Option, None, Some, refl, sym, ap, ◌∙◌, subst, arith, append-nil}
 use Rattle.std.specs.Io.KnownBytes.{Appends, Keeps}
 use Rattle.std.proofs.lemmas.List.{append_cancel_left, take_all}
+use Rattle.std.proofs.lemmas.List.Elements.{All-append, All-cons, All-head, All-nil, All-tail}
 use Rattle.std.proofs.lemmas.Option.{same_Some}
 use Rattle.outside.specs.Faults.{Rose}
 use Rattle.outside.specs.Sink.{AppendsFront}
+use Rattle.step_meaning.specs.Countdown.{IsCountdown}
 use Rattle.step_meaning.specs.Syntax.{Statements}
 use Rattle.source_parse.specs.Derives.{IsTextOf}
 use Rattle.source_parse.specs.Laws.{NamesAreDistinct, NamesAreNames, TextsAreUnique}
+use Rattle.linear_cons.specs.declared.affine.Affine.{Affine}
+use Rattle.linear_cons.specs.Functions.{complement_of}
+use Rattle.decision_tree.specs.declared.affine_rank.AffineRank.{AffineRank}
+use Rattle.decision_tree.specs.Plans.{Plan, bottom, branch, leaf, top}
+use Rattle.count_down.specs.Trees.{IsWhole}
+use Rattle.line_text.specs.declared.claim.Claim.{Claim}
+use Rattle.line_text.specs.declared.claim.Claim.TheVariants.{Within}
 use Rattle.line_text.specs.Names.{AreNames}
+use Rattle.line_text.specs.Spells.{Spells}
+use Rattle.report_text.specs.declared.line.Line.{Line}
+use Rattle.report_text.specs.declared.line.Top.TheVariants.{Bound}
+use Rattle.report_text.specs.declared.report.Report.{Report}
+use Rattle.report_text.specs.Leaves.{AreLines, claiming_nothing, is_unknown, leaves_below, none, skipped, stands}
 use Rattle.report_text.specs.Printed.{IsReportText}
 use Rattle.function_top.specs.declared.status.Status.{Status}
 use Rattle.function_top.specs.declared.status.Status.TheVariants.{AllInputs, SomeInputs, Words, Program, Formula, ReadFault, WriteFault, NoMemory}
-use Rattle.function_top.specs.Answer.{Answers, IsComplete, after_failing}
+use Rattle.function_top.specs.Analysis.{IsReportOf}
+use Rattle.function_top.specs.Answer.{Answers, CoversCountdowns, IsComplete, after_failing}
 use Rattle.function_top.specs.Call.{Call}
-use Rattle.function_top.specs.Due.{IsDueOn}
+use Rattle.function_top.specs.Due.{IsDueOn, IsPastLimits, IsReportOn, IsWithinLimits}
 use Rattle.function_top.specs.Form.{IsKnown}
-use Rattle.function_top.specs.LongestPath.{longest_path}
-use Rattle.function_top.specs.Report.{report_by, usage_text}
+use Rattle.function_top.specs.Refusals.{usage_text}
 use Rattle.function_top.specs.Text.{IsRead}
 use Rattle.function_top.proofs.Formed.{fault_known, report_known}
 use Rattle.function_top.proofs.Named.{program_names}
 use Rattle.function_top.proofs.Truth.{EndAsLines, KnownLines, SaysTrue, fault_true, report_true}
-use Rattle.function_top.proofs.Written.{Bytes, EachWhole, of_front, of_nothing}
+use Rattle.function_top.proofs.Written.{Bytes, EachWhole, Lacks, of_front, of_nothing}
 
 -- what is known of programs' texts and of the lines of reports
 pub record KnownTexts : Type 0 where
@@ -32,30 +46,40 @@ pub record KnownTexts : Type 0 where
   pub ending : EndAsLines
   pub lines : (names : List Bytes) → AreNames names → KnownLines names
 
+pub known_texts : TextsAreUnique → NamesAreNames → NamesAreDistinct → EndAsLines
+    → ((names : List Bytes) (line : Bytes) (condition : List Affine) (claim : Claim) → AreNames names → Spells names line condition claim → Lacks line)
+    → ((names : List Bytes) (line : Bytes) (condition other : List Affine) (claim claim' : Claim) → AreNames names → Spells names line condition claim
+    → Spells names line other claim' → (condition ≡ other) × (claim ≡ claim'))
+    → KnownTexts
+known_texts unique spelled distinct ending newline one = record {
+  unique = unique;
+  spelled = spelled;
+  distinct = distinct;
+  ending = ending;
+  lines = λ names are. record {
+    newline = λ line condition claim. newline names line condition claim are;
+    one = λ line condition other claim claim'. one names line condition other claim claim' are;
+  };
+}
+
 -- ---- what is due is true, and of a known form
 
-due_report : KnownTexts → (text : Bytes) (names : List Bytes) (body : Statements) (bytes : Bytes) → IsTextOf text names body
-    → IsReportText names (report_by (longest_path body)) bytes → EachWhole (SaysTrue names body) bytes
-due_report known text names body bytes h printed =
-    report_true names body known.ending (known.lines names (program_names known.spelled known.distinct text names body h)) (longest_path body) bytes
-    refl printed
-
-report_on : KnownTexts → (text : Bytes) (names : List Bytes) (body : Statements) (bytes : Bytes) → IsTextOf text names body
-    → (n : List Bytes) (b : Statements) → IsTextOf text n b → IsReportText n (report_by (longest_path b)) bytes → EachWhole (SaysTrue names body) bytes
-report_on known text names body bytes h n b found printed =
-    let same = known.unique text n names b body found h in
-    due_report known text names body bytes h
-    (subst (λ ns. IsReportText ns (report_by (longest_path body)) bytes) same.0
-    (subst (λ bs. IsReportText n (report_by (longest_path bs)) bytes) same.1 printed))
+report_on : KnownTexts → (text : Bytes) (names : List Bytes) (body : Statements) (report : Report) (bytes : Bytes) → IsTextOf text names body
+    → IsReportOn text report bytes → EachWhole (SaysTrue names body) bytes
+report_on known text names body report bytes h due =
+    let same = known.unique text due.names names due.body body due.program h in
+    report_true names body known.ending (known.lines names (program_names known.spelled known.distinct text names body h)) report bytes
+    (subst (λ ns. IsReportOf ns body report) same.0 (subst (λ bs. IsReportOf due.names bs report) same.1 due.due))
+    (subst (λ ns. IsReportText ns report bytes) same.0 due.printed)
 
 pub due_true : KnownTexts → (text : Bytes) (names : List Bytes) (body : Statements) (status : Status) (bytes : Bytes) → IsTextOf text names body
     → IsDueOn text status bytes → EachWhole (SaysTrue names body) bytes
-due_true known text names body AllInputs bytes h due =
-    report_on known text names body bytes h due.1.names due.1.body due.1.program (subst (λ r. IsReportText due.1.names r bytes) due.1.due due.1.printed)
-due_true known text names body SomeInputs bytes h due =
-    report_on known text names body bytes h due.1.names due.1.body due.1.program (subst (λ r. IsReportText due.1.names r bytes) due.1.due due.1.printed)
+due_true known text names body AllInputs bytes h due = report_on known text names body due.0 bytes h due.1
+due_true known text names body SomeInputs bytes h due = report_on known text names body due.0 bytes h due.1
 due_true known text names body Program bytes h (inl long) = subst (EachWhole (SaysTrue names body)) (sym long.line_is) (fault_true names body known.ending 14 65536)
-due_true known text names body Program bytes h (inr none) = absurd (none.none names body h)
+due_true known text names body Program bytes h (inr (inl other)) = absurd (other.none names body h)
+due_true known text names body Program bytes h (inr (inr past)) =
+    subst (EachWhole (SaysTrue names body)) (sym past.line_is) (fault_true names body known.ending past.number past.place)
 due_true known text names body Words bytes h due = absurd due
 due_true known text names body Formula bytes h due = absurd due
 due_true known text names body ReadFault bytes h due = absurd due
@@ -66,22 +90,21 @@ due_true known text names body NoMemory bytes h due = absurd due
 pub told_read : (left : Option Bytes) (text told : Bytes) → IsRead left text → left ≡ Some told → told ≡ text
 told_read left text told read is = subst (λ l. IsRead l text) is read
 
-known_report : KnownTexts → (left : Option Bytes) (text : Bytes) → IsRead left text → (bytes : Bytes) (names : List Bytes) (body : Statements)
-    → IsTextOf text names body → IsReportText names (report_by (longest_path body)) bytes → EachWhole (IsKnown left) bytes
-known_report known left text read bytes names body h printed =
-    report_known left names (known.lines names (program_names known.spelled known.distinct text names body h))
-    (λ told declared other is own. (known.unique text names declared body other h
+known_report : KnownTexts → (left : Option Bytes) (text : Bytes) → IsRead left text → (report : Report) (bytes : Bytes)
+    → IsReportOn text report bytes → EachWhole (IsKnown left) bytes
+known_report known left text read report bytes due =
+    report_known left due.names (known.lines due.names (program_names known.spelled known.distinct text due.names due.body due.program))
+    (λ told declared other is own. (known.unique text due.names declared due.body other due.program
     (subst (λ t. IsTextOf t declared other) (told_read left text told read is) own)).0)
-    (longest_path body) bytes printed
+    report due.body bytes due.due due.printed
 
 pub due_known : KnownTexts → (left : Option Bytes) (text : Bytes) → IsRead left text → (status : Status) (bytes : Bytes)
     → IsDueOn text status bytes → EachWhole (IsKnown left) bytes
-due_known known left text read AllInputs bytes due =
-    known_report known left text read bytes due.1.names due.1.body due.1.program (subst (λ r. IsReportText due.1.names r bytes) due.1.due due.1.printed)
-due_known known left text read SomeInputs bytes due =
-    known_report known left text read bytes due.1.names due.1.body due.1.program (subst (λ r. IsReportText due.1.names r bytes) due.1.due due.1.printed)
+due_known known left text read AllInputs bytes due = known_report known left text read due.0 bytes due.1
+due_known known left text read SomeInputs bytes due = known_report known left text read due.0 bytes due.1
 due_known known left text read Program bytes (inl long) = subst (EachWhole (IsKnown left)) (sym long.line_is) (fault_known left 14 65536)
-due_known known left text read Program bytes (inr none) = subst (EachWhole (IsKnown left)) (sym none.line_is) (fault_known left none.number none.place)
+due_known known left text read Program bytes (inr (inl other)) = subst (EachWhole (IsKnown left)) (sym other.line_is) (fault_known left other.number other.place)
+due_known known left text read Program bytes (inr (inr past)) = subst (EachWhole (IsKnown left)) (sym past.line_is) (fault_known left past.number past.place)
 due_known known left text read Words bytes due = absurd due
 due_known known left text read Formula bytes due = absurd due
 due_known known left text read ReadFault bytes due = absurd due
@@ -185,22 +208,65 @@ settled_accepts status result text bytes taken taken' writes writes' due (inr h)
 
 -- no other status is left for the text of a program within the limits
 not_refused : (left : Option Bytes) (told text : Bytes) (names : List Bytes) (body : Statements) (bytes : Bytes) → left ≡ Some told → IsRead left text
-    → IsTextOf told names body → length told ≤ 65536 → IsDueOn text Program bytes → ⊥
-not_refused left told text names body bytes is read h short (inl long) =
+    → IsTextOf told names body → IsWithinLimits told → IsDueOn text Program bytes → ⊥
+not_refused left told text names body bytes is read h limits (inl long) =
     let same = told_read left text told read is in
-    let fits : length text ≤ 65536 = subst (λ t. length t ≤ 65536) same short in
+    let fits : length text ≤ 65536 = subst (λ t. length t ≤ 65536) same limits.short in
     let over = long.long in
     omega (arith, fits, over)
-not_refused left told text names body bytes is read h short (inr none) =
-    none.none names body (subst (λ t. IsTextOf t names body) (told_read left text told read is) h)
+not_refused left told text names body bytes is read h limits (inr (inl other)) =
+    other.none names body (subst (λ t. IsTextOf t names body) (told_read left text told read is) h)
+not_refused left told text names body bytes is read h limits (inr (inr past)) =
+    limits.graph bytes (subst (λ t. IsPastLimits t bytes) (sym (told_read left text told read is)) past)
 
 pub complete : {W : Type 0} (words : List W) (status : Status) (call : Call) → status ≢ Words → Answers status call → IsComplete words status call
-complete words AllInputs call accepted h order text names body asked is program short reads writes = inl refl
-complete words SomeInputs call accepted h order text names body asked is program short reads writes = inr (inl refl)
-complete words NoMemory call accepted h order text names body asked is program short reads writes = inr (inr refl)
-complete words Words call accepted h order text names body asked is program short reads writes = absurd (accepted refl)
-complete words Program call accepted h order text names body asked is program short reads writes =
-    absurd (not_refused call.left text h.1.text names body h.0 is h.1.read program short h.1.due)
-complete words Formula call accepted h order text names body asked is program short reads writes = absurd h
-complete words ReadFault call accepted h order text names body asked is program short reads writes = absurd (reads h.0)
-complete words WriteFault call accepted h order text names body asked is program short reads writes = absurd (writes h.3)
+complete words AllInputs call accepted h order text names body asked is program limits reads writes = inl refl
+complete words SomeInputs call accepted h order text names body asked is program limits reads writes = inr (inl refl)
+complete words NoMemory call accepted h order text names body asked is program limits reads writes = inr (inr refl)
+complete words Words call accepted h order text names body asked is program limits reads writes = absurd (accepted refl)
+complete words Program call accepted h order text names body asked is program limits reads writes =
+    absurd (not_refused call.left text h.1.text names body h.0 is h.1.read program limits h.1.due)
+complete words Formula call accepted h order text names body asked is program limits reads writes = absurd h
+complete words ReadFault call accepted h order text names body asked is program limits reads writes = absurd (reads h.0)
+complete words WriteFault call accepted h order text names body asked is program limits reads writes = absurd (writes h.3)
+
+-- ---- countdown programs
+
+-- the leaf claims something
+abbrev Claims : List Affine × Claim → Type 0
+Claims below = is_unknown below.1 ≡ false
+
+-- a tree without an undefined leaf claims something at each leaf
+all_claim : (above : List Affine) (tree : Plan AffineRank) → IsWhole tree → All Claims (leaves_below Bound above tree)
+all_claim above bottom whole = absurd whole
+all_claim above (top cause) whole = absurd whole
+all_claim above (leaf why rank) whole = All-cons Claims (above, Within rank.value) [] refl (All-nil Claims)
+all_claim above (branch row this that) whole =
+    All-append Claims (leaves_below Bound (above ++ row.affine ∷ []) this) (leaves_below Bound (above ++ complement_of row.affine ∷ []) that)
+    (all_claim (above ++ row.affine ∷ []) this whole.0) (all_claim (above ++ complement_of row.affine ∷ []) that whole.1)
+
+none_unknown : {leaves : List (List Affine × Claim)} {lines : List Line} → AreLines leaves lines → All Claims leaves → claiming_nothing lines ≡ []
+none_unknown none all = refl
+none_unknown (skipped {path} {claim} {leaves} nowhere more) all = none_unknown more (All-tail Claims (path, claim) leaves all)
+none_unknown (stands {path} {claim} {line} {leaves} {lines} is more) all =
+    let claims : is_unknown line.claim ≡ false = ap is_unknown is.claims ∙ All-head Claims (path, claim) leaves all in
+    rw claims (none_unknown more (All-tail Claims (path, claim) leaves all))
+
+covered : (names : List Bytes) (body : Statements) (report : Report) → IsReportOf names body report → IsCountdown body → report.unknown ≡ []
+covered names body report due counts =
+    ap (λ (r : Report). r.unknown) due.sections ∙ none_unknown due.lines_of (all_claim [] due.tree (due.countdown counts))
+
+pub covers_countdowns : KnownTexts → (status : Status) (call : Call) → Answers status call → CoversCountdowns status call
+covers_countdowns known SomeInputs call h told names body is program counts same =
+    let due = h.1.due in
+    let own = known.unique h.1.text names due.1.names body due.1.body
+    (subst (λ t. IsTextOf t names body) (told_read call.left h.1.text told h.1.read is) program) due.1.program
+    in
+    due.2 (covered due.1.names due.1.body due.0 due.1.due (subst IsCountdown own.1 counts))
+covers_countdowns known AllInputs call h told names body is program counts same = cc
+covers_countdowns known Words call h told names body is program counts same = cc
+covers_countdowns known Program call h told names body is program counts same = cc
+covers_countdowns known Formula call h told names body is program counts same = cc
+covers_countdowns known ReadFault call h told names body is program counts same = cc
+covers_countdowns known WriteFault call h told names body is program counts same = cc
+covers_countdowns known NoMemory call h told names body is program counts same = cc

@@ -1,31 +1,85 @@
--- The line of a bound is over each list of few names.
-use Rattle.std.proofs.Common.{◌≡◌, ℕ, ◌≤◌, ℤ, pos, List, [], ◌∷◌, length, All, refl, sym, subst, arith}
-use Rattle.std.proofs.lemmas.List.Elements.{All-cons, All-nil}
+-- The lines of a tree over the names are over them.
+use Rattle.std.proofs.Common.{◌≡◌, ⊎_elim, ℕ, ◌<◌, ◌≤◌, ℤ, pos, negsuc, ◌-ℤ◌, List, [], ◌∷◌, ◌++◌, length, All, Contains, sym, subst, ◌∙◌, arith}
+use Rattle.std.proofs.lemmas.Bool.{cases_lt}
+use Rattle.std.proofs.lemmas.Int.{ints}
+use Rattle.std.proofs.lemmas.List.{get_or_past}
+use Rattle.std.proofs.lemmas.List.Elements.{All-append, All-cons, All-head, All-map, All-nil, All-push, All-tail, All-weaker}
 use Rattle.linear_cons.specs.declared.affine.Affine.{Affine}
+use Rattle.linear_cons.specs.declared.row.Row.{Row}
 use Rattle.linear_cons.specs.Numbers.{at_places, number_at}
-use Rattle.linear_cons.specs.Functions.{constant_of}
+use Rattle.linear_cons.specs.Functions.{coefficient, complement_of, constant_of}
+use Rattle.linear_cons.proofs.Places.{length-at_places, number_at_places}
+use Rattle.linear_solve.proofs.Lists.{member_of}
+use Rattle.decision_tree.specs.declared.affine_rank.AffineRank.{AffineRank}
+use Rattle.decision_tree.specs.Plans.{Plan, bottom, branch, leaf, top}
+use Rattle.count_down.specs.Trees as trees
+use Rattle.line_text.specs.declared.claim.Claim.{Claim}
+use Rattle.line_text.specs.declared.claim.Claim.TheVariants.{Unknown, Within}
 use Rattle.line_text.specs.Names.{IsOver}
-use Rattle.line_text.specs.declared.claim.Claim.TheVariants.{Within}
-use Rattle.line_text.proofs.Zeros.{zeros_read}
+use Rattle.line_text.specs.Spells.{IsClaimOver}
 use Rattle.report_text.specs.declared.line.Line.{Line}
+use Rattle.report_text.specs.declared.line.Top.TheVariants.{Bound}
+use Rattle.report_text.specs.Leaves.{AreLines, AreLinesOf, IsLineOf, leaves_below, none, skipped, stands}
 use Rattle.report_text.specs.Printed.{IsLineOver}
-use Rattle.function_top.specs.Report.{always}
+use Rattle.function_top.specs.Analysis.{IsTreeOver}
 
-zeros : (place : ℕ) → number_at (at_places (λ i. pos 0)) place ≡ pos 0
-unfolding at_places
-zeros = zeros_read (at_places (λ i. pos 0)) refl
+-- a function of the numbers at places is 0 where its numbers are
+zero_at : (f : ℕ → ℤ) (place : ℕ) → (place < 16 → f place ≡ pos 0) → number_at (at_places f) place ≡ pos 0
+zero_at f place is = ⊎_elim
+    (λ low. number_at_places f place low ∙ is low)
+    (λ past. get_or_past (at_places f) place (pos 0) (subst (λ n. n ≤ place) (sym (length-at_places f)) past))
+    (cases_lt place 16)
 
-sixteen : length (at_places (λ i. pos 0)) ≡ 16
-unfolding at_places
-sixteen = refl
+module _ (names : List (List ℕ)) where
+  complement_over : (a : Affine) → IsOver names a → IsOver names (complement_of a)
+  complement_over a over = record {
+    few = over.few;
+    places = length-at_places (λ i. coefficient (constant_of (negsuc 0)) i -ℤ coefficient a i);
+    past = λ place low. zero_at (λ i. coefficient (constant_of (negsuc 0)) i -ℤ coefficient a i) place
+        (λ below. let none = number_at_places (λ i. pos 0) place below in let same = over.past place low in omega (arith, ints, none, same));
+  }
 
-constant_over : (names : List (List ℕ)) (c : ℤ) → length names ≤ 15 → IsOver names (constant_of c)
-constant_over names c few = record { few = omega arith; places = sixteen; past = λ place low. zeros place }
+  -- the path and the claim of a leaf
+  record IsLeafOver (below : List Affine × Claim) : Type 0 where
+    pub path : All (IsOver names) below.0
+    pub claim : IsClaimOver names below.1
 
-pub bound_over : (names : List (List ℕ)) (lines : List Line) (bound : Affine) (c : ℤ) → length names ≤ 15 → bound ≡ constant_of c
-    → lines ≡ always (Within bound) ∷ [] → All (IsLineOver names) lines
-bound_over names lines bound c few constant are =
-    subst (All (IsLineOver names)) (sym are)
-    (All-cons (IsLineOver names) (always (Within bound)) []
-    (record { rows = All-nil (IsOver names); claims = subst (IsOver names) (sym constant) (constant_over names c few) })
-    (All-nil (IsLineOver names)))
+  one_over : (path : List Affine) (claim : Claim) → All (IsOver names) path → IsClaimOver names claim → All IsLeafOver ((path, claim) ∷ [])
+  one_over path claim over claims = All-cons IsLeafOver (path, claim) [] (record { path = over; claim = claims }) (All-nil IsLeafOver)
+
+  leaves_over : (above : List Affine) (tree : Plan AffineRank) → All (IsOver names) above → IsTreeOver names tree
+      → All IsLeafOver (leaves_below Bound above tree)
+  leaves_over above bottom over tree = one_over above Unknown over tt
+  leaves_over above (top cause) over tree = one_over above Unknown over tt
+  leaves_over above (leaf why rank) over tree = one_over above (Within rank.value) over tree
+  leaves_over above (branch row this that) over tree =
+      All-append IsLeafOver (leaves_below Bound (above ++ row.affine ∷ []) this) (leaves_below Bound (above ++ complement_of row.affine ∷ []) that)
+      (leaves_over (above ++ row.affine ∷ []) this (All-push (IsOver names) above row.affine over tree.0) tree.1)
+      (leaves_over (above ++ complement_of row.affine ∷ []) that
+      (All-push (IsOver names) above (complement_of row.affine) over (complement_over row.affine tree.0)) tree.2)
+
+  line_over : (path : List Affine) (claim : Claim) (line : Line) → IsLineOf path claim line → IsLeafOver (path, claim) → IsLineOver names line
+  line_over path claim line is over = record {
+    rows = All-map (IsOver names) (λ (row : Row). row.affine) line.rows
+        (All-weaker (λ (row : Row). Contains path row.affine) (λ (row : Row). IsOver names row.affine)
+        (λ row member. member_of (IsOver names) path row.affine over.path member) line.rows is.rows.among);
+    claims = subst (IsClaimOver names) (sym is.claims) over.claim;
+  }
+
+  lines_over : {leaves : List (List Affine × Claim)} {lines : List Line} → AreLines leaves lines → All IsLeafOver leaves → All (IsLineOver names) lines
+  lines_over none over = All-nil (IsLineOver names)
+  lines_over (skipped {path} {claim} {leaves} nowhere more) over = lines_over more (All-tail IsLeafOver (path, claim) leaves over)
+  lines_over (stands {path} {claim} {line} {leaves} {lines} is more) over =
+      All-cons (IsLineOver names) line lines (line_over path claim line is (All-head IsLeafOver (path, claim) leaves over))
+      (lines_over more (All-tail IsLeafOver (path, claim) leaves over))
+
+  -- a tree over variables below the number of names is over the names
+  pub tree_over : length names ≤ 16 → (tree : Plan AffineRank) → trees.IsTreeOver (length names) tree → IsTreeOver names tree
+  tree_over few bottom is = tt
+  tree_over few (top cause) is = tt
+  tree_over few (leaf why rank) is = record { few = few; places = is.places; past = is.past }
+  tree_over few (branch row this that) is =
+      (record { few = few; places = is.0.places; past = is.0.past }, tree_over few this is.1, tree_over few that is.2)
+
+  pub tree_lines_over : (tree : Plan AffineRank) (lines : List Line) → IsTreeOver names tree → AreLinesOf Bound tree lines → All (IsLineOver names) lines
+  tree_lines_over tree lines over are = lines_over are (leaves_over [] tree (All-nil (IsOver names)) over)

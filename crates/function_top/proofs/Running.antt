@@ -8,10 +8,10 @@ use Rattle.function_top.specs.Call.{Call}
 use Rattle.function_top.specs.Due.{IsDueOn}
 use Rattle.function_top.specs.Form.{IsKnown}
 use Rattle.function_top.specs.Order.{Order, Ask}
-use Rattle.function_top.specs.Report.{usage_text}
+use Rattle.function_top.specs.Refusals.{usage_text}
 use Rattle.function_top.specs.Text.{IsRead}
 use Rattle.function_top.proofs.Formed.{usage_known}
-use Rattle.function_top.proofs.Headline.{KnownTexts, Settles, complete, due_known, due_true, front_written, nothing_written, refused_answers, settled_accepts, settled_answers, told_read}
+use Rattle.function_top.proofs.Headline.{KnownTexts, Settles, complete, covers_countdowns, due_known, due_true, front_written, nothing_written, refused_answers, settled_accepts, settled_answers, told_read}
 use Rattle.function_top.proofs.Truth.{SaysTrue, usage_true}
 use Rattle.function_top.proofs.Written.{Bytes}
 
@@ -44,11 +44,12 @@ module _ {W : Type 0} (words : List W) (call : Call) where
         answers = answers;
         refuses = no_refusal result accepted other;
         complete = complete words result call other answers;
+        countdowns = covers_countdowns known result call answers;
       }
 
   -- nothing was written
-  pub run_silent : Accepted words → (result : Status) → result ≢ Words → call.taken_after ≡ call.taken → Answers result call → IsRun words result call
-  run_silent accepted result other same answers = record {
+  pub run_silent : KnownTexts → Accepted words → (result : Status) → result ≢ Words → call.taken_after ≡ call.taken → Answers result call → IsRun words result call
+  run_silent known accepted result other same answers = record {
     headline = λ told before written names body is h taken taken' line condition claim whole s.
         nothing_written (SaysTrue names body) call.taken before written taken (sym same ∙ taken') line whole condition claim s;
     form = λ before written line taken taken' whole.
@@ -56,6 +57,7 @@ module _ {W : Type 0} (words : List W) (call : Call) where
     answers = answers;
     refuses = no_refusal result accepted other;
     complete = complete words result call other answers;
+    countdowns = covers_countdowns known result call answers;
   }
 
   -- the words were refused, and the usage line was written, or a front of it
@@ -71,5 +73,6 @@ module _ {W : Type 0} (words : List W) (call : Call) where
             (usage_known call.left) settled before written taken taken' line whole;
         answers = said.1;
         refuses = ((λ e. refused), (λ none. said.0));
-        complete = λ order text names body asked is program short reads writes. absurd (refused (order, asked));
+        complete = λ order text names body asked is program limits reads writes. absurd (refused (order, asked));
+        countdowns = covers_countdowns known result call said.1;
       }

@@ -16,7 +16,7 @@ use Rattle.report_text.specs.declared.report.Header.TheVariants.{Absent}
 use Rattle.report_text.specs.Printed.{AreTextsOf, IsReportText, IsTextOf, ended_lines, report_lines, verdict_line}
 use Rattle.report_text.specs.Sections.{IsWholeLine, lines_after, whole_lines}
 use Rattle.report_text.proofs.Cutting.{whole_lines_are}
-use Rattle.function_top.specs.Report.{plain_report}
+use Rattle.function_top.specs.Analysis.{plain_report}
 
 abbrev pub Bytes : Type 0
 Bytes = List ℕ

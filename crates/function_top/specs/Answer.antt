@@ -1,18 +1,19 @@
 -- What each status of the command says.
-use Rattle.std.specs.Prelude.{◌≡◌, ℕ, ◌≤◌, ◌⊎◌, ◌↔◌, List, length, Some}
+use Rattle.std.specs.Prelude.{◌≡◌, ◌≢◌, ℕ, ◌⊎◌, ◌↔◌, List, Some}
 use Rattle.std.specs.Io.KnownBytes.{Appends, Keeps}
 use Rattle.outside.specs.Faults.{Rose}
 use Rattle.outside.specs.Sink.{AppendsFront, WritesOrFails}
 use Rattle.step_meaning.specs.Syntax.{Statements}
+use Rattle.step_meaning.specs.Countdown.{IsCountdown}
 use Rattle.source_parse.specs.Derives.{IsTextOf}
 use Rattle.function_top.specs.declared.status.Status.{Status}
 use Rattle.function_top.specs.declared.status.Status.TheVariants.{AllInputs, SomeInputs, Words, Program, Formula, ReadFault, WriteFault, NoMemory}
 use Rattle.function_top.specs.Call.{Call}
-use Rattle.function_top.specs.Due.{IsDueOn}
+use Rattle.function_top.specs.Due.{IsDueOn, IsWithinLimits}
 use Rattle.function_top.specs.Form.{Form}
 use Rattle.function_top.specs.Headline.{Headline}
 use Rattle.function_top.specs.Order.{Order, Ask}
-use Rattle.function_top.specs.Report.{usage_text}
+use Rattle.function_top.specs.Refusals.{usage_text}
 use Rattle.function_top.specs.Text.{IsRead}
 
 -- the status where a write of what was due with this status failed: a report has one of its own
@@ -56,9 +57,15 @@ Answers NoMemory call = (call.read_faults_after ≡ call.read_faults) × Keeps c
 abbrev pub IsComplete : {W : Type 0} → List W → Status → Call → Type 0
 IsComplete words status call =
     (order : Order) (text : List ℕ) (names : List (List ℕ)) (body : Statements) → Ask words order → call.left ≡ Some text
-    → IsTextOf text names body → length text ≤ 65536
+    → IsTextOf text names body → IsWithinLimits text
     → ¬ Rose call.read_faults call.read_faults_after → ¬ Rose call.write_faults call.write_faults_after
     → (status ≡ AllInputs) ⊎ (status ≡ SomeInputs) ⊎ (status ≡ NoMemory)
+
+-- No input of a countdown program is left out.
+abbrev pub CoversCountdowns : Status → Call → Type 0
+CoversCountdowns status call =
+    (text : List ℕ) (names : List (List ℕ)) (body : Statements) → call.left ≡ Some text → IsTextOf text names body → IsCountdown body
+    → status ≢ SomeInputs
 
 -- All that is said of a call of the command with these words that ended with this status.
 pub record IsRun {W : Type 0} (words : List W) (status : Status) (call : Call) : Type 0 where
@@ -67,3 +74,4 @@ pub record IsRun {W : Type 0} (words : List W) (status : Status) (call : Call) :
   pub answers : Answers status call
   pub refuses : (status ≡ Words) ↔ (¬ ((order : Order) × Ask words order))
   pub complete : IsComplete words status call
+  pub countdowns : CoversCountdowns status call

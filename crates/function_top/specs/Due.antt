@@ -1,15 +1,21 @@
 -- What is due on a text.
-use Rattle.std.specs.Prelude.{◌≡◌, ◌≢◌, ℕ, ◌<◌, ◌≤◌, ◌⊎◌, List, [], length, Some}
+use Rattle.std.specs.Prelude.{◌≡◌, ◌≢◌, ℕ, ◌<◌, ◌≤◌, ◌⊎◌, List, [], length, Option, None, Some}
+use Rattle.step_meaning.specs.declared.program.Program.{Program as Parsed}
+use Rattle.step_meaning.specs.Places.{places}
 use Rattle.step_meaning.specs.Syntax.{Statements}
 use Rattle.source_parse.specs.declared.fault.ParseFault.{ParseFault}
-use Rattle.source_parse.specs.Derives.{IsTextOf, DerivesNone}
+use Rattle.source_parse.specs.Derives.{Derives, DerivesNone, HasPlaces, IsTextOf}
 use Rattle.source_parse.specs.Faults.{IsFaultOf, numbered}
+use Rattle.control_flow.specs.declared.fault.FlowFault.{FlowFault}
+use Rattle.control_flow.specs.declared.fault.FlowFault.TheVariants.{Labels, Conjunctions, Memory}
+use Rattle.control_flow.specs.Faults.{IsFlowFault}
+use Rattle.report_text.specs.declared.line.Line.{Line}
 use Rattle.report_text.specs.declared.report.Report.{Report}
 use Rattle.report_text.specs.Printed.{IsReportText}
 use Rattle.function_top.specs.declared.status.Status.{Status}
 use Rattle.function_top.specs.declared.status.Status.TheVariants.{AllInputs, SomeInputs, Words, Program, Formula, ReadFault, WriteFault, NoMemory}
-use Rattle.function_top.specs.LongestPath.{longest_path}
-use Rattle.function_top.specs.Report.{fault_text, report_by}
+use Rattle.function_top.specs.Analysis.{IsReportOf}
+use Rattle.function_top.specs.Refusals.{fault_text}
 
 -- the text, of at most 65,536 bytes, is a program, and these bytes are the report that is due on it
 pub record IsReportOn (text : List ℕ) (report : Report) (bytes : List ℕ) : Type 0 where
@@ -17,7 +23,7 @@ pub record IsReportOn (text : List ℕ) (report : Report) (bytes : List ℕ) : T
   pub names : List (List ℕ)
   pub body : Statements
   pub program : IsTextOf text names body
-  pub due : report ≡ report_by (longest_path body)
+  pub due : IsReportOf names body report
   pub printed : IsReportText names report bytes
 
 -- the text is too long, and this is the line that says so
@@ -36,14 +42,55 @@ pub record IsNoProgram (text line : List ℕ) : Type 0 where
   pub number_of : numbered fault ≡ Some (number, place)
   pub line_is : line ≡ fault_text number place
 
+-- the number and the place of a fault of a program's graph
+abbrev pub flow_numbered : FlowFault → Option (ℕ × ℕ)
+flow_numbered (Labels at count) = Some (12, at)
+flow_numbered (Conjunctions at count) = Some (13, at)
+flow_numbered (Memory error) = None
+
+-- the text is a program, whose statements stand at these places, with more labels than 1,024 or a test that spreads to more than 64
+-- conjunctions; and this is the line that says so
+pub record IsPastLimits (text line : List ℕ) : Type 0 where
+  pub short : length text ≤ 65536
+  pub program : Parsed
+  pub derived : Derives text program
+  pub stand : HasPlaces text (places program.body)
+  pub fault : FlowFault
+  pub number : ℕ
+  pub place : ℕ
+  pub fault_of : IsFlowFault fault program.body
+  pub number_of : flow_numbered fault ≡ Some (number, place)
+  pub line_is : line ≡ fault_text number place
+
+-- the status of a report with these unknown lines: all inputs exactly where there is none
+abbrev pub IsVerdict : Status → List Line → Type 0
+IsVerdict AllInputs unknown = unknown ≡ []
+IsVerdict SomeInputs unknown = unknown ≢ []
+IsVerdict Words unknown = ⊥
+IsVerdict Program unknown = ⊥
+IsVerdict Formula unknown = ⊥
+IsVerdict ReadFault unknown = ⊥
+IsVerdict WriteFault unknown = ⊥
+IsVerdict NoMemory unknown = ⊥
+
 -- These bytes are due on the text, and with them comes the status: a report that covers all inputs, one that doesn't, or the line of a text
 -- that is refused.
 abbrev pub IsDueOn : List ℕ → Status → List ℕ → Type 0
 IsDueOn text AllInputs bytes = (report : Report) × IsReportOn text report bytes × (report.unknown ≡ [])
 IsDueOn text SomeInputs bytes = (report : Report) × IsReportOn text report bytes × (report.unknown ≢ [])
-IsDueOn text Program bytes = IsTooLong text bytes ⊎ IsNoProgram text bytes
+IsDueOn text Program bytes = IsTooLong text bytes ⊎ IsNoProgram text bytes ⊎ IsPastLimits text bytes
 IsDueOn text Words bytes = ⊥
 IsDueOn text Formula bytes = ⊥
 IsDueOn text ReadFault bytes = ⊥
 IsDueOn text WriteFault bytes = ⊥
 IsDueOn text NoMemory bytes = ⊥
+
+-- so they are on each text of at most 65,536 bytes that is the program
+abbrev pub IsDueOnProgram : Parsed → Status → List ℕ → Type 0
+IsDueOnProgram program status bytes =
+    (text : List ℕ) → length text ≤ 65536 → Derives text program → HasPlaces text (places program.body) → IsDueOn text status bytes
+
+-- The text is of at most 65,536 bytes, and past no limit of its graph.
+pub record IsWithinLimits (text : List ℕ) : Type 0 where
+  pub short : length text ≤ 65536
+  pub graph : (line : List ℕ) → ¬ IsPastLimits text line

@@ -11,7 +11,7 @@ use Rattle.report_text.specs.declared.report.Header.{Header}
 use Rattle.report_text.specs.Printed.{exact_part, explain_part}
 use Rattle.report_text.specs.Sections.{IsWholeLine}
 use Rattle.function_top.specs.Call.{Call}
-use Rattle.function_top.specs.Report.{usage_line, fault_line}
+use Rattle.function_top.specs.Refusals.{usage_line, fault_line}
 
 -- the line says something over the names
 pub record IsClaim (names : List (List ℕ)) (line : List ℕ) : Type 0 where

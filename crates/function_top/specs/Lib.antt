@@ -1,11 +1,10 @@
 pub mod Order
 pub mod Call
 pub mod Text
-pub mod LongestPath
-pub mod Reach
 pub mod TrueLine
 pub mod Headline
-pub mod Report
+pub mod Refusals
+pub mod Analysis
 pub mod Due
 pub mod Form
 pub mod Answer

@@ -1,19 +1,26 @@
 //! From a source to what is to be written.
 
-ghost use Rattle.std.specs.Prelude.{◌≡◌, ◌≤◌, ◌<◌, ◌+◌, ℕ, List, IfOk, OnErr, MatchOption, length};
+ghost use Rattle.std.specs.Prelude.{◌≡◌, ◌≤◌, ◌<◌, ◌+◌, ℕ, List, [], IfOk, OnErr, MatchOption, length};
 ghost use Rattle.outside.specs.Faults.{Rose};
 ghost use Rattle.outside.specs.Source.{ConsumesUpTo};
-ghost use Rattle.function_top.specs.Due.{IsDueOn};
-ghost use Rattle.function_top.specs.Report.{fault_text};
+ghost use Rattle.step_meaning.specs.Syntax.{statements};
+ghost use Rattle.control_flow.specs.Faults.{wide_places};
+ghost use Rattle.function_top.specs.Due.{IsDueOn, IsDueOnProgram};
+ghost use Rattle.function_top.specs.Refusals.{fault_text};
 ghost use Rattle.function_top.specs.Text.{IsRead};
 
 use crate::due::Due;
-use crate::path::longest;
-use crate::report::{bounded, fault as fault_line, unknown};
+use crate::report::{fault as fault_line, report};
 use crate::status::Status;
+use control_flow::laws::edges_lead_to_labels;
+use control_flow::{FlowFault, Graph};
+use ctl_rounds::analyse;
+use forward_inv::{Inv, invariants};
+use interval_dom::Boxes;
 use outside::{ReadEnd, Source, read_program};
 use source_parse::{a_program_has_no_fault, parse};
 use std::alloc::{AllocError, Global};
+use step_meaning::Program;
 
 /// Reads the source, and answers what is to be written for it, or `None` where a read failed. The only error is want of memory.
 pub fn answer<S: Source>(alloc: Global, source: &mut S) -> Result<Option<Due>, AllocError>
@@ -37,21 +44,38 @@ fn answer_to(alloc: Global, text: &[u8]) -> Result<Due, AllocError>
 {
     a_program_has_no_fault();
     match parse(alloc, text) {
-        Ok(program) => match longest(&program.body) {
-            Some(steps) => Ok(Due {
-                bytes: bounded(alloc, steps, &program.names)?,
-                status: Status::AllInputs,
-            }),
-            None => Ok(Due {
-                bytes: unknown(alloc, &program.names)?,
-                status: Status::SomeInputs,
-            }),
-        },
+        Ok(program) => Ok(answer_on(alloc, &program)?),
         Err(fault) => match fault.numbered() {
             Some((number, place)) => Ok(refused(alloc, number, place)?),
             None => Err(AllocError),
         },
     }
+}
+
+// What is to be written for a program.
+fn answer_on(alloc: Global, program: &Program) -> Result<Due, AllocError>
+    ensures { IfOk result (λ due. IsDueOnProgram program.now due.status due.bytes.items) }
+{
+    match Graph::of(alloc, program) {
+        Ok(graph) => Ok(analysed(alloc, &graph, program)?),
+        Err(FlowFault::Labels { at, count: _ }) => Ok(refused(alloc, 12, at)?),
+        Err(FlowFault::Conjunctions { at, count: _ }) => Ok(refused(alloc, 13, at)?),
+        Err(FlowFault::Memory(error)) => Err(error),
+    }
+}
+
+// The report on a program with its graph.
+fn analysed(alloc: Global, graph: &Graph, program: &Program) -> Result<Due, AllocError>
+    requires names { graph.now.names ≡ program.now.names }
+    requires body { statements graph.now.body ≡ statements program.now.body }
+    requires narrow { wide_places program.now.body ≡ [] }
+    ensures { IfOk result (λ due. IsDueOnProgram program.now due.status due.bytes.items) }
+{
+    edges_lead_to_labels();
+    let inv: Inv<Boxes> = invariants(alloc, graph)?;
+    let family = analyse(alloc, graph, program, &inv)?;
+    let tree = &family.trees.items()[graph.entry() as usize];
+    Ok(report(alloc, tree, &program.names)?)
 }
 
 // The line of a text of more than 65,536 bytes.

@@ -1,26 +1,15 @@
-//! Laws of the longest path, each the contract of a function that does nothing.
+//! Laws of reports, each the contract of a function that does nothing.
 
-ghost use Rattle.std.specs.Prelude.{◌≡◌, ℕ, Some, length};
-ghost use Rattle.step_meaning.specs.Syntax.{statements};
+ghost use Rattle.std.specs.Prelude.{◌++◌, ℕ, List};
 ghost use Rattle.step_meaning.specs.Outcome.{Store};
-ghost use Rattle.step_meaning.specs.Run.{IsInput, EndsWithin, Longest, start};
-ghost use Rattle.function_top.specs.LongestPath.{IsAllFree, longest_path};
+ghost use Rattle.step_meaning.specs.Syntax.{Statements};
+ghost use Rattle.line_text.specs.declared.claim.Claim.{Claim};
+ghost use Rattle.report_text.specs.declared.report.Report.{Report};
+ghost use Rattle.report_text.specs.Leaves.{MeetsOneLine};
+ghost use Rattle.function_top.specs.Analysis.{IsReportOf};
 
-use step_meaning::Program;
-
-/// A law: from every input, each run of a program with a longest path ends within it.
-pub fn the_longest_path_bounds_each_run(program: &Program)
-    ensures { (input : Store) (steps : ℕ) → IsInput (length program.now.names) input → longest_path (statements program.now.body) ≡ Some steps
-        → EndsWithin steps (start (statements program.now.body) input) }
-{
-    let _ = &program.body;
-}
-
-/// A law: where moreover each test is `?`, some run from every input is as long as the longest path, so that no smaller number bounds
-/// the runs.
-pub fn the_longest_path_is_run(program: &Program)
-    ensures { (input : Store) (steps : ℕ) → IsInput (length program.now.names) input → longest_path (statements program.now.body) ≡ Some steps
-        → IsAllFree (statements program.now.body) → Longest steps (start (statements program.now.body) input) }
-{
-    let _ = &program.body;
-}
+/// A law: each input of a program meets exactly one of the proved and the unknown lines of its report together.
+pub fn each_input_meets_one_line()
+    ensures { (names : List (List ℕ)) (body : Statements) (report : Report) → IsReportOf names body report → (input : Store)
+        → (claim : Claim) × MeetsOneLine input claim (report.proved ++ report.unknown) }
+{}

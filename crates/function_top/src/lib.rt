@@ -5,13 +5,12 @@ mod answer;
 mod due;
 mod laws;
 mod order;
-mod path;
 mod report;
 mod status;
 #[cfg(test)]
 mod tests;
 mod top;
 
-pub use laws::{the_longest_path_bounds_each_run, the_longest_path_is_run};
+pub use laws::each_input_meets_one_line;
 pub use status::Status;
 pub use top::run;

@@ -1,12 +1,20 @@
 //! The texts that the command writes.
 
-ghost use Rattle.std.specs.Prelude.{◌≡◌, ◌≤◌, ◌∷◌, [], IfOk, Some, None, length, All};
+ghost use Rattle.std.specs.Prelude.{◌≡◌, [], IfOk, List, All};
+ghost use Rattle.decision_tree.specs.Plans.{plan_of};
+ghost use Rattle.report_text.specs.declared.line.Line.{Line};
+ghost use Rattle.report_text.specs.declared.line.Top.TheVariants as top;
+ghost use Rattle.report_text.specs.Leaves.{AreLinesOf, ComplementsFit, claiming, claiming_nothing};
 ghost use Rattle.report_text.specs.Printed.{IsLineOver, IsReportText};
-ghost use Rattle.function_top.specs.Report.{always, fault_text, plain_report, report_by, usage_text};
+ghost use Rattle.function_top.specs.Analysis.{IsTreeOver, plain_report};
+ghost use Rattle.function_top.specs.Due.{IsVerdict};
+ghost use Rattle.function_top.specs.Refusals.{fault_text, usage_text};
 
-use line_text::{Claim, push_numeral};
-use linear_cons::{Affine, Rows};
-use report_text::{Header, Line, Lines, Report, print};
+use crate::due::Due;
+use crate::status::Status;
+use decision_tree::{AffineRank, Tree};
+use line_text::push_numeral;
+use report_text::{Header, Lines, Report, Top, lines, print};
 use std::alloc::{AllocError, Global};
 use step_meaning::Names;
 
@@ -17,22 +25,29 @@ pub fn usage() -> &'static [u8]
     b"usage: function [--ctl TEXT] [--domain boxes|octagons|polyhedra] [--delay N] [--at TEXT] [--explain] [--demo N]\n"
 }
 
-/// The report on a program of which every run ends within so many steps. The only error is want of memory.
-pub fn bounded(alloc: Global, steps: u64, names: &Names) -> Result<Vec<u8>, AllocError>
-    requires { length names.now ≤ 15 }
-    ensures { IfOk result (λ text. IsReportText names.now (report_by (Some steps)) text.items) }
+/// The report by the tree at the entry of a program, and its status. The only error is want of memory.
+pub fn report(alloc: Global, tree: &Tree<AffineRank>, names: &Names) -> Result<Due, AllocError>
+    requires fits { ComplementsFit (plan_of tree.now) }
+    requires over { IsTreeOver names.now (plan_of tree.now) }
+    ensures { IfOk result (λ due. (lines : List Line) × AreLinesOf top.Bound (plan_of tree.now) lines
+        × IsReportText names.now (plain_report (claiming lines) (claiming_nothing lines)) due.bytes.items
+        × IsVerdict due.status (claiming_nothing lines)) }
 {
-    let bound = Affine::constant(i128::from(steps));
-    let proved = always(alloc, Claim::Within(bound))?;
-    plain(alloc, proved, none(alloc), names)
+    let (proved, unknown) = lines(alloc, tree, Top::Bound)?.parted(alloc)?;
+    let status = verdict(&unknown);
+    let bytes = plain(alloc, proved, unknown, names)?;
+    Ok(Due { bytes, status })
 }
 
-/// The report on a program of which nothing is known. The only error is want of memory.
-pub fn unknown(alloc: Global, names: &Names) -> Result<Vec<u8>, AllocError>
-    ensures { IfOk result (λ text. IsReportText names.now (report_by None) text.items) }
+// The status of a report with these unknown lines.
+fn verdict(unknown: &Lines) -> Status
+    ensures { IsVerdict result unknown.now }
 {
-    let unknown = always(alloc, Claim::Unknown)?;
-    plain(alloc, none(alloc), unknown, names)
+    if unknown.items().is_empty() {
+        Status::AllInputs
+    } else {
+        Status::SomeInputs
+    }
 }
 
 // No lines.
@@ -40,18 +55,6 @@ fn none(alloc: Global) -> Lines
     ensures { result ≡ [] }
 {
     Lines::of(Vec::new(alloc))
-}
-
-// The one line that claims this of every input.
-fn always(alloc: Global, claim: Claim) -> Result<Lines, AllocError>
-    ensures { IfOk result (λ lines. lines ≡ always claim ∷ []) }
-{
-    let mut lines = Vec::new(alloc);
-    lines.push(Line {
-        rows: Rows::of(Vec::new(alloc)),
-        claim,
-    })?;
-    Ok(Lines::of(lines))
 }
 
 // The text of a report without an exact part and an explanation.

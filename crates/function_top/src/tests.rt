@@ -15,6 +15,18 @@ const ONE_STEP: &[u8] = b"proved:\nalways: within 1 step\nunknown:\nverdict: all
 
 const NOTHING_KNOWN: &[u8] = b"proved:\nunknown:\nalways: unknown\nverdict: some inputs\n";
 
+// A loop whose test comes down to `x - 1 >= 0`, counted down under noise in `y`.
+const NOISE: &[u8] = b"extern int __VERIFIER_nondet_int(void);
+int main() {
+  int x, y;
+  while (x > 0 && y < 100) {
+    if (__VERIFIER_nondet_int()) y = y + 1;
+    else y = y - 1;
+    x = x - 1;
+  }
+  return 0;
+}";
+
 // The status and the bytes of a run over memory, with room for 1,000 bytes.
 fn outcome<S: Source>(
     alloc: Global,
@@ -47,7 +59,7 @@ fn texts_give_their_reports(rt: HostRuntime) -> Result<(), Fail> {
     use Status::{AllInputs, SomeInputs};
 
     let alloc = rt.alloc();
-    let rows: [(&[u8], Status, &[u8]); 9] = [
+    let rows: [(&[u8], Status, &[u8]); 17] = [
         (EMPTY, AllInputs, EMPTY_REPORT),
         (b"int main() { int x; x = 7; }", AllInputs, ONE_STEP),
         (
@@ -71,16 +83,57 @@ fn texts_give_their_reports(rt: HostRuntime) -> Result<(), Fail> {
             AllInputs,
             b"proved:\nalways: within 3 steps\nunknown:\nverdict: all inputs\n",
         ),
+        // Numbers past 128 bits matter only where they are compared.
+        (
+            b"int main() { int x, y; x = 4611686018427387904*x + y; x = 4611686018427387904*x + y; \
+              x = 4611686018427387904*x + y; if (x > 0) y = 1; else { y = 2; y = 3; } }",
+            AllInputs,
+            b"proved:\nalways: within 6 steps\nunknown:\nverdict: all inputs\n",
+        ),
+        // A test and a step a turn, and the last test.
         (
             b"int main() { int x; while (x > 0) x = x - 1; }",
+            AllInputs,
+            b"proved:\n-x >= 0: within 1 step\nx - 1 >= 0: within 2*x + 1 steps\nunknown:\nverdict: all inputs\n",
+        ),
+        (
+            b"int main() { int x; while (x > 0) { if (?) x = x - 1; else x = x - 2; } }",
+            AllInputs,
+            b"proved:\n-x >= 0: within 1 step\nx - 1 >= 0: within 3*x + 1 steps\nunknown:\nverdict: all inputs\n",
+        ),
+        (
+            NOISE,
+            AllInputs,
+            b"proved:\n-x >= 0: within 2 steps\nx - 1 >= 0: within 4*x + 2 steps\nunknown:\nverdict: all inputs\n",
+        ),
+        // Nine turns of three steps behind one, and the last test.
+        (
+            b"int main() { for (int i = 0; i < 9; i++) ; }",
+            AllInputs,
+            b"proved:\nalways: within 29 steps\nunknown:\nverdict: all inputs\n",
+        ),
+        // Loops that don't count down in this way.
+        (
+            b"int main() { int x; while (x > 0) x = x + 1; }",
             SomeInputs,
             NOTHING_KNOWN,
         ),
         (
-            b"int main() { for (int i = 0; i < 9; i++) ; }",
+            b"int main() { int x; while (x != 0) x = x - 1; }",
             SomeInputs,
             NOTHING_KNOWN,
         ),
+        (
+            b"int main() { int x; while (x > 0) { x = x - 1; if (?) return; } }",
+            SomeInputs,
+            NOTHING_KNOWN,
+        ),
+        (
+            b"int main() { int x; do x = x - 1; while (x > 0); }",
+            SomeInputs,
+            NOTHING_KNOWN,
+        ),
+        (b"int main() { while (?) ; }", SomeInputs, NOTHING_KNOWN),
     ];
     for (text, status, bytes) in rows {
         let mut source = MemorySource::new(text.to_vec(alloc)?, Vec::new(alloc));
@@ -94,7 +147,7 @@ fn texts_give_their_reports(rt: HostRuntime) -> Result<(), Fail> {
 #[test]
 fn texts_that_are_no_programs_give_their_faults(rt: HostRuntime) -> Result<(), Fail> {
     let alloc = rt.alloc();
-    let rows: [(&[u8], &[u8]); 11] = [
+    let rows: [(&[u8], &[u8]); 12] = [
         (b"int main() { @ }", b"program: 1 at 13\n"),
         (
             b"int main() { int x; x = 9223372036854775808; }",
@@ -118,6 +171,10 @@ fn texts_that_are_no_programs_give_their_faults(rt: HostRuntime) -> Result<(), F
             b"int main() { int x; x = (1 < 2) + y; }",
             b"program: 7 at 24\n",
         ),
+        (
+            b"int main() { int x; if (x != 1 && x != 2 && x != 3 && x != 4 && x != 5 && x != 6 && x != 7) ; }",
+            b"program: 13 at 20\n",
+        ),
     ];
     for (text, bytes) in rows {
         let mut source = MemorySource::new(text.to_vec(alloc)?, Vec::new(alloc));
@@ -133,7 +190,7 @@ fn long_texts_and_deep_ones_are_read_up_to_the_limits(rt: HostRuntime) -> Result
     use Status::{AllInputs, Program};
 
     let alloc = rt.alloc();
-    let rows: [(&[u8], &[u8], u32, &[u8], Status, &[u8]); 10] = [
+    let rows: [(&[u8], &[u8], u32, &[u8], Status, &[u8]); 11] = [
         (EMPTY, b" ", 65_522, b"", AllInputs, EMPTY_REPORT),
         (EMPTY, b" ", 65_523, b"", Program, b"program: 14 at 65536\n"),
         (
@@ -147,10 +204,18 @@ fn long_texts_and_deep_ones_are_read_up_to_the_limits(rt: HostRuntime) -> Result
         (
             b"int main() {",
             b";",
-            65_000,
+            1_023,
             b"}",
             AllInputs,
-            b"proved:\nalways: within 65000 steps\nunknown:\nverdict: all inputs\n",
+            b"proved:\nalways: within 1023 steps\nunknown:\nverdict: all inputs\n",
+        ),
+        (
+            b"int main() {",
+            b";",
+            65_000,
+            b"}",
+            Program,
+            b"program: 12 at 1035\n",
         ),
         (
             b"int main() { ",

@@ -1,0 +1,3 @@
+pub mod Supported
+pub mod Kept
+pub mod Bounding

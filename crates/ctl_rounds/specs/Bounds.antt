@@ -1,0 +1,31 @@
+-- Trees that bound the runs of a program.
+use Rattle.std.specs.Prelude.{◌≡◌, ℕ, ◌<◌, List, length, All}
+use Rattle.step_meaning.specs.Outcome.{Store}
+use Rattle.step_meaning.specs.Run.{EndsWithinBound, IsInput, start}
+use Rattle.step_meaning.specs.Syntax.{Statements}
+use Rattle.linear_cons.specs.declared.row.Row.{Row}
+use Rattle.linear_cons.specs.Functions.{value_at}
+use Rattle.control_flow.specs.Edges.{configuration}
+use Rattle.decision_tree.specs.declared.affine_rank.AffineRank.{AffineRank}
+use Rattle.decision_tree.specs.declared.reason.Why.{Why}
+use Rattle.decision_tree.specs.Evaluation.{eval}
+use Rattle.decision_tree.specs.Plans.{Plan, leaf}
+use Rattle.forward_inv.specs.States.{IsReachedState}
+use Rattle.tree_support.specs.Setting.{Trees}
+
+-- wherever the tree is defined, every run from the input that stands there, of a program of `vars` variables with this body, ends within as
+-- many steps as the value of the leaf's rank
+abbrev pub BoundsInputs : ℕ → Statements → Plan AffineRank → Type 0
+BoundsInputs vars body tree =
+    (input : Store) (why : Why) (rank : AffineRank) → IsInput vars input → eval tree input ≡ leaf why rank
+    → EndsWithinBound (value_at rank.value input) (start body input)
+
+-- wherever the tree of a label is defined, every run from a store with which the label is reached does
+abbrev pub BoundsStates : ℕ → Statements → Trees AffineRank → Type 0
+BoundsStates vars body trees =
+    (label : ℕ) (store : Store) (why : Why) (rank : AffineRank) → IsReachedState vars body label store → eval (trees label) store ≡ leaf why rank
+    → EndsWithinBound (value_at rank.value store) (configuration body label store)
+
+-- fewer than 3,000 rows are told of each of the sets
+abbrev pub TellFew : {D : Type 0} → (D → List Row) → List D → Type 0
+TellFew rows states = All (λ state. length (rows state) < 3000) states
