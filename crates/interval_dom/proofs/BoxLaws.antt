@@ -1,33 +1,41 @@
 -- Boxes place by place: members, refined and joined intervals, and witnesses at the ends.
-use Rattle.std.proofs.Common.{◌≡◌, ◌≢◌, ℕ, ◌+◌, ◌<◌, ◌-◌, ◌^◌, ℤ, pos, negsuc, ◌+ℤ◌, ◌-ℤ◌, ◌*ℤ◌, ◌≤ℤ◌, Bool, true, false, eqb, List, length, get_or, set, map, Option, None, Some, IsSomeAnd, arith, refl, sym, ◌∙◌, ap, subst, ⊎_elim, inl, inr, below_more, get_or-set_same, get_or-set_other, length-set}
+use Rattle.std.proofs.Common.{◌≡◌, ◌≢◌, ℕ, ◌+◌, ◌<◌, ◌≤◌, ℤ, pos, ◌+ℤ◌, ◌-ℤ◌, ◌≤ℤ◌, Bool, true, false, eqb, List, length, get_or, set, map}
+use Rattle.std.proofs.Common.{Option, None, Some, IsSomeAnd, arith, refl, sym, ◌∙◌, ap, subst, ⊎_elim, inl, inr, below_more}
+use Rattle.std.proofs.Common.{get_or-set_same, get_or-set_other, length-set}
 use Rattle.std.proofs.lemmas.Int.{ints, by_lt_z}
 use Rattle.std.proofs.lemmas.Bool.Decides.{eqb_tells}
 use Rattle.std.proofs.lemmas.List.{ext_get_or, length-map, take_all}
 use Rattle.std.proofs.lemmas.List.Folds.{list_any_at}
 use Rattle.std.specs.List.{list_any}
-use Rattle.linear_cons.specs.declared.affine.Affine.{Affine}
 use Rattle.linear_cons.specs.declared.bounds.Bounds.{Bounds}
 use Rattle.linear_cons.specs.declared.bounds.Linear.{Linear}
 use Rattle.linear_cons.specs.declared.row.Row.{Row}
 use Rattle.linear_cons.specs.Bounds.{IsFrom, IsUpTo, LiesIn, lower_end, upper_end}
-use Rattle.linear_cons.specs.Functions.{MentionsOnly, IsConstant, coefficient, value_at, without}
-use Rattle.linear_cons.specs.LinearForm.{products_below}
-use Rattle.linear_cons.specs.Numbers.{number_at, at_places}
-use Rattle.linear_cons.specs.Rows.{Meets}
+use Rattle.linear_cons.specs.Ends.{exactly, greatest_value, least_value}
+use Rattle.linear_cons.specs.Functions.{IsConstant, Mentions, MentionsOnly, coefficient, value_at, without}
+use Rattle.linear_cons.specs.Numbers.{Fits128, number_at, at_places}
 use Rattle.linear_cons.proofs.Forms.{form_apart}
-use Rattle.linear_cons.proofs.Ring.{add_zero, zero_add, zero_mul}
+use Rattle.linear_cons.proofs.EndLaws.{constant_end, exactly_covers, from_least, up_to_greatest}
 use Rattle.linear_cons.proofs.Places.{length-at_places, number_at_places, number_at-set, number_at-clear}
 use Rattle.linear_cons.proofs.RowLaws.{constant_value, row_not_constant}
-use Rattle.linear_cons.proofs.Sums.{products_more, products_none, value_is}
 use Rattle.num_domain.specs.declared.bound.Bound.{Bound}
 use Rattle.num_domain.specs.declared.bound.Bound.TheVariants.{Without, At}
 use Rattle.num_domain.specs.Domain.{IsStore, KeepsAssigned, KeepsMeeting, Within}
 use Rattle.num_domain.specs.Ends.{some_end}
 use Rattle.interval_dom.specs.declared.boxes.Boxes.{Boxes}
 use Rattle.interval_dom.specs.declared.interval.Interval.{Interval}
-use Rattle.interval_dom.specs.Boxes.{Has, IsLeastOf, IsWidening, KeepsOtherEnds, bounds_of, ends_of, is_empty_box}
+use Rattle.interval_dom.specs.Boxes.{Has, IsLeastOf, IsPartFor, IsWidening, KeepsOtherEnds, LiesAt, MeetsAlone, RefinesEnds, SetsEnds, bounds_of}
+use Rattle.interval_dom.specs.Boxes.{ends_of, is_empty_box, others_greatest}
 use Rattle.interval_dom.specs.Laws.BoxLaws.{empty_none, ends_at, every_number, holds_member, interval_at, member_holds}
-use Rattle.interval_dom.specs.Intervals.{Holds, IsHull, IsRefined, IsWidened, is_void, void_ends}
+use Rattle.interval_dom.specs.Intervals.{Holds, IsHull, IsMetIn, IsRefined, IsWidened, is_void, void_ends}
+
+-- ---- the ends at a place
+
+lower_at : (box : Boxes) (i : ℕ) → lower_end (bounds_of box) i ≡ some_end (interval_at box i).lower
+lower_at box i = ap (λ (p : Option ℤ × Option ℤ). p.0) (ends_at box i)
+
+upper_at : (box : Boxes) (i : ℕ) → upper_end (bounds_of box) i ≡ some_end (interval_at box i).upper
+upper_at box i = ap (λ (p : Option ℤ × Option ℤ). p.1) (ends_at box i)
 
 -- ---- one interval replaced
 
@@ -36,28 +44,14 @@ pub record IsSetAt (box : Boxes) (place : ℕ) (range : Interval) (next : Boxes)
   pub here : interval_at next place ≡ range
   pub others : (i : ℕ) → i ≢ place → interval_at next i ≡ interval_at box i
 
-pub set_at : (box : Boxes) (place : ℕ) (range : Interval) → place < length box.intervals → IsSetAt box place range (record { intervals = set box.intervals place range })
+pub set_at : (box : Boxes) (place : ℕ) (range : Interval) → place < length box.intervals
+    → IsSetAt box place range (record { intervals = set box.intervals place range })
 set_at box place range low = record {
   here = rw get_or-set_same refl;
   others = λ i apart. rw get_or-set_other refl;
 }
 
--- ---- refining
-
--- what a row's refinement has come to at the places below n
-pub record RefinedBelow (n : ℕ) (old : Boxes) (row : Row) (now : Boxes) : Type 0 where
-  pub places : length now.intervals ≡ 16
-  pub keeps : KeepsMeeting row (Has old) (Has now)
-  pub inside : Within (Has now) (Has old)
-  pub meets : (place : ℕ) → place < n → MentionsOnly place row.affine → row.affine.constant ≢ negsuc (2 ^ 127 - 1) → (store : List ℤ) → IsStore store → Has now store → Meets store row
-
-pub refined_none : (box : Boxes) (row : Row) → length box.intervals ≡ 16 → RefinedBelow 0 box row box
-refined_none box row long = record {
-  places = long;
-  keeps = λ store is has met. has;
-  inside = λ store is has. has;
-  meets = λ place low. absurd (omega arith);
-}
+-- ---- rows of one variable
 
 -- without its one variable a row is a constant
 alone_constant : (row : Row) (place : ℕ) → MentionsOnly place row.affine → IsConstant (without row.affine place)
@@ -66,106 +60,115 @@ alone_constant row place alone i h = rw number_at-clear (⊎_elim
     (λ (apart : (eqb i place ≡ false) × (i ≢ place)). rw apart.0 (alone i h apart.1))
     (eqb_tells i place))
 
--- a place that the row does not have, or whose other terms have no bound, refines nothing
-pub refined_kept : (n : ℕ) (old : Boxes) (row : Row) (now : Boxes) → RefinedBelow n old row now → (MentionsOnly n row.affine → ⊥) → RefinedBelow (n + 1) old row now
-refined_kept n old row now so_far not_alone = record {
-  places = so_far.places;
-  keeps = so_far.keeps;
-  inside = so_far.inside;
-  meets = below_more _ _ so_far.meets (λ alone. absurd (not_alone alone));
+-- a row mentions its one variable
+alone_mentions : (row : Row) (place : ℕ) → MentionsOnly place row.affine → Mentions place row.affine
+alone_mentions row place alone none = row_not_constant row (λ i h. ⊎_elim
+    (λ (same : (eqb i place ≡ true) × (i ≡ place)). rw same.1 none)
+    (λ (apart : (eqb i place ≡ false) × (i ≢ place)). alone i h apart.1)
+    (eqb_tells i place))
+
+-- the other terms of a row of one variable have the constant as their greatest value
+alone_known : (row : Row) (bounds : Bounds) (place : ℕ) → Fits128 row.affine.constant → MentionsOnly place row.affine
+    → others_greatest row.affine place bounds ≡ Some row.affine.constant
+alone_known row bounds place fit alone =
+    constant_end (without row.affine place) (upper_end bounds) (lower_end bounds) (alone_constant row place alone) fit
+
+-- ---- refining
+
+-- a coefficient of 0 refines nothing
+pub part_without : (row : Row) (bounds : Bounds) (place : ℕ) (range : Interval) → coefficient row.affine place ≡ pos 0
+    → IsPartFor row bounds place range range
+part_without row bounds place range none = record {
+  keeps = λ store lies met holds. holds;
+  inside = λ z holds. holds;
+  refined = λ rest mentions. absurd (mentions none);
+  known = λ alone. absurd (alone_mentions row place alone none);
 }
 
--- a coefficient of 0 is not that of a row's one variable
-pub zero_not_alone : (row : Row) (n : ℕ) → coefficient row.affine n ≡ pos 0 → MentionsOnly n row.affine → ⊥
-zero_not_alone row n none alone = row_not_constant row (λ i h. ⊎_elim
-    (λ (same : (eqb i n ≡ true) × (i ≡ n)). rw same.1 none)
-    (λ (apart : (eqb i n ≡ false) × (i ≢ n)). alone i h apart.1)
-    (eqb_tells i n))
-
--- the range of a row's one constant has an upper end
-pub missing_not_alone : (row : Row) (n : ℕ) (range : Interval) → range.upper ≡ Without → (IsConstant (without row.affine n) → some_end range.upper ≡ Some row.affine.constant) → MentionsOnly n row.affine → ⊥
-missing_not_alone row n range missing single alone =
-    let some = rw missing at (single (alone_constant row n alone)) in cc
-
--- a bound on the other terms refines the interval at the place
-pub refined_more : (n : ℕ) (old : Boxes) (row : Row) (now next : Boxes) (others part : Interval) (rest : ℤ) → n < 16 → RefinedBelow n old row now → others.upper ≡ At rest → ((store : List ℤ) → IsStore store → Has now store → Holds others (value_at (without row.affine n) store)) → (IsConstant (without row.affine n) → some_end others.upper ≡ Some row.affine.constant) → IsRefined (interval_at now n) (coefficient row.affine n) rest part → next.intervals ≡ set now.intervals n part → RefinedBelow (n + 1) old row next
-refined_more n old row now next others part rest low so_far upper values single refined is = record {
-  places = ap length is ∙ length-set now.intervals n part ∙ so_far.places;
-  keeps = λ store store_is has met. holds_member next store (kept store store_is (so_far.keeps store store_is has met) met);
-  inside = λ store store_is has. so_far.inside store store_is (back store has);
-  meets = below_more _ _
-      (λ place less alone constant store store_is has. so_far.meets place less alone constant store store_is (back store has))
-      (λ alone constant store store_is has. own alone constant store (holds_here store has));
-}
-  where
-    placed : IsSetAt now n part next
-    placed =
-        let e : next ≡ record { intervals = set now.intervals n part } = ap (λ (t : List Interval). let b : Boxes = record { intervals = t } in b) is in
-        subst (λ (b : Boxes). IsSetAt now n part b) (sym e) (set_at now n part (omega (arith, so_far.places)))
-
-    apart_value : (store : List ℤ) → value_at row.affine store ≡ value_at (without row.affine n) store +ℤ coefficient row.affine n *ℤ number_at store n
-    apart_value store = form_apart row.affine n store (pos 1) low
-
-    kept : (store : List ℤ) → IsStore store → Has now store → Meets store row → (i : ℕ) → i < 16 → Holds (interval_at next i) (number_at store i)
-    kept store store_is has met i h = ⊎_elim
-        (λ (same : (eqb i n ≡ true) × (i ≡ n)).
-        let most : value_at (without row.affine n) store ≤ℤ rest = rw upper at ((values store store_is has).up_to) in
-        let split = apart_value store in
-        let above : pos 0 ≤ℤ (coefficient row.affine n *ℤ number_at store n +ℤ rest) = omega (arith, ints) in
-        rw (same.1, placed.here) (refined.keeps (number_at store n) (member_holds now store has n low) above))
-        (λ (other : (eqb i n ≡ false) × (i ≢ n)). rw (placed.others i other.1) (member_holds now store has i h))
-        (eqb_tells i n)
-
-    holds_here : (store : List ℤ) → Has next store → Holds part (number_at store n)
-    holds_here store has = rw placed.here at (member_holds next store has n low)
-
-    back : (store : List ℤ) → Has next store → Has now store
-    back store has = holds_member now store (λ i h. ⊎_elim
-        (λ (same : (eqb i n ≡ true) × (i ≡ n)). rw same.1 (refined.inside (number_at store n) (holds_here store has)))
-        (λ (other : (eqb i n ≡ false) × (i ≢ n)). rw (← placed.others i other.1) (member_holds next store has i h))
-        (eqb_tells i n))
-
-    own : MentionsOnly n row.affine → row.affine.constant ≢ negsuc (2 ^ 127 - 1) → (store : List ℤ) → Holds part (number_at store n) → Meets store row
-    own alone constant store holds =
-        let none : IsConstant (without row.affine n) = alone_constant row n alone in
-        let same : Some rest ≡ Some row.affine.constant = rw upper at (single none) in
-        let is : rest ≡ row.affine.constant = cc in
-        let met = refined.meets (λ least. constant (sym is ∙ least)) (number_at store n) holds in
-        let rest_value : value_at (without row.affine n) store ≡ row.affine.constant = constant_value (without row.affine n) store none in
-        let split = apart_value store in
-        omega (arith, ints)
-
--- ---- the range of a function
-
--- what the range of a function has come to at the places below n
-pub record RangeBelow (n : ℕ) (box : Boxes) (affine : Affine) (sum : Interval) : Type 0 where
-  pub values : (store : List ℤ) → IsStore store → Has box store → Holds sum (products_below n affine.coef store +ℤ affine.constant)
-  pub constant : IsConstant affine → some_end sum.upper ≡ Some affine.constant
-
-pub range_none : (box : Boxes) (affine : Affine) (sum : Interval) → some_end sum.lower ≡ Some affine.constant → some_end sum.upper ≡ Some affine.constant → RangeBelow 0 box affine sum
-range_none box affine sum lower upper = record {
-  values = λ store is has. rw (products_none, zero_add) (record { from = rw lower (omega (arith, ints)); up_to = rw upper (omega (arith, ints)) });
-  constant = λ none. upper;
+-- nor do other terms without a greatest value
+pub part_unknown : (row : Row) (bounds : Bounds) (place : ℕ) (range : Interval) → Fits128 row.affine.constant
+    → others_greatest row.affine place bounds ≡ None → IsPartFor row bounds place range range
+part_unknown row bounds place range fit unknown = record {
+  keeps = λ store lies met holds. holds;
+  inside = λ z holds. holds;
+  refined = λ rest mentions known. absurd (cc);
+  known = λ alone. alone_known row bounds place fit alone;
 }
 
-pub range_skip : (n : ℕ) (box : Boxes) (affine : Affine) (sum : Interval) → coefficient affine n ≡ pos 0 → RangeBelow n box affine sum → RangeBelow (n + 1) box affine sum
-range_skip n box affine sum none below = record {
-  values = λ store is has. rw (products_more, none, zero_mul, add_zero) (below.values store is has);
-  constant = below.constant;
+-- their greatest value refines the interval
+pub part_refined : (row : Row) (bounds : Bounds) (place : ℕ) (range part : Interval) (most : ℤ) → place < 16 → Fits128 row.affine.constant
+    → others_greatest row.affine place bounds ≡ Some most → IsRefined range (coefficient row.affine place) most part
+    → IsPartFor row bounds place range part
+part_refined row bounds place range part most low fit known refined = record {
+  keeps = λ store lies met holds.
+      let others = exactly_covers (without row.affine place) store _ refl in
+      let at_most : value_at (without row.affine place) store ≤ℤ most =
+      rw known at (up_to_greatest (exactly (without row.affine place)) bounds store _ lies others) in
+      let split = form_apart row.affine place store (pos 1) low in
+      refined.keeps (number_at store place) holds (omega (arith, ints));
+  inside = refined.inside;
+  refined = λ rest mentions also.
+      let same : rest ≡ most = let both : Some rest ≡ Some most = sym also ∙ known in cc in
+      subst (IsMetIn part (coefficient row.affine place)) (sym same) refined.meets;
+  known = λ alone. alone_known row bounds place fit alone;
 }
 
-pub range_more : (n : ℕ) (box : Boxes) (affine : Affine) (sum term next : Interval) → n < 16 → coefficient affine n ≢ pos 0 → RangeBelow n box affine sum → ((z : ℤ) → Holds (interval_at box n) z → Holds term (coefficient affine n *ℤ z)) → ((a b : ℤ) → Holds sum a → Holds term b → Holds next (a +ℤ b)) → RangeBelow (n + 1) box affine next
-range_more n box affine sum term next low some below times plus = record {
-  values = λ store is has.
-      let product : Holds term (coefficient affine n *ℤ number_at store n) = times (number_at store n) (member_holds box store has n low) in
-      let total = plus (products_below n affine.coef store +ℤ affine.constant) (coefficient affine n *ℤ number_at store n) (below.values store is has) product in
-      let e : products_below n affine.coef store +ℤ affine.constant +ℤ coefficient affine n *ℤ number_at store n ≡ products_below n affine.coef store +ℤ coefficient affine n *ℤ number_at store n +ℤ affine.constant = omega (arith, ints) in
-      rw products_more (subst (λ (t : ℤ). Holds next t) e total);
-  constant = λ none. absurd (some (none n low));
+-- what a row's refinement has come to at the places below n
+pub record RefinedBelow (n : ℕ) (old : Boxes) (row : Row) (now : Boxes) : Type 0 where
+  pub places : length now.intervals ≡ 16
+  pub each : (i : ℕ) → i < n → IsPartFor row (bounds_of old) i (interval_at old i) (interval_at now i)
+  pub later : (i : ℕ) → n ≤ i → interval_at now i ≡ interval_at old i
+
+pub refined_none : (box : Boxes) (row : Row) → length box.intervals ≡ 16 → RefinedBelow 0 box row box
+refined_none box row long = record {
+  places = long;
+  each = λ i h. absurd (omega arith);
+  later = λ i h. refl;
 }
 
-pub range_all : (box : Boxes) (affine : Affine) (sum : Interval) → RangeBelow 16 box affine sum → (store : List ℤ) → IsStore store → Has box store → Holds sum (value_at affine store)
-range_all box affine sum below store is has = rw value_is (below.values store is has)
+pub refined_more : (n : ℕ) (old : Boxes) (row : Row) (now : Boxes) (part : Interval) → n < 16 → RefinedBelow n old row now
+    → IsPartFor row (bounds_of old) n (interval_at now n) part
+    → RefinedBelow (n + 1) old row (record { intervals = set now.intervals n part })
+refined_more n old row now part low below here =
+    let next : Boxes = record { intervals = set now.intervals n part } in
+    let placed : IsSetAt now n part next = set_at now n part (omega (arith, below.places)) in
+    let range : interval_at now n ≡ interval_at old n = below.later n (omega arith) in
+    let own : IsPartFor row (bounds_of old) n (interval_at old n) part = subst (λ r. IsPartFor row (bounds_of old) n r part) range here in
+    record {
+      places = length-set now.intervals n part ∙ below.places;
+      each = below_more _ _
+          (λ i h.
+          let apart : i ≢ n = omega arith in
+          subst (IsPartFor row (bounds_of old) i (interval_at old i)) (sym (placed.others i apart)) (below.each i h))
+          (subst (IsPartFor row (bounds_of old) n (interval_at old n)) (sym placed.here) own);
+      later = λ i h. let apart : i ≢ n = omega arith in placed.others i apart ∙ below.later i (omega arith);
+    }
+
+module _ (old now : Boxes) (row : Row) (all : RefinedBelow 16 old row now) where
+  pub refined_keeps : KeepsMeeting row (Has old) (Has now)
+  refined_keeps store is has met = holds_member now store (λ i h. (all.each i h).keeps store has met (member_holds old store has i h))
+
+  pub refined_inside : Within (Has now) (Has old)
+  refined_inside store is has = holds_member old store (λ i h. (all.each i h).inside (number_at store i) (member_holds now store has i h))
+
+  pub refined_ends : RefinesEnds row (bounds_of old) (bounds_of now)
+  refined_ends place rest low mentions known fits z lies =
+      (all.each place low).refined rest mentions known fits z (record {
+        from = subst (λ e. IsFrom e z) (lower_at now place) lies.0;
+        up_to = subst (λ e. IsUpTo e z) (upper_at now place) lies.1;
+      })
+
+  -- each member meets a row of one variable
+  pub refined_alone : MeetsAlone row (Has now)
+  refined_alone place one store is has =
+      let known = (all.each place one.inside).known one.alone in
+      let lies : LiesAt (bounds_of now) place (number_at store place) = (has.lower place one.inside, has.upper place one.inside) in
+      let mentions = alone_mentions row place one.alone in
+      let met = refined_ends place row.affine.constant one.inside mentions known (λ unit. one.fits) (number_at store place) lies in
+      let rest : value_at (without row.affine place) store ≡ row.affine.constant =
+      constant_value (without row.affine place) store (alone_constant row place one.alone) in
+      let split = form_apart row.affine place store (pos 1) one.inside in
+      omega (arith, ints)
 
 -- ---- intervals made place by place
 
@@ -176,9 +179,13 @@ pub record PlacesBelow (P : ℕ → Interval → Type 0) (n : ℕ) (box : Boxes)
 pub places_none : (P : ℕ → Interval → Type 0) (box : Boxes) → length box.intervals ≡ 16 → PlacesBelow P 0 box
 places_none P box long = record { places = long; each = λ i h. absurd (omega arith) }
 
-pub places_more : (P : ℕ → Interval → Type 0) (n : ℕ) (box : Boxes) (range : Interval) → n < 16 → PlacesBelow P n box → P n range → PlacesBelow P (n + 1) (record { intervals = set box.intervals n range })
+pub places_more : (P : ℕ → Interval → Type 0) (n : ℕ) (box : Boxes) (range : Interval) → n < 16 → PlacesBelow P n box → P n range
+    → PlacesBelow P (n + 1) (record { intervals = set box.intervals n range })
 places_more P n box range low below here =
-    let placed : IsSetAt box n range (record { intervals = set box.intervals n range }) = set_at box n range (omega (arith, below.places)) in
+    let placed : IsSetAt box n range (record { intervals = set box.intervals n range }) = set_at box n range (omega (
+      arith,
+      below.places,
+    )) in
     record {
       places = length-set box.intervals n range ∙ below.places;
       each = below_more _ _
@@ -194,7 +201,8 @@ inner (At lower) upper = lower
 inner Without (At upper) = upper
 inner Without Without = pos 0
 
-inner_holds : (lower upper : Bound ℤ) → void_ends lower upper ≡ false → IsFrom (some_end lower) (inner lower upper) × IsUpTo (some_end upper) (inner lower upper)
+inner_holds : (lower upper : Bound ℤ) → void_ends lower upper ≡ false → IsFrom (some_end lower) (inner lower upper)
+    × IsUpTo (some_end upper) (inner lower upper)
 unfolding inner
 inner_holds (At lower) (At upper) some = (omega (arith, ints), omega (arith, ints))
 inner_holds (At lower) Without some = (omega (arith, ints), tt)
@@ -220,13 +228,15 @@ witness_is : (box : Boxes) → IsStore (witness box)
 unfolding witness
 witness_is box = length-at_places _
 
-witness_holds : (box : Boxes) → length box.intervals ≡ 16 → is_empty_box box ≡ false → (i : ℕ) → i < 16 → Holds (interval_at box i) (number_at (witness box) i)
+witness_holds : (box : Boxes) → length box.intervals ≡ 16 → is_empty_box box ≡ false → (i : ℕ) → i < 16
+    → Holds (interval_at box i) (number_at (witness box) i)
 unfolding witness
 witness_holds box long some i h =
     let both = inner_holds (interval_at box i).lower (interval_at box i).upper (not_void box long some i h) in
     rw number_at_places (record { from = both.0; up_to = both.1 })
 
-pub empty_exact : (box : Boxes) → length box.intervals ≡ 16 → ((store : List ℤ) → IsStore store → Has box store → ⊥) → is_empty_box box ≡ true
+pub empty_exact : (box : Boxes) → length box.intervals ≡ 16 → ((store : List ℤ) → IsStore store → Has box store → ⊥)
+    → is_empty_box box ≡ true
 empty_exact box long none = decided (is_empty_box box) refl
   where
     decided : (b : Bool) → is_empty_box box ≡ b → is_empty_box box ≡ true
@@ -234,12 +244,14 @@ empty_exact box long none = decided (is_empty_box box) refl
     decided false is = absurd (none (witness box) (witness_is box) (holds_member box (witness box) (witness_holds box long is)))
 
 -- the witness with another number at a place
-moved_holds : (box : Boxes) (place : ℕ) (z : ℤ) → length box.intervals ≡ 16 → is_empty_box box ≡ false → place < 16 → Holds (interval_at box place) z → Has box (set (witness box) place z)
+moved_holds : (box : Boxes) (place : ℕ) (z : ℤ) → length box.intervals ≡ 16 → is_empty_box box ≡ false → place < 16
+    → Holds (interval_at box place) z → Has box (set (witness box) place z)
 moved_holds box place z long some low holds = holds_member box (set (witness box) place z) (λ i h.
     let inside : place < length (witness box) = omega (arith, witness_is box) in
     ⊎_elim
     (λ (same : (eqb i place ≡ true) × (i ≡ place)). rw (number_at-set (witness box) place i z inside, same.0, same.1) holds)
-    (λ (apart : (eqb i place ≡ false) × (i ≢ place)). rw (number_at-set (witness box) place i z inside, apart.0) (witness_holds box long some i h))
+    (λ (apart : (eqb i place ≡ false)
+    × (i ≢ place)). rw (number_at-set (witness box) place i z inside, apart.0) (witness_holds box long some i h))
     (eqb_tells i place))
 
 module _ (box : Boxes) (long : length box.intervals ≡ 16) (some : is_empty_box box ≡ false) (bounds : Bounds) (inside : Within (Has box) (LiesIn bounds)) (i : ℕ) (low : i < 16) (m : ℤ) where
@@ -259,7 +271,8 @@ module _ (box : Boxes) (long : length box.intervals ≡ 16) (some : is_empty_box
       simp (is, get_or-set_same) at lies
 
 -- a bound below each number of an interval with some is below its lower end
-starts_from : (lower upper : Bound ℤ) (m : ℤ) → void_ends lower upper ≡ false → ((z : ℤ) → IsFrom (some_end lower) z → IsUpTo (some_end upper) z → m ≤ℤ z) → IsSomeAnd (some_end lower) (λ end. m ≤ℤ end)
+starts_from : (lower upper : Bound ℤ) (m : ℤ) → void_ends lower upper ≡ false
+    → ((z : ℤ) → IsFrom (some_end lower) z → IsUpTo (some_end upper) z → m ≤ℤ z) → IsSomeAnd (some_end lower) (λ end. m ≤ℤ end)
 starts_from (At lower) (At upper) m some bound = bound lower (omega (arith, ints)) (omega (arith, ints))
 starts_from (At lower) Without m some bound = bound lower (omega (arith, ints)) tt
 starts_from Without (At upper) m some bound = by_lt_z upper m
@@ -267,7 +280,8 @@ starts_from Without (At upper) m some bound = by_lt_z upper m
     (λ from. absurd (let p = bound (m -ℤ pos 1) tt (omega (arith, ints)) in omega (arith, ints)))
 starts_from Without Without m some bound = absurd (let p = bound (m -ℤ pos 1) tt tt in omega (arith, ints))
 
-ends_up_to : (lower upper : Bound ℤ) (m : ℤ) → void_ends lower upper ≡ false → ((z : ℤ) → IsFrom (some_end lower) z → IsUpTo (some_end upper) z → z ≤ℤ m) → IsSomeAnd (some_end upper) (λ end. end ≤ℤ m)
+ends_up_to : (lower upper : Bound ℤ) (m : ℤ) → void_ends lower upper ≡ false
+    → ((z : ℤ) → IsFrom (some_end lower) z → IsUpTo (some_end upper) z → z ≤ℤ m) → IsSomeAnd (some_end upper) (λ end. end ≤ℤ m)
 ends_up_to (At lower) (At upper) m some bound = bound upper (omega (arith, ints)) (omega (arith, ints))
 ends_up_to Without (At upper) m some bound = bound upper tt (omega (arith, ints))
 ends_up_to (At lower) Without m some bound = by_lt_z m lower
@@ -286,7 +300,8 @@ up_to_end None m z ends up = absurd ends
 up_to_end (Some end) m z ends up = omega (arith, ints)
 
 -- hulls at all places make the least box round two that are not empty
-pub hull_least : (a b hull : Boxes) → length a.intervals ≡ 16 → length b.intervals ≡ 16 → is_empty_box a ≡ false → is_empty_box b ≡ false → PlacesBelow (λ i range. IsHull (interval_at a i) (interval_at b i) range) 16 hull → IsLeastOf (Has a) (Has b) (Has hull)
+pub hull_least : (a b hull : Boxes) → length a.intervals ≡ 16 → length b.intervals ≡ 16 → is_empty_box a ≡ false → is_empty_box b ≡ false
+    → PlacesBelow (λ i range. IsHull (interval_at a i) (interval_at b i) range) 16 hull → IsLeastOf (Has a) (Has b) (Has hull)
 hull_least a b hull long also some other hulls bounds in_a in_b store is has = record {
   lower = λ i h. lower i h (lower_end bounds i) refl;
   upper = λ i h. upper i h (upper_end bounds i) refl;
@@ -308,22 +323,37 @@ hull_least a b hull long also some other hulls bounds in_a in_b store is has = r
 
 -- ---- a number set at a place
 
-pub assigned : (box : Boxes) (place : ℕ) (value : Linear) (range rest next : Interval) → place < 16 → length box.intervals ≡ 16 → ((store : List ℤ) → IsStore store → Has box store → Holds range (value_at value.affine store)) → some_end rest.lower ≡ value.lo → some_end rest.upper ≡ value.hi → ((a b : ℤ) → Holds range a → Holds rest b → Holds next (a +ℤ b)) → KeepsAssigned place value (Has box) (Has (record { intervals = set box.intervals place next }))
-assigned box place value range rest next low long values lo hi plus store z is has covers =
+pub assigned : (box : Boxes) (place : ℕ) (value : Linear) (next : Interval) → place < 16 → length box.intervals ≡ 16
+    → some_end next.lower ≡ least_value value (bounds_of box) → some_end next.upper ≡ greatest_value value (bounds_of box)
+    → KeepsAssigned place value (Has box) (Has (record { intervals = set box.intervals place next }))
+assigned box place value next low long lower upper store z is has covers =
     let placed : IsSetAt box place next (record { intervals = set box.intervals place next }) = set_at box place next (omega arith) in
-    let left : Holds rest (z -ℤ value_at value.affine store) = record { from = rw lo covers.lower; up_to = rw hi covers.upper } in
-    let total = plus (value_at value.affine store) (z -ℤ value_at value.affine store) (values store is has) left in
-    let e : value_at value.affine store +ℤ (z -ℤ value_at value.affine store) ≡ z = omega (arith, ints) in
-    let holds : Holds next z = subst (λ (t : ℤ). Holds next t) e total in
+    let holds : Holds next z = record {
+      from = rw lower (from_least value (bounds_of box) store z has covers);
+      up_to = rw upper (up_to_greatest value (bounds_of box) store z has covers);
+    } in
     let inside : place < length store = omega arith in
     holds_member _ (set store place z) (λ i h. ⊎_elim
     (λ (same : (eqb i place ≡ true) × (i ≡ place)). rw (number_at-set store place i z inside, same.0, same.1, placed.here) holds)
-    (λ (apart : (eqb i place ≡ false) × (i ≢ place)). rw (number_at-set store place i z inside, apart.0, placed.others i apart.1) (member_holds box store has i h))
+    (λ (apart : (eqb i place ≡ false)
+    × (i ≢ place)). rw (number_at-set store place i z inside, apart.0, placed.others i apart.1) (member_holds box store has i h))
     (eqb_tells i place))
+
+pub sets_ends : (box : Boxes) (place : ℕ) (value : Linear) (next : Interval) → place < length box.intervals
+    → some_end next.lower ≡ least_value value (bounds_of box) → some_end next.upper ≡ greatest_value value (bounds_of box)
+    → SetsEnds place value (bounds_of box) (bounds_of (record { intervals = set box.intervals place next }))
+sets_ends box place value next low lower upper =
+    let now : Boxes = record { intervals = set box.intervals place next } in
+    let here : interval_at now place ≡ next = (set_at box place next low).here in (
+      lower_at now place ∙ ap (λ t. some_end t.lower) here ∙ lower,
+      upper_at now place ∙ ap (λ t. some_end t.upper) here ∙ upper,
+    )
 
 -- ---- members of boxes made place by place
 
-pub within_places : (a box : Boxes) (P : ℕ → Interval → Type 0) → ((i : ℕ) (range : Interval) → P i range → (z : ℤ) → Holds (interval_at a i) z → Holds range z) → PlacesBelow P 16 box → Within (Has a) (Has box)
+pub within_places : (a box : Boxes) (P : ℕ → Interval → Type 0)
+    → ((i : ℕ) (range : Interval) → P i range → (z : ℤ) → Holds (interval_at a i) z → Holds range z) → PlacesBelow P 16 box
+    → Within (Has a) (Has box)
 within_places a box P holds below store is has =
     holds_member box store (λ i h. holds i (interval_at box i) (below.each i h) (number_at store i) (member_holds a store has i h))
 
@@ -331,28 +361,31 @@ pub empty_within : (box : Boxes) (set : List ℤ → Type 0) → length box.inte
 empty_within box set long empty store is has = absurd (empty_none box store empty has)
 
 -- the ends that are written down are those of the intervals
-pub ends_all : (box : Boxes) (ends : List (Option ℤ × Option ℤ)) → length box.intervals ≡ 16 → length ends ≡ 16 → ((i : ℕ) → i < 16 → get_or ends i (None, None) ≡ ends_of (interval_at box i)) → ends ≡ map ends_of box.intervals
+pub ends_all : (box : Boxes) (ends : List (Option ℤ × Option ℤ)) → length box.intervals ≡ 16 → length ends ≡ 16
+    → ((i : ℕ) → i < 16 → get_or ends i (None, None) ≡ ends_of (interval_at box i)) → ends ≡ map ends_of box.intervals
 ends_all box ends long also same =
     ext_get_or (None, None) ends (map ends_of box.intervals) (also ∙ sym (simp length-map long))
     (λ i h. same i (omega (arith, also)) ∙ sym (ends_at box i))
 
 -- ---- ends before and after
 
-lower_at : (box : Boxes) (i : ℕ) → lower_end (bounds_of box) i ≡ some_end (interval_at box i).lower
-lower_at box i = ap (λ (p : Option ℤ × Option ℤ). p.0) (ends_at box i)
-
-upper_at : (box : Boxes) (i : ℕ) → upper_end (bounds_of box) i ≡ some_end (interval_at box i).upper
-upper_at box i = ap (λ (p : Option ℤ × Option ℤ). p.1) (ends_at box i)
-
-pub widening_ends : (a b wide : Boxes) → PlacesBelow (λ i range. IsWidened (interval_at a i) (interval_at b i) range) 16 wide → IsWidening (bounds_of a) (bounds_of b) (bounds_of wide)
+pub widening_ends : (a b wide : Boxes) → PlacesBelow (λ i range. IsWidened (interval_at a i) (interval_at b i) range) 16 wide
+    → IsWidening (bounds_of a) (bounds_of b) (bounds_of wide)
 widening_ends a b wide below = record {
-  stable_lower = λ i m h is from. lower_at wide i ∙ (below.each i h).stable_lower m (sym (lower_at a i) ∙ is) (subst (λ (t : Option ℤ). IsSomeAnd t (λ end. m ≤ℤ end)) (lower_at b i) from);
-  stable_upper = λ i m h is up. upper_at wide i ∙ (below.each i h).stable_upper m (sym (upper_at a i) ∙ is) (subst (λ (t : Option ℤ). IsSomeAnd t (λ end. end ≤ℤ m)) (upper_at b i) up);
-  no_new_lower = λ i h. ⊎_elim (λ same. inl (lower_at wide i ∙ same ∙ sym (lower_at a i))) (λ none. inr (lower_at wide i ∙ none)) (below.each i h).no_new_lower;
-  no_new_upper = λ i h. ⊎_elim (λ same. inl (upper_at wide i ∙ same ∙ sym (upper_at a i))) (λ none. inr (upper_at wide i ∙ none)) (below.each i h).no_new_upper;
+  stable_lower = λ i m h is from. lower_at wide i
+      ∙ (below.each i h).stable_lower m (sym (lower_at a i)
+      ∙ is) (subst (λ (t : Option ℤ). IsSomeAnd t (λ end. m ≤ℤ end)) (lower_at b i) from);
+  stable_upper = λ i m h is up. upper_at wide i
+      ∙ (below.each i h).stable_upper m (sym (upper_at a i)
+      ∙ is) (subst (λ (t : Option ℤ). IsSomeAnd t (λ end. end ≤ℤ m)) (upper_at b i) up);
+  no_new_lower = λ i h. ⊎_elim (λ same. inl (lower_at wide i ∙ same ∙ sym (lower_at a i))) (λ none. inr (lower_at wide i
+      ∙ none)) (below.each i h).no_new_lower;
+  no_new_upper = λ i h. ⊎_elim (λ same. inl (upper_at wide i ∙ same ∙ sym (upper_at a i))) (λ none. inr (upper_at wide i
+      ∙ none)) (below.each i h).no_new_upper;
 }
 
-pub other_ends : (box : Boxes) (place : ℕ) (range : Interval) → place < length box.intervals → KeepsOtherEnds place (bounds_of box) (bounds_of (record { intervals = set box.intervals place range }))
+pub other_ends : (box : Boxes) (place : ℕ) (range : Interval) → place < length box.intervals
+    → KeepsOtherEnds place (bounds_of box) (bounds_of (record { intervals = set box.intervals place range }))
 other_ends box place range low i apart =
     let next : Boxes = record { intervals = set box.intervals place range } in
     let same : interval_at next i ≡ interval_at box i = (set_at box place range low).others i apart in (

@@ -1,5 +1,5 @@
 -- The rows of lines: what each push adds.
-use Rattle.std.proofs.Common.{◌≡◌, ◌≢◌, ⊎_elim, ℕ, zero, suc, ◌+◌, ◌<◌, ◌≤◌, ℤ, pos, negsuc, neg_ℤ, ◌-◌, ◌^◌, Bool, true, false, eqb, cond, List, [], ◌∷◌, ◌++◌, length, set, refl, sym, ◌∙◌, ap, arith, map, unsigned_abs, append_assoc, length-set, add-one, Option, None, Some, Result, Ok, Err, IfOk}
+use Rattle.std.proofs.Common.{◌≡◌, ◌≢◌, ⊎_elim, ℕ, zero, suc, ◌+◌, ◌<◌, ◌≤◌, ℤ, pos, negsuc, neg_ℤ, ◌-◌, ◌^◌, Bool, true, false, eqb, cond, List, [], ◌∷◌, ◌++◌, length, set, refl, ◌∙◌, ap, arith, map, unsigned_abs, length-set, add-one, Option, None, Some}
 use Rattle.std.specs.Ordering.{int_eq}
 use Rattle.std.proofs.lemmas.Bool.Decides.{Decides-int_eq, eqb_tells}
 use Rattle.std.proofs.lemmas.List.{append-nil, map-append}
@@ -8,17 +8,15 @@ use Rattle.std.proofs.Math.Nat.{eq-one_of_dvd-one}
 use Rattle.linear_cons.specs.Divisor.{IsPrimitive}
 use Rattle.linear_cons.specs.Functions.{constant_of}
 use Rattle.linear_cons.specs.Numbers.{at_places, number_at}
-use Rattle.linear_cons.specs.Rows.{IsRowOf}
-use Rattle.linear_cons.specs.declared.affine.Affine.{Affine}
 use Rattle.linear_cons.specs.declared.bounds.Bounds.{Bounds}
 use Rattle.linear_cons.specs.declared.row.Row.{Row}
-use Rattle.linear_cons.specs.declared.row.RowKind.{RowKind}
-use Rattle.linear_cons.specs.declared.row.RowKind.TheVariants.{Always, Never, Row as Kept}
 use Rattle.linear_cons.specs.Bounds.{lower_end, upper_end}
-use Rattle.linear_cons.proofs.KindLaws.{primitive_kind, row_kind_unique}
+use Rattle.linear_cons.proofs.KindLaws.{primitive_kind}
 use Rattle.linear_cons.specs.Rows.{row_kind_of}
 use Rattle.linear_cons.proofs.Places.{length-at_places, number_at-set, number_at_places, places_of}
-use Rattle.interval_dom.specs.Boxes.{line, lines_below, lower_line, row_list, rows_of_lines, upper_line}
+use Rattle.interval_dom.specs.Boxes.{line, lines_below, lower_line, upper_line}
+use Rattle.num_domain.specs.Lines.{row_list, rows_of_lines}
+use Rattle.num_domain.proofs.LineLaws.{rows_of_lines-append}
 
 -- a constant with one coefficient set is a line
 pub line_is : (place : ℕ) (factor constant : ℤ) → place < 16 → set (constant_of constant).coef place factor ≡ (line place factor constant).coef
@@ -28,20 +26,6 @@ line_is place factor constant low =
     let inside : place < length zeros = omega (arith, long) in
     places_of (set zeros place factor) (λ i. cond (eqb i place) factor (pos 0)) (length-set zeros place factor ∙ long)
     (λ i h. number_at-set zeros place i factor inside ∙ ap (λ t. cond (eqb i place) factor t) (number_at_places (λ i. pos 0) i h))
-
--- the row of a line's function is the one that is pushed
-pub line_rows : (a : Affine) (place : ℕ) (factor constant : ℤ) (kind : RowKind) → a ≡ line place factor constant → IsRowOf a kind → row_list kind ≡ rows_of_lines (line place factor constant ∷ [])
-line_rows a place factor constant kind is normal =
-    ap row_list (row_kind_unique a kind normal ∙ ap row_kind_of is) ∙ sym (append-nil (row_list (row_kind_of (line place factor constant))))
-
-pub no_row : (kind : RowKind) → ((row : Row) → kind ≡ Kept row → ⊥) → row_list kind ≡ []
-no_row Always none = refl
-no_row Never none = refl
-no_row (Kept row) none = absurd (none row refl)
-
-pub rows_of_lines-append : (lines more : List Affine) → rows_of_lines (lines ++ more) ≡ rows_of_lines lines ++ rows_of_lines more
-rows_of_lines-append [] more = refl
-rows_of_lines-append (a ∷ lines) more = rw (rows_of_lines-append lines more) (sym (append_assoc (row_list (row_kind_of a)) (rows_of_lines lines) (rows_of_lines more)))
 
 pub rows_below_none : (bounds : Bounds) → rows_of_lines (lines_below 0 bounds) ≡ []
 unfolding lines_below
@@ -99,7 +83,3 @@ rows_listed (suc n) bounds small =
     let lower = lower_listed n (lower_end bounds n) (omega arith) in
     let upper = upper_listed n (upper_end bounds n) (omega arith) in
     simp (rows_of_lines-append, map-append, before, lower, upper) refl
-
-pub if_ok_more : {T E : Type 0} (r : Result T E) (P Q : T → Type 0) → ((x : T) → P x → Q x) → IfOk r P → IfOk r Q
-if_ok_more (Ok x) P Q more holds = more x holds
-if_ok_more (Err e) P Q more holds = holds

@@ -1,55 +1,12 @@
--- Multiples and quotients of ends.
-use Rattle.std.proofs.Common.{◌≡◌, ◌↔◌, ℕ, ◌<◌, ◌-◌, ◌^◌, ℤ, pos, negsuc, neg_ℤ, ◌+ℤ◌, ◌*ℤ◌, ◌≤ℤ◌, ◌<ℤ◌, Some, arith}
+-- Quotients as ends.
+use Rattle.std.proofs.Common.{◌≡◌, ◌↔◌, ℕ, ◌<◌, ◌-◌, ◌^◌, ℤ, pos, negsuc, neg_ℤ, ◌+ℤ◌, ◌*ℤ◌, ◌≤ℤ◌, ◌<ℤ◌, refl, arith}
 use Rattle.std.proofs.lemmas.Int.{ints, by_lt_z}
 use Rattle.linear_cons.specs.Bounds.{IsFrom, IsUpTo}
 use Rattle.linear_cons.specs.Numbers.{Fits128}
-use Rattle.linear_cons.proofs.Ring.{mul_commutes, mul_le, mul_neg, mul_one, neg_mul}
-use Rattle.num_domain.specs.declared.bound.Bound.{Bound}
-use Rattle.num_domain.specs.declared.bound.Bound.TheVariants.{Without, At}
-use Rattle.num_domain.specs.Ends.{IsExactEnd, both_ends, end_of, some_end}
+use Rattle.linear_cons.proofs.Ring.{mul_add, mul_commutes, mul_le, mul_neg, mul_one, neg_mul}
+use Rattle.num_domain.specs.Ends.{some_end}
 use Rattle.interval_dom.specs.declared.interval.Interval.{Interval}
-use Rattle.interval_dom.specs.Intervals.{IsRefined, end_times}
-
--- ---- multiples
-
--- the end is the exact product of another with the factor, where it fits
-abbrev pub IsProduct : ℤ → Bound ℤ → Bound ℤ → Type 0
-IsProduct factor end product = IsExactEnd (λ x. x) Fits128 (both_ends ◌*ℤ◌ (end_of (λ x. x) end) (Some factor)) product
-
--- an exact product, as it is said of intervals
-pub exact_product : (factor : ℤ) (end product : Bound ℤ) → IsProduct factor end product → IsExactEnd (λ z. z) Fits128 (end_times end factor) product
-exact_product factor Without product is = is
-exact_product factor (At e) product is = is
-
-turned : (factor a b : ℤ) → factor <ℤ pos 0 → a ≤ℤ b → (factor *ℤ b) ≤ℤ (factor *ℤ a)
-turned factor a b below le =
-    let product : (neg_ℤ factor *ℤ a) ≤ℤ (neg_ℤ factor *ℤ b) = mul_le (neg_ℤ factor) a b (omega (arith, ints)) le in
-    let spread = rw (neg_mul factor a, neg_mul factor b) at product in
-    omega (arith, ints)
-
-pub from_times : (factor z : ℤ) (end product : Bound ℤ) → pos 0 ≤ℤ factor → IsProduct factor end product → IsFrom (some_end end) z → IsFrom (some_end product) (factor *ℤ z)
-from_times factor z Without Without above is from = tt
-from_times factor z Without (At p) above is from = absurd is
-from_times factor z (At e) Without above is from = tt
-from_times factor z (At e) (At p) above is from = rw (is.1, mul_commutes e factor) (mul_le factor e z above from)
-
-pub up_times : (factor z : ℤ) (end product : Bound ℤ) → pos 0 ≤ℤ factor → IsProduct factor end product → IsUpTo (some_end end) z → IsUpTo (some_end product) (factor *ℤ z)
-up_times factor z Without Without above is up = tt
-up_times factor z Without (At p) above is up = absurd is
-up_times factor z (At e) Without above is up = tt
-up_times factor z (At e) (At p) above is up = rw (is.1, mul_commutes e factor) (mul_le factor z e above up)
-
-pub from_turned : (factor z : ℤ) (end product : Bound ℤ) → factor <ℤ pos 0 → IsProduct factor end product → IsUpTo (some_end end) z → IsFrom (some_end product) (factor *ℤ z)
-from_turned factor z Without Without below is up = tt
-from_turned factor z Without (At p) below is up = absurd is
-from_turned factor z (At e) Without below is up = tt
-from_turned factor z (At e) (At p) below is up = rw (is.1, mul_commutes e factor) (turned factor z e below up)
-
-pub up_turned : (factor z : ℤ) (end product : Bound ℤ) → factor <ℤ pos 0 → IsProduct factor end product → IsFrom (some_end end) z → IsUpTo (some_end product) (factor *ℤ z)
-up_turned factor z Without Without below is from = tt
-up_turned factor z Without (At p) below is from = absurd is
-up_turned factor z (At e) Without below is from = tt
-up_turned factor z (At e) (At p) below is from = rw (is.1, mul_commutes e factor) (turned factor e z below from)
+use Rattle.interval_dom.specs.Intervals.{IsRefined}
 
 -- ---- quotients
 
@@ -76,28 +33,47 @@ floor_down g r q z floor low = by_lt_z q z
     (λ to. to)
 
 -- a quotient whose negative does not fit is that of -2^127 by 1
-pub least_quotient : (g : ℕ) (r q : ℤ) → IsFloor g r q → Fits128 r → Fits128 q → ¬ Fits128 (neg_ℤ q) → r ≡ negsuc (2 ^ 127 - 1)
+pub least_quotient : (g : ℕ) (r q : ℤ) → IsFloor g r q → Fits128 r → Fits128 q → ¬ Fits128 (neg_ℤ q) → (g ≡ 1) × (r ≡ negsuc (2 ^ 127 - 1))
 least_quotient g r q floor fits also outside = by_lt_z (negsuc (2 ^ 127 - 1)) q
     (λ more. absurd (outside (omega (arith, ints))))
     (λ to.
     let positive = floor.positive in
     let low : (q +ℤ pos 1) ≤ℤ pos 0 = omega (arith, ints) in
-    let size : (neg_ℤ (q +ℤ pos 1) *ℤ pos 1) ≤ℤ (neg_ℤ (q +ℤ pos 1) *ℤ pos g) = mul_le (neg_ℤ (q +ℤ pos 1)) (pos 1) (pos g) (omega (arith, ints)) (omega (arith, ints)) in
+    let size : (neg_ℤ (q +ℤ pos 1) *ℤ pos 1) ≤ℤ (neg_ℤ (q +ℤ pos 1) *ℤ pos g) = mul_le (neg_ℤ (q +ℤ pos 1)) (pos 1) (pos g) (omega (
+      arith,
+      ints,
+    )) (omega (arith, ints)) in
     let spread = rw (mul_one, neg_mul, mul_commutes (q +ℤ pos 1) (pos g)) at size in
     let high = floor.below_next in
-    omega (arith, ints))
+    let is : r ≡ negsuc (2 ^ 127 - 1) = omega (arith, ints) in (
+      by_lt_z (pos 1) (pos g)
+          (λ several.
+          let twice : (neg_ℤ (q +ℤ pos 1) *ℤ (pos 1 +ℤ pos 1)) ≤ℤ (neg_ℤ (q +ℤ pos 1) *ℤ pos g) =
+          mul_le (neg_ℤ (q +ℤ pos 1)) (pos 1 +ℤ pos 1) (pos g) (omega (arith, ints)) (omega (arith, ints)) in
+          let doubled = mul_add (neg_ℤ (q +ℤ pos 1)) (pos 1) (pos 1) in
+          let one = mul_one (neg_ℤ (q +ℤ pos 1)) in
+          let product : neg_ℤ (q +ℤ pos 1) *ℤ pos g ≡ neg_ℤ (pos g *ℤ (q +ℤ pos 1)) = rw (
+            neg_mul,
+            mul_commutes (q +ℤ pos 1) (pos g),
+          ) refl in
+          absurd (omega (arith, ints)))
+          (λ one. omega (arith, ints)),
+      is,
+    ))
 
 -- ---- refined intervals
 
 -- where the factor is negative the quotient by its size is an upper end
-pub refined_upper : (range part : Interval) (factor rest q : ℤ) (g : ℕ) → factor ≡ neg_ℤ (pos g) → IsFloor g rest q → ((z : ℤ) → IsUpTo (some_end part.upper) z ↔ (IsUpTo (some_end range.upper) z × (z ≤ℤ q))) → part.lower ≡ range.lower → IsRefined range factor rest part
+pub refined_upper : (range part : Interval) (factor rest q : ℤ) (g : ℕ) → factor ≡ neg_ℤ (pos g) → IsFloor g rest q
+    → ((z : ℤ) → IsUpTo (some_end part.upper) z ↔ (IsUpTo (some_end range.upper) z × (z ≤ℤ q))) → part.lower ≡ range.lower
+    → IsRefined range factor rest part
 refined_upper range part factor rest q g is floor upper lower = record {
   keeps = λ z holds met. record {
     from = rw lower holds.from;
     up_to = (upper z).1 (holds.up_to, floor_down g rest q z floor (size z met));
   };
   inside = λ z holds. record { from = rw (← lower) holds.from; up_to = ((upper z).0 holds.up_to).0 };
-  meets = λ apart z holds. back z (floor_up g rest q z floor ((upper z).0 holds.up_to).1);
+  meets = λ fits z holds. back z (floor_up g rest q z floor ((upper z).0 holds.up_to).1);
 }
   where
     size : (z : ℤ) → pos 0 ≤ℤ (factor *ℤ z +ℤ rest) → (pos g *ℤ z) ≤ℤ rest
@@ -107,14 +83,16 @@ refined_upper range part factor rest q g is floor upper lower = record {
     back z le = rw (is, neg_mul (pos g) z) (omega (arith, ints))
 
 -- where the factor is positive the quotient's negative is a lower end
-pub refined_lower : (range part : Interval) (factor rest q : ℤ) (g : ℕ) → factor ≡ pos g → IsFloor g rest q → ((z : ℤ) → IsFrom (some_end part.lower) z ↔ (IsFrom (some_end range.lower) z × (neg_ℤ q ≤ℤ z))) → part.upper ≡ range.upper → IsRefined range factor rest part
+pub refined_lower : (range part : Interval) (factor rest q : ℤ) (g : ℕ) → factor ≡ pos g → IsFloor g rest q
+    → ((z : ℤ) → IsFrom (some_end part.lower) z ↔ (IsFrom (some_end range.lower) z × (neg_ℤ q ≤ℤ z))) → part.upper ≡ range.upper
+    → IsRefined range factor rest part
 refined_lower range part factor rest q g is floor lower upper = record {
   keeps = λ z holds met. record {
     from = (lower z).1 (holds.from, least z (floor_down g rest q (neg_ℤ z) floor (size z met)));
     up_to = rw upper holds.up_to;
   };
   inside = λ z holds. record { from = ((lower z).0 holds.from).0; up_to = rw (← upper) holds.up_to };
-  meets = λ apart z holds. back z (floor_up g rest q (neg_ℤ z) floor (most z ((lower z).0 holds.from).1));
+  meets = λ fits z holds. back z (floor_up g rest q (neg_ℤ z) floor (most z ((lower z).0 holds.from).1));
 }
   where
     size : (z : ℤ) → pos 0 ≤ℤ (factor *ℤ z +ℤ rest) → (pos g *ℤ neg_ℤ z) ≤ℤ rest
@@ -130,9 +108,9 @@ refined_lower range part factor rest q g is floor lower upper = record {
     most z le = omega (arith, ints)
 
 -- where the quotient's negative does not fit the interval stays
-pub refined_not : (range : Interval) (factor rest : ℤ) → rest ≡ negsuc (2 ^ 127 - 1) → IsRefined range factor rest range
-refined_not range factor rest is = record {
+pub refined_not : (range : Interval) (factor rest : ℤ) → factor ≡ pos 1 → rest ≡ negsuc (2 ^ 127 - 1) → IsRefined range factor rest range
+refined_not range factor rest one is = record {
   keeps = λ z holds met. holds;
   inside = λ z holds. holds;
-  meets = λ apart z holds. absurd (apart is);
+  meets = λ fits z holds. absurd (fits one is);
 }

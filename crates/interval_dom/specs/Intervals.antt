@@ -1,10 +1,9 @@
 -- Intervals of whole numbers.
-use Rattle.std.specs.Prelude.{◌≡◌, ◌≢◌, ◌⊎◌, ◌-◌, ◌^◌, ℤ, pos, negsuc, ◌+ℤ◌, ◌*ℤ◌, ◌≤ℤ◌, ◌<ℤ◌, Bool, false, int_lt, Option, None, Some, IsSomeAnd}
+use Rattle.std.specs.Prelude.{◌≡◌, ◌≢◌, ◌⊎◌, ◌-◌, ◌^◌, ℤ, pos, negsuc, ◌+ℤ◌, ◌*ℤ◌, ◌≤ℤ◌, Bool, false, int_lt, None, Some, IsSomeAnd}
 use Rattle.linear_cons.specs.Bounds.{IsFrom, IsUpTo}
 use Rattle.num_domain.specs.declared.bound.Bound.{Bound}
 use Rattle.num_domain.specs.declared.bound.Bound.TheVariants.{Without, At}
-use Rattle.linear_cons.specs.Numbers.{Fits128}
-use Rattle.num_domain.specs.Ends.{IsExactEnd, both_ends, some_end}
+use Rattle.num_domain.specs.Ends.{some_end}
 use Rattle.interval_dom.specs.declared.interval.Interval.{Interval}
 
 -- the number is between the ends
@@ -45,22 +44,16 @@ pub record IsWidened (old newer wide : Interval) : Type 0 where
   pub no_new_lower : (some_end wide.lower ≡ some_end old.lower) ⊎ (some_end wide.lower ≡ None)
   pub no_new_upper : (some_end wide.upper ≡ some_end old.upper) ⊎ (some_end wide.upper ≡ None)
 
--- each end is the sum of the two ends, where both are there and it fits, and is missing in every other case
-pub record IsSumOf (a b sum : Interval) : Type 0 where
-  pub lower : IsExactEnd (λ z. z) Fits128 (both_ends ◌+ℤ◌ (some_end a.lower) (some_end b.lower)) sum.lower
-  pub upper : IsExactEnd (λ z. z) Fits128 (both_ends ◌+ℤ◌ (some_end a.upper) (some_end b.upper)) sum.upper
+-- the end that factor * z + rest >= 0 asks for fits 128 bits: only that of z - 2^127 >= 0 does not
+abbrev pub EndFits : ℤ → ℤ → Type 0
+EndFits factor rest = factor ≡ pos 1 → rest ≢ negsuc (2 ^ 127 - 1)
 
--- an end times the factor
-abbrev pub end_times : Bound ℤ → ℤ → Option ℤ
-end_times end factor = both_ends ◌*ℤ◌ (some_end end) (Some factor)
+-- each number of the interval has factor * z + rest at least 0, if the end that this asks for fits
+abbrev pub IsMetIn : Interval → ℤ → ℤ → Type 0
+IsMetIn part factor rest = EndFits factor rest → (z : ℤ) → Holds part z → pos 0 ≤ℤ (factor *ℤ z +ℤ rest)
 
--- each end is the product of an end with the factor, of the other end where that is negative; where it is there and fits, else missing
-pub record IsMultipleOf (factor : ℤ) (range multiple : Interval) : Type 0 where
-  pub kept : pos 0 ≤ℤ factor → IsExactEnd (λ z. z) Fits128 (end_times range.lower factor) multiple.lower × IsExactEnd (λ z. z) Fits128 (end_times range.upper factor) multiple.upper
-  pub turned : factor <ℤ pos 0 → IsExactEnd (λ z. z) Fits128 (end_times range.upper factor) multiple.lower × IsExactEnd (λ z. z) Fits128 (end_times range.lower factor) multiple.upper
-
--- the part of an interval where factor * z + rest is at least 0. Only the end 2^127 is not made
+-- the part of an interval where factor * z + rest is at least 0, if the end that this asks for fits
 pub record IsRefined (range : Interval) (factor rest : ℤ) (part : Interval) : Type 0 where
   pub keeps : (z : ℤ) → Holds range z → pos 0 ≤ℤ (factor *ℤ z +ℤ rest) → Holds part z
   pub inside : (z : ℤ) → Holds part z → Holds range z
-  pub meets : rest ≢ negsuc (2 ^ 127 - 1) → (z : ℤ) → Holds part z → pos 0 ≤ℤ (factor *ℤ z +ℤ rest)
+  pub meets : IsMetIn part factor rest

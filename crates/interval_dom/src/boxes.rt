@@ -1,7 +1,8 @@
 //! Boxes of stores.
 ghost use Rattle.std.specs.Prelude.{◌≡◌, ◌<◌, ◌++◌, ◌∷◌, [], Some, OnOk, IfOk};
-ghost use Rattle.interval_dom.specs.Boxes.{line, lower_line, rows_of_lines, upper_line};
+ghost use Rattle.interval_dom.specs.Boxes.{IsPartFor, line, lower_line, upper_line};
 ghost use Rattle.num_domain.specs.Ends.{some_end};
+ghost use Rattle.num_domain.specs.Lines.{rows_of_lines};
 
 use crate::interval::Interval;
 use linear_cons::{Affine, Bounds, Linear, PLACES, Row, RowKind};
@@ -15,13 +16,10 @@ pub struct Boxes {
 }
 
 impl Boxes {
-    ghost use Rattle.std.specs.Prelude.{◌≡◌, ◌<◌, ◌≢◌, ℤ, ℕ, List, negsuc, true, false, ◌-◌, ◌^◌};
-    ghost use Rattle.linear_cons.specs.Functions.{IsConstant, MentionsOnly, value_at};
-    ghost use Rattle.linear_cons.specs.Rows.{Meets};
-    ghost use Rattle.num_domain.specs.Domain.{HasEvery, IsStore, KeepsAssigned, KeepsMeeting, Within};
-    ghost use Rattle.interval_dom.specs.Boxes.{Has, IsLeastOf, IsWidening, KeepsOtherEnds, bounds_of, is_empty_box, rows_of};
-    ghost use Rattle.std.specs.List.{list_any};
-    ghost use Rattle.interval_dom.specs.Intervals.{Holds, is_void};
+    ghost use Rattle.std.specs.Prelude.{◌≡◌, ◌<◌, true, false};
+    ghost use Rattle.num_domain.specs.Domain.{HasEvery, KeepsAssigned, KeepsMeeting, Within};
+    ghost use Rattle.interval_dom.specs.Boxes.{Has, IsLeastOf, KeepsOtherEnds, MeetsAlone, RefinesEnds, SetsHull, WidensFilled};
+    ghost use Rattle.interval_dom.specs.Boxes.{bounds_of, is_empty_box, rows_of};
 
     /// No end at any place.
     fn whole() -> Boxes
@@ -35,16 +33,9 @@ impl Boxes {
         }
     }
 
-    /// True exactly where there is no member.
+    /// True exactly where there is no member: some place's ends leave no number.
     fn has_none(&self) -> bool
         ensures { result ≡ is_empty_box self.now }
-    {
-        self.some_void()
-    }
-
-    /// True exactly where some place's ends leave no number.
-    fn some_void(&self) -> bool
-        ensures { result ≡ list_any is_void self.now.intervals }
     {
         self.intervals.iter().any(|range| range.is_void())
     }
@@ -61,40 +52,18 @@ impl Boxes {
         Bounds { ends }
     }
 
-    /// An interval with the function's value at each member; it is one number where no variable occurs.
-    fn range(&self, affine: &Affine) -> Interval
-        ensures values { (store : List ℤ) → IsStore store → Has self.now store → Holds result (value_at affine.now store) }
-        ensures constant { IsConstant affine.now → some_end result.upper ≡ Some affine.now.constant }
-    {
-        let mut sum = Interval::single(affine.constant);
-        for place in 0..PLACES {
-            let factor = affine.coef[place];
-            if factor == 0 {
-                continue;
-            }
-            sum = sum.plus(&self.intervals[place].times(factor));
-        }
-        sum
-    }
-
-    /// Refines each end that the row and the other ends imply, place by place. It is exact for a row
-    /// of one variable whose constant is not -2^127.
+    /// Refines at each place the end that the row asks for where its other terms have their greatest
+    /// value. A row asks for the end at a place that its greatest values do not rest on, so that all of
+    /// them may be taken over the ends as they were.
     fn refine(&mut self, row: &Row)
         ensures keeps { KeepsMeeting row.now (Has self.old) (Has self.new) }
         ensures inside { Within (Has self.new) (Has self.old) }
-        ensures meets { (place : ℕ) → place < 16 → MentionsOnly place row.now.affine → row.now.affine.constant ≢ negsuc (2 ^ 127 - 1) → (store : List ℤ) → IsStore store → Has self.new store → Meets store row.now }
+        ensures alone { MeetsAlone row.now (Has self.new) }
+        ensures refined { RefinesEnds row.now (bounds_of self.old) (bounds_of self.new) }
     {
+        let before = self.ends();
         for place in 0..PLACES {
-            let factor = row.affine.coef[place];
-            if factor == 0 {
-                continue;
-            }
-            let mut others = row.affine;
-            others.coef[place] = 0;
-            let Bound::At(rest) = self.range(&others).upper else {
-                continue;
-            };
-            self.intervals[place] = self.intervals[place].refined(factor, rest);
+            self.intervals[place] = part_for(row, &before, place, &self.intervals[place]);
         }
     }
 
@@ -123,7 +92,7 @@ impl Boxes {
     fn widened(&self, newer: &Boxes) -> Boxes
         ensures own { Within (Has self.now) (Has result) }
         ensures others { Within (Has newer.now) (Has result) }
-        ensures ends { is_empty_box self.now ≡ false → is_empty_box newer.now ≡ false → IsWidening (bounds_of self.now) (bounds_of newer.now) (bounds_of result) }
+        ensures ends { WidensFilled self.now newer.now result }
         ensures empty { is_empty_box self.now ≡ true → result ≡ newer.now }
         ensures empty_newer { is_empty_box self.now ≡ false → is_empty_box newer.now ≡ true → result ≡ self.now }
     {
@@ -145,15 +114,17 @@ impl Boxes {
         requires { place < 16 }
         ensures keeps { KeepsAssigned place value.now (Has self.old) (Has self.new) }
         ensures other_ends { KeepsOtherEnds place (bounds_of self.old) (bounds_of self.new) }
+        ensures hull { SetsHull place value.now self.old self.new }
+        ensures empty { is_empty_box self.old ≡ true → self.new ≡ self.old }
     {
         if self.has_none() {
             return;
         }
-        let rest = Interval {
-            lower: Bound::of(value.lo),
-            upper: Bound::of(value.hi),
+        let bounds = self.ends();
+        self.intervals[place as usize] = Interval {
+            lower: Bound::of(value.least(&bounds)),
+            upper: Bound::of(value.greatest(&bounds)),
         };
-        self.intervals[place as usize] = self.range(&value.affine).plus(&rest);
     }
 
     /// A row for each end whose row fits.
@@ -167,6 +138,24 @@ impl Boxes {
             push_upper(&mut rows, place, range.upper)?;
         }
         Ok(rows)
+    }
+}
+
+/// The part of the interval at the place that the row leaves, where the other places are in the bounds.
+fn part_for(row: &Row, bounds: &Bounds, place: usize, range: &Interval) -> Interval
+    requires { place < 16 }
+    ensures { IsPartFor row.now bounds.now place range.now result }
+{
+    let factor = row.affine.coef[place];
+    if factor == 0 {
+        return *range;
+    }
+    let mut coef = row.affine.coef;
+    coef[place] = 0;
+    let constant = row.affine.constant;
+    match Linear::exactly(Affine { coef, constant }).greatest(bounds) {
+        Some(rest) => range.refined(factor, rest),
+        None => *range,
     }
 }
 
@@ -216,10 +205,11 @@ fn push_upper(rows: &mut Vec<Row>, place: usize, upper: Bound<i128>) -> Result<(
 }
 
 impl NumDomain for Boxes {
-    ghost use Rattle.std.specs.Prelude.{◌≡◌, ◌≢◌, ◌<◌, ◌-◌, ◌^◌, ℕ, negsuc, true, false, map, IsOk, IfOk, OnErr};
-    ghost use Rattle.linear_cons.specs.Functions.{MentionsOnly};
-    ghost use Rattle.num_domain.specs.Domain.{AllMeet, HasEvery, IsPlain, IsUnchanged, KeepsAssigned, KeepsMeeting, SameMembers, Within};
-    ghost use Rattle.interval_dom.specs.Boxes.{Has, IsLeastOf, IsMeet, IsWidening, KeepsOtherEnds, TellsEmpty, bounds_of, is_empty_box, lines_below, rows_of};
+    ghost use Rattle.std.specs.Prelude.{◌≡◌, ◌<◌, ℕ, true, false, map, IsOk, IfOk, OnErr};
+    ghost use Rattle.num_domain.specs.Domain.{AllMeet, HasEvery, IsMeet, IsPlain, IsUnchanged, KeepsAssigned, KeepsMeeting, SameMembers, Within};
+    ghost use Rattle.interval_dom.specs.Boxes.{Has, HasOneEnd, IsLeastOf, KeepsOtherEnds, RefinesEnds, SetsHull, TellsEmpty};
+    ghost use Rattle.interval_dom.specs.Boxes.{WidensFilled};
+    ghost use Rattle.interval_dom.specs.Boxes.{bounds_of, is_empty_box, lines_below, rows_of};
     ghost use Rattle.interval_dom.specs.Laws.BoxLaws.{empty_none, rows_met};
 
     ghost has = { Has };
@@ -237,12 +227,13 @@ impl NumDomain for Boxes {
         Ok(Boxes::whole())
     }
 
-    /// Exact for a row of one variable whose constant is not -2^127; a row of several variables also
-    /// refines each end that the other ends imply.
+    /// Refines at each place the end that the row asks for where its other terms have their greatest
+    /// value. That is exact for a row of one variable whose constant is not -2^127.
     fn meet_row(&mut self, _alloc: Global, row: &Row) -> Result<(), AllocError>
         ensures keeps { IfOk result (λ _. KeepsMeeting row.now (Has self.old) (Has self.new)) }
         ensures plain { IfOk result (λ _. (place : ℕ) → IsPlain row.now place → AllMeet row.now (Has self.new)) }
-        ensures exact { IfOk result (λ _. (place : ℕ) → place < 16 → MentionsOnly place row.now.affine → row.now.affine.constant ≢ negsuc (2 ^ 127 - 1) → IsMeet row.now (Has self.old) (Has self.new)) }
+        ensures exact { IfOk result (λ _. (place : ℕ) → HasOneEnd row.now place → IsMeet row.now (Has self.old) (Has self.new)) }
+        ensures refined { IfOk result (λ _. RefinesEnds row.now (bounds_of self.old) (bounds_of self.new)) }
         ensures inside { IfOk result (λ _. Within (Has self.new) (Has self.old)) }
         ensures total { IsOk result }
         ensures err { OnErr result (IsUnchanged Has is_empty_box rows_of bounds_of self.old self.new) }
@@ -269,7 +260,7 @@ impl NumDomain for Boxes {
     fn widen(&mut self, _alloc: Global, newer: &Boxes) -> Result<(), AllocError>
         ensures own { IfOk result (λ _. Within (Has self.old) (Has self.new)) }
         ensures newer { IfOk result (λ _. Within (Has newer.now) (Has self.new)) }
-        ensures ends { IfOk result (λ _. is_empty_box self.old ≡ false → is_empty_box newer.now ≡ false → IsWidening (bounds_of self.old) (bounds_of newer.now) (bounds_of self.new)) }
+        ensures ends { IfOk result (λ _. WidensFilled self.old newer.now self.new) }
         ensures empty { IfOk result (λ _. is_empty_box self.old ≡ true → self.new ≡ newer.now) }
         ensures empty_newer { IfOk result (λ _. is_empty_box self.old ≡ false → is_empty_box newer.now ≡ true → self.new ≡ self.old) }
         ensures total { IsOk result }
@@ -279,11 +270,15 @@ impl NumDomain for Boxes {
         Ok(())
     }
 
-    /// The ends at every other place stay.
+    /// The least box round what comes of the members, as far as its ends and the numbers on the way to
+    /// them fit: the ends at the place are the least and the greatest value of the expression over the
+    /// old ends, and those at every other place stay. A box without members stays.
     fn assign(&mut self, _alloc: Global, place: u8, value: &Linear) -> Result<(), AllocError>
         requires { place < 16 }
         ensures keeps { IfOk result (λ _. KeepsAssigned place value.now (Has self.old) (Has self.new)) }
         ensures other_ends { IfOk result (λ _. KeepsOtherEnds place (bounds_of self.old) (bounds_of self.new)) }
+        ensures hull { IfOk result (λ _. SetsHull place value.now self.old self.new) }
+        ensures empty { IfOk result (λ _. is_empty_box self.old ≡ true → self.new ≡ self.old) }
         ensures total { IsOk result }
         ensures err { OnErr result (IsUnchanged Has is_empty_box rows_of bounds_of self.old self.new) }
     {

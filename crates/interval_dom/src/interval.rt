@@ -1,7 +1,6 @@
 //! Intervals of whole numbers, with either end or without.
-ghost use Rattle.std.specs.Prelude.{◌≡◌, ◌≢◌, ℤ, pos, ◌+ℤ◌, ◌*ℤ◌, Some};
-ghost use Rattle.num_domain.specs.Ends.{some_end};
-ghost use Rattle.interval_dom.specs.Intervals.{Holds, IsHull, IsMultipleOf, IsRefined, IsSumOf, IsWidened, is_void};
+ghost use Rattle.std.specs.Prelude.{◌≡◌, ◌≢◌, pos};
+ghost use Rattle.interval_dom.specs.Intervals.{IsHull, IsRefined, IsWidened, is_void};
 
 use linear_cons::floor_quotient;
 use num_domain::Bound;
@@ -14,17 +13,6 @@ pub(crate) struct Interval {
 }
 
 impl Interval {
-    /// One number.
-    pub(crate) fn single(number: i128) -> Interval
-        ensures lower { some_end result.lower ≡ Some number }
-        ensures upper { some_end result.upper ≡ Some number }
-    {
-        Interval {
-            lower: Bound::At(number),
-            upper: Bound::At(number),
-        }
-    }
-
     /// True exactly where the ends leave no number.
     pub(crate) fn is_void(&self) -> bool
         ensures { result ≡ is_void self.now }
@@ -58,34 +46,6 @@ impl Interval {
                 (Bound::At(own), Bound::At(also)) if also <= own => Bound::At(own),
                 _ => Bound::Without,
             },
-        }
-    }
-
-    /// An interval with the sum of each two numbers.
-    pub(crate) fn plus(&self, other: &Interval) -> Interval
-        ensures holds { (a b : ℤ) → Holds self.now a → Holds other.now b → Holds result (a +ℤ b) }
-        ensures exact { IsSumOf self.now other.now result }
-    {
-        Interval {
-            lower: self.lower.plus(&other.lower),
-            upper: self.upper.plus(&other.upper),
-        }
-    }
-
-    /// An interval with the multiple of each number.
-    pub(crate) fn times(&self, factor: i128) -> Interval
-        ensures holds { (z : ℤ) → Holds self.now z → Holds result (factor *ℤ z) }
-        ensures exact { IsMultipleOf factor self.now result }
-    {
-        if factor < 0 {
-            return Interval {
-                lower: self.upper.times(&factor),
-                upper: self.lower.times(&factor),
-            };
-        }
-        Interval {
-            lower: self.lower.times(&factor),
-            upper: self.upper.times(&factor),
         }
     }
 

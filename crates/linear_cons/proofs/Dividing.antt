@@ -3,6 +3,7 @@ use Rattle.std.proofs.Common.{◌≡◌, ℕ, suc, ◌+◌, ◌*◌, ◌/◌, �
 use Rattle.std.specs.Int.{◌∣◌}
 use Rattle.std.proofs.lemmas.Int.{ints, unsigned_abs-mul, by_lt_z}
 use Rattle.std.proofs.Math.Nat.{mul-div_cancel', eq-one_of_dvd-one, one-dvd}
+use Rattle.std.proofs.lemmas.Nat.Gcd.{dvd-zero}
 use Rattle.linear_cons.specs.Numbers.{number_at}
 use Rattle.linear_cons.specs.Divisor.{IsDivisorOf, IsPrimitive}
 pub use Rattle.linear_cons.specs.Laws.Primitive.{DivisorBelow, divisor_all, divisor_more, divisor_none, primitive_complement, primitive_quotients}
@@ -56,3 +57,9 @@ quotient_more g n xs qs q low before is = record {
 
 pub quotient_sizes : (g : ℕ) (xs qs : List ℤ) → ((i : ℕ) → i < 16 → number_at xs i ≡ pos g *ℤ number_at qs i) → (i : ℕ) → i < 16 → unsigned_abs (number_at xs i) ≡ g * unsigned_abs (number_at qs i)
 quotient_sizes g xs qs are i h = ap unsigned_abs (are i h) ∙ unsigned_abs-mul (pos g) (number_at qs i)
+
+-- sixteen numbers that are all 0 have other divisors than 1
+pub zeros_not_primitive : (xs : List ℤ) → ((i : ℕ) → i < 16 → number_at xs i ≡ pos 0) → ¬ IsPrimitive xs
+zeros_not_primitive xs zeros primitive =
+    let two : ◌≡◌ {A = ℕ} 2 1 = primitive 2 (λ i h. rw (zeros i h) (dvd-zero 2)) in
+    omega arith

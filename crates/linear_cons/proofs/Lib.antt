@@ -10,4 +10,7 @@ pub mod Sizes
 pub mod Sums
 pub mod Telling
 pub mod Parts
+pub mod Mixed
 pub mod Examples
+pub mod KnownEnds
+pub mod EndLaws

@@ -74,6 +74,14 @@ mul_le (pos n) b c h le =
     at_most_in _ _ (omega (arith, product_is (pos n) b, product_is (pos n) c, mul-le-mul_left n (le_out b c le)))
 mul_le (negsuc n) b c h le = absurd (omega (arith, ints))
 
+-- a negative factor turns an order
+pub mul_turned : (a b c : ℤ) → a <ℤ pos 0 → b ≤ℤ c → (a *ℤ c) ≤ℤ (a *ℤ b)
+mul_turned a b c below le =
+    let product : (neg_ℤ a *ℤ b) ≤ℤ (neg_ℤ a *ℤ c) = mul_le (neg_ℤ a) b c (omega (arith, ints)) le in
+    let left : neg_ℤ a *ℤ b ≡ neg_ℤ (a *ℤ b) = neg_mul a b in
+    let right : neg_ℤ a *ℤ c ≡ neg_ℤ (a *ℤ c) = neg_mul a c in
+    omega (arith, ints)
+
 -- a positive factor keeps a strict order
 pub mul_lt : (a b c : ℤ) → pos 0 <ℤ a → b <ℤ c → (a *ℤ b) <ℤ (a *ℤ c)
 mul_lt (pos n) b c h lt =

@@ -1,5 +1,6 @@
 -- Affine functions with unbounded numbers: their values, and the exact sum, difference, multiple and substitution.
-use Rattle.std.specs.Prelude.{◌≡◌, ◌≢◌, ℕ, ◌<◌, ◌≤◌, ◌==◌, ℤ, pos, negsuc, neg_ℤ, ◌+ℤ◌, ◌-ℤ◌, ◌*ℤ◌, ◌≤ℤ◌, ◌<ℤ◌, List, length, slice_set, if◌then◌else◌}
+use Rattle.std.specs.Prelude.{◌≡◌, ◌≢◌, ℕ, ◌<◌, ◌≤◌, ◌==◌, ℤ, pos, negsuc, neg_ℤ, ◌+ℤ◌, ◌-ℤ◌, ◌*ℤ◌, ◌≤ℤ◌, ◌<ℤ◌, List, length, slice_set}
+use Rattle.std.specs.Prelude.{if◌then◌else◌}
 use Rattle.linear_cons.specs.declared.affine.Affine.{Affine}
 use Rattle.linear_cons.specs.declared.exact.Op.{Op}
 use Rattle.linear_cons.specs.Exact.{exact_result}
@@ -36,11 +37,16 @@ difference_of a b = record { coef = at_places (λ i. coefficient a i -ℤ coeffi
 
 -- the operation on the two numbers at each place
 abbrev pub combined : Op → Affine → Affine → Affine
-combined op a b = record { coef = at_places (λ i. exact_result op (coefficient a i) (coefficient b i)); constant = exact_result op a.constant b.constant }
+combined op a b =
+    record { coef = at_places (λ i. exact_result op (coefficient a i) (coefficient b i)); constant = exact_result op a.constant b.constant }
 
 -- each number times the factor
 abbrev pub multiple_of : Affine → ℤ → Affine
 multiple_of a by = record { coef = at_places (λ i. coefficient a i *ℤ by); constant = a.constant *ℤ by }
+
+-- the sum of the two functions, each times its factor
+abbrev pub mixed_of : Affine → ℤ → Affine → ℤ → Affine
+mixed_of a by b times = sum_of (multiple_of a by) (multiple_of b times)
 
 -- the function without its product at the place
 abbrev pub without : Affine → ℕ → Affine
@@ -58,6 +64,18 @@ substituted a place by = sum_of (without a place) (products_added a place by)
 pub record NumbersFit (a : Affine) : Type 0 where
   pub coefficients : (i : ℕ) → i < 16 → Fits128 (coefficient a i)
   pub constants : Fits128 a.constant
+
+-- both products of two numbers with their factors, and the sum of the two, fit 128 bits
+pub record ProductsFit (left by right times : ℤ) : Type 0 where
+  pub first : Fits128 (left *ℤ by)
+  pub second : Fits128 (right *ℤ times)
+  pub together : Fits128 (left *ℤ by +ℤ right *ℤ times)
+
+-- no number of a sum of multiples is outside 128 bits: neither a product that it adds up nor one of the result
+pub record MixedFits (a : Affine) (by : ℤ) (b : Affine) (times : ℤ) : Type 0 where
+  pub first : NumbersFit (multiple_of a by)
+  pub second : NumbersFit (multiple_of b times)
+  pub sums : NumbersFit (mixed_of a by b times)
 
 -- no number of a substitution is outside 128 bits: neither a product that it adds up nor one of the result
 pub record SubstitutionFits (a : Affine) (place : ℕ) (by : Affine) : Type 0 where

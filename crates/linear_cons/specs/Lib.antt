@@ -7,3 +7,5 @@ pub mod Laws
 pub mod Rows
 pub mod Settling
 pub mod Bounds
+pub mod Ends
+pub mod Tightest

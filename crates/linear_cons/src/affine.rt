@@ -1,8 +1,10 @@
 //! Affine functions: sixteen coefficients and a constant.
-ghost use Rattle.std.specs.Prelude.{◌≡◌, ◌<◌, ◌↔◌, IsTrue, OkIff, IfErr};
+ghost use Rattle.std.specs.Prelude.{◌≡◌, ◌<◌, ◌↔◌, ◌+ℤ◌, ◌*ℤ◌, IsTrue, OkIff, IfErr};
 ghost use Rattle.linear_cons.specs.Divisor.{IsDivisorOf, IsPrimitive};
 ghost use Rattle.linear_cons.specs.Exact.{IsOutside};
-ghost use Rattle.linear_cons.specs.Functions.{HasNegatives, IsQuotient, NumbersFit, PartsFit, SubstitutionFits, combined, constant_of, difference_of, multiple_of, substituted, sum_of, value_at, variable_at};
+ghost use Rattle.linear_cons.specs.Functions.{HasNegatives, IsQuotient, MixedFits, NumbersFit, PartsFit, ProductsFit, SubstitutionFits};
+ghost use Rattle.linear_cons.specs.Functions.{combined, constant_of, difference_of, mixed_of, multiple_of, substituted, sum_of};
+ghost use Rattle.linear_cons.specs.Functions.{value_at, variable_at};
 
 use crate::divisor::floor_quotient;
 use crate::exact::{Op, Wide};
@@ -64,6 +66,20 @@ impl Affine {
             coef[place] = Op::Mul.exact(self.coef[place], by)?;
         }
         let constant = Op::Mul.exact(self.constant, by)?;
+        Ok(Affine { coef, constant })
+    }
+
+    /// The sum of `by` times the function and `times` times the other, a place at a time. `Wide` comes exactly
+    /// where a number of the result, or one of the products that are added up, lies outside `i128`.
+    pub fn mixed(&self, by: i128, other: &Affine, times: i128) -> Result<Affine, Wide>
+        ensures exact { OkIff result (MixedFits self.now by other.now times) (mixed_of self.now by other.now times) }
+        ensures wide { IfErr result IsOutside }
+    {
+        let mut coef = [0; PLACES];
+        for place in 0..PLACES {
+            coef[place] = mixed_number(self.coef[place], by, other.coef[place], times)?;
+        }
+        let constant = mixed_number(self.constant, by, other.constant, times)?;
         Ok(Affine { coef, constant })
     }
 
@@ -164,4 +180,18 @@ impl Affine {
         }
         true
     }
+}
+
+/// The sum of two products, or `Wide` exactly where it or one of them lies outside `i128`. Where both numbers
+/// are 0, as most are, nothing is multiplied.
+fn mixed_number(left: i128, by: i128, right: i128, times: i128) -> Result<i128, Wide>
+    ensures exact { OkIff result (ProductsFit left by right times) (left *ℤ by +ℤ right *ℤ times) }
+    ensures wide { IfErr result IsOutside }
+{
+    if left == 0 && right == 0 {
+        return Ok(0);
+    }
+    let first = Op::Mul.exact(left, by)?;
+    let second = Op::Mul.exact(right, times)?;
+    Op::Add.exact(first, second)
 }

@@ -10,6 +10,7 @@
 mod affine;
 mod bounds;
 mod divisor;
+mod ends;
 mod exact;
 pub mod laws;
 mod row;
@@ -21,6 +22,7 @@ mod tests;
 pub use affine::{Affine, PLACES};
 pub use bounds::{Bounds, Linear};
 pub use divisor::{common_divisor, floor_quotient};
+pub use ends::{end_difference, end_multiple, end_sum};
 pub use exact::{Op, Wide};
 pub use row::{Row, RowKind};
 pub use rows::{MOST_ROWS, Rows};

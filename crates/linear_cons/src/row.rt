@@ -1,6 +1,6 @@
 //! Rows: affine constraints in normal form.
-ghost use Rattle.std.specs.Prelude.{◌≡◌, ℕ, ◌<◌, List, ◌↔◌, IsTrue, IsOk, IfOk, IfErr, ℤ, pos, ◌≤ℤ◌};
-ghost use Rattle.linear_cons.specs.Divisor.{IsDivisorOf, IsPrimitive};
+ghost use Rattle.std.specs.Prelude.{◌≡◌, ◌<◌, List, ◌↔◌, IsTrue, IsOk, IfOk, IfErr, ℤ, pos, ◌≤ℤ◌};
+ghost use Rattle.linear_cons.specs.Divisor.{IsPrimitive};
 
 use crate::affine::Affine;
 use crate::divisor::divisor_of;

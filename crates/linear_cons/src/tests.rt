@@ -1,5 +1,5 @@
 //! Tables of worked examples, computed by hand.
-use crate::affine::Affine;
+use crate::affine::{Affine, PLACES};
 use crate::bounds::Linear;
 use crate::exact::{Op, Wide};
 use crate::row::{Row, RowKind};
@@ -8,7 +8,7 @@ use std::test::Fail;
 
 /// `x * x0 + y * x1 + constant`.
 fn line(x: i128, y: i128, constant: i128) -> Affine {
-    let mut coef = [0; 16];
+    let mut coef = [0; PLACES];
     coef[0] = x;
     coef[1] = y;
     Affine { coef, constant }
@@ -37,11 +37,13 @@ fn combinations(rt: HostRuntime) {
     // x2 doesn't occur, so nothing is formed.
     assert_eq!(rt; a.subst(2, &line(i128::MIN, 0, 0)), Ok(a));
     assert_eq!(rt; a.plus(-9), Ok(line(3, -2, -2)));
+    // 5 * (3 * x0 - 2 * x1 + 7) - 3 * (5 * x0 + 2 * x1 - 1)
+    assert_eq!(rt; a.mixed(5, &b, -3), Ok(line(0, -16, 38)));
     assert_eq!(rt;
         Affine::var(1).sub(&Affine::constant(4)),
         Ok(line(0, 1, -4))
     );
-    let mut store = [0; 16];
+    let mut store = [0; PLACES];
     store[0] = 10;
     store[1] = 4;
     assert_eq!(rt; a.value(&store), Ok(29));
@@ -84,18 +86,40 @@ fn numbers_past_128_bits(rt: HostRuntime) {
             op: Op::Mul
         })
     );
+    // So it is with the product 2 * (2^127 - 1) in a sum of multiples, and with a sum of two products that fit.
+    assert_eq!(rt;
+        line(most, 0, 0).mixed(2, &line(least, 0, 0), 1),
+        Err(Wide {
+            left: most,
+            right: 2,
+            op: Op::Mul
+        })
+    );
+    assert_eq!(rt;
+        line(0, most, 0).mixed(1, &line(0, 1, 0), 3),
+        Err(Wide {
+            left: most,
+            right: 3,
+            op: Op::Add
+        })
+    );
+    // Nothing is multiplied where both numbers are 0.
+    assert_eq!(rt;
+        line(0, 0, 1).mixed(most, &line(0, 0, 1), 0),
+        Ok(line(0, 0, most))
+    );
     // The first two products leave the range; the third would lead back.
     let mut wave = line(most, 1, 0);
     wave.coef[2] = -1;
     assert_eq!(rt;
-        wave.value(&[1; 16]),
+        wave.value(&[1; PLACES]),
         Err(Wide {
             left: most,
             right: 1,
             op: Op::Add
         })
     );
-    assert_eq!(rt; line(1, 1, least).value(&[0; 16]), Ok(least));
+    assert_eq!(rt; line(1, 1, least).value(&[0; PLACES]), Ok(least));
 }
 
 #[test]

@@ -15,7 +15,7 @@ use Rattle.linear_cons.specs.Rows.{row_kind_of}
 use Rattle.linear_forms.specs.Linearising.{numbers_fit}
 use Rattle.linear_forms.specs.Meeting.{MeetsOne}
 use Rattle.linear_forms.specs.Spreading.{Claim, above, all_rows_of, at_least, claims, comparison_for, constraint, favoured, fitting, less_one, opposite, rows_of, with_constraint}
-use Rattle.linear_forms.proofs.EndLaws.{up_to_difference}
+use Rattle.linear_cons.proofs.EndLaws.{up_to_difference}
 use Rattle.linear_forms.proofs.MeetingLaws.{MeetsKept, meets_before, meets_kept, meets_later, row_meets}
 
 -- ---- outcomes

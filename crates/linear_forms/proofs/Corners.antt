@@ -1,29 +1,23 @@
 -- Products of numbers between two ends, and squares.
-use Rattle.std.proofs.Common.{◌≡◌, ℤ, pos, ◌*ℤ◌, neg_ℤ, ◌≤ℤ◌, ◌<ℤ◌, ◌⊎◌, inl, inr, ⊎_elim, arith}
+use Rattle.std.proofs.Common.{◌≡◌, ℤ, pos, ◌*ℤ◌, neg_ℤ, ◌≤ℤ◌, ◌<ℤ◌, ◌⊎◌, inl, inr, ⊎_elim, Option, Some, None, arith}
 use Rattle.std.proofs.lemmas.Int.{ints, by_lt_z, clamps}
 use Rattle.std.specs.Int.{int_max}
-use Rattle.linear_cons.proofs.Ring.{mul_commutes, mul_le, mul_nonnegative, neg_mul, mul_neg}
+use Rattle.linear_cons.proofs.Ring.{mul_commutes, mul_le, mul_neg, mul_nonnegative, mul_turned, neg_mul}
+use Rattle.linear_cons.specs.Bounds.{IsFrom, IsUpTo}
+use Rattle.linear_cons.specs.Ends.{ends_from}
+use Rattle.linear_cons.proofs.EndLaws.{up_to_end}
 use Rattle.linear_forms.specs.Linearising.{least_of, greatest_of}
 
 -- a number is at least 0, or below it
 sign : (k : ℤ) → (pos 0 ≤ℤ k) ⊎ (k <ℤ pos 0)
 sign k = by_lt_z k (pos 0) (λ below. inr below) (λ from. inl from)
 
--- a negative factor turns an order
-pub turns : (k a b : ℤ) → k <ℤ pos 0 → a ≤ℤ b → (k *ℤ b) ≤ℤ (k *ℤ a)
-turns k a b below le =
-    let from : pos 0 ≤ℤ neg_ℤ k = omega (arith, ints) in
-    let product : (neg_ℤ k *ℤ a) ≤ℤ (neg_ℤ k *ℤ b) = mul_le (neg_ℤ k) a b from le in
-    let left : neg_ℤ k *ℤ a ≡ neg_ℤ (k *ℤ a) = neg_mul k a in
-    let right : neg_ℤ k *ℤ b ≡ neg_ℤ (k *ℤ b) = neg_mul k b in
-    omega (arith, ints)
-
 -- a multiple of a number between two ends is at least that of one end, and at most that of one end
 from_an_end : (k c d y : ℤ) → c ≤ℤ y → y ≤ℤ d → ((k *ℤ c) ≤ℤ (k *ℤ y)) ⊎ ((k *ℤ d) ≤ℤ (k *ℤ y))
-from_an_end k c d y low high = ⊎_elim (λ from. inl (mul_le k c y from low)) (λ below. inr (turns k y d below high)) (sign k)
+from_an_end k c d y low high = ⊎_elim (λ from. inl (mul_le k c y from low)) (λ below. inr (mul_turned k y d below high)) (sign k)
 
 to_an_end : (k c d y : ℤ) → c ≤ℤ y → y ≤ℤ d → ((k *ℤ y) ≤ℤ (k *ℤ c)) ⊎ ((k *ℤ y) ≤ℤ (k *ℤ d))
-to_an_end k c d y low high = ⊎_elim (λ from. inr (mul_le k y d from high)) (λ below. inl (turns k c y below low)) (sign k)
+to_an_end k c d y low high = ⊎_elim (λ from. inr (mul_le k y d from high)) (λ below. inl (mul_turned k c y below low)) (sign k)
 
 least_below : (p q r t : ℤ) → (least_of p q r t ≤ℤ p) × (least_of p q r t ≤ℤ q) × (least_of p q r t ≤ℤ r) × (least_of p q r t ≤ℤ t)
 least_below p q r t = (omega (arith, ints, clamps), omega (arith, ints, clamps), omega (arith, ints, clamps), omega (arith, ints, clamps))
@@ -81,9 +75,15 @@ square_to_greater a b x from to =
     let same = mul_commutes x b in
     then_le _ _ _ first (then_le _ _ _ (rw same second) greater.1))
     (λ (below : x <ℤ pos 0).
-    let first : (x *ℤ x) ≤ℤ (x *ℤ a) = turns x a x below from in
+    let first : (x *ℤ x) ≤ℤ (x *ℤ a) = mul_turned x a x below from in
     let negative : a <ℤ pos 0 = omega (arith, ints) in
-    let second : (a *ℤ x) ≤ℤ (a *ℤ a) = turns a a x negative from in
+    let second : (a *ℤ x) ≤ℤ (a *ℤ a) = mul_turned a a x negative from in
     let same = mul_commutes x a in
     then_le _ _ _ first (then_le _ _ _ (rw same second) greater.0))
     (sign x)
+
+-- the square of a number between two ends
+pub up_to_square : (p q : Option ℤ) (v : ℤ) → IsFrom p v → IsUpTo q v → IsUpTo (ends_from (λ a b. int_max (a *ℤ a) (b *ℤ b)) p q) (v *ℤ v)
+up_to_square (Some a) (Some b) v h k = up_to_end (int_max (a *ℤ a) (b *ℤ b)) (v *ℤ v) (square_to_greater a b v h k)
+up_to_square (Some a) None v h k = tt
+up_to_square None q v h k = tt

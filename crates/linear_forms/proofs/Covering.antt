@@ -15,11 +15,11 @@ use Rattle.linear_cons.specs.declared.bounds.Linear.{Linear}
 use Rattle.linear_cons.specs.Functions.{constant_of, difference_of, multiple_of, sum_of, value_at, variable_at}
 use Rattle.linear_cons.proofs.Forms.{value_constant, value_difference, value_multiple, value_sum, value_variable}
 use Rattle.linear_cons.proofs.Ring.{mul_commutes, sub_mul}
-use Rattle.linear_forms.specs.Ends.{ends_from}
-use Rattle.linear_forms.specs.Linearising.{are_equal, between, combined_by, corners, exactly, is_constant, is_exact, is_nought, is_number, is_same, lessened, linear_of, numbers_fit, product, scaled, square, total, unknown, with_ends}
+use Rattle.linear_cons.specs.Ends.{ends_from}
+use Rattle.linear_forms.specs.Linearising.{are_equal, between, combined_by, corners, is_constant, is_exact, is_nought, is_number, is_same, lessened, linear_of, numbers_fit, product, scaled, square, total, unknown, with_ends}
 use Rattle.linear_forms.proofs.AffineForms.{times_minus_one}
-use Rattle.linear_forms.proofs.Corners.{greatest_corner_above, least_corner_below, square_from_0}
-use Rattle.linear_forms.proofs.EndLaws.{from_difference, from_end, from_least, from_multiple, from_same, from_sum, up_to_difference, up_to_end, up_to_greatest, up_to_multiple, up_to_same, up_to_square, up_to_sum}
+use Rattle.linear_forms.proofs.Corners.{greatest_corner_above, least_corner_below, square_from_0, up_to_square}
+use Rattle.linear_cons.proofs.EndLaws.{exactly_covers, from_difference, from_end, from_least, from_multiple, from_same, from_sum, up_to_difference, up_to_end, up_to_greatest, up_to_multiple, up_to_same, up_to_sum}
 use Rattle.linear_forms.proofs.Known.{is_same_decides}
 
 -- ---- choices
@@ -45,9 +45,6 @@ unknown_covers : (s : List ℤ) (v : ℤ) → Covers unknown s v
 unknown_covers s v = record { lower = tt; upper = tt }
 
 -- ---- exact forms
-
-exactly_covers : (a : Affine) (s : List ℤ) (v : ℤ) → v ≡ value_at a s → Covers (exactly a) s v
-exactly_covers a s v is = record { lower = omega (arith, ints); upper = omega (arith, ints) }
 
 nought_is : (end : Option ℤ) → is_nought end ≡ true → end ≡ Some (pos 0)
 nought_is (Some z) h = ap Some ((Decides-int_eq z (pos 0)).0 h)

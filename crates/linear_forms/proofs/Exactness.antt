@@ -14,10 +14,11 @@ use Rattle.linear_cons.specs.Functions.{NumbersFit, coefficient, constant_of, di
 use Rattle.linear_cons.proofs.Forms.{value_constant, value_difference, value_multiple, value_sum, value_variable}
 use Rattle.linear_cons.proofs.Places.{eqb_apart, number_at_places}
 use Rattle.linear_cons.proofs.Ring.{mul_commutes, zero_mul}
-use Rattle.linear_forms.specs.Ends.{end_of, fits, greatest_value, least_value, scaled_end}
-use Rattle.linear_forms.specs.Linearising.{are_equal, combined_by, corners, exactly, form_of, is_constant, is_number, linear_of, numbers_fit, product, scaled, unknown, with_ends}
+use Rattle.linear_cons.specs.Ends.{exact_end, exactly, fits, greatest_value, least_value, scaled_end}
+use Rattle.linear_forms.specs.Linearising.{are_equal, combined_by, corners, form_of, is_constant, is_number, linear_of, numbers_fit, product, scaled, unknown, with_ends}
 use Rattle.linear_forms.proofs.AffineForms.{form_fits, form_of_difference, form_of_negative, form_of_sum, form_without_names, product_with_left, product_with_right, scaled_left, scaled_right}
-use Rattle.linear_forms.proofs.Known.{constant_form_is, is_same_decides, when_not, when_so, with_ends_fit}
+use Rattle.linear_forms.proofs.Known.{constant_form_is, is_same_decides, with_ends_fit}
+use Rattle.linear_cons.proofs.KnownEnds.{when_not, when_so}
 
 -- ---- exact forms of exact operands
 
@@ -29,8 +30,8 @@ as_form a e is fit = ap (λ t. with_ends t (Some (pos 0)) (Some (pos 0))) is ∙
 
 nought_scaled : (k : ℤ) → scaled_end k (Some (pos 0)) (Some (pos 0)) ≡ Some (pos 0)
 unfolding fits
-nought_scaled (pos n) = ap end_of (zero_mul (pos n))
-nought_scaled (negsuc n) = ap end_of (zero_mul (negsuc n))
+nought_scaled (pos n) = ap exact_end (zero_mul (pos n))
+nought_scaled (negsuc n) = ap exact_end (zero_mul (negsuc n))
 
 scaled_exact : (a : Affine) (k : ℤ) (e : Expression) → multiple_of a k ≡ form_of e → FunctionFits e → scaled (exactly a) k ≡ exactly (form_of e)
 scaled_exact a k e is fit = ap (λ t. with_ends (multiple_of a k) t t) (nought_scaled k) ∙ as_form (multiple_of a k) e is fit

@@ -3,7 +3,6 @@ pub mod AffineForms
 pub mod Counts
 pub mod Corners
 pub mod PairLists
-pub mod EndLaws
 pub mod Covering
 pub mod Exactness
 pub mod Naming

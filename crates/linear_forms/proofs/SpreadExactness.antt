@@ -17,14 +17,15 @@ use Rattle.linear_cons.proofs.Forms.{value_constant, value_difference}
 use Rattle.linear_cons.specs.Rows.{row_kind_of}
 use Rattle.linear_cons.proofs.Places.{number_at_places}
 use Rattle.linear_cons.proofs.Ring.{add_zero}
-use Rattle.linear_forms.specs.Ends.{ends_from, fits}
-use Rattle.linear_forms.specs.Linearising.{exactly, form_of, linear_of, numbers_fit}
+use Rattle.linear_cons.specs.Ends.{ends_from, exactly, fits}
+use Rattle.linear_forms.specs.Linearising.{form_of, linear_of, numbers_fit}
 use Rattle.linear_forms.specs.Meeting.{MeetsOne}
 use Rattle.linear_forms.specs.Spreading.{Claim, above, all_rows_of, at_least, claims, comparison_for, constraint, favoured, fitting, less_one, rows_of, spread_of, with_constraint}
 use Rattle.linear_forms.proofs.AffineForms.{coefficient_of_form, form_fits, form_of_difference, form_of_strict_difference, is_form}
 use Rattle.linear_forms.proofs.Comparing.{fails, holds, less_nothing, off, outcome_holds}
 use Rattle.linear_forms.proofs.Exactness.{linear_exact, may_have_value}
-use Rattle.linear_forms.proofs.Known.{numbers_fit_decides, when_so}
+use Rattle.linear_forms.proofs.Known.{numbers_fit_decides}
+use Rattle.linear_cons.proofs.KnownEnds.{when_so}
 use Rattle.linear_forms.proofs.MeetingLaws.{MeetsKept, met_before, met_either, met_kept, met_pairs, row_meets}
 use Rattle.linear_forms.proofs.Naming.{number_names}
 

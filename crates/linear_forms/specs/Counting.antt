@@ -1,7 +1,8 @@
 -- How many conjunctions a test spreads to, counted before any is dropped.
 use Rattle.std.specs.Prelude.{ℕ, ◌+◌, ◌*◌, not, Bool, true, false}
 use Rattle.step_meaning.specs.declared.expression.Op2.{Op2}
-use Rattle.step_meaning.specs.declared.expression.Op2.TheVariants.{Add, Sub, Mul, Less, LessEqual, Greater, GreaterEqual, Equal, NotEqual, And, Or}
+use Rattle.step_meaning.specs.declared.expression.Op2.TheVariants.{Add, Sub, Mul, Less, LessEqual, Greater, GreaterEqual, Equal, NotEqual}
+use Rattle.step_meaning.specs.declared.expression.Op2.TheVariants.{And, Or}
 use Rattle.step_meaning.specs.Syntax.{Expression, number, variable, free, range, truth, negative, negation, pair}
 
 -- of two operands with these counts for the outcome; an `==` fails, and a `!=` holds, in two ways

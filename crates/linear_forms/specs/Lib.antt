@@ -1,4 +1,3 @@
-pub mod Ends
 pub mod Linearising
 pub mod Sides
 pub mod Spreading

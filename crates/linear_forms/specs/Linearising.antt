@@ -4,7 +4,8 @@ use Rattle.std.specs.Int.{int_min, int_max}
 use Rattle.std.specs.Ordering.{int_eq}
 use Rattle.std.specs.Cmp.Lexicographic.{pointwise}
 use Rattle.step_meaning.specs.declared.expression.Op2.{Op2}
-use Rattle.step_meaning.specs.declared.expression.Op2.TheVariants.{Add, Sub, Mul, Less, LessEqual, Greater, GreaterEqual, Equal, NotEqual, And, Or}
+use Rattle.step_meaning.specs.declared.expression.Op2.TheVariants.{Add, Sub, Mul, Less, LessEqual, Greater, GreaterEqual, Equal, NotEqual}
+use Rattle.step_meaning.specs.declared.expression.Op2.TheVariants.{And, Or}
 use Rattle.step_meaning.specs.Syntax.{Expression, number, variable, range, negative, pair, free, truth, negation}
 use Rattle.step_meaning.specs.AffineExpressions.{coefficient_in, constant_in}
 use Rattle.linear_cons.specs.declared.affine.Affine.{Affine}
@@ -12,7 +13,7 @@ use Rattle.linear_cons.specs.declared.bounds.Bounds.{Bounds}
 use Rattle.linear_cons.specs.declared.bounds.Linear.{Linear}
 use Rattle.linear_cons.specs.Functions.{coefficient, constant_of, variable_at, sum_of, difference_of, multiple_of}
 use Rattle.linear_cons.specs.Numbers.{at_places}
-use Rattle.linear_forms.specs.Ends.{fits, end_of, ends_from, scaled_end, least_value, greatest_value}
+use Rattle.linear_cons.specs.Ends.{ends_from, exact_end, exactly, fits, greatest_value, least_value, scaled_end}
 
 -- the function that an affine expression is
 abbrev pub form_of : Expression → Affine
@@ -25,10 +26,6 @@ between lo hi = record { affine = constant_of (pos 0); lo = lo; hi = hi }
 -- any number
 abbrev pub unknown : Linear
 unknown = between None None
-
--- exactly the function
-abbrev pub exactly : Affine → Linear
-exactly a = record { affine = a; lo = Some (pos 0); hi = Some (pos 0) }
 
 -- the test holds at each place below n
 unfoldable pub all_below : ℕ → (ℕ → Bool) → Bool
@@ -87,7 +84,7 @@ greatest_of p q r t = int_max (int_max p q) (int_max r t)
 
 abbrev pub corners : Option ℤ → Option ℤ → Option ℤ → Option ℤ → Linear
 corners (Some a) (Some b) (Some c) (Some d) =
-    between (end_of (least_of (a *ℤ c) (a *ℤ d) (b *ℤ c) (b *ℤ d))) (end_of (greatest_of (a *ℤ c) (a *ℤ d) (b *ℤ c) (b *ℤ d)))
+    between (exact_end (least_of (a *ℤ c) (a *ℤ d) (b *ℤ c) (b *ℤ d))) (exact_end (greatest_of (a *ℤ c) (a *ℤ d) (b *ℤ c) (b *ℤ d)))
 corners _ _ _ _ = unknown
 
 -- the square of a number from a to b

@@ -1,7 +1,8 @@
 -- The spreading of a test for an outcome: conjunctions of rows, one of which each store meets at which the test may have that outcome.
 use Rattle.std.specs.Prelude.{not, ℤ, pos, ◌-ℤ◌, Bool, true, false, Option, None, Some, List, [], ◌∷◌, ◌++◌, map, if◌then◌else◌}
 use Rattle.step_meaning.specs.declared.expression.Op2.{Op2}
-use Rattle.step_meaning.specs.declared.expression.Op2.TheVariants.{Add, Sub, Mul, Less, LessEqual, Greater, GreaterEqual, Equal, NotEqual, And, Or}
+use Rattle.step_meaning.specs.declared.expression.Op2.TheVariants.{Add, Sub, Mul, Less, LessEqual, Greater, GreaterEqual, Equal, NotEqual}
+use Rattle.step_meaning.specs.declared.expression.Op2.TheVariants.{And, Or}
 use Rattle.step_meaning.specs.Syntax.{Expression, free, truth, negation, pair, number, variable, range, negative}
 use Rattle.linear_cons.specs.declared.affine.Affine.{Affine}
 use Rattle.linear_cons.specs.declared.bounds.Bounds.{Bounds}
@@ -11,7 +12,7 @@ use Rattle.linear_cons.specs.declared.row.RowKind.{RowKind}
 use Rattle.linear_cons.specs.declared.row.RowKind.TheVariants.{Always, Never, Row as Kept}
 use Rattle.linear_cons.specs.Functions.{constant_of, sum_of, difference_of}
 use Rattle.linear_cons.specs.Rows.{row_kind_of}
-use Rattle.linear_forms.specs.Ends.{ends_from}
+use Rattle.linear_cons.specs.Ends.{ends_from}
 use Rattle.linear_forms.specs.Linearising.{linear_of, numbers_fit}
 
 -- the comparison that holds exactly where this one doesn't

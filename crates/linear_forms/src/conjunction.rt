@@ -7,9 +7,8 @@ ghost use Rattle.linear_cons.specs.declared.affine.Affine.{Affine as AffineFunct
 ghost use Rattle.linear_cons.specs.Functions.{NumbersFit};
 ghost use Rattle.linear_forms.specs.Spreading as spreading;
 
-use crate::ends::end_difference;
 use crate::linear::linearise;
-use linear_cons::{Affine, Bounds, Linear, Row, RowKind, Rows, Wide};
+use linear_cons::{Affine, Bounds, Linear, Row, RowKind, Rows, Wide, end_difference};
 use std::alloc::{AllocError, Global};
 use step_meaning::{Expr, Op2};
 
@@ -169,7 +168,8 @@ fn add_claim(
     is_strict: bool,
     list: &mut Vec<Rows>,
 ) -> Result<(), AllocError>
-    ensures { OnOk result (list.new.items ≡ list.old.items ++ spreading.all_rows_of ((record { greater = greater.now; smaller = smaller.now; is_strict = is_strict } ∷ []) ∷ [])) }
+    ensures { OnOk result (list.new.items ≡ list.old.items
+        ++ spreading.all_rows_of ((record { greater = greater.now; smaller = smaller.now; is_strict = is_strict } ∷ []) ∷ [])) }
 {
     let none = Rows::of(Vec::new(alloc));
     let rows = with_constraint(alloc, constraint(greater, smaller, is_strict), Some(none))?;
@@ -183,7 +183,8 @@ fn add_equal(
     right: &Linear,
     list: &mut Vec<Rows>,
 ) -> Result<(), AllocError>
-    ensures { OnOk result (list.new.items ≡ list.old.items ++ spreading.all_rows_of ((spreading.at_least left.now right.now ∷ spreading.at_least right.now left.now ∷ []) ∷ [])) }
+    ensures { OnOk result (list.new.items ≡ list.old.items
+        ++ spreading.all_rows_of ((spreading.at_least left.now right.now ∷ spreading.at_least right.now left.now ∷ []) ∷ [])) }
 {
     let none = Rows::of(Vec::new(alloc));
     let second = with_constraint(alloc, constraint(right, left, false), Some(none))?;

@@ -7,7 +7,6 @@
 
 mod conjunction;
 mod count;
-mod ends;
 pub mod laws;
 mod linear;
 mod product;

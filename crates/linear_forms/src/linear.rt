@@ -9,9 +9,8 @@ ghost use Rattle.linear_cons.specs.Exact.{IsOutside};
 ghost use Rattle.linear_cons.specs.Functions.{NumbersFit};
 ghost use Rattle.linear_forms.specs.Linearising as forms;
 
-use crate::ends::{end_difference, end_multiple, end_sum, greatest, least};
 use crate::product::{between_corners, square_between};
-use linear_cons::{Affine, Bounds, Linear, Wide};
+use linear_cons::{Affine, Bounds, Linear, Wide, end_difference, end_multiple, end_sum};
 use step_meaning::{Expr, Op2};
 
 /// The exact function of an affine number expression whose names are below 16. `Wide` comes exactly where one of the calls on the
@@ -55,8 +54,8 @@ pub fn linearise(expr: &Expr, bounds: &Bounds) -> Linear
     ensures { result ≡ forms.linear_of bounds.now (expression expr.now) }
 {
     match expr {
-        Expr::Number(number) => exactly(Affine::constant(*number as i128)),
-        Expr::Name(place) => exactly(Affine::var(*place)),
+        Expr::Number(number) => Linear::exactly(Affine::constant(*number as i128)),
+        Expr::Name(place) => Linear::exactly(Affine::var(*place)),
         Expr::Range { lo, hi } => between(wide_end(*lo), wide_end(*hi)),
         Expr::Neg(operand) => scaled(&linearise(operand, bounds), -1),
         Expr::Pair { op, left, right } => {
@@ -81,17 +80,6 @@ pub(crate) fn between(lo: Option<i128>, hi: Option<i128>) -> Linear
         affine: Affine::constant(0),
         lo,
         hi,
-    }
-}
-
-// Exactly the function.
-fn exactly(affine: Affine) -> Linear
-    ensures { result ≡ forms.exactly affine }
-{
-    Linear {
-        affine,
-        lo: Some(0),
-        hi: Some(0),
     }
 }
 
@@ -130,7 +118,6 @@ fn is_exact(form: &Linear) -> bool
 }
 
 // The function with the two ends, or any number where one of the function's numbers doesn't fit 128 bits.
-
 fn with_ends(function: Result<Affine, Wide>, lo: Option<i128>, hi: Option<i128>) -> Linear
     ensures { (a : AffineFunction) → OkIff function (NumbersFit a) a → result ≡ forms.with_ends a lo hi }
 {
@@ -178,13 +165,13 @@ fn product(left: &Linear, right: &Linear, bounds: &Bounds) -> Linear
     } else if is_exact(right) && is_constant(&right.affine) {
         scaled(left, right.affine.constant)
     } else if is_exact(left) && is_exact(right) && left.affine == right.affine {
-        square_between(least(left, bounds), greatest(left, bounds))
+        square_between(left.least(bounds), left.greatest(bounds))
     } else {
         between_corners(
-            least(left, bounds),
-            greatest(left, bounds),
-            least(right, bounds),
-            greatest(right, bounds),
+            left.least(bounds),
+            left.greatest(bounds),
+            right.least(bounds),
+            right.greatest(bounds),
         )
     }
 }

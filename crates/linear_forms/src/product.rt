@@ -2,7 +2,7 @@
 
 ghost use Rattle.std.specs.Prelude.{◌≡◌, ℤ, ◌*ℤ◌};
 ghost use Rattle.std.specs.Int.{int_min, int_max};
-ghost use Rattle.linear_forms.specs.Ends.{end_of, ends_from};
+ghost use Rattle.linear_cons.specs.Ends.{exact_end};
 ghost use Rattle.linear_forms.specs.Linearising.{corners, least_of, greatest_of, square};
 ghost use Rattle.linear_forms.specs.Sides.{Reaches};
 
@@ -52,7 +52,7 @@ fn greater(p: Reach, q: Reach) -> Reach
 
 // The end that a number is.
 fn known(reach: Reach) -> Option<i128>
-    ensures { (z : ℤ) → Reaches reach z → result ≡ end_of z }
+    ensures { (z : ℤ) → Reaches reach z → result ≡ exact_end z }
 {
     match reach {
         Reach::At(number) => Some(number),
@@ -62,7 +62,7 @@ fn known(reach: Reach) -> Option<i128>
 
 // The least product of a number from `a` to `b` and one from `c` to `d`.
 fn least_corner(a: i128, b: i128, c: i128, d: i128) -> Option<i128>
-    ensures { result ≡ end_of (least_of (a *ℤ c) (a *ℤ d) (b *ℤ c) (b *ℤ d)) }
+    ensures { result ≡ exact_end (least_of (a *ℤ c) (a *ℤ d) (b *ℤ c) (b *ℤ d)) }
 {
     known(lesser(
         lesser(exact_product(a, c), exact_product(a, d)),
@@ -72,7 +72,7 @@ fn least_corner(a: i128, b: i128, c: i128, d: i128) -> Option<i128>
 
 // The greatest product of a number from `a` to `b` and one from `c` to `d`.
 fn greatest_corner(a: i128, b: i128, c: i128, d: i128) -> Option<i128>
-    ensures { result ≡ end_of (greatest_of (a *ℤ c) (a *ℤ d) (b *ℤ c) (b *ℤ d)) }
+    ensures { result ≡ exact_end (greatest_of (a *ℤ c) (a *ℤ d) (b *ℤ c) (b *ℤ d)) }
 {
     known(greater(
         greater(exact_product(a, c), exact_product(a, d)),
@@ -99,7 +99,7 @@ pub(crate) fn between_corners(
 
 // The greater square of two numbers.
 fn greater_square(a: i128, b: i128) -> Option<i128>
-    ensures { result ≡ end_of (int_max (a *ℤ a) (b *ℤ b)) }
+    ensures { result ≡ exact_end (int_max (a *ℤ a) (b *ℤ b)) }
 {
     known(greater(exact_product(a, a), exact_product(b, b)))
 }

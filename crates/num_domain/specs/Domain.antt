@@ -27,10 +27,15 @@ SameMembers has also = (store : List ℤ) → IsStore store → has store ↔ al
 abbrev pub KeepsMeeting : Row → (List ℤ → Type 0) → (List ℤ → Type 0) → Type 0
 KeepsMeeting row old new = (store : List ℤ) → IsStore store → old store → Meets store row → new store
 
+-- the members after are exactly those before that meet the row
+abbrev pub IsMeet : Row → (List ℤ → Type 0) → (List ℤ → Type 0) → Type 0
+IsMeet row old new = (store : List ℤ) → IsStore store → new store ↔ (old store × Meets store row)
+
 -- the new set has each store of the old one with the number at the place replaced by any that the
 -- linear expression may have there
 abbrev pub KeepsAssigned : ℕ → Linear → (List ℤ → Type 0) → (List ℤ → Type 0) → Type 0
-KeepsAssigned place value old new = (store : List ℤ) (z : ℤ) → IsStore store → old store → Covers value store z → new (slice_set store place z)
+KeepsAssigned place value old new = (store : List ℤ) (z : ℤ) → IsStore store → old store → Covers value store z
+    → new (slice_set store place z)
 
 -- no variable but the place's occurs in the row, and its constant is at most 2^64 in size
 pub record IsPlain (row : Row) (place : ℕ) : Type 0 where
@@ -43,7 +48,8 @@ abbrev pub AllMeet : Row → (List ℤ → Type 0) → Type 0
 AllMeet row has = (store : List ℤ) → IsStore store → has store → Meets store row
 
 -- a domain's value after a call that wanted memory: its members and its answers are the old ones
-pub record IsUnchanged {D : Type 0} (has : D → List ℤ → Type 0) (empty : D → Bool) (rows : D → List Row) (bounds : D → Bounds) (old new : D) : Type 0 where
+pub record IsUnchanged {D : Type 0} (has : D → List ℤ → Type 0) (empty : D → Bool) (rows : D → List Row) (bounds : D
+    → Bounds) (old new : D) : Type 0 where
   pub members : SameMembers (has old) (has new)
   pub same_empty : empty new ≡ empty old
   pub same_rows : rows new ≡ rows old

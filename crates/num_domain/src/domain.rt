@@ -4,7 +4,8 @@ ghost use Rattle.linear_cons.specs.declared.bounds.Bounds.{Bounds};
 ghost use Rattle.linear_cons.specs.declared.row.Row.{Row};
 ghost use Rattle.linear_cons.specs.Bounds.{LiesIn};
 ghost use Rattle.linear_cons.specs.Rows.{MeetsAll};
-ghost use Rattle.num_domain.specs.Domain.{AllMeet, HasEvery, IsPlain, IsStore, IsUnchanged, KeepsAssigned, KeepsMeeting, SameMembers, Within};
+ghost use Rattle.num_domain.specs.Domain.{AllMeet, HasEvery, IsPlain, IsUnchanged, KeepsAssigned, KeepsMeeting, SameMembers};
+ghost use Rattle.num_domain.specs.Domain.{Within};
 
 use linear_cons::{Bounds, Linear, Row};
 use std::alloc::{AllocError, Global};

@@ -1,5 +1,6 @@
 //! A source and a sink over memory, for tests: they tell their bytes, and fail at numbered calls.
-ghost use Rattle.std.specs.Prelude.{◌≡◌, ◌↔◌, ℕ, ◌+◌, ◌++◌, ◌<◌, ◌≤◌, Some, [], IsTrue, IfOk, Contains, length, take, vec_len, vec_capacity, min};
+ghost use Rattle.std.specs.Prelude.{◌≡◌, ◌↔◌, ℕ, ◌+◌, ◌++◌, ◌<◌, ◌≤◌, Some, [], IsTrue, IfOk, Contains};
+ghost use Rattle.std.specs.Prelude.{length, take, vec_len, vec_capacity, min};
 ghost use Rattle.outside.specs.Schedule.{next_call};
 ghost use Rattle.outside.specs.Source.{Gives};
 ghost use Rattle.outside.specs.Sink.{Takes};

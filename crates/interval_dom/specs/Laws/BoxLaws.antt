@@ -1,5 +1,7 @@
 -- The laws of boxes that the trait asks: what is seen to be empty, and the rows of the ends.
-use Rattle.std.proofs.Common.{◌≡◌, ◌≢◌, ℕ, zero, suc, ◌<◌, ◌≤◌, ◌-◌, ◌^◌, ℤ, pos, negsuc, neg_ℤ, ◌+ℤ◌, ◌*ℤ◌, ◌≤ℤ◌, Bool, true, false, int_lt, eqb, cond, List, [], ◌∷◌, ◌++◌, length, get_or, take, map, Option, None, Some, arith, refl, sym, subst, ⊎_elim, All}
+use Rattle.std.proofs.Common.{◌≡◌, ◌≢◌, ℕ, zero, suc, ◌<◌, ◌≤◌, ◌-◌, ◌^◌, ℤ, pos, negsuc, neg_ℤ, ◌+ℤ◌, ◌*ℤ◌, ◌≤ℤ◌, Bool, true, false}
+use Rattle.std.proofs.Common.{int_lt, eqb, cond, List, [], ◌∷◌, ◌++◌, length, get_or, take, map, Option, None, Some, arith, refl, sym}
+use Rattle.std.proofs.Common.{subst, ⊎_elim, All}
 use Rattle.std.proofs.lemmas.Int.{ints}
 use Rattle.std.proofs.lemmas.Bool.Decides.{eqb_tells}
 use Rattle.std.proofs.Math.ListN.{get_or-map}
@@ -7,27 +9,23 @@ use Rattle.std.proofs.lemmas.List.{get_or-take, length-take}
 use Rattle.std.proofs.lemmas.List.Elements.{All-append}
 use Rattle.std.specs.List.{list_any}
 use Rattle.std.specs.Ordering.{int_eq}
-use Rattle.linear_cons.specs.declared.affine.Affine.{Affine}
 use Rattle.linear_cons.specs.declared.bounds.Bounds.{Bounds}
-use Rattle.linear_cons.specs.declared.row.RowKind.{RowKind}
-use Rattle.linear_cons.specs.declared.row.RowKind.TheVariants.{Always, Never, Row as Kept}
 use Rattle.linear_cons.specs.Bounds.{IsFrom, IsUpTo, LiesIn, lower_end, upper_end}
 use Rattle.linear_cons.specs.Functions.{coefficient, value_at, variable_at}
 use Rattle.linear_cons.specs.Numbers.{number_at}
-use Rattle.linear_cons.specs.Rows.{IsRowOf, Meets, MeetsAll}
+use Rattle.linear_cons.specs.Rows.{MeetsAll}
 use Rattle.linear_cons.proofs.Forms.{products_multiple, products_unit}
-use Rattle.linear_cons.proofs.KindLaws.{row_kind_is}
-use Rattle.linear_cons.specs.Rows.{row_kind_of}
 use Rattle.linear_cons.proofs.Places.{number_at_places}
 use Rattle.linear_cons.proofs.Ring.{mul_one, mul_zero, one_mul}
-use Rattle.linear_cons.proofs.RowLaws.{quotient_same_stores}
 use Rattle.linear_cons.proofs.Sums.{value_is}
 use Rattle.num_domain.specs.declared.bound.Bound.{Bound}
 use Rattle.num_domain.specs.declared.bound.Bound.TheVariants.{Without, At}
 use Rattle.num_domain.specs.Ends.{some_end}
+use Rattle.num_domain.proofs.LineLaws.{all_none, all_one, lines_met}
 use Rattle.interval_dom.specs.declared.boxes.Boxes.{Boxes}
 use Rattle.interval_dom.specs.declared.interval.Interval.{Interval}
-use Rattle.interval_dom.specs.Boxes.{Has, bounds_of, ends_of, is_empty_box, line, lines_below, lower_line, row_list, rows_of, rows_of_lines, upper_line}
+use Rattle.interval_dom.specs.Boxes.{Has, bounds_of, ends_of, is_empty_box, line, lines_below, lower_line, rows_of}
+use Rattle.interval_dom.specs.Boxes.{upper_line}
 use Rattle.interval_dom.specs.Intervals.{Holds, is_void, void_ends}
 
 -- ---- the interval at a place
@@ -66,7 +64,8 @@ filled (At lower) Without z from up = refl
 filled Without (At upper) z from up = refl
 filled Without Without z from up = refl
 
-none_void : (ranges : List Interval) → ((i : ℕ) → i < length ranges → is_void (get_or ranges i every_number) ≡ false) → list_any is_void ranges ≡ false
+none_void : (ranges : List Interval) → ((i : ℕ) → i < length ranges → is_void (get_or ranges i every_number) ≡ false)
+    → list_any is_void ranges ≡ false
 none_void [] each = refl
 none_void (range ∷ ranges) each =
     let here : is_void range ≡ false = each 0 (omega arith) in
@@ -78,41 +77,31 @@ empty_none box store empty has =
     let full : is_empty_box box ≡ false = none_void (take 16 box.intervals) (λ i h.
     let low : i < 16 = omega (arith, length-take 16 box.intervals) in
     let holds = member_holds box store has i low in
-    rw (get_or-take 16 box.intervals i every_number low) (filled (interval_at box i).lower (interval_at box i).upper (number_at store i) holds.from holds.up_to)) in
+    rw (get_or-take 16 box.intervals i every_number low)
+    (filled (interval_at box i).lower (interval_at box i).upper (number_at store i) holds.from holds.up_to)) in
     absurd (cc)
 
 -- ---- rows
 
 -- the value of a line: the factor times the number at the place, and the constant
-pub line_value : (place : ℕ) (factor constant : ℤ) (store : List ℤ) → place < 16 → value_at (line place factor constant) store ≡ factor *ℤ number_at store place +ℤ constant
+pub line_value : (place : ℕ) (factor constant : ℤ) (store : List ℤ) → place < 16
+    → value_at (line place factor constant) store ≡ factor *ℤ number_at store place +ℤ constant
 line_value place factor constant store low =
     let multiples : (i : ℕ) → i < 16 → coefficient (line place factor constant) i ≡ factor *ℤ coefficient (variable_at place) i =
-    λ i h. rw (number_at_places (λ i. cond (eqb i place) factor (pos 0)) i h, number_at_places (λ i. cond (eqb i place) (pos 1) (pos 0)) i h) (⊎_elim
+    λ i h. rw (
+      number_at_places (λ i. cond (eqb i place) factor (pos 0)) i h,
+      number_at_places (λ i. cond (eqb i place) (pos 1) (pos 0)) i h,
+    ) (⊎_elim
     (λ (same : (eqb i place ≡ true) × (i ≡ place)). rw same.0 (sym (mul_one factor)))
     (λ (apart : (eqb i place ≡ false) × (i ≢ place)). rw apart.0 (sym (mul_zero factor)))
     (eqb_tells i place)) in
-    rw (value_is (line place factor constant).coef constant store, products_multiple 16 (line place factor constant).coef (variable_at place).coef store factor multiples, products_unit 16 place (variable_at place).coef store low (λ i h. number_at_places (λ i. cond (eqb i place) (pos 1) (pos 0)) i h)) refl
+    let multiple = products_multiple 16 (line place factor constant).coef (variable_at place).coef store factor multiples in
+    let unit =
+    products_unit 16 place (variable_at place).coef store low (λ i h. number_at_places (λ i. cond (eqb i place) (pos 1) (pos 0)) i h) in
+    rw (value_is (line place factor constant).coef constant store, multiple, unit) refl
 
-all_none : {X : Type 0} (P : X → Type 0) → All P []
-all_none P k d h = absurd (omega arith)
-
-all_one : {X : Type 0} (P : X → Type 0) (x : X) → P x → All P (x ∷ [])
-all_one P x holds k d h = let first : k ≡ 0 = omega arith in rw first holds
-
--- a store where the function is at least 0 meets its row
-kind_met : (a : Affine) (store : List ℤ) (kind : RowKind) → IsRowOf a kind → pos 0 ≤ℤ value_at a store → MeetsAll store (row_list kind)
-kind_met a store Always is above = all_none (λ row. Meets store row)
-kind_met a store Never is above = all_none (λ row. Meets store row)
-kind_met a store (Kept row) is above = all_one (λ row. Meets store row) row ((quotient_same_stores a row.affine is store).1 above)
-
-lines_met : (lines : List Affine) (store : List ℤ) → All (λ a. pos 0 ≤ℤ value_at a store) lines → MeetsAll store (rows_of_lines lines)
-lines_met [] store all = all_none (λ row. Meets store row)
-lines_met (a ∷ lines) store all =
-    All-append (λ row. Meets store row) (row_list (row_kind_of a)) (rows_of_lines lines)
-    (kind_met a store (row_kind_of a) (row_kind_is a) (all 0 a (omega arith)))
-    (lines_met lines store (λ k d h. all (suc k) d (omega arith)))
-
-lower_met : (place : ℕ) (end : Option ℤ) (store : List ℤ) → place < 16 → IsFrom end (number_at store place) → All (λ a. pos 0 ≤ℤ value_at a store) (lower_line place end)
+lower_met : (place : ℕ) (end : Option ℤ) (store : List ℤ) → place < 16 → IsFrom end (number_at store place)
+    → All (λ a. pos 0 ≤ℤ value_at a store) (lower_line place end)
 lower_met place None store low from = all_none (λ a. pos 0 ≤ℤ value_at a store)
 lower_met place (Some end) store low from = listed (int_eq end (negsuc (2 ^ 127 - 1)))
   where
@@ -123,17 +112,20 @@ lower_met place (Some end) store low from = listed (int_eq end (negsuc (2 ^ 127 
     listed true = all_none (λ a. pos 0 ≤ℤ value_at a store)
     listed false = all_one (λ a. pos 0 ≤ℤ value_at a store) (line place (pos 1) (neg_ℤ end)) above
 
-upper_met : (place : ℕ) (end : Option ℤ) (store : List ℤ) → place < 16 → IsUpTo end (number_at store place) → All (λ a. pos 0 ≤ℤ value_at a store) (upper_line place end)
+upper_met : (place : ℕ) (end : Option ℤ) (store : List ℤ) → place < 16 → IsUpTo end (number_at store place)
+    → All (λ a. pos 0 ≤ℤ value_at a store) (upper_line place end)
 upper_met place None store low up = all_none (λ a. pos 0 ≤ℤ value_at a store)
 upper_met place (Some end) store low up =
     let value = line_value place (negsuc 0) end store low in
     all_one (λ a. pos 0 ≤ℤ value_at a store) (line place (negsuc 0) end) (rw value (omega (arith, ints)))
 
-below_met : (n : ℕ) (bounds : Bounds) (store : List ℤ) → n ≤ 16 → LiesIn bounds store → All (λ a. pos 0 ≤ℤ value_at a store) (lines_below n bounds)
+below_met : (n : ℕ) (bounds : Bounds) (store : List ℤ) → n ≤ 16 → LiesIn bounds store
+    → All (λ a. pos 0 ≤ℤ value_at a store) (lines_below n bounds)
 unfolding lines_below
 below_met zero bounds store small lies = all_none (λ a. pos 0 ≤ℤ value_at a store)
 below_met (suc n) bounds store small lies =
-    All-append (λ a. pos 0 ≤ℤ value_at a store) (lines_below n bounds ++ lower_line n (lower_end bounds n)) (upper_line n (upper_end bounds n))
+    All-append (λ a. pos 0 ≤ℤ value_at a store)
+    (lines_below n bounds ++ lower_line n (lower_end bounds n)) (upper_line n (upper_end bounds n))
     (All-append (λ a. pos 0 ≤ℤ value_at a store) (lines_below n bounds) (lower_line n (lower_end bounds n))
     (below_met n bounds store (omega arith) lies)
     (lower_met n (lower_end bounds n) store (omega arith) (lies.lower n (omega arith))))

@@ -4,7 +4,7 @@ use std::test::Fail;
 
 /// A range of the place 0, and of the place 1.
 fn pair(first: (Option<i128>, Option<i128>), second: (Option<i128>, Option<i128>)) -> Bounds {
-    let mut ends = [(None, None); 16];
+    let mut ends = [(None, None); PLACES];
     ends[0] = first;
     ends[1] = second;
     Bounds { ends }
@@ -12,7 +12,7 @@ fn pair(first: (Option<i128>, Option<i128>), second: (Option<i128>, Option<i128>
 
 /// The row of `x * x0 + y * x1 + constant >= 0`.
 fn row(x: i128, y: i128, constant: i128) -> Result<Row, &'static str> {
-    let mut coef = [0; 16];
+    let mut coef = [0; PLACES];
     coef[0] = x;
     coef[1] = y;
     match Row::of(Affine { coef, constant }) {
@@ -74,6 +74,33 @@ fn several_variables(rt: HostRuntime) -> Result<(), Fail> {
 }
 
 #[test]
+fn ends_that_several_variables_give(rt: HostRuntime) -> Result<(), Fail> {
+    let least = i128::MIN;
+    let all = (None, None);
+    let at_0 = (Some(0), Some(0));
+    let above = row(1, 0, 0)?;
+    let none = [row(0, 1, 0)?, row(0, -1, 0)?];
+    let table = [
+        // 2 * x0 + x1 - 2^127 >= 0 at x1 = 0: the quotient fits.
+        (row(2, 1, least)?, (Some(-(least / 2)), None), at_0),
+        // x0 + x1 - 2^127 >= 0 at x1 = 0: x0 starts from 2^127.
+        (row(1, 1, least)?, all, at_0),
+        // -3 * x0 + x1 + 7 >= 0 at x1 = 0.
+        (row(-3, 1, 7)?, (None, Some(2)), at_0),
+    ];
+    for (row, first, second) in table {
+        let mut set: Boxes = met(rt.alloc(), none.as_slice())?;
+        set.meet_row(rt.alloc(), &row)?;
+        assert_eq!(rt; set.bounds(), pair(first, second));
+    }
+    // x1 - x0 >= 0 raises the lower end of x1 to that of x0, and lowers the upper end of x0 to that of x1.
+    let mut set: Boxes = met(rt.alloc(), [above, row(0, -1, 9)?].as_slice())?;
+    set.meet_row(rt.alloc(), &row(-1, 1, 0)?)?;
+    assert_eq!(rt; set.bounds(), pair((Some(0), Some(9)), (Some(0), Some(9))));
+    Ok(())
+}
+
+#[test]
 fn joins_and_widenings(rt: HostRuntime) -> Result<(), Fail> {
     let alloc = rt.alloc();
     let low: Boxes = met(alloc, [row(1, 0, 0)?, row(-1, 0, 0)?].as_slice())?;
@@ -102,7 +129,7 @@ fn assignments(rt: HostRuntime) -> Result<(), Fail> {
     let alloc = rt.alloc();
     let mut set: Boxes = met(alloc, [row(1, 0, -1)?, row(-1, 0, 5)?].as_slice())?;
     // y = -3 * x + 2, plus 0 to 1
-    let mut coef = [0; 16];
+    let mut coef = [0; PLACES];
     coef[0] = -3;
     let value = Linear {
         affine: Affine { coef, constant: 2 },
@@ -124,5 +151,9 @@ fn assignments(rt: HostRuntime) -> Result<(), Fail> {
         },
     )?;
     assert_eq!(rt; set.bounds(), pair((None, None), (Some(-13), Some(0))));
+    let mut none: Boxes = met(alloc, [row(1, 0, -1)?, row(-1, 0, 0)?].as_slice())?;
+    let before = none;
+    none.assign(alloc, 1, &value)?;
+    assert_eq!(rt; none, before);
     Ok(())
 }

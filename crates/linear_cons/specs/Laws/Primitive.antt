@@ -1,5 +1,6 @@
 -- Proofs, not definitions: quotients by the greatest common divisor and complements have coefficients without a common divisor but 1.
-use Rattle.std.proofs.Common.{◌≡◌, ◌≢◌, ℕ, zero, suc, add-one, ◌+◌, ◌*◌, ◌/◌, ◌%◌, ◌<◌, ◌≤◌, true, false, eqb, ℤ, pos, negsuc, List, length, sym, ap, ◌∙◌, arith, below_more, unsigned_abs, ⊎_elim}
+use Rattle.std.proofs.Common.{◌≡◌, ◌≢◌, ℕ, zero, suc, add-one, ◌+◌, ◌*◌, ◌/◌, ◌%◌, ◌<◌, ◌≤◌, true, false, eqb, ℤ, pos, negsuc, List, length}
+use Rattle.std.proofs.Common.{sym, ap, ◌∙◌, arith, below_more, unsigned_abs, ⊎_elim}
 use Rattle.std.specs.Int.{IsGcd, ◌∣◌}
 use Rattle.std.proofs.lemmas.Bool.{cases_lt}
 use Rattle.std.proofs.lemmas.Bool.Decides.{eqb_tells}
@@ -45,7 +46,8 @@ pub record DivisorBelow (n : ℕ) (xs : List ℤ) (g : ℕ) : Type 0 where
 pub divisor_none : (xs : List ℤ) → DivisorBelow 0 xs 0
 divisor_none xs = record { divides = λ i h. absurd (omega arith); greatest = λ d h. dvd-zero d }
 
-pub divisor_more : (n : ℕ) (xs : List ℤ) (g next : ℕ) → DivisorBelow n xs g → IsGcd (unsigned_abs (number_at xs n)) g next → DivisorBelow (n + 1) xs next
+pub divisor_more : (n : ℕ) (xs : List ℤ) (g next : ℕ) → DivisorBelow n xs g → IsGcd (unsigned_abs (number_at xs n)) g next
+    → DivisorBelow (n + 1) xs next
 divisor_more n xs g next before both = record {
   divides = below_more _ _ (λ i h. dvd_trans _ both.1 (before.divides i h)) both.0;
   greatest = λ d all. both.2 d (all n (omega arith)) (before.greatest d (λ i h. all i (omega arith)));
@@ -58,7 +60,8 @@ divisor_below_is : (n : ℕ) (xs : List ℤ) → DivisorBelow n xs (divisor_belo
 unfolding divisor_below
 divisor_below_is zero xs = divisor_none xs
 divisor_below_is (suc n) xs =
-    rw (← add-one) (divisor_more n xs (divisor_below n xs) (gcd (unsigned_abs (number_at xs n)) (divisor_below n xs)) (divisor_below_is n xs) (gcd_is _ _))
+    rw (← add-one) (divisor_more n xs (divisor_below n xs) (gcd (unsigned_abs (number_at xs n)) (divisor_below n xs))
+    (divisor_below_is n xs) (gcd_is _ _))
 
 pub divisor_is : (xs : List ℤ) → IsDivisorOf xs (divisor_of xs)
 divisor_is xs = divisor_all xs (divisor_of xs) (divisor_below_is 16 xs)
@@ -89,7 +92,8 @@ quotient_size g (negsuc n) positive divides =
     sym whole ∙ ap (λ t. g * t) (more_times g n (suc n / g) positive whole)
 
 -- the quotients by the greatest common divisor have no common divisor but 1
-pub primitive_quotients : (g : ℕ) (xs qs : List ℤ) → 0 < g → IsDivisorOf xs g → ((i : ℕ) → i < 16 → unsigned_abs (number_at xs i) ≡ g * unsigned_abs (number_at qs i)) → IsPrimitive qs
+pub primitive_quotients : (g : ℕ) (xs qs : List ℤ) → 0 < g → IsDivisorOf xs g
+    → ((i : ℕ) → i < 16 → unsigned_abs (number_at xs i) ≡ g * unsigned_abs (number_at qs i)) → IsPrimitive qs
 primitive_quotients g xs qs positive divisor are d all =
     let each : DividesAll (g * d) xs = λ i h. rw (are i h) (mul-dvd-mul_left d g (all i h)) in
     let whole : (g * d) ∣ (g * 1) = rw mul-one (divisor.greatest (g * d) each) in

@@ -1,10 +1,13 @@
-use Rattle.std.proofs.Common.{◌≡◌, ◌∙◌, ◌++◌, ◌∷◌, [], ap, refl, sym}
+use Rattle.std.proofs.Common.{◌≡◌, ◌∙◌, ◌++◌, ◌∷◌, [], ap, refl, subst, sym}
 use Rattle.std.proofs.lemmas.Int.{to_z-of_z}
 use Rattle.std.proofs.lemmas.List.{append-nil}
 use Rattle.linear_cons.specs.Functions.{constant_of}
+use Rattle.linear_cons.specs.Rows.{IsRowOf}
 use Rattle.linear_cons.proofs.Forms.{affine_of_parts}
-use Rattle.interval_dom.specs.Boxes.{line, row_list, rows_of_lines}
-use Rattle.interval_dom.proofs.LineRows.{line_is, line_rows, no_row}
+use Rattle.num_domain.specs.Lines.{row_list, rows_of_lines}
+use Rattle.num_domain.proofs.LineLaws.{no_row, one_line}
+use Rattle.interval_dom.specs.Boxes.{line}
+use Rattle.interval_dom.proofs.LineRows.{line_is}
 use Rattle.interval_dom.proofs.boxes.push_line.Goals as goal
 use Rattle.interval_dom.proofs.boxes.push_line.Goals.{After-of}
 
@@ -15,9 +18,9 @@ added c =
     let also = c.ranges.constant in
     let constant : c.constant-affine.result ≡ constant_of c.args.constant = simp to_z-of_z at c.constant-affine.ensures in
     let normal = simp (to_z-of_z, constant) at c.of.ensures.normal in
-    line_rows _ c.args.place c.args.factor c.args.constant c.of.result
-    (affine_of_parts _ (line c.args.place c.args.factor c.args.constant) (line_is c.args.place c.args.factor c.args.constant c.requires) refl)
-    normal
+    let is = affine_of_parts _ (line c.args.place c.args.factor c.args.constant)
+    (line_is c.args.place c.args.factor c.args.constant c.requires) refl in
+    one_line (line c.args.place c.args.factor c.args.constant) c.of.result (subst (λ a. IsRowOf a c.of.result) is normal)
 
 pub returns-in_ok-push : goal.returns-in_ok-push
 returns-in_ok-push c =

@@ -1,5 +1,6 @@
 use Rattle.std.proofs.Common.{◌≡◌}
-use Rattle.interval_dom.specs.Boxes.{bounds_of, lines_below, rows_of_lines}
+use Rattle.num_domain.specs.Lines.{rows_of_lines}
+use Rattle.interval_dom.specs.Boxes.{bounds_of, lines_below}
 use Rattle.interval_dom.proofs.boxes.Boxes.listed.Given as goal
 
 abbrev pub invariant-loop-place : goal.invariant-loop-place

@@ -1,8 +1,7 @@
-use Rattle.std.proofs.Common.{◌≡◌, pos, length, arith, rules, refl}
-use Rattle.std.proofs.lemmas.Int.{ints, to_z-of_z}
-use Rattle.linear_cons.specs.Functions.{coefficient}
-use Rattle.linear_cons.specs.Numbers.{Fits128}
-use Rattle.interval_dom.proofs.BoxLaws.{missing_not_alone, refined_kept, refined_more, refined_none, zero_not_alone}
+use Rattle.std.proofs.Common.{◌≡◌, length, subst, arith, rules}
+use Rattle.interval_dom.specs.Boxes.{IsPartFor}
+use Rattle.interval_dom.specs.Laws.BoxLaws.{interval_at}
+use Rattle.interval_dom.proofs.BoxLaws.{refined_alone, refined_ends, refined_inside, refined_keeps, refined_more, refined_none}
 use Rattle.interval_dom.proofs.boxes.Boxes.refine.Goals as goal
 
 pub loop-place-init : goal.loop-place-init
@@ -10,25 +9,28 @@ loop-place-init c =
     let long : length c.args.self.now.intervals ≡ 16 = search rules in
     refined_none _ _ long
 
-pub loop-place-preserved-then-factor-eq0 : goal.loop-place-preserved-then-factor-eq0
-loop-place-preserved-then-factor-eq0 c =
-    let fits : Fits128 (coefficient c.args.row.now.affine c.loop-place.place) = search rules in
-    let none : coefficient c.args.row.now.affine c.loop-place.place ≡ pos 0 = omega (arith, ints, c.if-factor-eq0.true) in
-    refined_kept _ _ _ _ c.loop-place.invariant (zero_not_alone c.args.row.now c.loop-place.place none)
-
-pub loop-place-preserved-in_default : goal.loop-place-preserved-in_default
-loop-place-preserved-in_default c =
-    refined_kept _ _ _ _ c.loop-place.invariant
-    (missing_not_alone c.args.row.now c.loop-place.place c.range.result c.in_default.is c.range.ensures.constant)
-
 pub loop-place-preserved : goal.loop-place-preserved
 loop-place-preserved c =
-    let fits : Fits128 (coefficient c.args.row.now.affine c.loop-place.place) = search rules in
-    let also : Fits128 c.in-At.rest = search rules in
-    let refined = simp to_z-of_z at c.refined.ensures in
-    refined_more c.loop-place.place _ c.args.row.now c.loop-place.self _ c.range.result c.refined.result c.in-At.rest (omega arith) c.loop-place.invariant c.in-At.is c.range.ensures.values c.range.ensures.constant refined refl
+    let range = interval_at c.loop-place.self c.loop-place.place in
+    let own = subst (λ b. IsPartFor c.args.row.now b c.loop-place.place range c.part_for.result) c.ends-before.ensures c.part_for.ensures in
+    refined_more _ _ _ _ _ (omega arith) c.loop-place.invariant own
 
-pub returns-clause-meets : goal.returns-clause-meets
-returns-clause-meets c =
+pub returns-clause-keeps : goal.returns-clause-keeps
+returns-clause-keeps c =
     let all : c.loop-place.place ≡ 16 = omega arith in
-    (rw all at c.loop-place.invariant).meets
+    refined_keeps _ _ _ (rw all at c.loop-place.invariant)
+
+pub returns-clause-inside : goal.returns-clause-inside
+returns-clause-inside c =
+    let all : c.loop-place.place ≡ 16 = omega arith in
+    refined_inside _ _ _ (rw all at c.loop-place.invariant)
+
+pub returns-clause-alone : goal.returns-clause-alone
+returns-clause-alone c =
+    let all : c.loop-place.place ≡ 16 = omega arith in
+    refined_alone _ _ _ (rw all at c.loop-place.invariant)
+
+pub returns-clause-refined : goal.returns-clause-refined
+returns-clause-refined c =
+    let all : c.loop-place.place ≡ 16 = omega arith in
+    refined_ends _ _ _ (rw all at c.loop-place.invariant)

@@ -1,7 +1,8 @@
 use Rattle.std.proofs.Common.{◌∙◌, ap, arith, map}
 use Rattle.linear_cons.specs.declared.row.Row.{Row}
 use Rattle.interval_dom.specs.Boxes.{bounds_of, rows_of}
-use Rattle.interval_dom.proofs.LineRows.{if_ok_more, rows_listed}
+use Rattle.num_domain.proofs.LineLaws.{if_ok_more}
+use Rattle.interval_dom.proofs.LineRows.{rows_listed}
 use Rattle.interval_dom.proofs.boxes.BoxesNumDomain.rows.Goals as goal
 
 pub returns-clause-each : goal.returns-clause-each

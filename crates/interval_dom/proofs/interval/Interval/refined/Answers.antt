@@ -47,5 +47,8 @@ returns-in-None c =
     let also : Fits128 c.floor_quotient-quotient.result = search rules in
     let here = (goal.at.returns-in-None c).After-floor_quotient-quotient in
     let outside = simp to_z-of_z at c.in-None.ensures in
-    refined_not c.args.self.now c.args.factor c.args.rest
-    (least_quotient c.unsigned_abs.result c.args.rest c.floor_quotient-quotient.result (floor here) fits also outside)
+    let is = size here in
+    let range = c.ranges.factor in
+    let least = least_quotient c.unsigned_abs.result c.args.rest c.floor_quotient-quotient.result (floor here) fits also outside in
+    let one : c.args.factor ≡ pos 1 = omega (arith, ints, least.0) in
+    refined_not c.args.self.now c.args.factor c.args.rest one least.1

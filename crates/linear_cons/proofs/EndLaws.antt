@@ -1,18 +1,25 @@
 -- Ends bound the values that they are made for.
-use Rattle.std.proofs.Common.{◌≡◌, ℕ, zero, suc, ◌<◌, ◌≤◌, ℤ, pos, negsuc, ◌+ℤ◌, ◌-ℤ◌, ◌*ℤ◌, ◌≤ℤ◌, ◌<ℤ◌, Bool, true, false, cond, Option, Some, None, List, subst, arith}
+use Rattle.std.proofs.Common.{◌≡◌, ℕ, zero, suc, ◌<◌, ◌≤◌, ℤ, pos, negsuc, ◌+ℤ◌, ◌-ℤ◌, ◌*ℤ◌, ◌≤ℤ◌, ◌<ℤ◌, Bool, true, false, cond, Option}
+use Rattle.std.proofs.Common.{Some, None, List, refl, subst, arith}
 use Rattle.std.proofs.lemmas.Int.{ints}
-use Rattle.std.specs.Int.{int_max}
 use Rattle.linear_cons.specs.Bounds.{Covers, IsFrom, IsUpTo, LiesIn, lower_end, upper_end}
 use Rattle.linear_cons.specs.declared.affine.Affine.{Affine}
 use Rattle.linear_cons.specs.declared.bounds.Bounds.{Bounds}
 use Rattle.linear_cons.specs.declared.bounds.Linear.{Linear}
-use Rattle.linear_cons.specs.Functions.{coefficient, value_at}
+use Rattle.linear_cons.specs.Functions.{IsConstant, coefficient, value_at}
 use Rattle.linear_cons.specs.LinearForm.{products_below}
-use Rattle.linear_cons.specs.Numbers.{number_at}
-use Rattle.linear_cons.proofs.Ring.{mul_commutes, mul_le, zero_mul}
+use Rattle.linear_cons.specs.Numbers.{Fits128, number_at}
+use Rattle.linear_cons.proofs.Ring.{add_zero, mul_commutes, mul_le, mul_turned, zero_add, zero_mul}
+use Rattle.linear_cons.proofs.KnownEnds.{known_end}
 use Rattle.linear_cons.proofs.Sums.{value_is}
-use Rattle.linear_forms.specs.Ends.{end_from, end_of, ends_from, fits, greatest_value, least_value, scaled_end, term_end, terms_end}
-use Rattle.linear_forms.proofs.Corners.{square_to_greater, turns}
+use Rattle.linear_cons.specs.Ends.{end_from, ends_from, exact_end, exactly, fits, greatest_value, least_value, scaled_end, term_end}
+use Rattle.linear_cons.specs.Ends.{terms_end, value_end}
+
+-- ---- exact forms
+
+-- a form that leaves nothing out covers its function's value
+pub exactly_covers : (a : Affine) (s : List ℤ) (v : ℤ) → v ≡ value_at a s → Covers (exactly a) s v
+exactly_covers a s v is = record { lower = omega (arith, ints); upper = omega (arith, ints) }
 
 -- ---- one end
 
@@ -30,10 +37,10 @@ up_to_chosen : (b : Bool) (z v : ℤ) → v ≤ℤ z → IsUpTo (cond b (Some z)
 up_to_chosen true z v h = h
 up_to_chosen false z v h = tt
 
-pub from_end : (z v : ℤ) → z ≤ℤ v → IsFrom (end_of z) v
+pub from_end : (z v : ℤ) → z ≤ℤ v → IsFrom (exact_end z) v
 from_end z v h = from_chosen (fits z) z v h
 
-pub up_to_end : (z v : ℤ) → v ≤ℤ z → IsUpTo (end_of z) v
+pub up_to_end : (z v : ℤ) → v ≤ℤ z → IsUpTo (exact_end z) v
 up_to_end z v h = up_to_chosen (fits z) z v h
 
 -- ---- sums and differences
@@ -78,7 +85,7 @@ kept : (n : ℕ) (a b : ℤ) → a ≤ℤ b → (a *ℤ pos n) ≤ℤ (b *ℤ po
 kept n a b h = rw (mul_commutes a (pos n), mul_commutes b (pos n)) (mul_le (pos n) a b (natural n) h)
 
 turned : (n : ℕ) (a b : ℤ) → a ≤ℤ b → (b *ℤ negsuc n) ≤ℤ (a *ℤ negsuc n)
-turned n a b h = rw (mul_commutes a (negsuc n), mul_commutes b (negsuc n)) (turns (negsuc n) a b (below_zero n) h)
+turned n a b h = rw (mul_commutes a (negsuc n), mul_commutes b (negsuc n)) (mul_turned (negsuc n) a b (below_zero n) h)
 
 pub from_multiple : (k : ℤ) (own other : Option ℤ) (v : ℤ) → IsFrom own v → IsUpTo other v → IsFrom (scaled_end k own other) (v *ℤ k)
 from_multiple (pos n) (Some a) other v h g = from_end (a *ℤ pos n) (v *ℤ pos n) (kept n a v h)
@@ -104,7 +111,8 @@ up_to_term (pos zero) own other v h g = let nought = zero_mul v in omega (arith,
 up_to_term (pos (suc n)) own other v h g = up_to_same _ _ _ (mul_commutes v (pos (suc n))) (up_to_multiple (pos (suc n)) own other v h g)
 up_to_term (negsuc n) own other v h g = up_to_same _ _ _ (mul_commutes v (negsuc n)) (up_to_multiple (negsuc n) own other v h g)
 
-from_terms : (n : ℕ) → n ≤ 16 → (a : Affine) (own other : ℕ → Option ℤ) (s : List ℤ) → ((i : ℕ) → i < 16 → IsFrom (own i) (number_at s i)) → ((i : ℕ) → i < 16 → IsUpTo (other i) (number_at s i)) → IsFrom (terms_end n a own other) (products_below n a.coef s)
+from_terms : (n : ℕ) → n ≤ 16 → (a : Affine) (own other : ℕ → Option ℤ) (s : List ℤ) → ((i : ℕ) → i < 16 → IsFrom (own i) (number_at s i))
+    → ((i : ℕ) → i < 16 → IsUpTo (other i) (number_at s i)) → IsFrom (terms_end n a own other) (products_below n a.coef s)
 unfolding terms_end products_below
 from_terms zero few a own other s low high = omega (arith, ints)
 from_terms (suc n) few a own other s low high =
@@ -112,7 +120,8 @@ from_terms (suc n) few a own other s low high =
     (from_terms n (omega arith) a own other s low high)
     (from_term (coefficient a n) (own n) (other n) (number_at s n) (low n (omega arith)) (high n (omega arith)))
 
-up_to_terms : (n : ℕ) → n ≤ 16 → (a : Affine) (own other : ℕ → Option ℤ) (s : List ℤ) → ((i : ℕ) → i < 16 → IsUpTo (own i) (number_at s i)) → ((i : ℕ) → i < 16 → IsFrom (other i) (number_at s i)) → IsUpTo (terms_end n a own other) (products_below n a.coef s)
+up_to_terms : (n : ℕ) → n ≤ 16 → (a : Affine) (own other : ℕ → Option ℤ) (s : List ℤ) → ((i : ℕ) → i < 16 → IsUpTo (own i) (number_at s i))
+    → ((i : ℕ) → i < 16 → IsFrom (other i) (number_at s i)) → IsUpTo (terms_end n a own other) (products_below n a.coef s)
 unfolding terms_end products_below
 up_to_terms zero few a own other s high low = omega (arith, ints)
 up_to_terms (suc n) few a own other s high low =
@@ -127,15 +136,28 @@ whole_value a s v = let value = value_is a.coef a.constant s in omega (arith, in
 pub from_least : (x : Linear) (bounds : Bounds) (s : List ℤ) (v : ℤ) → LiesIn bounds s → Covers x s v → IsFrom (least_value x bounds) v
 from_least x bounds s v inside covers =
     from_same _ _ _ (whole_value x.affine s v)
-    (from_sum _ x.lo _ _ (from_shifted _ x.affine.constant _ (from_terms 16 (omega arith) x.affine (lower_end bounds) (upper_end bounds) s inside.lower inside.upper)) covers.lower)
+    (from_sum _ x.lo _ _ (from_shifted _ x.affine.constant _
+    (from_terms 16 (omega arith) x.affine (lower_end bounds) (upper_end bounds) s inside.lower inside.upper)) covers.lower)
 
-pub up_to_greatest : (x : Linear) (bounds : Bounds) (s : List ℤ) (v : ℤ) → LiesIn bounds s → Covers x s v → IsUpTo (greatest_value x bounds) v
+pub up_to_greatest : (x : Linear) (bounds : Bounds) (s : List ℤ) (v : ℤ) → LiesIn bounds s → Covers x s v
+    → IsUpTo (greatest_value x bounds) v
 up_to_greatest x bounds s v inside covers =
     up_to_same _ _ _ (whole_value x.affine s v)
-    (up_to_sum _ x.hi _ _ (up_to_shifted _ x.affine.constant _ (up_to_terms 16 (omega arith) x.affine (upper_end bounds) (lower_end bounds) s inside.upper inside.lower)) covers.upper)
+    (up_to_sum _ x.hi _ _ (up_to_shifted _ x.affine.constant _
+    (up_to_terms 16 (omega arith) x.affine (upper_end bounds) (lower_end bounds) s inside.upper inside.lower)) covers.upper)
 
--- the square of a number between two ends
-pub up_to_square : (p q : Option ℤ) (v : ℤ) → IsFrom p v → IsUpTo q v → IsUpTo (ends_from (λ a b. int_max (a *ℤ a) (b *ℤ b)) p q) (v *ℤ v)
-up_to_square (Some a) (Some b) v h k = up_to_end (int_max (a *ℤ a) (b *ℤ b)) (v *ℤ v) (square_to_greater a b v h k)
-up_to_square (Some a) None v h k = tt
-up_to_square None q v h k = tt
+-- ---- functions without variables
+
+no_terms : (n : ℕ) → n ≤ 16 → (a : Affine) (own other : ℕ → Option ℤ) → IsConstant a → terms_end n a own other ≡ Some (pos 0)
+unfolding terms_end
+no_terms zero few a own other none = refl
+no_terms (suc n) few a own other none = rw (
+  no_terms n (omega arith) a own other none,
+  none n (omega arith),
+) (known_end (pos 0) (omega (arith, ints)))
+
+-- the end of a function without variables is its constant
+pub constant_end : (a : Affine) (own other : ℕ → Option ℤ) → IsConstant a → Fits128 a.constant
+    → value_end a own other (Some (pos 0)) ≡ Some a.constant
+constant_end a own other none fit =
+    rw (no_terms 16 (omega arith) a own other none, zero_add, known_end a.constant fit, add_zero) (known_end a.constant fit)

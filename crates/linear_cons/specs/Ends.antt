@@ -12,16 +12,16 @@ fits (pos n) = nat_lt n (2 ^ 127)
 fits (negsuc n) = nat_lt n (2 ^ 127)
 
 -- the end that an exact number is: known exactly where it fits
-abbrev pub end_of : ℤ → Option ℤ
-end_of z = if fits z then Some z else None
+abbrev pub exact_end : ℤ → Option ℤ
+exact_end z = if fits z then Some z else None
 
 -- an end made of one or of two others, each of which has to be known
 abbrev pub end_from : (ℤ → ℤ) → Option ℤ → Option ℤ
 end_from f None = None
-end_from f (Some a) = end_of (f a)
+end_from f (Some a) = exact_end (f a)
 
 abbrev pub ends_from : (ℤ → ℤ → ℤ) → Option ℤ → Option ℤ → Option ℤ
-ends_from f (Some a) (Some b) = end_of (f a b)
+ends_from f (Some a) (Some b) = exact_end (f a b)
 ends_from f _ _ = None
 
 -- the end of a number times a factor: a negative factor takes the other end
@@ -44,6 +44,10 @@ terms_end (suc n) a own other =
 -- the end of the whole: the terms, then the constant, then the form's own end
 abbrev pub value_end : Affine → (ℕ → Option ℤ) → (ℕ → Option ℤ) → Option ℤ → Option ℤ
 value_end a own other last = ends_from (λ v e. v +ℤ e) (end_from (λ s. s +ℤ a.constant) (terms_end 16 a own other)) last
+
+-- exactly the function, which leaves nothing out
+abbrev pub exactly : Affine → Linear
+exactly a = record { affine = a; lo = Some (pos 0); hi = Some (pos 0) }
 
 -- the least and the greatest value of a linear form over the bounds
 abbrev pub least_value : Linear → Bounds → Option ℤ
