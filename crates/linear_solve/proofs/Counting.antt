@@ -10,7 +10,7 @@ use Rattle.linear_cons.specs.Functions.{coefficient}
 use Rattle.linear_cons.specs.Numbers.{number_at}
 use Rattle.std.proofs.lemmas.List.Elements.{Contains-get_or}
 use Rattle.linear_cons.proofs.Places.{number_at-clear}
-use Rattle.linear_solve.specs.Tightest.{AreDistinct}
+use Rattle.linear_cons.specs.Tightest.{AreDistinct}
 use Rattle.linear_solve.specs.Elimination.{lowers_of, made_of, one_above, one_below, uppers_of}
 use Rattle.linear_solve.specs.Systems.{weight_below}
 use Rattle.linear_solve.proofs.Sizes.{mul_le_mul, weight_le, weight_pair}

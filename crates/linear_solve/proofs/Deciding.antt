@@ -70,7 +70,7 @@ finding_of_kept rows kept None stand is = tt
 finding_of_kept rows kept (Some Nothing) stand is = no_store_of_kept rows kept stand is
 finding_of_kept rows kept (Some (Proposed point)) stand is = kept_point rows kept point.num point.den stand is
 
-kept_sized : (rows kept : List Row) (bound : ℕ) → StandFor rows kept → All (IsSized bound) rows → All (IsSized bound) kept
+pub kept_sized : (rows kept : List Row) (bound : ℕ) → StandFor rows kept → All (IsSized bound) rows → All (IsSized bound) kept
 kept_sized rows kept bound stand sized = all_of (IsSized bound) kept (λ row member. member_of (IsSized bound) rows row sized (stand.among row member))
 
 -- a number whose square is at most 2^126 is at most 2^63

@@ -9,14 +9,14 @@ use Rattle.linear_cons.specs.declared.row.Row.{Row}
 use Rattle.linear_cons.specs.declared.row.RowKind.TheVariants.{Always, Row as Kept}
 use Rattle.linear_cons.specs.Functions.{coefficient, form_at}
 use Rattle.linear_cons.specs.Rows.{IsRowOf, PointMeets, PointMeetsAll}
-use Rattle.linear_solve.specs.Elimination.{Grows, ImpliesMixtures, ImpliesPairs, ImpliesRest, IsEliminated, IsLower, IsMade, IsUpper, StandFor, lowers_of, mixture, one_above, one_below, others_of, uppers_of}
+use Rattle.linear_solve.specs.Elimination.{Grows, ImpliesMixtures, ImpliesPairs, ImpliesRest, IsEliminated, IsLower, IsMade, IsUpper, StandFor, lowers_of, made_of, mixture, one_above, one_below, others_of, uppers_of}
 use Rattle.linear_solve.proofs.Lists.{all_more, all_end, all_none, all_of, member_of, take_snoc}
 use Rattle.linear_solve.proofs.Mixing.{always_point, kept_point}
 
 -- ---- a list that grows
 
 pub grows_none : (rows : List Row) (place : ℕ) (old : List Row) → Grows rows place old old
-grows_none rows place old = record { among = λ row member. inl member; implies = λ num den met. met }
+grows_none rows place old = record { among = λ row member. inl member; implies = λ num den positive met. met }
 
 -- a point that meets a list with one row more meets the list and the row
 front_met : (new next : List Row) (row : Row) (num : List ℤ) (den : ℤ) → next ≡ new ++ row ∷ [] → PointMeetsAll num den next → PointMeetsAll num den new
@@ -35,7 +35,7 @@ grows_added rows place old new next row before is made = record {
       (λ (was : Contains new other). before.among other was)
       (λ (here : row ≡ other). inr (subst (λ t. IsMade rows place t) here made))
       (Contains-push_cases new row other (rw is at member));
-  implies = λ num den met. before.implies num den (front_met new next row num den is met);
+  implies = λ num den positive met. before.implies num den positive (front_met new next row num den is met);
 }
 
 pub grows_further : (rows : List Row) (place : ℕ) (old new next : List Row) → Grows rows place old new → Grows rows place new next → Grows rows place old next
@@ -44,8 +44,12 @@ grows_further rows place old new next before after = record {
       (λ (was : Contains new other). before.among other was)
       (λ (made : IsMade rows place other). inr made)
       (after.among other member);
-  implies = λ num den met. before.implies num den (after.implies num den met);
+  implies = λ num den positive met. before.implies num den positive (after.implies num den positive met);
 }
+
+-- rows that stand for the list
+pub grows_standing : (rows : List Row) (place : ℕ) (old new : List Row) → StandFor old new → Grows rows place old new
+grows_standing rows place old new stand = record { among = λ row member. inl (stand.among row member); implies = stand.implies }
 
 -- ---- the rows without the place
 
@@ -69,7 +73,7 @@ rest_all rows i place new end rest num den positive met =
     all_end (λ (row : Row). coefficient row.affine place ≡ pos 0 → PointMeets num den row) rows i end (rest num den positive met)
 
 pub rest_grows : (rows seen : List Row) (place : ℕ) (new next : List Row) → ImpliesRest seen place new → Grows rows place new next → ImpliesRest seen place next
-rest_grows rows seen place new next before after num den positive met = before num den positive (after.implies num den met)
+rest_grows rows seen place new next before after num den positive met = before num den positive (after.implies num den positive met)
 
 -- ---- the combinations of one row
 
@@ -98,6 +102,9 @@ pub mixtures_all : (lower : Row) (rows : List Row) (i place : ℕ) (new : List R
 mixtures_all lower rows i place new end mixtures num den positive met =
     all_end (λ (upper : Row). IsUpper place upper → pos 0 ≤ℤ form_at (mixture lower upper place) num den) rows i end (mixtures num den positive met)
 
+pub mixtures_grow : (lower : Row) (rows : List Row) (place : ℕ) (new next : List Row) → ImpliesMixtures lower rows place new → Grows rows place new next → ImpliesMixtures lower rows place next
+mixtures_grow lower rows place new next before after num den positive met = before num den positive (after.implies num den positive met)
+
 -- ---- the pairs
 
 pub pairs_none : (rows : List Row) (place : ℕ) (new : List Row) → ImpliesPairs (take 0 rows) rows place new
@@ -106,8 +113,11 @@ pairs_none rows place new num den positive met = all_none (λ (lower : Row). IsL
 pub pairs_more : (rows : List Row) (i place : ℕ) (lower : Row) (new next : List Row) → i < length rows → lower ≡ get_or rows i lower → ImpliesPairs (take i rows) rows place new → Grows rows place new next → ImpliesMixtures lower rows place next → ImpliesPairs (take (i + 1) rows) rows place next
 pairs_more rows i place lower new next low is before after mixtures num den positive met =
     all_more (λ (lower : Row). IsLower place lower → All (λ (upper : Row). IsUpper place upper → pos 0 ≤ℤ form_at (mixture lower upper place) num den) rows) rows i lower low is
-    (before num den positive (after.implies num den met))
+    (before num den positive (after.implies num den positive met))
     (λ below. mixtures num den positive met)
+
+pub pairs_grow : (seen rows : List Row) (place : ℕ) (new next : List Row) → ImpliesPairs seen rows place new → Grows rows place new next → ImpliesPairs seen rows place next
+pairs_grow seen rows place new next before after num den positive met = before num den positive (after.implies num den positive met)
 
 pub pairs_skipped : (rows : List Row) (i place : ℕ) (lower : Row) (new : List Row) → i < length rows → lower ≡ get_or rows i lower → ImpliesPairs (take i rows) rows place new → (IsLower place lower → ⊥) → ImpliesPairs (take (i + 1) rows) rows place new
 pairs_skipped rows i place lower new low is before excluded num den positive met =
@@ -188,6 +198,21 @@ pub short_same : (new lowers next one uppers others : ℕ) → next ≡ lowers +
 short_same new lowers next one uppers others is short =
     let p : lowers * uppers ≤ next * uppers = mul-le-mul_right uppers (omega (arith, is)) in
     omega (arith, short, p)
+
+lowers_taken : (place i : ℕ) (rows : List Row) → lowers_of place (take i rows) ≤ lowers_of place rows
+lowers_taken place zero rows = omega arith
+lowers_taken place (suc i) [] = omega arith
+lowers_taken place (suc i) (row ∷ rows) = let e = lowers_taken place i rows in omega (arith, e)
+
+-- no more are made on the way than in all
+pub made_within : (rows : List Row) (place i before new : ℕ) (lower : Row) → i < length rows → lower ≡ get_or rows i lower → IsLower place lower
+    → before ≤ lowers_of place (take i rows) * uppers_of place rows + others_of place rows → new ≤ before + uppers_of place rows → new ≤ made_of place rows
+made_within rows place i before new lower low is below short more =
+    let l = lowers_more place rows i lower low is in
+    let one = above_one (coefficient lower.affine place) below in
+    let next = short_more before (uppers_of place rows) (others_of place rows) (lowers_of place (take i rows)) (lowers_of place (take (i + 1) rows)) new (omega (arith, l, one)) short more in
+    let all : lowers_of place (take (i + 1) rows) * uppers_of place rows ≤ lowers_of place rows * uppers_of place rows = mul-le-mul_right (uppers_of place rows) (lowers_taken place (i + 1) rows) in
+    omega (arith, next, all)
 
 -- the whole elimination: what was made, and rows that stand for it
 pub eliminated : (rows : List Row) (place i : ℕ) (made left : List Row) → length rows ≤ i → Grows rows place [] made → ImpliesRest rows place made → ImpliesPairs (take i rows) rows place made → length made ≤ lowers_of place (take i rows) * uppers_of place rows + others_of place rows → StandFor made left → IsEliminated rows place left

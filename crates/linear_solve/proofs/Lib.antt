@@ -11,9 +11,11 @@ pub mod Sizes
 pub mod Modest
 pub mod Tame
 pub mod Deciding
+pub mod Keeping
 pub mod Counting
 pub mod Nothing
 pub mod Certifying
 pub mod Opposing
 pub mod Choosing
+pub mod Counted
 pub mod Reducing

@@ -7,7 +7,7 @@ use Rattle.linear_cons.specs.declared.affine.Affine.{Affine}
 use Rattle.linear_cons.specs.declared.row.Row.{Row}
 use Rattle.linear_cons.specs.declared.row.RowKind.{RowKind}
 use Rattle.linear_cons.specs.declared.row.RowKind.TheVariants.{Always, Never, Row as Kept}
-use Rattle.linear_cons.specs.Functions.{NumbersFit, coefficient, multiple_of, sum_of}
+use Rattle.linear_cons.specs.Functions.{MixedFits, NumbersFit, coefficient, mixed_of, multiple_of, sum_of}
 use Rattle.linear_cons.specs.Numbers.{Fits128}
 use Rattle.linear_cons.specs.Rows.{IsRowOf}
 use Rattle.linear_cons.proofs.Places.{number_at_places}
@@ -80,21 +80,16 @@ kind_times d small whole positive times (Kept row) is = record {
 
 -- it is the d-th part of the combination
 pub mixture_times : (lower upper : Row) (place d : ℕ) (by part own : ℤ) → by ≡ opposite (coefficient upper.affine place) → by ≡ pos d *ℤ part → coefficient lower.affine place ≡ pos d *ℤ own →
-    IsTimes d (sum_of (multiple_of lower.affine part) (multiple_of upper.affine own)) (mixture lower upper place)
+    IsTimes d (mixed_of lower.affine part upper.affine own) (mixture lower upper place)
 mixture_times lower upper place d by part own is first second =
     times_sum d (multiple_of lower.affine part) (multiple_of lower.affine (opposite (coefficient upper.affine place))) (multiple_of upper.affine own) (multiple_of upper.affine (coefficient lower.affine place))
     (times_multiple d lower.affine (opposite (coefficient upper.affine place)) part (sym is ∙ first)) (times_multiple d upper.affine (coefficient lower.affine place) own second)
 
 -- where its numbers do not fit, those of the combination do not
-pub first_unfit : (lower upper : Row) (place d : ℕ) (by part : ℤ) → 0 < d → by ≡ opposite (coefficient upper.affine place) → by ≡ pos d *ℤ part → ¬ NumbersFit (multiple_of lower.affine part) → ¬ MixtureFits lower upper place
-first_unfit lower upper place d by part positive is first none fits =
-    none (numbers_part d (multiple_of lower.affine part) (multiple_of lower.affine (opposite (coefficient upper.affine place))) positive (times_multiple d lower.affine (opposite (coefficient upper.affine place)) part (sym is ∙ first)) fits.first)
-
-pub second_unfit : (lower upper : Row) (place d : ℕ) (own : ℤ) → 0 < d → coefficient lower.affine place ≡ pos d *ℤ own → ¬ NumbersFit (multiple_of upper.affine own) → ¬ MixtureFits lower upper place
-second_unfit lower upper place d own positive second none fits =
-    none (numbers_part d (multiple_of upper.affine own) (multiple_of upper.affine (coefficient lower.affine place)) positive (times_multiple d upper.affine (coefficient lower.affine place) own second) fits.second)
-
-pub sum_unfit : (lower upper : Row) (place d : ℕ) (by part own : ℤ) → 0 < d → by ≡ opposite (coefficient upper.affine place) → by ≡ pos d *ℤ part → coefficient lower.affine place ≡ pos d *ℤ own →
-    ¬ NumbersFit (sum_of (multiple_of lower.affine part) (multiple_of upper.affine own)) → ¬ MixtureFits lower upper place
-sum_unfit lower upper place d by part own positive is first second none fits =
-    none (numbers_part d (sum_of (multiple_of lower.affine part) (multiple_of upper.affine own)) (mixture lower upper place) positive (mixture_times lower upper place d by part own is first second) fits.sums)
+pub mixed_unfit : (lower upper : Row) (place d : ℕ) (by part own : ℤ) → 0 < d → by ≡ opposite (coefficient upper.affine place) → by ≡ pos d *ℤ part → coefficient lower.affine place ≡ pos d *ℤ own →
+    ¬ MixedFits lower.affine part upper.affine own → ¬ MixtureFits lower upper place
+mixed_unfit lower upper place d by part own positive is first second none fits = none (record {
+  first = numbers_part d (multiple_of lower.affine part) (multiple_of lower.affine (opposite (coefficient upper.affine place))) positive (times_multiple d lower.affine (opposite (coefficient upper.affine place)) part (sym is ∙ first)) fits.first;
+  second = numbers_part d (multiple_of upper.affine own) (multiple_of upper.affine (coefficient lower.affine place)) positive (times_multiple d upper.affine (coefficient lower.affine place) own second) fits.second;
+  sums = numbers_part d (mixed_of lower.affine part upper.affine own) (mixture lower upper place) positive (mixture_times lower upper place d by part own is first second) fits.sums;
+})

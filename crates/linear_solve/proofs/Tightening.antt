@@ -25,7 +25,8 @@ use Rattle.linear_cons.proofs.Places.{length-at_places, number_at_places, places
 use Rattle.linear_cons.proofs.Ring.{mul_commutes, mul_le}
 use Rattle.linear_cons.proofs.RowLaws.{row_same}
 use Rattle.linear_solve.specs.Elimination.{StandFor}
-use Rattle.linear_solve.specs.Tightest.{AreDistinct, AreTightest, IsCovered, IsSamePart, by_part, by_part_and_constant, part_of, same_part}
+use Rattle.linear_cons.specs.Tightest.{AreDistinct, AreTightest, IsCovered, IsSamePart}
+use Rattle.linear_solve.specs.Tightest.{by_part, by_part_and_constant, part_of, same_part}
 use Rattle.linear_solve.proofs.Lists.{all_of, behind, in_map, member_of, of_map}
 
 -- ---- linear parts

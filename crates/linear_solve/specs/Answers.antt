@@ -5,7 +5,7 @@ use Rattle.linear_cons.specs.Exact.{IsOutside}
 use Rattle.linear_cons.specs.Numbers.{number_at}
 use Rattle.linear_cons.specs.Rows.{MeetsAll, PointMeetsAll}
 use Rattle.linear_solve.specs.Elimination.{NeverGrows}
-use Rattle.linear_solve.specs.Tightest.{AreTightest}
+use Rattle.linear_cons.specs.Tightest.{AreTightest}
 use Rattle.linear_solve.specs.Systems.{HasOpposed, IsOctagonList, IsSized, occurring, rows_after}
 use Rattle.linear_solve.specs.declared.answer.Answer.{Answer}
 use Rattle.linear_solve.specs.declared.answer.Answer.TheVariants.{Empty, Point, Wide, Rows}

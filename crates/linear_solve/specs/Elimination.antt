@@ -1,5 +1,6 @@
 -- One elimination: the rows that it makes, what they imply, and how many they are.
-use Rattle.std.specs.Prelude.{◌≡◌, ◌⊎◌, ℕ, zero, suc, ◌+◌, ◌-◌, ◌*◌, ◌<◌, ◌≤◌, ℤ, pos, negsuc, ◌-ℤ◌, ◌<ℤ◌, ◌≤ℤ◌, List, [], ◌∷◌, length, All, Contains, true, ⊤}
+use Rattle.std.specs.Prelude.{◌≡◌, ◌⊎◌, ℕ, zero, suc, ◌+◌, ◌-◌, ◌*◌, ◌<◌, ◌≤◌, ℤ, pos, negsuc, ◌-ℤ◌, ◌<ℤ◌, ◌≤ℤ◌, List, [], ◌∷◌, length}
+use Rattle.std.specs.Prelude.{All, Contains, true, ⊤}
 use Rattle.linear_cons.specs.declared.affine.Affine.{Affine}
 use Rattle.linear_cons.specs.declared.row.Row.{Row}
 use Rattle.linear_cons.specs.declared.row.RowKind.TheVariants.{Never, Row as Kept}
@@ -7,7 +8,7 @@ use Rattle.linear_cons.specs.Functions.{NumbersFit, coefficient, form_at, multip
 use Rattle.linear_cons.specs.Numbers.{Fits128}
 use Rattle.linear_cons.specs.Rows.{IsRowOf, PointMeets, PointMeetsAll}
 use Rattle.linear_solve.specs.Systems.{occurs}
-use Rattle.linear_solve.specs.Tightest.{AreDistinct}
+use Rattle.linear_cons.specs.Tightest.{AreDistinct}
 
 -- the row bounds the place from below, from above
 abbrev pub IsLower : ℕ → Row → Type 0
@@ -23,7 +24,8 @@ opposite c = pos 0 -ℤ c
 -- the sum of two rows' functions, each times the size of the other's coefficient at the place, which
 -- cancels out where the one is positive and the other negative
 abbrev pub mixture : Row → Row → ℕ → Affine
-mixture lower upper place = sum_of (multiple_of lower.affine (opposite (coefficient upper.affine place))) (multiple_of upper.affine (coefficient lower.affine place))
+mixture lower upper place = sum_of (multiple_of lower.affine (opposite (coefficient upper.affine place)))
+    (multiple_of upper.affine (coefficient lower.affine place))
 
 -- no number of the combination lies outside 128 bits
 pub record MixtureFits (lower upper : Row) (place : ℕ) : Type 0 where
@@ -71,22 +73,26 @@ pub record StandFor (rows kept : List Row) : Type 0 where
   pub distinct : AreDistinct kept
   pub short : length kept ≤ length rows
 
--- a list grew by rows that the elimination makes
+-- a list grew by rows that the elimination makes, and lost at most rows that the others imply
 pub record Grows (rows : List Row) (place : ℕ) (old new : List Row) : Type 0 where
   pub among : (row : Row) → Contains new row → Contains old row ⊎ IsMade rows place row
-  pub implies : (num : List ℤ) (den : ℤ) → PointMeetsAll num den new → PointMeetsAll num den old
+  pub implies : (num : List ℤ) (den : ℤ) → pos 0 <ℤ den → PointMeetsAll num den new → PointMeetsAll num den old
 
 -- the rows of the first list without the place are implied by the new list
 abbrev pub ImpliesRest : List Row → ℕ → List Row → Type 0
-ImpliesRest seen place new = (num : List ℤ) (den : ℤ) → pos 0 <ℤ den → PointMeetsAll num den new → All (λ row. coefficient row.affine place ≡ pos 0 → PointMeets num den row) seen
+ImpliesRest seen place new = (num : List ℤ) (den : ℤ) → pos 0 <ℤ den → PointMeetsAll num den new
+    → All (λ row. coefficient row.affine place ≡ pos 0 → PointMeets num den row) seen
 
 -- the combinations of the row with those from above are implied by the new list
 abbrev pub ImpliesMixtures : Row → List Row → ℕ → List Row → Type 0
-ImpliesMixtures lower seen place new = (num : List ℤ) (den : ℤ) → pos 0 <ℤ den → PointMeetsAll num den new → All (λ upper. IsUpper place upper → pos 0 ≤ℤ form_at (mixture lower upper place) num den) seen
+ImpliesMixtures lower seen place new = (num : List ℤ) (den : ℤ) → pos 0 <ℤ den → PointMeetsAll num den new
+    → All (λ upper. IsUpper place upper → pos 0 ≤ℤ form_at (mixture lower upper place) num den) seen
 
 -- the combinations of the pairs are implied by the new list
 abbrev pub ImpliesPairs : List Row → List Row → ℕ → List Row → Type 0
-ImpliesPairs seen rows place new = (num : List ℤ) (den : ℤ) → pos 0 <ℤ den → PointMeetsAll num den new → All (λ lower. IsLower place lower → All (λ upper. IsUpper place upper → pos 0 ≤ℤ form_at (mixture lower upper place) num den) rows) seen
+ImpliesPairs seen rows place new = (num : List ℤ) (den : ℤ) → pos 0 <ℤ den → PointMeetsAll num den new
+    → All (λ lower. IsLower place lower → All (λ upper. IsUpper place upper
+    → pos 0 ≤ℤ form_at (mixture lower upper place) num den) rows) seen
 
 -- 1 for a number above 0, and for one below 0, and else 0
 abbrev pub one_above : ℤ → ℕ
@@ -133,9 +139,11 @@ IsNothing rows = (num : List ℤ) (den : ℤ) → pos 0 <ℤ den → PointMeetsA
 
 -- a place that may be eliminated next: it occurs, and no place that does has fewer pairs
 abbrev pub IsNext : List Row → ℕ → Type 0
-IsNext rows place = (place < 16) × (occurs place rows ≡ true) × ((other : ℕ) → other < 16 → occurs other rows ≡ true → pairs_of place rows ≤ pairs_of other rows)
+IsNext rows place = (place < 16) × (occurs place rows ≡ true)
+    × ((other : ℕ) → other < 16 → occurs other rows ≡ true → pairs_of place rows ≤ pairs_of other rows)
 
 -- n eliminations, each of a place that may be next, never make more rows than there were
 abbrev pub NeverGrows : ℕ → List Row → Type 0
 NeverGrows zero rows = ⊤
-NeverGrows (suc n) rows = (place : ℕ) → IsNext rows place → (made_of place rows ≤ length rows) × ((left : List Row) → IsEliminated rows place left → NeverGrows n left)
+NeverGrows (suc n) rows = (place : ℕ) → IsNext rows place → (made_of place rows ≤ length rows)
+    × ((left : List Row) → IsEliminated rows place left → NeverGrows n left)

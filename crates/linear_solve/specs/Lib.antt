@@ -5,3 +5,4 @@ pub mod Elimination
 pub mod Points
 pub mod Solving
 pub mod Findings
+pub mod Counts

@@ -42,7 +42,8 @@ pub record IsBound (rows : List Row) (place : ℕ) (side : Side) (num : List ℤ
 
 -- no row of the list has a tighter bound: its quotient of form and slope is not less
 abbrev pub IsLeast : List Row → ℕ → Side → List ℤ → ℤ → Bound → Type 0
-IsLeast rows place side num den bound = All (λ row. pos 0 <ℤ slope_at side row place → (bound.form *ℤ slope_at side row place) ≤ℤ (form_at row.affine num den *ℤ bound.slope)) rows
+IsLeast rows place side num den bound = All (λ row. pos 0 <ℤ slope_at side row place
+    → (bound.form *ℤ slope_at side row place) ≤ℤ (form_at row.affine num den *ℤ bound.slope)) rows
 
 -- the tightest bound that the rows set on the place from the side
 pub record IsTightest (rows : List Row) (place : ℕ) (side : Side) (num : List ℤ) (den : ℤ) (bound : Bound) : Type 0 where
@@ -57,7 +58,8 @@ IsFree rows place side = All (λ row. pos 0 <ℤ slope_at side row place → ⊥
 pub record BoundsFit (rows : List Row) (place : ℕ) (num : List ℤ) (den : ℤ) : Type 0 where
   pub slopes : (row : Row) (side : Side) → Contains rows row → Fits128 (slope_at side row place)
   pub forms : (row : Row) → Contains rows row → FormFits row.affine num den
-  pub crosses : (row other : Row) (side : Side) → Contains rows row → Contains rows other → Fits128 (form_at row.affine num den *ℤ slope_at side other place)
+  pub crosses : (row other : Row) (side : Side) → Contains rows row → Contains rows other
+      → Fits128 (form_at row.affine num den *ℤ slope_at side other place)
 
 -- the numbers of the point as those of a function
 abbrev pub numbers_of : List ℤ → ℤ → Affine
@@ -65,7 +67,10 @@ numbers_of num den = record { coef = num; constant = den }
 
 -- the point on the bound at the place
 abbrev pub moved : List ℤ → ℤ → ℕ → Side → Bound → Point
-moved num den place side bound = record { num = slice_set (multiple_of (numbers_of num den) bound.slope).coef place (numerator_of side bound.form); den = den *ℤ bound.slope }
+moved num den place side bound = record {
+  num = slice_set (multiple_of (numbers_of num den) bound.slope).coef place (numerator_of side bound.form);
+  den = den *ℤ bound.slope;
+}
 
 -- no number of the move is outside 128 bits
 pub record MoveFits (num : List ℤ) (den : ℤ) (bound : Bound) : Type 0 where
@@ -79,7 +84,8 @@ cleared num place = slice_set num place (pos 0)
 -- the place is on its tightest bound from a side, or no row has it and it is 0
 abbrev pub IsPutBack : List Row → ℕ → List ℤ → ℤ → Point → Type 0
 IsPutBack rows place num den point =
-    ((side : Side) × ((bound : Bound) × (IsTightest rows place side (cleared num place) den bound × (point ≡ moved (cleared num place) den place side bound))))
+    ((side : Side) × ((bound : Bound) × (IsTightest rows place side (cleared num place) den bound
+    × (point ≡ moved (cleared num place) den place side bound))))
     ⊎ (IsFree rows place Below × IsFree rows place Above × (point ≡ record { num = cleared num place; den = den }))
 
 -- no number on the way is outside 128 bits

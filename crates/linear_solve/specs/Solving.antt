@@ -3,7 +3,7 @@ use Rattle.std.specs.Prelude.{◌≡◌, ℕ, ◌*◌, ◌<◌, ◌≤◌, ◌^�
 use Rattle.linear_cons.specs.declared.row.Row.{Row}
 use Rattle.linear_cons.specs.declared.exact.Wide.{Wide as Operands}
 use Rattle.linear_cons.specs.Numbers.{number_at}
-use Rattle.linear_solve.specs.Tightest.{AreDistinct}
+use Rattle.linear_cons.specs.Tightest.{AreDistinct}
 use Rattle.linear_solve.specs.Systems.{IsOctagonRow, IsSized, occurring}
 use Rattle.linear_solve.specs.declared.answer.Stop.{Stop}
 use Rattle.linear_solve.specs.declared.answer.Stop.TheVariants.{Memory, Wide, Rows}

@@ -1,5 +1,6 @@
 -- Systems of rows: the places that occur, the sizes of the numbers, octagon lists, opposed rows.
-use Rattle.std.specs.Prelude.{ℕ, zero, suc, ◌+◌, ◌*◌, ◌/◌, ◌<◌, ◌≤◌, ◌^◌, ℤ, pos, List, All, Bool, not, Contains, unsigned_abs, if◌then◌else◌, max}
+use Rattle.std.specs.Prelude.{ℕ, zero, suc, ◌+◌, ◌*◌, ◌/◌, ◌<◌, ◌≤◌, ◌^◌, ℤ, pos, List, All, Bool, not, Contains, unsigned_abs}
+use Rattle.std.specs.Prelude.{if◌then◌else◌, max}
 use Rattle.std.specs.List.{list_any}
 use Rattle.std.specs.Ordering.{int_eq}
 use Rattle.linear_cons.specs.declared.row.Row.{Row}

@@ -1,35 +1,11 @@
--- Of rows with one linear part, the tightest: the one with the least constant, which implies the others.
-use Rattle.std.specs.Prelude.{◌≡◌, ℕ, ◌<◌, ℤ, ◌≤ℤ◌, Bool, List, All, AllPairs, Contains}
+-- The order of rows by their linear parts.
+use Rattle.std.specs.Prelude.{ℤ, Bool, List}
 use Rattle.std.specs.Cmp.Lexicographic.{pointwise, slice_cmp}
 use Rattle.std.specs.Ordering.{int_cmp, int_eq, on, then_cmp}
 use Rattle.std.specs.declared.cmp.Ordering.{Ordering}
-use Rattle.linear_cons.specs.declared.affine.Affine.{Affine}
 use Rattle.linear_cons.specs.declared.row.Row.{Row}
 use Rattle.linear_cons.specs.Functions.{coefficient}
 use Rattle.linear_cons.specs.Numbers.{at_places}
-
--- the functions have the same coefficients
-abbrev pub IsSamePart : Affine → Affine → Type 0
-IsSamePart a b = (i : ℕ) → i < 16 → coefficient a i ≡ coefficient b i
-
--- no two rows have the same coefficients
-abbrev pub AreDistinct : List Row → Type 0
-AreDistinct rows = AllPairs (λ row other. ¬ IsSamePart row.affine other.affine) rows
-
--- one of the rows has the function's coefficients and a constant not greater, so that it implies `a >= 0`
-pub record IsCovered (rows : List Row) (a : Affine) : Type 0 where
-  pub row : Row
-  pub row_in : Contains rows row
-  pub part : IsSamePart row.affine a
-  pub tighter : row.affine.constant ≤ℤ a.constant
-
--- of functions that are to be at least 0, the tightest for each linear part
-pub record AreTightest (functions : List Affine) (rows : List Row) : Type 0 where
-  pub among : All (λ row. Contains functions row.affine) rows
-  pub covers : All (λ a. IsCovered rows a) functions
-  pub distinct : AreDistinct rows
-
--- ---- the order in which they come
 
 -- the coefficients at the sixteen places
 abbrev pub part_of : Row → List ℤ

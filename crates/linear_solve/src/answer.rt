@@ -13,7 +13,7 @@ pub enum Answer {
     Point { num: [i128; 16], den: i128 },
     /// A number on the way lies outside `i128`: the exact result of these operands.
     Wide(Wide),
-    /// An elimination leaves this many rows, more than 4,096.
+    /// An elimination comes to this many tightest rows, more than 4,096.
     Rows { count: u32 },
 }
 
@@ -24,7 +24,7 @@ pub enum Projected {
     Rows(Vec<Row>),
     /// A number on the way lies outside `i128`: the exact result of these operands.
     Wide(Wide),
-    /// The elimination leaves this many rows, more than 4,096.
+    /// The elimination comes to this many tightest rows, more than 4,096.
     TooMany { count: u32 },
 }
 

@@ -6,19 +6,16 @@ ghost use Rattle.linear_solve.specs.Findings.{IsFinding, IsProposal};
 use crate::answer::Stop;
 use crate::certificate::{adds_up, meets_all};
 use crate::eliminate::eliminate;
-use crate::opposed::{has_opposed, meets_opposed};
+use crate::opposed::{meets_opposed, opposes_one};
 use crate::order::{next_place, sides};
 use crate::point::Point;
 use crate::tableau::{Claim, pivoted};
-use crate::tighten::tightest_of;
 use linear_cons::Row;
 use std::alloc::{AllocError, Global};
 
-/// From how many rows on, and up to how many, two opposed ones are looked for before the rows are
-/// sorted: shorter lists are sorted as fast, and longer ones faster.
-const LEAST_LOOKED_THROUGH: usize = 32;
-
-const MOST_LOOKED_THROUGH: usize = 256;
+/// For how many rows an opposed one is sought before the rows are sorted. Once they are, one walk seeks for
+/// all of them.
+const MOST_SOUGHT: usize = 8;
 
 /// How many rows an elimination may make that looks for emptiness behind a fraction.
 const MOST_BEHIND_FRACTION: usize = 256;
@@ -39,30 +36,33 @@ enum Way {
     Eliminations,
 }
 
-/// What is found of the rows: by a look at the rows and at the origin, else by a search over the
-/// tightest rows, whose point is given only where it meets them. `None` where nothing is found.
-pub(crate) fn attempt(alloc: Global, rows: &[Row]) -> Result<Option<Finding>, AllocError>
-    ensures { IfOk result (λ found. MatchOption found ⊤ (IsFinding rows.now)) }
+/// What a look at the rows finds, which may come in any order: the origin, where no row has a constant below
+/// 0; or two opposed rows, of which one is among the first few with such a constant.
+pub(crate) fn glance(rows: &[Row]) -> Option<Finding>
+    ensures { MatchOption result ⊤ (IsFinding rows.now) }
 {
-    if is_looked_through(rows.len()) && has_opposed(rows) {
-        return Ok(Some(Finding::Nothing));
+    let mut sought = 0;
+    for row in rows {
+        if row.affine.constant < 0 {
+            if sought == MOST_SOUGHT {
+                return None;
+            }
+            if opposes_one(row, rows) {
+                return Some(Finding::Nothing);
+            }
+            sought += 1;
+        }
     }
-    let origin = Point::origin();
-    if has_origin(rows) && is_met(rows, &origin) {
-        return Ok(Some(Finding::Point(origin)));
+    if sought == 0 {
+        point_met(rows, &Point::origin())
+    } else {
+        None
     }
-    let kept = tightest_of(alloc, rows)?;
-    let found = by_search(alloc, &kept)?;
-    Ok(found)
 }
 
-/// True exactly where a list of so many rows is looked through before it is sorted.
-fn is_looked_through(count: usize) -> bool {
-    LEAST_LOOKED_THROUGH <= count && count <= MOST_LOOKED_THROUGH
-}
-
-/// What a search finds, its point only where it meets the rows.
-fn by_search(alloc: Global, rows: &[Row]) -> Result<Option<Finding>, AllocError>
+/// What is found of the tightest rows, by a search whose point is given only where it meets them. `None`
+/// where nothing is found.
+pub(crate) fn attempt(alloc: Global, rows: &[Row]) -> Result<Option<Finding>, AllocError>
     ensures { IfOk result (λ found. MatchOption found ⊤ (IsFinding rows.now)) }
 {
     match search(alloc, rows, Way::Pivots)? {

@@ -6,7 +6,7 @@ ghost use Rattle.linear_solve.specs.Answers.{IsPointOf};
 ghost use Rattle.linear_solve.specs.Elimination.{IsNothing};
 
 use crate::point::Point;
-use linear_cons::{Affine, Row, Wide};
+use linear_cons::{Affine, PLACES, Row, Wide};
 
 /// A row of a list by its index, and how often it counts.
 #[derive(Clone, Copy, PartialEq, Eq, Debug)]
@@ -37,7 +37,7 @@ pub(crate) fn adds_up(rows: &[Row], multiples: &[Multiple]) -> Result<bool, Wide
 fn is_negative_constant(a: &Affine) -> bool
     ensures { IsTrue result → IsConstant a.now × (a.now.constant <ℤ pos 0) }
 {
-    for place in 0..16 {
+    for place in 0..PLACES {
         if a.coef[place] != 0 {
             return false;
         }

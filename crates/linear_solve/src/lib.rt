@@ -27,5 +27,5 @@ mod whole;
 pub use answer::{Answer, Projected};
 pub use opposed::opposes_one;
 pub use projection::project;
-pub use solver::decide;
+pub use solver::{decide, decide_tightest};
 pub use tighten::tightest;

@@ -18,9 +18,9 @@ pub(crate) fn mixture(lower: &Row, upper: &Row, place: u8) -> Result<RowKind, Wi
     let by_lower = lower.affine.coef[place as usize];
     let by_upper = Op::Sub.exact(0, upper.affine.coef[place as usize])?;
     let divisor = common_divisor(by_lower.unsigned_abs(), by_upper.unsigned_abs());
-    let first = lower.affine.scale(divided(by_upper, divisor))?;
-    let second = upper.affine.scale(divided(by_lower, divisor))?;
-    let sum = first.add(&second)?;
+    let first = divided(by_upper, divisor);
+    let second = divided(by_lower, divisor);
+    let sum = lower.affine.mixed(first, &upper.affine, second)?;
     Ok(Row::of(sum))
 }
 

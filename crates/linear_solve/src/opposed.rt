@@ -2,7 +2,7 @@
 ghost use Rattle.std.specs.Prelude.{◌↔◌, IsTrue};
 ghost use Rattle.linear_solve.specs.Systems.{HasOpposed, IsOpposedToOne};
 
-use linear_cons::Row;
+use linear_cons::{PLACES, Row};
 use std::cmp::Ordering;
 
 /// True exactly where two rows of the list are opposed. Of two such rows one has a constant below 0.
@@ -56,7 +56,7 @@ pub(crate) fn meets_opposed(rows: &[Row]) -> bool
 
 /// The order of the one's coefficients and the negatives of the other's.
 fn against(row: &Row, other: &Row) -> Ordering {
-    for place in 0..16 {
+    for place in 0..PLACES {
         let negative = match other.affine.coef[place].checked_neg() {
             Some(negative) => negative,
             None => return Ordering::Less,

@@ -1,9 +1,11 @@
 //! Which place is eliminated next.
 ghost use Rattle.std.specs.Prelude.{◌≡◌, ◌<◌, ◌+◌, ◌≤◌, ◌⊎◌, ℕ, MatchOption, length, false};
-ghost use Rattle.linear_solve.specs.Elimination.{IsNext, lowers_of, uppers_of};
+ghost use Rattle.linear_cons.specs.Functions.{coefficient};
+ghost use Rattle.linear_solve.specs.Counts.{AreRaised, HaveRoom, count_at};
+ghost use Rattle.linear_solve.specs.Elimination.{IsNext, lowers_of, one_above, one_below, uppers_of};
 ghost use Rattle.linear_solve.specs.Systems.{occurs};
 
-use linear_cons::Row;
+use linear_cons::{PLACES, Row};
 
 /// How many rows bound the place from below, and how many from above.
 pub(crate) fn sides(rows: &[Row], place: u8) -> (usize, usize)
@@ -25,6 +27,43 @@ pub(crate) fn sides(rows: &[Row], place: u8) -> (usize, usize)
     (lowers, uppers)
 }
 
+/// How many rows bound each place from below, and how many from above.
+#[derive(Clone, Copy, PartialEq, Eq, Debug)]
+struct Counts {
+    lowers: [usize; PLACES],
+    uppers: [usize; PLACES],
+}
+
+impl Counts {
+    /// Counts each row once for all places.
+    fn of(rows: &[Row]) -> Counts
+        ensures lowers { (place : ℕ) → place < 16 → count_at result.lowers place ≡ lowers_of place rows.now }
+        ensures uppers { (place : ℕ) → place < 16 → count_at result.uppers place ≡ uppers_of place rows.now }
+    {
+        let mut counts = Counts {
+            lowers: [0; PLACES],
+            uppers: [0; PLACES],
+        };
+        for row in rows {
+            counts.add(row);
+        }
+        counts
+    }
+
+    /// Counts one row more.
+    fn add(&mut self, row: &Row)
+        requires room { HaveRoom self.old.lowers × HaveRoom self.old.uppers }
+        ensures lowers { AreRaised (λ place. one_above (coefficient row.now.affine place)) self.old.lowers self.new.lowers }
+        ensures uppers { AreRaised (λ place. one_below (coefficient row.now.affine place)) self.old.uppers self.new.uppers }
+    {
+        for place in 0..PLACES {
+            let coefficient = row.affine.coef[place];
+            self.lowers[place] += above(coefficient);
+            self.uppers[place] += below(coefficient);
+        }
+    }
+}
+
 /// A place, and how many pairs of a row from below and one from above it has.
 #[derive(Clone, Copy, PartialEq, Eq, Debug)]
 struct Choice {
@@ -38,8 +77,10 @@ pub(crate) fn next_place(rows: &[Row]) -> Option<u8>
     ensures { MatchOption result ((place : ℕ) → place < 16 → occurs place rows.now ≡ false) (IsNext rows.now) }
 {
     let mut best = None;
-    for place in 0..16 {
-        let (lowers, uppers) = sides(rows, place);
+    let counts = Counts::of(rows);
+    for place in 0..PLACES as u8 {
+        let lowers = counts.lowers[place as usize];
+        let uppers = counts.uppers[place as usize];
         if lowers + uppers != 0 {
             let pairs = lowers as u128 * uppers as u128;
             best = Some(fewer(best, Choice { place, pairs }));
@@ -53,10 +94,27 @@ pub(crate) fn next_place(rows: &[Row]) -> Option<u8>
 
 /// The choice with fewer pairs; the older where both have as many.
 fn fewer(best: Option<Choice>, next: Choice) -> Choice
-    ensures { MatchOption best (result ≡ next) (λ old. ((result ≡ next) × (next.pairs < old.pairs)) ⊎ ((result ≡ old) × (old.pairs ≤ next.pairs))) }
+    ensures { MatchOption best (result ≡ next) (λ old. ((result ≡ next) × (next.pairs < old.pairs))
+        ⊎ ((result ≡ old) × (old.pairs ≤ next.pairs))) }
 {
     match best {
         Some(old) => { if next.pairs < old.pairs { next } else { old } }
         None => next,
     }
+}
+
+/// 1 for a number above 0, else 0.
+fn above(number: i128) -> usize
+    ensures exact { result ≡ one_above number }
+    ensures small { result ≤ 1 }
+{
+    if number > 0 { 1 } else { 0 }
+}
+
+/// 1 for a number below 0, else 0.
+fn below(number: i128) -> usize
+    ensures exact { result ≡ one_below number }
+    ensures small { result ≤ 1 }
+{
+    if number < 0 { 1 } else { 0 }
 }

@@ -3,9 +3,10 @@ ghost use Rattle.std.specs.Prelude.{◌≡◌, ◌<◌, pos, IfOk, IfErr, OnErr,
 ghost use Rattle.linear_cons.specs.Exact.{IsOutside};
 ghost use Rattle.linear_cons.specs.Functions.{form_at};
 ghost use Rattle.linear_cons.specs.Numbers.{Fits128, at_places};
-ghost use Rattle.linear_solve.specs.Points.{BoundsFit, CrossesFit, FormFits, IsFree, IsPutBack, IsTighterOf, IsTightest, MoveFits, PutBackFits, moved as moved_of, slope_of};
+ghost use Rattle.linear_solve.specs.Points.{BoundsFit, CrossesFit, FormFits, IsFree, IsPutBack, IsTighterOf, IsTightest, MoveFits};
+ghost use Rattle.linear_solve.specs.Points.{PutBackFits, moved as moved_of, slope_of};
 
-use linear_cons::{Affine, Op, Row, Wide};
+use linear_cons::{Affine, Op, PLACES, Row, Wide};
 
 /// The point with these numerators over one denominator.
 #[derive(Clone, Copy, PartialEq, Eq, Debug)]
@@ -48,7 +49,7 @@ impl Point {
         ensures { result ≡ record { num = at_places (λ i. pos 0); den = pos 1 } }
     {
         Point {
-            num: [0; 16],
+            num: [0; PLACES],
             den: 1,
         }
     }
@@ -59,7 +60,7 @@ impl Point {
         ensures wide { IfErr result IsOutside }
     {
         let mut sum = 0;
-        for place in 0..16 {
+        for place in 0..PLACES {
             let product = Op::Mul.exact(a.coef[place], self.num[place])?;
             sum = Op::Add.exact(sum, product)?;
         }
@@ -75,7 +76,8 @@ impl Point {
         side: Side,
     ) -> Result<Option<Bound>, Wide>
         requires { place < 16 }
-        ensures best { IfOk result (λ best. MatchOption best (IsFree rows.now place side) (IsTightest rows.now place side self.now.num self.now.den)) }
+        ensures best { IfOk result (λ best. MatchOption best (IsFree rows.now place side)
+            (IsTightest rows.now place side self.now.num self.now.den)) }
         ensures unfit { OnErr result (¬ BoundsFit rows.now place self.now.num self.now.den) }
         ensures wide { IfErr result IsOutside }
     {

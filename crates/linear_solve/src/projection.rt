@@ -48,7 +48,8 @@ fn opposed_pair(alloc: Global, place: u8) -> Result<Vec<Row>, AllocError>
 /// Adds the row of a function in which a variable occurs.
 fn add_row(rows: &mut Vec<Row>, a: Affine) -> Result<(), AllocError>
     requires { IsConstant a → ⊥ }
-    ensures meets { OnOk result ((num : List ℤ) (den : ℤ) → pos 0 <ℤ den → PointMeetsAll num den rows.new.items → PointMeetsAll num den rows.old.items × (pos 0 ≤ℤ form_at a num den)) }
+    ensures meets { OnOk result ((num : List ℤ) (den : ℤ) → pos 0 <ℤ den → PointMeetsAll num den rows.new.items
+        → PointMeetsAll num den rows.old.items × (pos 0 ≤ℤ form_at a num den)) }
     ensures short { OnOk result (length rows.new.items ≤ length rows.old.items + 1) }
 {
     if let RowKind::Row(row) = Row::of(a) {

@@ -10,10 +10,10 @@ ghost use Rattle.std.specs.Prelude.{◌≡◌, ◌<◌, IfSome};
 
 use crate::certificate::Multiple;
 use crate::point::Point;
-use linear_cons::{Affine, Row};
+use linear_cons::{Affine, PLACES, Row};
 use std::alloc::{AllocError, Global};
 
-/// How many lines the exchanges by one rule may change in all.
+/// How many numbers the exchanges by one rule may change in all.
 const MOST_CHANGES: usize = 65_536;
 
 /// The number at a place, or the value of a row of the list, which is not to be below 0.
@@ -129,8 +129,8 @@ impl Pivot {
         if own == 0 && self.size == self.den {
             return Some(*line);
         }
-        let mut coef = [0; 16];
-        for place in 0..16 {
+        let mut coef = [0; PLACES];
+        for place in 0..PLACES {
             coef[place] = self.number(line.coef[place], own, self.numbers.coef[place])?;
         }
         coef[self.column] = if self.turned { own.checked_neg()? } else { own };
@@ -163,8 +163,8 @@ impl Tableau {
                 numbers: rows[index].affine,
             })?;
         }
-        let mut columns = [Variable::Place(0); 16];
-        for place in 0..16 {
+        let mut columns = [Variable::Place(0); PLACES];
+        for place in 0..PLACES as u8 {
             columns[place as usize] = Variable::Place(place);
         }
         Ok(Tableau {
@@ -215,7 +215,7 @@ impl Tableau {
 
     /// Solves lines of rows for the numbers at the places, as far as they occur.
     fn solve_places(&mut self) -> Option<()> {
-        for place in 0..16 {
+        for place in 0..PLACES {
             if let Some(at) = self.line_with(place) {
                 self.exchange(at, place)?;
             }
@@ -243,7 +243,7 @@ impl Tableau {
     /// Of the columns of rows that raise the line the one that the rule names.
     fn raising(&self, line: &Line, rule: Rule) -> Option<usize> {
         let mut best = None;
-        for column in 0..16 {
+        for column in 0..PLACES {
             if let Variable::Row(row) = self.columns[column] {
                 let number = line.numbers.coef[column];
                 if number > 0 {
@@ -259,7 +259,7 @@ impl Tableau {
 
     /// The point at which the columns' rows have the value 0.
     fn point(&self) -> Point {
-        let mut num = [0; 16];
+        let mut num = [0; PLACES];
         for line in &self.lines {
             if let Variable::Place(place) = line.variable {
                 if let Some(numerator) = num.get_mut(place as usize) {
@@ -276,7 +276,7 @@ impl Tableau {
         if let Variable::Row(row) = line.variable {
             multiples.push(Multiple { row, by: self.den })?;
         }
-        for column in 0..16 {
+        for column in 0..PLACES {
             if let Variable::Row(row) = self.columns[column] {
                 let by = line.numbers.coef[column].checked_neg().unwrap_or(0);
                 if by != 0 {
@@ -296,23 +296,59 @@ fn is_row(variable: Variable) -> bool {
     }
 }
 
-/// A point that is to meet the rows, or multiples of them that are to add up to what nothing meets, by
-/// the one rule or else by the other. `None` where with both a number lies outside `i128`, or the
-/// exchanges are too many.
-pub(crate) fn pivoted(alloc: Global, rows: &[Row]) -> Result<Option<Claim>, AllocError> {
-    match pivoted_by(alloc, rows, Rule::Greatest)? {
-        Some(claim) => Ok(Some(claim)),
-        None => pivoted_by(alloc, rows, Rule::Least),
+/// How many places occur in the rows.
+fn occurring(rows: &[Row]) -> usize {
+    let mut count = 0usize;
+    for place in 0..PLACES {
+        for row in rows {
+            if row.affine.coef[place] != 0 {
+                count = count.saturating_add(1);
+                break;
+            }
+        }
+    }
+    count
+}
+
+/// How many exchanges by one rule are allowed once the places are solved for. `None` where the table is
+/// so large that the places alone would take more than half of what all exchanges may change.
+fn allowed(rows: &[Row]) -> Option<usize> {
+    let places = occurring(rows);
+    let changed = rows.len().saturating_mul(places).max(1);
+    let all = MOST_CHANGES / changed;
+    if places > all / 2 {
+        None
+    } else {
+        Some(all - places)
     }
 }
 
-/// The claim by exchanges of the rule.
-fn pivoted_by(alloc: Global, rows: &[Row], rule: Rule) -> Result<Option<Claim>, AllocError> {
+/// A point that is to meet the rows, or multiples of them that are to add up to what nothing meets, by
+/// the one rule or else by the other. `None` where with both a number lies outside `i128` or the
+/// exchanges are too many, and where the table is too large for them.
+pub(crate) fn pivoted(alloc: Global, rows: &[Row]) -> Result<Option<Claim>, AllocError> {
+    let exchanges = match allowed(rows) {
+        Some(exchanges) => exchanges,
+        None => return Ok(None),
+    };
+    match pivoted_by(alloc, rows, Rule::Greatest, exchanges)? {
+        Some(claim) => Ok(Some(claim)),
+        None => pivoted_by(alloc, rows, Rule::Least, exchanges),
+    }
+}
+
+/// The claim by so many exchanges of the rule, once the places are solved for.
+fn pivoted_by(
+    alloc: Global,
+    rows: &[Row],
+    rule: Rule,
+    exchanges: usize,
+) -> Result<Option<Claim>, AllocError> {
     let mut tableau = Tableau::of(alloc, rows)?;
     if tableau.solve_places().is_none() {
         return Ok(None);
     }
-    for _ in 0..MOST_CHANGES / (rows.len() + 1) {
+    for _ in 0..exchanges {
         let at = match tableau.violated(rule) {
             Some(at) => at,
             None => return Ok(Some(Claim::Point(tableau.point()))),

@@ -3,7 +3,7 @@ use crate::answer::{Answer, Projected};
 use crate::projection::project;
 use crate::solver::decide;
 use crate::tighten::tightest;
-use linear_cons::{Affine, Row, RowKind};
+use linear_cons::{Affine, MOST_ROWS, PLACES, Row, RowKind};
 use std::alloc::Global;
 use std::test::Fail;
 
@@ -20,7 +20,7 @@ enum Verdict {
 
 /// `x * x0 + y * x1 + z * x2 + constant`.
 fn plane(numbers: [i128; 4]) -> Affine {
-    let mut coef = [0; 16];
+    let mut coef = [0; PLACES];
     coef[0] = numbers[0];
     coef[1] = numbers[1];
     coef[2] = numbers[2];
@@ -59,7 +59,7 @@ fn meets(rows: &[Row], num: &[i128; 16], den: i128) -> Result<bool, Fail> {
 
 /// The answer to at most 4,096 rows.
 fn judged(alloc: Global, rows: &[Row]) -> Result<Verdict, Fail> {
-    if rows.len() > 4096 {
+    if rows.len() > MOST_ROWS {
         return Ok(Verdict::WrongPoint);
     }
     Ok(match decide(alloc, rows)? {
@@ -226,13 +226,7 @@ fn systems_past_the_bounds(rt: HostRuntime) -> Result<(), Fail> {
         [-3, -1, 0, 9],
     ];
     assert_eq!(rt; verdict_of(alloc, &rows)?, Verdict::Wide);
-    // The pivots outgrow 128 bits, and each elimination makes more than 4,096 rows.
-    let rows = slabs(alloc, large, -1)?;
-    match judged(alloc, &rows)? {
-        Verdict::Rows(count) => assert!(rt; count > 4096),
-        other => assert_eq!(rt; other, Verdict::Rows(0)),
-    }
-    // With small numbers the pivots decide such a list.
+    // Each elimination comes to more than 4,096 combinations, and the pivots decide it.
     let rows = slabs(alloc, 2, -1)?;
     assert_eq!(rt; judged(alloc, &rows)?, Verdict::Empty);
     Ok(())
@@ -292,6 +286,33 @@ fn projections(rt: HostRuntime) -> Result<(), Fail> {
     let rows = system(alloc, &[[1, 0, 0, -1], [-1, 0, 0, 0]])?;
     match project(alloc, &rows, 0)? {
         Projected::Rows(left) => assert_eq!(rt; judged(alloc, &left)?, Verdict::Empty),
+        _ => return Err(Fail::from("given up")),
+    }
+    Ok(())
+}
+
+/// 65 rows from below and 65 from above.
+fn fan(alloc: Global) -> Result<Vec<Row>, Fail> {
+    let mut rows = Vec::new(alloc);
+    for other in 0..65 {
+        let slope = 1 + other as i128;
+        for signed in [slope, slope.wrapping_neg()] {
+            if let RowKind::Row(row) = Row::of(plane([signed, 1, 0, 0])) {
+                rows.push(row)?;
+            }
+        }
+    }
+    Ok(rows)
+}
+
+#[test]
+fn projection_of_many_rows(rt: HostRuntime) -> Result<(), Fail> {
+    let alloc = rt.alloc();
+    let rows = fan(alloc)?;
+    // All of the 4,225 combinations say y >= 0.
+    let expected = system(alloc, &[[0, 1, 0, 0]])?;
+    match project(alloc, &rows, 0)? {
+        Projected::Rows(left) => assert_eq!(rt; left.as_slice(), expected.as_slice()),
         _ => return Err(Fail::from("given up")),
     }
     Ok(())

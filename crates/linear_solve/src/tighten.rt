@@ -3,9 +3,10 @@ ghost use Rattle.std.specs.Prelude.{◌≡◌, ◌≤◌, ◌↔◌, IfOk, IsTru
 ghost use Rattle.std.specs.List.Sorted.{IsStrictlySortedBy};
 ghost use Rattle.linear_cons.specs.declared.row.Row.{Row};
 ghost use Rattle.linear_solve.specs.Elimination.{StandFor};
-ghost use Rattle.linear_solve.specs.Tightest.{AreTightest, IsSamePart, by_part, by_part_and_constant};
+ghost use Rattle.linear_cons.specs.Tightest.{AreTightest, IsSamePart};
+ghost use Rattle.linear_solve.specs.Tightest.{by_part, by_part_and_constant};
 
-use linear_cons::Row;
+use linear_cons::{PLACES, Row};
 use std::alloc::{AllocError, Global};
 use std::cmp::Ordering;
 
@@ -40,7 +41,7 @@ pub(crate) fn tightest_of(alloc: Global, rows: &[Row]) -> Result<Vec<Row>, Alloc
 fn order(row: &Row, other: &Row) -> Ordering
     ensures { result ≡ by_part_and_constant row.now other.now }
 {
-    for place in 0..16 {
+    for place in 0..PLACES {
         match row.affine.coef[place].cmp(&other.affine.coef[place]) {
             Ordering::Equal => {}
             apart => return apart,
@@ -53,7 +54,7 @@ fn order(row: &Row, other: &Row) -> Ordering
 fn has_part(row: &Row, other: &Row) -> bool
     ensures { IsTrue result ↔ IsSamePart row.now.affine other.now.affine }
 {
-    for place in 0..16 {
+    for place in 0..PLACES {
         if row.affine.coef[place] != other.affine.coef[place] {
             return false;
         }

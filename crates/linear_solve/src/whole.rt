@@ -2,7 +2,7 @@
 ghost use Rattle.std.specs.Prelude.{◌<◌};
 
 use crate::point::{Bound, Point, Side};
-use linear_cons::{Op, Row, Wide, common_divisor, floor_quotient};
+use linear_cons::{Op, PLACES, Row, Wide, common_divisor, floor_quotient};
 
 /// The whole number nearest to 0 between two ends, of which either may be missing. `None` where
 /// there is no whole number between them.
@@ -68,7 +68,7 @@ impl Point {
     /// The point with whole numbers where the rows leave room for them, place by place.
     pub(crate) fn rounded(&self, rows: &[Row]) -> Point {
         let mut whole = self.reduced();
-        for place in 0..16 {
+        for place in 0..PLACES as u8 {
             if whole.den != 1 {
                 if let Ok(Some(next)) = whole.at_whole(rows, place) {
                     whole = next.reduced();
@@ -81,14 +81,14 @@ impl Point {
     /// The point in lowest terms.
     pub(crate) fn reduced(&self) -> Point {
         let mut divisor = self.den.unsigned_abs();
-        for place in 0..16 {
+        for place in 0..PLACES {
             divisor = common_divisor(self.num[place].unsigned_abs(), divisor);
         }
         if divisor <= 1 {
             return *self;
         }
-        let mut num = [0; 16];
-        for place in 0..16 {
+        let mut num = [0; PLACES];
+        for place in 0..PLACES {
             num[place] = floor_quotient(self.num[place], divisor);
         }
         Point {

@@ -1,5 +1,5 @@
 //! A system that is read row by row, and the line that answers it.
-use linear_cons::{Affine, Row, RowKind};
+use linear_cons::{Affine, MOST_ROWS, PLACES, Row, RowKind};
 use linear_solve::{Answer, decide};
 use std::alloc::{AllocError, Global};
 use std::io::{self, Write};
@@ -42,7 +42,7 @@ impl System {
             return writeln!(out, "empty");
         }
         let count = self.rows.len();
-        if count > 4096 {
+        if count > MOST_ROWS {
             return writeln!(out, "rows {count}");
         }
         match decide(alloc, &self.rows)? {
@@ -63,8 +63,8 @@ impl System {
 /// The function of sixteen coefficients and a constant, which are parted by white space.
 fn read_affine(line: &str) -> Option<Affine> {
     let mut words = line.split_whitespace();
-    let mut coef = [0; 16];
-    for place in 0..16 {
+    let mut coef = [0; PLACES];
+    for place in 0..PLACES {
         coef[place] = words.next()?.parse::<i128>().ok()?;
     }
     let constant = words.next()?.parse::<i128>().ok()?;

@@ -1,54 +1,17 @@
-use Rattle.std.proofs.Common.{refl, arith, rules}
-use Rattle.std.proofs.lemmas.Int.{to_z-of_z}
-use Rattle.linear_cons.specs.Numbers.{Fits128}
-use Rattle.std.proofs.lemmas.Bool.{false≢true}
-use Rattle.linear_solve.proofs.Deciding.{kept_point, no_store_of_kept, no_store_of_opposed, outgrow, overflow, tame_kept}
-use Rattle.linear_solve.proofs.Occurring.{occurring_most}
+use Rattle.std.proofs.Common.{arith}
+use Rattle.linear_solve.proofs.Keeping.{answer_of_kept}
 use Rattle.linear_solve.proofs.solver.decide.Goals as goal
 
-pub returns-in-Some-Nothing : goal.returns-in-Some-Nothing
-returns-in-Some-Nothing c =
-    rw (c.in-Some-Nothing.is, c.in-Some-Nothing.field-0-is) at c.in_ok-attempt.ensures
+pub returns-in-Some : goal.returns-in-Some
+returns-in-Some c = c.answer_of.ensures c.args.rows.now (rw c.in-Some.is at c.glance.ensures)
 
-pub returns-then-has_opposed : goal.returns-then-has_opposed
-returns-then-has_opposed c = no_store_of_opposed c.args.rows.now (c.if-has_opposed.ensures.0 refl)
+pub decide_tightest-requires : goal.decide_tightest-requires
+decide_tightest-requires c = record {
+  few = rw c.deref.ensures.value (let few = c.requires in let short = c.in_ok-kept.ensures.stands.short in omega (arith, few, short));
+  distinct = rw c.deref.ensures.value c.in_ok-kept.ensures.tightest.distinct;
+}
 
-pub returns-in-Ok-None : goal.returns-in-Ok-None
-returns-in-Ok-None c =
-    let none = rw (c.in-Ok-None.field-0-is, c.deref.ensures.value) at c.in-Ok-None.ensures.found in
-    no_store_of_kept c.args.rows.now c.in_ok-kept.kept.items c.in_ok-kept.ensures.stands none
-
-pub returns-in-Ok-Some : goal.returns-in-Ok-Some
-returns-in-Ok-Some c =
-    let found = rw (c.in-Ok-Some.field-0-is, c.deref.ensures.value) at c.in-Ok-Some.ensures.found in
-    let simplest = rw c.deref-in-Ok-Some.ensures.value at c.simplest-simplest.ensures in
-    let den : Fits128 c.simplest-simplest.result.den = search rules in
-    simp to_z-of_z (kept_point c.args.rows.now c.in_ok-kept.kept.items c.simplest-simplest.result.num c.simplest-simplest.result.den c.in_ok-kept.ensures.stands (simplest found))
-
-pub returns-in-Err-Wide : goal.returns-in-Err-Wide
-returns-in-Err-Wide c =
-    let outside = rw c.in-Err-Wide.field-0-is at c.in-Err-Wide.ensures.wide in
-    let never = rw (c.in-Err-Wide.field-0-is, c.deref.ensures.value) at c.in-Err-Wide.ensures.immodest in
-    let wild = rw (c.in-Err-Wide.field-0-is, c.deref.ensures.value) at c.in-Err-Wide.ensures.wild in (
-      outside,
-      record {
-        unopposed = λ opposed. false≢true (c.if-has_opposed.ensures.1 opposed);
-        no_octagons = λ octagons. wild _ (tame_kept c.args.rows.now c.in_ok-kept.kept.items c.in_ok-kept.ensures.stands octagons);
-        large = outgrow c.args.rows.now c.in_ok-kept.kept.items c.in_ok-kept.ensures.stands never;
-      },
-    )
-
-pub returns-in-Err-Rows : goal.returns-in-Err-Rows
-returns-in-Err-Rows c =
-    let above = rw c.in-Err-Rows.field-0-is at c.in-Err-Rows.ensures.many in
-    let many = rw (c.in-Err-Rows.field-0-is, c.deref.ensures.value) at c.in-Err-Rows.ensures.counted in
-    let wild = rw (c.in-Err-Rows.field-0-is, c.deref.ensures.value) at c.in-Err-Rows.ensures.wild in
-    let growing = rw (c.in-Err-Rows.field-0-is, c.deref.ensures.value) at c.in-Err-Rows.ensures.growing in (
-      above,
-      record {
-        unopposed = λ opposed. false≢true (c.if-has_opposed.ensures.1 opposed);
-        no_octagons = λ octagons. wild _ (tame_kept c.args.rows.now c.in_ok-kept.kept.items c.in_ok-kept.ensures.stands octagons);
-        many = overflow c.args.rows.now c.in_ok-kept.kept.items c.in_ok-kept.ensures.stands many;
-        grows = λ never. growing 16 (occurring_most 16 c.in_ok-kept.kept.items) (let few = c.requires in let short = c.in_ok-kept.ensures.stands.short in omega (arith, few, short)) (never c.in_ok-kept.kept.items c.in_ok-kept.ensures.tightest);
-      },
-    )
+pub returns : goal.returns
+returns c =
+    answer_of_kept c.args.rows.now c.in_ok-kept.kept.items c.in_ok-answer.answer c.in_ok-kept.ensures.stands c.in_ok-kept.ensures.tightest
+    (rw c.deref.ensures.value at c.in_ok-answer.ensures)
