@@ -6,9 +6,11 @@
 PROGRAM is the built program, crates/tree_cli/out/tree_cli by default (`rt run < stdin` in crates/tree_cli
 builds it). A line of 65,535 nodes is trimmed by paths of 10 and of 1,000 rows that settle nothing, no two
 of them with one linear part, and joined with itself; two trees of 201 nodes that share no row are joined
-to one of 40,201; and a line of 4,095 nodes is pruned by a box of all stores.
+to one of 40,201; and a line of 4,095 nodes is pruned by a box of all stores. At the end stands the memory
+that a join takes which is refused, of 1,000 rows with nodes on their yes sides and a tree of 2,001 nodes.
 """
 
+import os
 import subprocess
 import sys
 import time
@@ -41,6 +43,15 @@ def each(program, job, times, rest=""):
     return (seconds(program, job, times, rest) - seconds(program, job, 0, rest)) / times
 
 
+def megabytes(program, job):
+    """The most memory that the job takes at one time."""
+    child = subprocess.Popen([program], stdin=subprocess.PIPE, stdout=subprocess.DEVNULL)
+    child.stdin.write(f"{job}\n".encode())
+    child.stdin.close()
+    _, _, usage = os.wait4(child.pid, 0)
+    return usage.ru_maxrss / 1000
+
+
 def main():
     default = Path(__file__).resolve().parent.parent / "crates/tree_cli/out/tree_cli"
     program = sys.argv[1] if len(sys.argv) > 1 else str(default)
@@ -48,6 +59,7 @@ def main():
         one = each(program, copy, 4 * times)
         took = each(program, job, times, rest)
         print(f"{name}: copy {one * 1000:.2f} ms, {took * 1000:.2f} ms, ratio {took / one:.2f}")
+    print(f"later of too many nodes: {megabytes(program, 'full 1000 1'):.0f} megabytes")
 
 
 if __name__ == "__main__":

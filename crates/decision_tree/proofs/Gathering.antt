@@ -1,22 +1,25 @@
 -- The tightest rows of a way, kept step by step.
-use Rattle.std.proofs.Common.{◌≡◌, ◌≢◌, ℕ, zero, suc, ◌-◌, ◌<◌, ℤ, Bool, true, false, cond, int_le, ◌||◌, Some, List, [], ◌∷◌, ◌++◌, length, drop, take, set, get_or, reverse, refl, sym, ap, subst, ◌∙◌, arith, All, AllPairs, Contains, ◌≤ℤ◌}
+use Rattle.std.proofs.Common.{◌≡◌, ◌≢◌, ℕ, zero, suc, ◌+◌, ◌-◌, ◌<◌, ◌≤◌, ℤ, Bool, true, false, cond, int_le, ◌||◌, Some, List, [], ◌∷◌, ◌++◌, length, drop, take, set, get_or, reverse, refl, sym, ap, subst, ◌∙◌, arith, All, AllPairs, Contains, ◌≤ℤ◌}
 use Rattle.std.specs.Bool.{Decides}
 use Rattle.std.proofs.Math.Seq.{get_or-append_seam, take-append_seam}
 use Rattle.std.proofs.lemmas.Int.{ints}
 use Rattle.std.proofs.lemmas.Bool.{false≢true}
 use Rattle.std.proofs.lemmas.Bool.Decides.{Decides-int_eq, not_from_Decides}
-use Rattle.std.proofs.lemmas.List.{length-append, map-append, reverse-append, reverse-reverse, set-get_or, set-set}
+use Rattle.std.proofs.lemmas.List.{length-append, length-map, length-reverse, map-append, reverse-append, reverse-reverse, set-get_or, set-set}
 use Rattle.std.proofs.lemmas.Option.{get_or_from_slice_get, slice_get_within}
 use Rattle.std.specs.List.{slice_get}
-use Rattle.std.proofs.lemmas.List.Elements.{All-cons, Contains-append_left, Contains-append_right}
-use Rattle.std.proofs.lemmas.List.Folds.{list_any-append}
+use Rattle.std.proofs.lemmas.List.Elements.{All-cons, All-contains_itself, All-map, All-weaker, Contains-append_left, Contains-append_right}
+use Rattle.std.proofs.lemmas.List.Folds.{list_any-append, list_any_at}
 use Rattle.std.proofs.lemmas.List.Kept.{AllPairs-cons}
 use Rattle.std.proofs.lemmas.Slice.Eq.{slice_eq-Decides}
 use Rattle.linear_cons.specs.Settling.{SameSettling, functions_of_rows, settled, settles, tells}
 use Rattle.linear_cons.specs.Functions.{complement_of}
 use Rattle.linear_cons.specs.declared.affine.Affine.{Affine}
 use Rattle.linear_cons.specs.declared.row.Row.{Row}
-use Rattle.linear_cons.proofs.Telling.{tells-Decides}
+use Rattle.linear_cons.specs.Numbers.{number_at}
+use Rattle.linear_cons.specs.Tightest.{AreTightest, IsCovered}
+use Rattle.linear_cons.proofs.Places.{places-ext}
+use Rattle.linear_cons.proofs.Telling.{settled_by, tells-Decides}
 use Rattle.decision_tree.specs.Trails.{AreTightestOf, HaveLed, IsEntered, IsLeft, IsShortened, IsTurned, same_part, tightened, undone, way_of}
 use Rattle.decision_tree.specs.declared.trail.Change.TheVariants.{Added, Tightened}
 use Rattle.decision_tree.specs.declared.trail.Step.{Step}
@@ -190,6 +193,25 @@ led_apart : (steps : List Step) (held : List Row) → HaveLed steps held → Are
 led_apart [] held led = subst AreApart (sym led) tt
 led_apart (step ∷ older) held led = subst AreApart (sym led.1) (tightened_apart (undone step.change held) step.row (led_apart older (undone step.change held) led.2))
 
+-- a row more makes them at most one longer
+tightened_short : (rows : List Row) (row : Row) → length (tightened rows row) ≤ length rows + 1
+tightened_short [] row = omega arith
+tightened_short (held ∷ rest) row = by_part (same_part held row) (int_le held.affine.constant row.affine.constant) (tightened_short rest row)
+  where
+    by_part : (same tighter : Bool) → length (tightened rest row) ≤ length rest + 1
+        → length (cond same (cond tighter (held ∷ rest) (row ∷ rest)) (held ∷ tightened rest row)) ≤ suc (length rest) + 1
+    by_part true true short = omega arith
+    by_part true false short = omega arith
+    by_part false tighter short = omega (arith, short)
+
+led_short : (steps : List Step) (held : List Row) → HaveLed steps held → length held ≤ length steps
+led_short [] held led = let none : length held ≡ 0 = ap length led in omega (arith, none)
+led_short (step ∷ older) held led =
+    let is : length held ≡ length (tightened (undone step.change held) step.row) = ap length led.1 in
+    let short = tightened_short (undone step.change held) step.row in
+    let before = led_short older (undone step.change held) led.2 in
+    omega (arith, is, short, before)
+
 stands_on_way : (steps : List Step) (step : Step) → Contains steps step → Contains (way_of (reverse steps)) step.row
 stands_on_way [] step member = absurd (omega (arith, member.1))
 stands_on_way (first ∷ rest) step (zero, low, is) =
@@ -199,14 +221,62 @@ stands_on_way (first ∷ rest) step (suc k, low, is) =
     subst (λ (t : List Row). Contains t step.row) (sym (way_reversed first rest))
     (Contains-append_left (way_of (reverse rest)) (first.row ∷ []) step.row (stands_on_way rest step (k, omega arith, is)))
 
+-- ---- what is held
+
+contains_function : (rows : List Row) (row : Row) → Contains rows row → Contains (functions_of_rows rows) row.affine
+contains_function [] row member = absurd (omega (arith, member.1))
+contains_function (first ∷ rest) row (zero, low, is) = (0, omega arith, ap (λ (r : Row). r.affine) is)
+contains_function (first ∷ rest) row (suc k, low, is) =
+    let later = contains_function rest row (k, omega arith, is) in
+    (suc later.0, omega (arith, later.1), later.2)
+
+tells_itself : (row : Row) → tells row.affine row.affine ≡ true
+tells_itself row = (tells-Decides row.affine row.affine).1 (refl, omega (arith, ints))
+
+settles_its_own : (rows : List Row) (row : Row) → Contains rows row → settled (functions_of_rows rows) row.affine ≡ true
+settles_its_own rows row member =
+    settled_by rows row.affine ∙ list_any_at (λ (r : Row). tells r.affine row.affine) rows member.0 row member.1 (ap (λ (r : Row). tells r.affine row.affine) member.2 ∙ tells_itself row)
+
+covered_by : (held : List Row) (a : Affine) → settled (functions_of_rows held) a ≡ true → IsCovered held a
+covered_by [] a is = absurd (false≢true is)
+covered_by (row ∷ rest) a is = by_test (tells row.affine a) refl is (λ later. covered_by rest a later)
+  where
+    by_test : (t : Bool) → tells row.affine a ≡ t → (t || settled (functions_of_rows rest) a) ≡ true → (settled (functions_of_rows rest) a ≡ true → IsCovered rest a) → IsCovered (row ∷ rest) a
+    by_test true tell settle later =
+        let both = (tells-Decides row.affine a).0 tell in
+        record { row = row; row_in = (0, omega arith, refl); part = λ i h. ap (λ (t : List ℤ). number_at t i) both.0; tighter = both.1 }
+    by_test false tell settle later =
+        let covered = later settle in
+        let member = covered.row_in in
+        record { row = covered.row; row_in = (suc member.0, omega (arith, member.1), member.2); part = covered.part; tighter = covered.tighter }
+
 -- the rows that are held are the tightest of the way
+held_tightest : (way held : List Row) → All (λ row. Contains way row) held → SameSettling (functions_of_rows held) (functions_of_rows way)
+    → All (λ row. length row.affine.coef ≡ 16) held → AllPairs (λ row other. row.affine.coef ≢ other.affine.coef) held
+    → AreTightest (functions_of_rows way) held
+held_tightest way held among settling places distinct = record {
+  among = All-weaker (λ row. Contains way row) (λ (row : Row). Contains (functions_of_rows way) row.affine) (λ row member. contains_function way row member) held among;
+  covers = All-map (λ a. IsCovered held a) (λ (row : Row). row.affine) way
+      (All-weaker (λ row. Contains way row) (λ (row : Row). IsCovered held row.affine) (λ row member. covered_by held row.affine (settling row.affine ∙ settles_its_own way row member)) way (All-contains_itself way));
+  distinct = λ i j d before low same. distinct i j d before low (places-ext _ _ (places i d (omega arith)) (places j d low) same);
+}
+
 pub led_tightest : (steps : List Step) (held : List Row) → HaveLed (reverse steps) held → AreTightestOf (way_of steps) held
-led_tightest steps held led = subst (λ (t : List Step). AreTightestOf (way_of t) held) (reverse-reverse steps) (record {
-  among = led_all (λ (row : Row). Contains (way_of (reverse (reverse steps))) row) (reverse steps) held (λ step member long. stands_on_way (reverse steps) step member) led;
-  settling = λ a. led_settles (reverse steps) held a led;
-  distinct = apart_pairs held (led_apart (reverse steps) held led);
-  places = led_all (λ (row : Row). length row.affine.coef ≡ 16) (reverse steps) held (λ step member long. long) led;
-})
+led_tightest steps held led = subst (λ (t : List Step). AreTightestOf (way_of t) held) (reverse-reverse steps) (
+    let way : List Row = way_of (reverse (reverse steps)) in
+    let among : All (λ row. Contains way row) held = led_all (λ (row : Row). Contains way row) (reverse steps) held (λ step member long. stands_on_way (reverse steps) step member) led in
+    let settling : SameSettling (functions_of_rows held) (functions_of_rows way) = λ a. led_settles (reverse steps) held a led in
+    let places : All (λ (row : Row). length row.affine.coef ≡ 16) held = led_all (λ (row : Row). length row.affine.coef ≡ 16) (reverse steps) held (λ step member long. long) led in
+    record {
+      among = among;
+      tightest = held_tightest way held among settling places (apart_pairs held (led_apart (reverse steps) held led));
+      settling = settling;
+      few =
+          let short = led_short (reverse steps) held led in
+          let whole : length way ≡ length (reverse (reverse steps)) = length-map (reverse (reverse steps)) (λ (step : Step). step.row) in
+          let turned : length (reverse (reverse steps)) ≡ length (reverse steps) = length-reverse (reverse steps) in
+          omega (arith, short, whole, turned);
+    })
 
 -- ---- a step down and a step up
 

@@ -6,3 +6,4 @@ mod Greatest
 pub mod Replacing
 mod Gathering
 mod LexicographicPairs
+pub mod Lending

@@ -21,4 +21,5 @@ only a = record { list = Some (Some (row_kind_of a) ∷ None ∷ None ∷ []) �
 
 -- a function rises with a variable of positive coefficient and falls with one of negative coefficient
 abbrev pub trend_of : Affine → ℕ → Trend
-trend_of a place = if int_lt (pos 0) (coefficient a place) then rising else (if int_lt (coefficient a place) (pos 0) then falling else unmentioned)
+trend_of a place = if int_lt (pos 0) (coefficient a place) then rising
+    else (if int_lt (coefficient a place) (pos 0) then falling else unmentioned)

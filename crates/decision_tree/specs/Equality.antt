@@ -27,5 +27,6 @@ abbrev pub same_plan : {R : Type 0} → (R → R → Bool) → Plan R → Plan R
 same_plan same bottom bottom = true
 same_plan same (top cause) (top other) = same_cause cause other
 same_plan same (leaf why rank) (leaf other second) = same_reason why other && same rank second
-same_plan same (branch row this that) (branch other first second) = same_row row other && (same_plan same this first && same_plan same that second)
+same_plan same (branch row this that) (branch other first second) =
+    same_row row other && (same_plan same this first && same_plan same that second)
 same_plan same _ _ = false

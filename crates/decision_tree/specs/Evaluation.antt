@@ -11,7 +11,8 @@ eval end store = end
 
 -- the rows that the store is compared with on that way
 abbrev pub rows_met : {R : Type 0} → Plan R → List ℤ → List Row
-rows_met (branch row this that) store = row ∷ (if int_le (pos 0) (value_at row.affine store) then rows_met this store else rows_met that store)
+rows_met (branch row this that) store = row ∷ (if int_le (pos 0) (value_at row.affine store) then rows_met this store
+    else rows_met that store)
 rows_met end store = []
 
 -- no product, no sum and no value on that way is outside 128 bits

@@ -9,3 +9,4 @@ pub mod Paths
 pub mod Seeking
 pub mod Laws
 pub mod Trails
+pub mod Lending

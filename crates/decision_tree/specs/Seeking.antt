@@ -9,10 +9,12 @@ use Rattle.decision_tree.specs.declared.path.Side.TheVariants.{Yes, No}
 
 -- the sides from the root to the leaf with the number
 abbrev pub sides_to : {R : Type 0} → Plan R → ℕ → List Side
-sides_to (branch row this that) number = if nat_lt number (leaves_of this) then Yes ∷ sides_to this number else No ∷ sides_to that (number - leaves_of this)
+sides_to (branch row this that) number = if nat_lt number (leaves_of this) then Yes ∷ sides_to this number
+    else No ∷ sides_to that (number - leaves_of this)
 sides_to end number = []
 
--- found: that many leaves come before one of the tree's, and its sides are appended, the last first; not found: the tree's leaves are passed
+-- found: that many leaves come before one of the tree's, and its sides are appended, the last first; not found: the tree's leaves are
+-- passed
 abbrev pub IsSought : {R : Type 0} → Plan R → ℕ → ℕ → List Side → List Side → Bool → Type 0
 IsSought plan left after old new true = (left < leaves_of plan) × (new ≡ old ++ reverse (sides_to plan left))
 IsSought plan left after old new false = (left ≡ leaves_of plan + after) × (new ≡ old)

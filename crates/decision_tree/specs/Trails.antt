@@ -1,20 +1,22 @@
 -- The rows on the way down a tree, and the tightest of them.
-use Rattle.std.specs.Prelude.{◌≡◌, ◌≢◌, ℕ, ◌-◌, ◌<◌, Bool, int_le, List, [], ◌∷◌, ◌++◌, length, map, take, slice_index_or, slice_set, All, AllPairs, Contains, Option, None, Some, if◌then◌else◌}
+use Rattle.std.specs.Prelude.{◌≡◌, ℕ, ◌-◌, ◌<◌, ◌≤◌, Bool, int_le, List, [], ◌∷◌, ◌++◌, length, map, take, slice_index_or, slice_set, All}
+use Rattle.std.specs.Prelude.{Contains, Option, None, Some, if◌then◌else◌}
 use Rattle.std.specs.Ordering.{int_eq}
 use Rattle.std.specs.Cmp.Lexicographic.{pointwise}
 use Rattle.linear_cons.specs.Functions.{complement_of}
 use Rattle.linear_cons.specs.Settling.{SameSettling, functions_of_rows}
+use Rattle.linear_cons.specs.Tightest.{AreTightest}
 use Rattle.linear_cons.specs.declared.row.Row.{Row}
 use Rattle.decision_tree.specs.declared.trail.Change.{Change}
 use Rattle.decision_tree.specs.declared.trail.Change.TheVariants.{Added, Kept, Tightened}
 use Rattle.decision_tree.specs.declared.trail.Step.{Step}
 
--- The tightest of some rows: each is one of them, they settle the same, and no two have the same coefficients.
+-- The tightest of some rows: each is one of them, they are the tightest of the rows' functions, they settle the same, and they are no more.
 pub record AreTightestOf (rows held : List Row) : Type 0 where
   pub among : All (λ row. Contains rows row) held
+  pub tightest : AreTightest (functions_of_rows rows) held
   pub settling : SameSettling (functions_of_rows held) (functions_of_rows rows)
-  pub distinct : AllPairs (λ row other. row.affine.coef ≢ other.affine.coef) held
-  pub places : All (λ row. length row.affine.coef ≡ 16) held
+  pub few : length held ≤ length rows
 
 -- the complement stands in place of the last row
 abbrev pub IsTurned : List Row → List Row → Type 0
@@ -59,7 +61,8 @@ way_of steps = map (λ (step : Step). step.row) steps
 abbrev pub IsPlaceOf : List Row → Row → Option ℕ → Type 0
 IsPlaceOf rows row None = tightened rows row ≡ rows ++ row ∷ []
 IsPlaceOf rows row (Some place) =
-    (place < length rows) × ((d : Row) → tightened rows row ≡ (if int_le (slice_index_or rows place d).affine.constant row.affine.constant then rows else slice_set rows place row))
+    (place < length rows) × ((d : Row) → tightened rows row ≡
+    (if int_le (slice_index_or rows place d).affine.constant row.affine.constant then rows else slice_set rows place row))
 
 -- the row is among the tightest, and the change leads back
 pub record IsTightening (old : List Row) (row : Row) (change : Change) (new : List Row) : Type 0 where

@@ -1,6 +1,7 @@
 //! Ranks that are affine functions.
-ghost use Rattle.std.specs.Prelude.{◌≡◌, ◌<◌, OkIff, IfErr, ℕ, ℤ, ◌≤ℤ◌, ◌<ℤ◌, pos};
-ghost use Rattle.linear_cons.specs.Functions.{NumbersFit, SubstitutionFits, complement_of, constant_of, sum_of, substituted as put_in, value_at};
+ghost use Rattle.std.specs.Prelude.{◌≡◌, ◌<◌, OkIff, IfErr, ℤ, ◌≤ℤ◌, ◌<ℤ◌, pos};
+ghost use Rattle.linear_cons.specs.Functions.{NumbersFit, SubstitutionFits, complement_of, constant_of, sum_of, substituted as put_in};
+ghost use Rattle.linear_cons.specs.Functions.{value_at};
 ghost use Rattle.linear_cons.specs.Exact.{IsOutside};
 ghost use Rattle.decision_tree.specs.Trend.{EndFits, put_end};
 ghost use Rattle.decision_tree.specs.AffineRanks.{ExcessFits, excess_of, only, trend_of};
@@ -108,7 +109,8 @@ impl AffineRank {
         end: Option<i128>,
     ) -> Result<Option<AffineRank>, Wide>
         requires { place < 16 }
-        ensures exact { OkIff result (EndFits range.now (λ by. SubstitutionFits self.now.value place by) end) (put_end range.now (λ by. record { value = put_in self.now.value place by }) end) }
+        ensures exact { OkIff result (EndFits range.now (λ by. SubstitutionFits self.now.value place by) end)
+            (put_end range.now (λ by. record { value = put_in self.now.value place by }) end) }
         ensures wide { IfErr result IsOutside }
     {
         match end {

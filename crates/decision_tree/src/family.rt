@@ -26,6 +26,9 @@ impl<R: Rank> Model for TreeList<R> {
 }
 
 impl<R: Rank> TreeList<R> {
+    ghost use Rattle.std.specs.Borrow.{sem};
+    ghost use Rattle.decision_tree.specs.Lending.{LendsTrees};
+
     /// The list of the vector's trees. It takes no memory.
     pub fn of(trees: Vec<Tree<R>>) -> TreeList<R>
         ensures { result ≡ map plan_of trees.items }
@@ -38,6 +41,14 @@ impl<R: Rank> TreeList<R> {
         ensures { map plan_of result.now ≡ self.now }
     {
         &self.trees
+    }
+
+    /// The trees as a slice to be written: the list is what is left there.
+    pub fn items_mut(&mut self) -> &mut [Tree<R>]
+        ensures* writes_back { sem 𝓛 (LendsTrees R.row R.Rank self.entry result) }
+        ensures value { map plan_of result.now ≡ self.old }
+    {
+        &mut self.trees
     }
 
     /// The vector of the trees. It takes no memory.

@@ -1,5 +1,5 @@
 //! Ranks: what a leaf promises, as functions of the store.
-ghost use Rattle.std.specs.Prelude.{◌≡◌, ℕ, ◌<◌, ◌↔◌, ℤ, ◌≤ℤ◌, List, Option, length, slice_set, IsTrue, OkIff, IfErr};
+ghost use Rattle.std.specs.Prelude.{◌≡◌, ℕ, ◌<◌, ◌↔◌, ℤ, List, Option, length, slice_set, IsTrue, OkIff, IfErr};
 ghost use Rattle.linear_cons.specs.Exact.{IsOutside};
 ghost use Rattle.linear_cons.specs.Functions.{value_at};
 ghost use Rattle.linear_cons.specs.declared.affine.Affine.{Affine};
@@ -79,7 +79,8 @@ pub trait Rank: Copy + Eq {
     /// lower end put in. `None` comes exactly where that end is not known.
     fn greatest(&self, place: u8, range: &Linear) -> Result<Option<Self>, Wide>
         requires { place < 16 }
-        ensures exact { OkIff result (GreatestFits (trend self.now place) range.now (subst_fits self.now place)) (greatest_of self.now (trend self.now place) range.now (substituted self.now place)) }
+        ensures exact { OkIff result (GreatestFits (trend self.now place) range.now (subst_fits self.now place))
+            (greatest_of self.now (trend self.now place) range.now (substituted self.now place)) }
         ensures wide { IfErr result IsOutside };
 
     // Equality holds exactly between identical ranks.
@@ -92,18 +93,25 @@ pub trait Rank: Copy + Eq {
     ghost chain_law: { (u v w : Value) → (exceeds u v → ⊥) → (exceeds v w → ⊥) → exceeds u w → ⊥ };
 
     // A function put in acts as its value at the place.
-    ghost subst_law: { (rank : Self) (place : ℕ) (by : Affine) (store : List ℤ) → place < 16 → length store ≡ 16 → rank_value (substituted rank place by) store ≡ rank_value rank (slice_set store place (value_at by store)) };
+    ghost subst_law: { (rank : Self) (place : ℕ) (by : Affine) (store : List ℤ) → place < 16 → length store ≡ 16
+        → rank_value (substituted rank place by) store ≡ rank_value rank (slice_set store place (value_at by store)) };
 
     // One more exceeds the rank itself, and keeps the order.
     ghost more_law: { (rank : Self) (store : List ℤ) → exceeds (rank_value (one_more rank) store) (rank_value rank store) };
 
-    ghost order_law: { (rank other : Self) (store next : List ℤ) → exceeds (rank_value (one_more rank) store) (rank_value (one_more other) next) ↔ exceeds (rank_value rank store) (rank_value other next) };
+    ghost order_law: { (rank other : Self) (store next : List ℤ)
+        → exceeds (rank_value (one_more rank) store) (rank_value (one_more other) next)
+        ↔ exceeds (rank_value rank store) (rank_value other next) };
 
     // The alternatives are exact.
-    ghost greater_law: { (rank other : Self) (store : List ℤ) → MeetsAny store (where_greater rank other) ↔ exceeds (rank_value rank store) (rank_value other store) };
+    ghost greater_law: { (rank other : Self) (store : List ℤ) → MeetsAny store (where_greater rank other)
+        ↔ exceeds (rank_value rank store) (rank_value other store) };
 
-    ghost negative_law: { (rank : Self) (store : List ℤ) → MeetsAny store (where_negative rank) ↔ (is_natural (rank_value rank store) → ⊥) };
+    ghost negative_law: { (rank : Self) (store : List ℤ) → MeetsAny store (where_negative rank)
+        ↔ (is_natural (rank_value rank store) → ⊥) };
 
     // The value moves with the number at the place as its trend says.
-    ghost trend_law: { (rank : Self) (place : ℕ) (store : List ℤ) (z w : ℤ) → place < 16 → length store ≡ 16 → RunsWith (trend rank place) z w → exceeds (rank_value rank (slice_set store place z)) (rank_value rank (slice_set store place w)) → ⊥ };
+    ghost trend_law: { (rank : Self) (place : ℕ) (store : List ℤ) (z w : ℤ) → place < 16 → length store ≡ 16
+        → RunsWith (trend rank place) z w
+        → exceeds (rank_value rank (slice_set store place z)) (rank_value rank (slice_set store place w)) → ⊥ };
 }

@@ -279,8 +279,20 @@ fn lists_of_trees(rt: HostRuntime) -> Result<(), Fail> {
     let mut trees = Vec::new(rt.alloc());
     trees.push(leaf(3))?;
     trees.push(small(rt.alloc())?)?;
-    let list = TreeList::of(trees);
+    let mut list = TreeList::of(trees);
     assert_eq!(rt; list.items().len(), 2);
+    for tree in list.items_mut().iter_mut() {
+        if 0 < tree.leaves() {
+            tree.undefine(0, &Cause::Nodes { count: 7 });
+        }
+    }
+    if let Some(tree) = list.items_mut().last_mut() {
+        *tree = Tree::Bottom;
+    }
+    match list.items() {
+        [first, last] => assert_eq!(rt; (steps(first), steps(last)), (-2, -1)),
+        _ => return Err(Fail::from("another length")),
+    }
     let mut families = Vec::new(rt.alloc());
     families.push(Family {
         part: 2,

@@ -70,6 +70,13 @@ impl Trail {
         }
     }
 
+    /// How many steps lead from the root to where the walk stands.
+    pub fn depth(&self) -> usize
+        ensures { result ≡ length self.now }
+    {
+        self.steps.len()
+    }
+
     /// Goes down to the yes side of a node with the row. After want of memory the walk is where it was.
     #[inline(never)]
     pub fn down(&mut self, row: &Row) -> Result<(), AllocError>
@@ -86,7 +93,8 @@ impl Trail {
     pub fn turn(&mut self) -> Result<(), PathFault>
         ensures turned { OnOk result (IsTurned self.old self.new) }
         ensures fits { OnOk result ((front : List Row) (row : Row) → self.old ≡ front ++ row ∷ [] → NumbersFit (complement_of row.affine)) }
-        ensures wide { (w : Wide) → result ≡ Err (TooWide w) → (front : List Row) (row : Row) → self.old ≡ front ++ row ∷ [] → NumbersFit (complement_of row.affine) → ⊥ }
+        ensures wide { (w : Wide) → result ≡ Err (TooWide w) → (front : List Row) (row : Row) → self.old ≡ front ++ row ∷ []
+            → NumbersFit (complement_of row.affine) → ⊥ }
         ensures operands { (w : Wide) → result ≡ Err (TooWide w) → IsOutside w }
         ensures stays { (w : Wide) → result ≡ Err (TooWide w) → self.new ≡ self.old }
         ensures shortened { (e : AllocError) → result ≡ Err (Memory e) → IsShortened self.old self.new }

@@ -65,7 +65,8 @@ impl<R: Rank> PartialEq for Tree<R> {
 
     ghost eq = { λ tree other. same_plan R.eq (plan_of tree) (plan_of other) };
 
-    ghost laws = { partial_equiv_from_equiv (equivalence_by plan_of _ (λ tree other. plan_eq-Decides R.eq R.Rank.equal_law (plan_of tree) (plan_of other))) };
+    ghost laws = { partial_equiv_from_equiv (equivalence_by plan_of _
+        (λ tree other. plan_eq-Decides R.eq R.Rank.equal_law (plan_of tree) (plan_of other))) };
 
     /// True exactly where the trees have the same shape, with identical rows, reasons, causes and ranks.
     fn eq(&self, other: &Tree<R>) -> bool

@@ -1,12 +1,12 @@
 //! The jobs, each done a number of times.
 use crate::fault::Fault;
-use crate::trees::{line_tree, path, two_trees};
+use crate::trees::{broad_trees, line_tree, path, two_trees};
 use crate::walk::walk;
 use decision_tree::{AffineRank, Trail, Tree};
 use interval_dom::Boxes;
 use num_domain::NumDomain;
 use std::alloc::Global;
-use tree_unify::{either, later, prune, trim};
+use tree_unify::{TreeFault, either, later, prune, trim};
 
 /// What the job comes to: how many rows are settled for a walk, else the size of the last tree.
 pub fn done(alloc: Global, job: &str, rows: u32, times: u32, length: u32) -> Result<u64, Fault> {
@@ -21,6 +21,7 @@ pub fn done(alloc: Global, job: &str, rows: u32, times: u32, length: u32) -> Res
             copied(alloc, &later(alloc, &first, &second)?, times)
         }
         "prune" => pruned(alloc, rows, times),
+        "full" => refused(alloc, rows, times),
         _ => Err(Fault::Job),
     }
 }
@@ -77,6 +78,19 @@ fn pruned(alloc: Global, rows: u32, times: u32) -> Result<u64, Fault> {
     let mut size = 0;
     for _ in 0..times {
         size = prune(alloc, &tree, &all)?.size();
+    }
+    Ok(size)
+}
+
+fn refused(alloc: Global, rows: u32, times: u32) -> Result<u64, Fault> {
+    let (first, second) = broad_trees(alloc, rows)?;
+    let mut size = 0;
+    for _ in 0..times {
+        match later(alloc, &first, &second) {
+            Ok(tree) => size = tree.size(),
+            Err(TreeFault::Full { count }) => size = count,
+            Err(fault) => return Err(fault.into()),
+        }
     }
     Ok(size)
 }

@@ -21,6 +21,22 @@ pub fn two_trees(alloc: Global, rows: u32) -> Result<(Tree<AffineRank>, Tree<Aff
     Ok((first, second))
 }
 
+/// The same two, where the first tree has on each yes side not a leaf but a node of two leaves.
+pub fn broad_trees(
+    alloc: Global,
+    rows: u32,
+) -> Result<(Tree<AffineRank>, Tree<AffineRank>), Fault> {
+    let (_, second) = two_trees(alloc, rows)?;
+    let mut tree = leaf(&Affine::constant(0));
+    for number in 0..rows {
+        let yes = line_of(alloc, 1, 1, &Affine::var(0), number as i128)?;
+        if let RowKind::Row(row) = row_of(0, number) {
+            tree = Tree::branch(alloc, row, yes, tree)?;
+        }
+    }
+    Ok((tree, second))
+}
+
 /// A line of rows over the eight variables from a place on. From leaf to leaf the rank rises.
 fn line_of(
     alloc: Global,
@@ -32,15 +48,20 @@ fn line_of(
     let mut rank = *rank;
     let mut tree = Tree::Bottom;
     for number in 0..rows {
-        let place = from.wrapping_add((number % PARTS as u32) as u8) % 16;
-        let mut function = Affine::var(place);
-        function.constant = -(number as i128);
         rank.constant = rank.constant.saturating_add(rise);
-        if let RowKind::Row(row) = Row::of(function) {
+        if let RowKind::Row(row) = row_of(from, number) {
             tree = Tree::branch(alloc, row, leaf(&rank), tree)?;
         }
     }
     Ok(tree)
+}
+
+/// The row of a line with the number.
+fn row_of(from: u8, number: u32) -> RowKind {
+    let place = from.wrapping_add((number % PARTS as u32) as u8) % 16;
+    let mut function = Affine::var(place);
+    function.constant = -(number as i128);
+    Row::of(function)
 }
 
 fn leaf(rank: &Affine) -> Tree<AffineRank> {

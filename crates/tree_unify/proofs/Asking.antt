@@ -26,6 +26,13 @@ each_or_not store (Some Never ∷ rest) = inr (λ met. met.0)
 each_or_not store (Some (Kept row) ∷ rest) =
     ⊎_elim (λ here. ⊎_elim (λ met. inl (here, met)) (λ missed. inr (λ met. missed met.1)) (each_or_not store rest)) (λ apart. inr (λ met. apart met.0)) (meets_or_not row store)
 
+-- a store meets one of the alternatives or it doesn't
+pub one_or_not : (store : List ℤ) (list : List (Option (List (Option RowKind)))) → MeetsOneOf store list ⊎ (MeetsOneOf store list → ⊥)
+one_or_not store [] = inr (λ met. met)
+one_or_not store (None ∷ rest) = one_or_not store rest
+one_or_not store (Some kinds ∷ rest) =
+    ⊎_elim (λ here. inl (inl here)) (λ apart. ⊎_elim (λ met. inl (inr met)) (λ missed. inr (λ met. ⊎_elim (λ here. apart here) (λ later. missed later) met)) (one_or_not store rest)) (each_or_not store kinds)
+
 alone : (kinds : List RowKind) (row : Row) → row_alone kinds ≡ Some row → kinds ≡ Kept row ∷ []
 alone [] row is = absurd (cc)
 alone (Always ∷ rest) row is = absurd (cc)

@@ -35,7 +35,8 @@ module _ {R : Type 0} (same : R → R → Bool) where
   abbrev pub TrimWithFits : (Plan R → Type 0) → List Row → Plan R → Type 0
   TrimWithFits Fits path (branch row this that) =
       OnSide (settles path row) (TrimWithFits Fits path this) (TrimWithFits Fits path that)
-      (TrimWithFits Fits (path ++ row ∷ []) this × NumbersFit (complement_of row.affine) × TrimWithFits Fits (path ++ complement row ∷ []) that)
+      (TrimWithFits Fits (path ++ row ∷ []) this × NumbersFit (complement_of row.affine)
+      × TrimWithFits Fits (path ++ complement row ∷ []) that)
   TrimWithFits Fits path end = Fits end
 
   -- the tree trimmed by a path
@@ -47,7 +48,8 @@ module _ {R : Type 0} (same : R → R → Bool) where
 
   -- a tree's shape, with a tree in place of each leaf that depends on the leaf and its path
   abbrev pub grafted : (List Row → Plan R → Plan R) → List Row → Plan R → Plan R
-  grafted graft path (branch row this that) = node same row (grafted graft (path ++ row ∷ []) this) (grafted graft (path ++ complement row ∷ []) that)
+  grafted graft path (branch row this that) =
+      node same row (grafted graft (path ++ row ∷ []) this) (grafted graft (path ++ complement row ∷ []) that)
   grafted graft path end = graft path end
 
   -- the complements on its paths fit, and what is asked of the leaves
@@ -69,12 +71,14 @@ module _ {R : Type 0} (same : R → R → Bool) (where_greater : R → R → Alt
   leaf_met Both first second = second
   leaf_met Either first (leaf why rank) = leaf why rank
   leaf_met Either first second = first
-  leaf_met Later (leaf why rank) (leaf other second) = chosen same (alternatives_of (where_greater second rank).list) (leaf other second) (leaf why rank)
+  leaf_met Later (leaf why rank) (leaf other second) =
+      chosen same (alternatives_of (where_greater second rank).list) (leaf other second) (leaf why rank)
   leaf_met Later first second = second
 
   -- the numbers fit of the rank difference, and of its row's complement
   abbrev pub MetFits : Join → Plan R → Plan R → Type 0
-  MetFits Later (leaf why rank) (leaf other second) = greater_fits second rank × ChosenFits (alternatives_of (where_greater second rank).list)
+  MetFits Later (leaf why rank) (leaf other second) =
+      greater_fits second rank × ChosenFits (alternatives_of (where_greater second rank).list)
   MetFits Later first second = ⊤
   MetFits Either first second = ⊤
   MetFits Both first second = ⊤

@@ -18,7 +18,8 @@ pub(crate) fn choose<R: Rank>(
     greater: &Tree<R>,
     other: &Tree<R>,
 ) -> Result<Box<Tree<R>>, PathFault>
-    ensures tree { IfOk result (λ tree. plan_of tree.value ≡ chosen R.eq (alternatives_of alternatives.now.list) (plan_of greater.now) (plan_of other.now)) }
+    ensures tree { IfOk result (λ tree. plan_of tree.value
+        ≡ chosen R.eq (alternatives_of alternatives.now.list) (plan_of greater.now) (plan_of other.now)) }
     ensures fits { OnOk result (ChosenFits (alternatives_of alternatives.now.list)) }
     ensures wide { (w : Wide) → result ≡ Err (TooWide w) → ChosenFits (alternatives_of alternatives.now.list) → ⊥ }
     ensures operands { (w : Wide) → result ≡ Err (TooWide w) → IsOutside w }
@@ -85,7 +86,8 @@ fn ask_any<R: Rank>(
     met: &Tree<R>,
     other: &Tree<R>,
 ) -> Result<Box<Tree<R>>, AllocError>
-    ensures { IfOk result (λ tree. plan_of tree.value ≡ any_asked R.eq (alternatives_of alternatives.now) (plan_of met.now) (plan_of other.now)) }
+    ensures { IfOk result (λ tree. plan_of tree.value
+        ≡ any_asked R.eq (alternatives_of alternatives.now) (plan_of met.now) (plan_of other.now)) }
 {
     let Some((first, rest)) = alternatives.split_first() else {
         return other.boxed(alloc);

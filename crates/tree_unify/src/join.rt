@@ -2,7 +2,7 @@
 
 /// Which tree stands where a leaf of a first tree meets a second tree.
 #[derive(Clone, Copy)]
-pub(crate) enum Join {
+pub enum Join {
     /// The first where it is defined, else the second.
     Either,
     /// The second, where the first is defined.

@@ -10,6 +10,7 @@ ghost use Rattle.tree_unify.specs.declared.join.Join.TheVariants.{Both, Either, 
 
 use crate::fault::TreeFault;
 use crate::join::Join;
+use crate::sizes::is_smaller;
 use crate::trimming::{is_leaf, lay};
 use crate::walk::{Stopped, Walk};
 use decision_tree::{Rank, Tree};
@@ -26,8 +27,10 @@ pub fn either<R: Rank>(alloc: Global, a: &Tree<R>, b: &Tree<R>) -> Result<Tree<R
     ensures tree { IfOk result (λ made. plan_of made ≡ joined R.eq R.where_greater R.greater_fits Either (plan_of a.now) (plan_of b.now)) }
     ensures small { IfOk result (λ made. size_of (plan_of made) ≤ 65536) }
     ensures fits { OnOk result (JoinedFits R.eq R.where_greater R.greater_fits Either (plan_of a.now) (plan_of b.now)) }
-    ensures full { (count : ℕ) → result ≡ Err (TooFull count) → (65536 < count) × (65536 < size_of (joined R.eq R.where_greater R.greater_fits Either (plan_of a.now) (plan_of b.now))) }
-    ensures wide { (w : Wide) → result ≡ Err (TooWide w) → JoinedFits R.eq R.where_greater R.greater_fits Either (plan_of a.now) (plan_of b.now) → ⊥ }
+    ensures full { (count : ℕ) → result ≡ Err (TooFull count)
+        → (65536 < count) × (65536 < size_of (joined R.eq R.where_greater R.greater_fits Either (plan_of a.now) (plan_of b.now))) }
+    ensures wide { (w : Wide) → result ≡ Err (TooWide w)
+        → JoinedFits R.eq R.where_greater R.greater_fits Either (plan_of a.now) (plan_of b.now) → ⊥ }
     ensures operands { (w : Wide) → result ≡ Err (TooWide w) → IsOutside w }
 {
     join(alloc, Join::Either, a, b)
@@ -40,8 +43,10 @@ pub fn both<R: Rank>(alloc: Global, a: &Tree<R>, b: &Tree<R>) -> Result<Tree<R>,
     ensures tree { IfOk result (λ made. plan_of made ≡ joined R.eq R.where_greater R.greater_fits Both (plan_of a.now) (plan_of b.now)) }
     ensures small { IfOk result (λ made. size_of (plan_of made) ≤ 65536) }
     ensures fits { OnOk result (JoinedFits R.eq R.where_greater R.greater_fits Both (plan_of a.now) (plan_of b.now)) }
-    ensures full { (count : ℕ) → result ≡ Err (TooFull count) → (65536 < count) × (65536 < size_of (joined R.eq R.where_greater R.greater_fits Both (plan_of a.now) (plan_of b.now))) }
-    ensures wide { (w : Wide) → result ≡ Err (TooWide w) → JoinedFits R.eq R.where_greater R.greater_fits Both (plan_of a.now) (plan_of b.now) → ⊥ }
+    ensures full { (count : ℕ) → result ≡ Err (TooFull count)
+        → (65536 < count) × (65536 < size_of (joined R.eq R.where_greater R.greater_fits Both (plan_of a.now) (plan_of b.now))) }
+    ensures wide { (w : Wide) → result ≡ Err (TooWide w)
+        → JoinedFits R.eq R.where_greater R.greater_fits Both (plan_of a.now) (plan_of b.now) → ⊥ }
     ensures operands { (w : Wide) → result ≡ Err (TooWide w) → IsOutside w }
 {
     join(alloc, Join::Both, a, b)
@@ -56,8 +61,10 @@ pub fn later<R: Rank>(alloc: Global, a: &Tree<R>, b: &Tree<R>) -> Result<Tree<R>
     ensures tree { IfOk result (λ made. plan_of made ≡ joined R.eq R.where_greater R.greater_fits Later (plan_of a.now) (plan_of b.now)) }
     ensures small { IfOk result (λ made. size_of (plan_of made) ≤ 65536) }
     ensures fits { OnOk result (JoinedFits R.eq R.where_greater R.greater_fits Later (plan_of a.now) (plan_of b.now)) }
-    ensures full { (count : ℕ) → result ≡ Err (TooFull count) → (65536 < count) × (65536 < size_of (joined R.eq R.where_greater R.greater_fits Later (plan_of a.now) (plan_of b.now))) }
-    ensures wide { (w : Wide) → result ≡ Err (TooWide w) → JoinedFits R.eq R.where_greater R.greater_fits Later (plan_of a.now) (plan_of b.now) → ⊥ }
+    ensures full { (count : ℕ) → result ≡ Err (TooFull count)
+        → (65536 < count) × (65536 < size_of (joined R.eq R.where_greater R.greater_fits Later (plan_of a.now) (plan_of b.now))) }
+    ensures wide { (w : Wide) → result ≡ Err (TooWide w)
+        → JoinedFits R.eq R.where_greater R.greater_fits Later (plan_of a.now) (plan_of b.now) → ⊥ }
     ensures operands { (w : Wide) → result ≡ Err (TooWide w) → IsOutside w }
 {
     join(alloc, Join::Later, a, b)
@@ -70,11 +77,14 @@ fn join<R: Rank>(
     first: &Tree<R>,
     second: &Tree<R>,
 ) -> Result<Tree<R>, TreeFault>
-    ensures tree { IfOk result (λ made. plan_of made ≡ joined R.eq R.where_greater R.greater_fits join (plan_of first.now) (plan_of second.now)) }
+    ensures tree { IfOk result (λ made. plan_of made
+        ≡ joined R.eq R.where_greater R.greater_fits join (plan_of first.now) (plan_of second.now)) }
     ensures small { IfOk result (λ made. size_of (plan_of made) ≤ 65536) }
     ensures fits { OnOk result (JoinedFits R.eq R.where_greater R.greater_fits join (plan_of first.now) (plan_of second.now)) }
-    ensures full { (count : ℕ) → result ≡ Err (TooFull count) → (65536 < count) × (65536 < size_of (joined R.eq R.where_greater R.greater_fits join (plan_of first.now) (plan_of second.now))) }
-    ensures wide { (w : Wide) → result ≡ Err (TooWide w) → JoinedFits R.eq R.where_greater R.greater_fits join (plan_of first.now) (plan_of second.now) → ⊥ }
+    ensures full { (count : ℕ) → result ≡ Err (TooFull count)
+        → (65536 < count) × (65536 < size_of (joined R.eq R.where_greater R.greater_fits join (plan_of first.now) (plan_of second.now))) }
+    ensures wide { (w : Wide) → result ≡ Err (TooWide w)
+        → JoinedFits R.eq R.where_greater R.greater_fits join (plan_of first.now) (plan_of second.now) → ⊥ }
     ensures operands { (w : Wide) → result ≡ Err (TooWide w) → IsOutside w }
 {
     let mut walk = Walk::new(alloc);
@@ -94,13 +104,19 @@ fn graft<R: Rank>(
     first: &Tree<R>,
     second: &Tree<R>,
 ) -> Result<Box<Tree<R>>, Stopped>
-    ensures tree { IfOk result (λ tree. plan_of tree.value ≡ grafted R.eq (joined_at R.eq R.where_greater R.greater_fits join (plan_of second.now)) walk.old.trail (plan_of first.now)) }
+    ensures tree { IfOk result (λ tree. plan_of tree.value
+        ≡ grafted R.eq (joined_at R.eq R.where_greater R.greater_fits join (plan_of second.now)) walk.old.trail (plan_of first.now)) }
     ensures size { IfOk result (λ tree. walk.new.size ≡ size_of (plan_of tree.value)) }
     ensures small { OnOk result (walk.new.size ≤ 65536) }
     ensures trail { OnOk result (walk.new.trail ≡ walk.old.trail) }
-    ensures fits { OnOk result (GraftFits R.eq (JoinFits R.eq R.where_greater R.greater_fits join (plan_of second.now)) walk.old.trail (plan_of first.now)) }
-    ensures full { OnErr result ((count : ℕ) → walk.new.fault ≡ TooFull count → (65536 < count) × (65536 < size_of (grafted R.eq (joined_at R.eq R.where_greater R.greater_fits join (plan_of second.now)) walk.old.trail (plan_of first.now)))) }
-    ensures wide { OnErr result ((w : Wide) → walk.new.fault ≡ TooWide w → GraftFits R.eq (JoinFits R.eq R.where_greater R.greater_fits join (plan_of second.now)) walk.old.trail (plan_of first.now) → ⊥) }
+    ensures fits { OnOk result (GraftFits R.eq (JoinFits R.eq R.where_greater R.greater_fits join (plan_of second.now))
+        walk.old.trail (plan_of first.now)) }
+    ensures full { OnErr result ((count : ℕ) → walk.new.fault ≡ TooFull count
+        → (65536 < count)
+        × (65536 < size_of (grafted R.eq (joined_at R.eq R.where_greater R.greater_fits join (plan_of second.now)) walk.old.trail
+        (plan_of first.now)))) }
+    ensures wide { OnErr result ((w : Wide) → walk.new.fault ≡ TooWide w
+        → GraftFits R.eq (JoinFits R.eq R.where_greater R.greater_fits join (plan_of second.now)) walk.old.trail (plan_of first.now) → ⊥) }
     ensures operands { OnErr result ((w : Wide) → walk.new.fault ≡ TooWide w → IsOutside w) }
 {
     match first {
@@ -113,6 +129,22 @@ fn graft<R: Rank>(
                 let other = graft(alloc, walk, join, no, second)?;
                 walk.trail.up();
                 return graft_beside(alloc, walk, join, row, yes, other, second);
+            }
+            if is_smaller(yes, no) {
+                walk.down_no(row)?;
+                let other = graft(alloc, walk, join, no, second)?;
+                let size = walk.size;
+                let other = walk.turn_back(row, other)?;
+                return match graft(alloc, walk, join, yes, second) {
+                    Ok(this) => {
+                        walk.trail.up();
+                        walk.join_last(alloc, row, this, other, size)
+                    }
+                    Err(stopped) => {
+                        Tree::discard(other);
+                        Err(stopped)
+                    }
+                };
             }
             walk.down(row)?;
             let this = graft(alloc, walk, join, yes, second)?;
@@ -148,22 +180,62 @@ fn graft_beside<R: Rank>(
     second: &Tree<R>,
 ) -> Result<Box<Tree<R>>, Stopped>
     requires no { (walk.old.size ≡ size_of (plan_of no.value)) × (walk.old.size ≤ 65536) }
-    ensures tree { IfOk result (λ tree. plan_of tree.value ≡ node R.eq row.now (joined_at R.eq R.where_greater R.greater_fits join (plan_of second.now) (walk.old.trail ++ row.now ∷ []) (plan_of leaf.now)) (plan_of no.value)) }
+    ensures tree { IfOk result (λ tree. plan_of tree.value
+        ≡ node R.eq row.now (joined_at R.eq R.where_greater R.greater_fits join (plan_of second.now)
+        (walk.old.trail ++ row.now ∷ []) (plan_of leaf.now)) (plan_of no.value)) }
     ensures size { IfOk result (λ tree. walk.new.size ≡ size_of (plan_of tree.value)) }
     ensures small { OnOk result (walk.new.size ≤ 65536) }
     ensures trail { OnOk result (walk.new.trail ≡ walk.old.trail) }
-    ensures fits { OnOk result (JoinFits R.eq R.where_greater R.greater_fits join (plan_of second.now) (walk.old.trail ++ row.now ∷ []) (plan_of leaf.now)) }
-    ensures full { OnErr result ((count : ℕ) → walk.new.fault ≡ TooFull count → (65536 < count) × (65536 < size_of (node R.eq row.now (joined_at R.eq R.where_greater R.greater_fits join (plan_of second.now) (walk.old.trail ++ row.now ∷ []) (plan_of leaf.now)) (plan_of no.value)))) }
-    ensures wide { OnErr result ((w : Wide) → walk.new.fault ≡ TooWide w → JoinFits R.eq R.where_greater R.greater_fits join (plan_of second.now) (walk.old.trail ++ row.now ∷ []) (plan_of leaf.now) → ⊥) }
+    ensures fits { OnOk result (JoinFits R.eq R.where_greater R.greater_fits join (plan_of second.now)
+        (walk.old.trail ++ row.now ∷ []) (plan_of leaf.now)) }
+    ensures full { OnErr result ((count : ℕ) → walk.new.fault ≡ TooFull count
+        → (65536 < count)
+        × (65536 < size_of (node R.eq row.now (joined_at R.eq R.where_greater R.greater_fits join (plan_of second.now)
+        (walk.old.trail ++ row.now ∷ []) (plan_of leaf.now)) (plan_of no.value)))) }
+    ensures wide { OnErr result ((w : Wide) → walk.new.fault ≡ TooWide w
+        → JoinFits R.eq R.where_greater R.greater_fits join (plan_of second.now) (walk.old.trail ++ row.now ∷ []) (plan_of leaf.now) → ⊥) }
     ensures operands { OnErr result ((w : Wide) → walk.new.fault ≡ TooWide w → IsOutside w) }
 {
     let no_size = walk.size;
-    walk.down(row)?;
-    let yes = graft_leaf(alloc, walk, join, leaf, second)?;
-    walk.trail.up();
+    let yes = graft_below(alloc, walk, join, row, leaf, second)?;
     let yes_size = walk.size;
     walk.size = no_size;
     walk.join_sides(alloc, row, yes, no, yes_size)
+}
+
+/// What stands in place of the leaf on the yes side of a node with the row. The row is entered only where
+/// the second tree is asked.
+#[inline(never)]
+fn graft_below<R: Rank>(
+    alloc: Global,
+    walk: &mut Walk,
+    join: Join,
+    row: &Row,
+    leaf: &Tree<R>,
+    second: &Tree<R>,
+) -> Result<Box<Tree<R>>, Stopped>
+    ensures tree { IfOk result (λ tree. plan_of tree.value
+        ≡ joined_at R.eq R.where_greater R.greater_fits join (plan_of second.now) (walk.old.trail ++ row.now ∷ []) (plan_of leaf.now)) }
+    ensures size { IfOk result (λ tree. walk.new.size ≡ size_of (plan_of tree.value)) }
+    ensures small { OnOk result (walk.new.size ≤ 65536) }
+    ensures trail { OnOk result (walk.new.trail ≡ walk.old.trail) }
+    ensures fits { OnOk result (JoinFits R.eq R.where_greater R.greater_fits join (plan_of second.now)
+        (walk.old.trail ++ row.now ∷ []) (plan_of leaf.now)) }
+    ensures full { OnErr result ((count : ℕ) → walk.new.fault ≡ TooFull count
+        → (65536 < count)
+        × (65536 < size_of (joined_at R.eq R.where_greater R.greater_fits join (plan_of second.now)
+        (walk.old.trail ++ row.now ∷ []) (plan_of leaf.now)))) }
+    ensures wide { OnErr result ((w : Wide) → walk.new.fault ≡ TooWide w
+        → JoinFits R.eq R.where_greater R.greater_fits join (plan_of second.now) (walk.old.trail ++ row.now ∷ []) (plan_of leaf.now) → ⊥) }
+    ensures operands { OnErr result ((w : Wide) → walk.new.fault ≡ TooWide w → IsOutside w) }
+{
+    if !asks_second(join, leaf) {
+        return walk.copied(alloc, leaf);
+    }
+    walk.down(row)?;
+    let part = lay(alloc, walk, join, leaf, second)?;
+    walk.trail.up();
+    Ok(part)
 }
 
 /// What stands in place of a leaf of the first tree.
@@ -175,13 +247,17 @@ fn graft_leaf<R: Rank>(
     leaf: &Tree<R>,
     second: &Tree<R>,
 ) -> Result<Box<Tree<R>>, Stopped>
-    ensures tree { IfOk result (λ tree. plan_of tree.value ≡ joined_at R.eq R.where_greater R.greater_fits join (plan_of second.now) walk.old.trail (plan_of leaf.now)) }
+    ensures tree { IfOk result (λ tree. plan_of tree.value
+        ≡ joined_at R.eq R.where_greater R.greater_fits join (plan_of second.now) walk.old.trail (plan_of leaf.now)) }
     ensures size { IfOk result (λ tree. walk.new.size ≡ size_of (plan_of tree.value)) }
     ensures small { OnOk result (walk.new.size ≤ 65536) }
     ensures trail { OnOk result (walk.new.trail ≡ walk.old.trail) }
     ensures fits { OnOk result (JoinFits R.eq R.where_greater R.greater_fits join (plan_of second.now) walk.old.trail (plan_of leaf.now)) }
-    ensures full { OnErr result ((count : ℕ) → walk.new.fault ≡ TooFull count → (65536 < count) × (65536 < size_of (joined_at R.eq R.where_greater R.greater_fits join (plan_of second.now) walk.old.trail (plan_of leaf.now)))) }
-    ensures wide { OnErr result ((w : Wide) → walk.new.fault ≡ TooWide w → JoinFits R.eq R.where_greater R.greater_fits join (plan_of second.now) walk.old.trail (plan_of leaf.now) → ⊥) }
+    ensures full { OnErr result ((count : ℕ) → walk.new.fault ≡ TooFull count
+        → (65536 < count)
+        × (65536 < size_of (joined_at R.eq R.where_greater R.greater_fits join (plan_of second.now) walk.old.trail (plan_of leaf.now)))) }
+    ensures wide { OnErr result ((w : Wide) → walk.new.fault ≡ TooWide w
+        → JoinFits R.eq R.where_greater R.greater_fits join (plan_of second.now) walk.old.trail (plan_of leaf.now) → ⊥) }
     ensures operands { OnErr result ((w : Wide) → walk.new.fault ≡ TooWide w → IsOutside w) }
 {
     if asks_second(join, leaf) {

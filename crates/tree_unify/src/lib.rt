@@ -12,12 +12,15 @@ mod join;
 mod joining;
 pub mod laws;
 mod pruning;
+mod sizes;
 #[cfg(test)]
 mod tests;
 mod trimming;
 mod walk;
 
 pub use fault::TreeFault;
+pub use join::Join;
 pub use joining::{both, either, later};
 pub use pruning::prune;
 pub use trimming::trim;
+pub use walk::{Stopped, Walk};

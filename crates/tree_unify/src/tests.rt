@@ -167,6 +167,38 @@ fn trees_joined_by_either(rt: HostRuntime) -> Result<(), Fail> {
             ge(at, 5, leaf(1), leaf(3))?,
         ),
         (ge(at, 5, leaf(3), none())?, leaf(3), leaf(3)),
+        // The yes side is the smaller one. The second tree stands where x0 is 5 or 6, and where it is 1 or 2.
+        (
+            ge(
+                at,
+                5,
+                ge(at, 7, leaf(1), none())?,
+                ge(at, 3, leaf(2), ge(at, 1, none(), leaf(4))?)?,
+            )?,
+            ge(at, 6, leaf(5), ge(at, 2, leaf(6), leaf(7))?)?,
+            ge(
+                at,
+                5,
+                ge(at, 7, leaf(1), ge(at, 6, leaf(5), leaf(6))?)?,
+                ge(
+                    at,
+                    3,
+                    leaf(2),
+                    ge(at, 1, ge(at, 2, leaf(6), leaf(7))?, leaf(4))?,
+                )?,
+            )?,
+        ),
+        // Two smaller sides that a join makes equal to the other side.
+        (
+            ge(
+                at,
+                5,
+                ge(at, 7, none(), leaf(3))?,
+                ge(at, 4, none(), ge(at, 2, leaf(3), none())?)?,
+            )?,
+            leaf(3),
+            leaf(3),
+        ),
         // Where both are undefined the first one's leaf stays.
         (
             ge(at, 5, none(), given())?,

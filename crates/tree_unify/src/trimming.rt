@@ -25,7 +25,8 @@ pub fn trim<R: Rank>(alloc: Global, tree: &Tree<R>, path: &[Row]) -> Result<Tree
     ensures tree { IfOk result (λ made. plan_of made ≡ trimmed R.eq path.now (plan_of tree.now)) }
     ensures small { IfOk result (λ made. size_of (plan_of made) ≤ 65536) }
     ensures fits { OnOk result (TrimFits R.eq path.now (plan_of tree.now)) }
-    ensures full { (count : ℕ) → result ≡ Err (TooFull count) → (65536 < count) × (65536 < size_of (trimmed R.eq path.now (plan_of tree.now))) }
+    ensures full { (count : ℕ) → result ≡ Err (TooFull count)
+        → (65536 < count) × (65536 < size_of (trimmed R.eq path.now (plan_of tree.now))) }
     ensures wide { (w : Wide) → result ≡ Err (TooWide w) → TrimFits R.eq path.now (plan_of tree.now) → ⊥ }
     ensures operands { (w : Wide) → result ≡ Err (TooWide w) → IsOutside w }
 {
@@ -59,13 +60,19 @@ pub(crate) fn lay<R: Rank>(
     leaf: &Tree<R>,
     second: &Tree<R>,
 ) -> Result<Box<Tree<R>>, Stopped>
-    ensures tree { IfOk result (λ tree. plan_of tree.value ≡ trimmed_with R.eq (leaf_met R.eq R.where_greater R.greater_fits join (plan_of leaf.now)) walk.old.trail (plan_of second.now)) }
+    ensures tree { IfOk result (λ tree. plan_of tree.value
+        ≡ trimmed_with R.eq (leaf_met R.eq R.where_greater R.greater_fits join (plan_of leaf.now)) walk.old.trail (plan_of second.now)) }
     ensures size { IfOk result (λ tree. walk.new.size ≡ size_of (plan_of tree.value)) }
     ensures small { OnOk result (walk.new.size ≤ 65536) }
     ensures trail { OnOk result (walk.new.trail ≡ walk.old.trail) }
-    ensures fits { OnOk result (TrimWithFits R.eq (MetFits R.eq R.where_greater R.greater_fits join (plan_of leaf.now)) walk.old.trail (plan_of second.now)) }
-    ensures full { OnErr result ((count : ℕ) → walk.new.fault ≡ TooFull count → (65536 < count) × (65536 < size_of (trimmed_with R.eq (leaf_met R.eq R.where_greater R.greater_fits join (plan_of leaf.now)) walk.old.trail (plan_of second.now)))) }
-    ensures wide { OnErr result ((w : Wide) → walk.new.fault ≡ TooWide w → TrimWithFits R.eq (MetFits R.eq R.where_greater R.greater_fits join (plan_of leaf.now)) walk.old.trail (plan_of second.now) → ⊥) }
+    ensures fits { OnOk result (TrimWithFits R.eq (MetFits R.eq R.where_greater R.greater_fits join (plan_of leaf.now))
+        walk.old.trail (plan_of second.now)) }
+    ensures full { OnErr result ((count : ℕ) → walk.new.fault ≡ TooFull count
+        → (65536 < count)
+        × (65536 < size_of (trimmed_with R.eq (leaf_met R.eq R.where_greater R.greater_fits join (plan_of leaf.now))
+        walk.old.trail (plan_of second.now)))) }
+    ensures wide { OnErr result ((w : Wide) → walk.new.fault ≡ TooWide w
+        → TrimWithFits R.eq (MetFits R.eq R.where_greater R.greater_fits join (plan_of leaf.now)) walk.old.trail (plan_of second.now) → ⊥) }
     ensures operands { OnErr result ((w : Wide) → walk.new.fault ≡ TooWide w → IsOutside w) }
 {
     let Tree::Node { row, yes, no } = second else {
@@ -115,13 +122,19 @@ fn lay_beside<R: Rank>(
     no: Box<Tree<R>>,
 ) -> Result<Box<Tree<R>>, Stopped>
     requires no { (walk.old.size ≡ size_of (plan_of no.value)) × (walk.old.size ≤ 65536) }
-    ensures tree { IfOk result (λ tree. plan_of tree.value ≡ node R.eq row.now (leaf_met R.eq R.where_greater R.greater_fits join (plan_of leaf.now) (plan_of second.now)) (plan_of no.value)) }
+    ensures tree { IfOk result (λ tree. plan_of tree.value
+        ≡ node R.eq row.now (leaf_met R.eq R.where_greater R.greater_fits join (plan_of leaf.now) (plan_of second.now))
+        (plan_of no.value)) }
     ensures size { IfOk result (λ tree. walk.new.size ≡ size_of (plan_of tree.value)) }
     ensures small { OnOk result (walk.new.size ≤ 65536) }
     ensures trail { OnOk result (walk.new.trail ≡ walk.old.trail) }
     ensures fits { OnOk result (MetFits R.eq R.where_greater R.greater_fits join (plan_of leaf.now) (plan_of second.now)) }
-    ensures full { OnErr result ((count : ℕ) → walk.new.fault ≡ TooFull count → (65536 < count) × (65536 < size_of (node R.eq row.now (leaf_met R.eq R.where_greater R.greater_fits join (plan_of leaf.now) (plan_of second.now)) (plan_of no.value)))) }
-    ensures wide { OnErr result ((w : Wide) → walk.new.fault ≡ TooWide w → MetFits R.eq R.where_greater R.greater_fits join (plan_of leaf.now) (plan_of second.now) → ⊥) }
+    ensures full { OnErr result ((count : ℕ) → walk.new.fault ≡ TooFull count
+        → (65536 < count)
+        × (65536 < size_of (node R.eq row.now (leaf_met R.eq R.where_greater R.greater_fits join (plan_of leaf.now)
+        (plan_of second.now)) (plan_of no.value)))) }
+    ensures wide { OnErr result ((w : Wide) → walk.new.fault ≡ TooWide w
+        → MetFits R.eq R.where_greater R.greater_fits join (plan_of leaf.now) (plan_of second.now) → ⊥) }
     ensures operands { OnErr result ((w : Wide) → walk.new.fault ≡ TooWide w → IsOutside w) }
 {
     let no_size = walk.size;
@@ -150,13 +163,16 @@ fn meet<R: Rank>(
     leaf: &Tree<R>,
     second: &Tree<R>,
 ) -> Result<Box<Tree<R>>, Stopped>
-    ensures tree { IfOk result (λ tree. plan_of tree.value ≡ leaf_met R.eq R.where_greater R.greater_fits join (plan_of leaf.now) (plan_of second.now)) }
+    ensures tree { IfOk result (λ tree. plan_of tree.value
+        ≡ leaf_met R.eq R.where_greater R.greater_fits join (plan_of leaf.now) (plan_of second.now)) }
     ensures size { IfOk result (λ tree. walk.new.size ≡ size_of (plan_of tree.value)) }
     ensures small { OnOk result (walk.new.size ≤ 65536) }
     ensures trail { OnOk result (walk.new.trail ≡ walk.old.trail) }
     ensures fits { OnOk result (MetFits R.eq R.where_greater R.greater_fits join (plan_of leaf.now) (plan_of second.now)) }
-    ensures full { OnErr result ((count : ℕ) → walk.new.fault ≡ TooFull count → (65536 < count) × (65536 < size_of (leaf_met R.eq R.where_greater R.greater_fits join (plan_of leaf.now) (plan_of second.now)))) }
-    ensures wide { OnErr result ((w : Wide) → walk.new.fault ≡ TooWide w → MetFits R.eq R.where_greater R.greater_fits join (plan_of leaf.now) (plan_of second.now) → ⊥) }
+    ensures full { OnErr result ((count : ℕ) → walk.new.fault ≡ TooFull count
+        → (65536 < count) × (65536 < size_of (leaf_met R.eq R.where_greater R.greater_fits join (plan_of leaf.now) (plan_of second.now)))) }
+    ensures wide { OnErr result ((w : Wide) → walk.new.fault ≡ TooWide w
+        → MetFits R.eq R.where_greater R.greater_fits join (plan_of leaf.now) (plan_of second.now) → ⊥) }
     ensures operands { OnErr result ((w : Wide) → walk.new.fault ≡ TooWide w → IsOutside w) }
 {
     match met(alloc, join, leaf, second) {
@@ -173,9 +189,11 @@ fn met<R: Rank>(
     leaf: &Tree<R>,
     second: &Tree<R>,
 ) -> Result<Box<Tree<R>>, PathFault>
-    ensures tree { IfOk result (λ tree. plan_of tree.value ≡ leaf_met R.eq R.where_greater R.greater_fits join (plan_of leaf.now) (plan_of second.now)) }
+    ensures tree { IfOk result (λ tree. plan_of tree.value
+        ≡ leaf_met R.eq R.where_greater R.greater_fits join (plan_of leaf.now) (plan_of second.now)) }
     ensures fits { OnOk result (MetFits R.eq R.where_greater R.greater_fits join (plan_of leaf.now) (plan_of second.now)) }
-    ensures wide { (w : Wide) → result ≡ Err (PathFault.Wide w) → MetFits R.eq R.where_greater R.greater_fits join (plan_of leaf.now) (plan_of second.now) → ⊥ }
+    ensures wide { (w : Wide) → result ≡ Err (PathFault.Wide w)
+        → MetFits R.eq R.where_greater R.greater_fits join (plan_of leaf.now) (plan_of second.now) → ⊥ }
     ensures operands { (w : Wide) → result ≡ Err (PathFault.Wide w) → IsOutside w }
 {
     let tree = match (join, leaf, second) {

@@ -22,19 +22,19 @@ const MOST_NODES: u64 = 65_536;
 /// did. They stand here so that a recursion along a tree hands on references and boxes alone, and a level
 /// of it takes a few words of stack.
 #[derive(Drop)]
-pub(crate) struct Walk {
-    pub(crate) trail: Trail,
-    pub(crate) size: u64,
-    pub(crate) fault: TreeFault,
+pub struct Walk {
+    pub trail: Trail,
+    pub size: u64,
+    pub fault: TreeFault,
 }
 
 /// The walk stopped, and knows the fault. It has no field, so that a box or this is one word.
 #[derive(Clone, Copy)]
-pub(crate) struct Stopped;
+pub struct Stopped;
 
 impl Walk {
     /// A walk at the root of a tree.
-    pub(crate) fn new(alloc: Global) -> Walk
+    pub fn new(alloc: Global) -> Walk
         ensures { result.trail ≡ [] }
     {
         Walk {
@@ -46,7 +46,7 @@ impl Walk {
 
     /// Stops with the fault.
     #[inline(never)]
-    pub(crate) fn stop(&mut self, fault: TreeFault) -> Stopped
+    pub fn stop(&mut self, fault: TreeFault) -> Stopped
         ensures fault { self.new.fault ≡ fault }
         ensures trail { self.new.trail ≡ self.old.trail }
     {
@@ -68,7 +68,7 @@ impl Walk {
 
     /// Goes down to the yes side of a node with the row.
     #[inline(never)]
-    pub(crate) fn down(&mut self, row: &Row) -> Result<(), Stopped>
+    pub fn down(&mut self, row: &Row) -> Result<(), Stopped>
         ensures down { OnOk result (self.new.trail ≡ self.old.trail ++ row.now ∷ []) }
         ensures full { OnErr result ((count : ℕ) → self.new.fault ≡ Full count → ⊥) }
         ensures wide { OnErr result ((w : Wide) → self.new.fault ≡ TooWide w → ⊥) }
@@ -81,7 +81,7 @@ impl Walk {
 
     /// Goes down to the no side of a node with the row.
     #[inline(never)]
-    pub(crate) fn down_no(&mut self, row: &Row) -> Result<(), Stopped>
+    pub fn down_no(&mut self, row: &Row) -> Result<(), Stopped>
         ensures down { OnOk result (self.new.trail ≡ self.old.trail ++ complement row.now ∷ []) }
         ensures fits { OnOk result (NumbersFit (complement_of row.now.affine)) }
         ensures wide { OnErr result ((w : Wide) → self.new.fault ≡ TooWide w → NumbersFit (complement_of row.now.affine) → ⊥) }
@@ -99,10 +99,13 @@ impl Walk {
 
     /// Goes over from the yes side of a node with the row to its no side.
     #[inline(never)]
-    pub(crate) fn turn(&mut self) -> Result<(), Stopped>
-        ensures turned { OnOk result ((front : List Row) (row : Row) → self.old.trail ≡ front ++ row ∷ [] → self.new.trail ≡ front ++ complement row ∷ []) }
-        ensures fits { OnOk result ((front : List Row) (row : Row) → self.old.trail ≡ front ++ row ∷ [] → NumbersFit (complement_of row.affine)) }
-        ensures wide { OnErr result ((w : Wide) → self.new.fault ≡ TooWide w → (front : List Row) (row : Row) → self.old.trail ≡ front ++ row ∷ [] → NumbersFit (complement_of row.affine) → ⊥) }
+    pub fn turn(&mut self) -> Result<(), Stopped>
+        ensures turned { OnOk result ((front : List Row) (row : Row) → self.old.trail ≡ front ++ row ∷ []
+            → self.new.trail ≡ front ++ complement row ∷ []) }
+        ensures fits { OnOk result ((front : List Row) (row : Row) → self.old.trail ≡ front ++ row ∷ []
+            → NumbersFit (complement_of row.affine)) }
+        ensures wide { OnErr result ((w : Wide) → self.new.fault ≡ TooWide w → (front : List Row) (row : Row)
+            → self.old.trail ≡ front ++ row ∷ [] → NumbersFit (complement_of row.affine) → ⊥) }
         ensures operands { OnErr result ((w : Wide) → self.new.fault ≡ TooWide w → IsOutside w) }
         ensures full { OnErr result ((count : ℕ) → self.new.fault ≡ Full count → ⊥) }
     {
@@ -113,9 +116,28 @@ impl Walk {
         }
     }
 
+    /// Goes over from the no side of a node with the row to its yes side. The part that is made is handed
+    /// through.
+    #[inline(never)]
+    pub fn turn_back<R: Rank>(
+        &mut self,
+        row: &Row,
+        made: Box<Tree<R>>,
+    ) -> Result<Box<Tree<R>>, Stopped>
+        ensures tree { IfOk result (λ kept. plan_of kept.value ≡ plan_of made.value) }
+        ensures turned { OnOk result ((front : List Row) (last : Row) → self.old.trail ≡ front ++ last ∷ []
+            → self.new.trail ≡ front ++ row.now ∷ []) }
+        ensures full { OnErr result ((count : ℕ) → self.new.fault ≡ Full count → ⊥) }
+        ensures wide { OnErr result ((w : Wide) → self.new.fault ≡ TooWide w → ⊥) }
+    {
+        self.trail.up();
+        self.down(row)?;
+        Ok(made)
+    }
+
     /// The tree, and its size is known; or it has too many nodes.
     #[inline(never)]
-    pub(crate) fn measured<R: Rank>(&mut self, tree: Box<Tree<R>>) -> Result<Box<Tree<R>>, Stopped>
+    pub fn measured<R: Rank>(&mut self, tree: Box<Tree<R>>) -> Result<Box<Tree<R>>, Stopped>
         ensures tree { IfOk result (λ made. plan_of made.value ≡ plan_of tree.value) }
         ensures size { IfOk result (λ made. self.new.size ≡ size_of (plan_of made.value)) }
         ensures small { OnOk result (self.new.size ≤ 65536) }
@@ -133,7 +155,7 @@ impl Walk {
 
     /// A copy of the tree, and its size is known; or it has too many nodes.
     #[inline(never)]
-    pub(crate) fn copied<R: Rank>(
+    pub fn copied<R: Rank>(
         &mut self,
         alloc: Global,
         tree: &Tree<R>,
@@ -154,7 +176,7 @@ impl Walk {
     /// The yes side where both sides are equal, else the tree with the row at its root. The no side was
     /// made last.
     #[inline(never)]
-    pub(crate) fn join_sides<R: Rank>(
+    pub fn join_sides<R: Rank>(
         &mut self,
         alloc: Global,
         row: &Row,
@@ -167,7 +189,8 @@ impl Walk {
         ensures tree { IfOk result (λ tree. plan_of tree.value ≡ node R.eq row.now (plan_of yes.value) (plan_of no.value)) }
         ensures size { IfOk result (λ tree. self.new.size ≡ size_of (plan_of tree.value)) }
         ensures small { OnOk result (self.new.size ≤ 65536) }
-        ensures full { OnErr result ((count : ℕ) → self.new.fault ≡ Full count → (65536 < count) × (65536 < size_of (node R.eq row.now (plan_of yes.value) (plan_of no.value)))) }
+        ensures full { OnErr result ((count : ℕ) → self.new.fault ≡ Full count
+            → (65536 < count) × (65536 < size_of (node R.eq row.now (plan_of yes.value) (plan_of no.value)))) }
         ensures wide { OnErr result ((w : Wide) → self.new.fault ≡ TooWide w → ⊥) }
         ensures trail { self.new.trail ≡ self.old.trail }
     {
@@ -184,6 +207,31 @@ impl Walk {
             Ok(tree) => Ok(tree),
             Err(error) => Err(self.stop(TreeFault::Memory(error))),
         }
+    }
+
+    /// The same, where the yes side was made last.
+    #[inline(never)]
+    pub fn join_last<R: Rank>(
+        &mut self,
+        alloc: Global,
+        row: &Row,
+        yes: Box<Tree<R>>,
+        no: Box<Tree<R>>,
+        no_size: u64,
+    ) -> Result<Box<Tree<R>>, Stopped>
+        requires yes { (self.old.size ≡ size_of (plan_of yes.value)) × (self.old.size ≤ 65536) }
+        requires no { (no_size ≡ size_of (plan_of no.value)) × (no_size ≤ 65536) }
+        ensures tree { IfOk result (λ tree. plan_of tree.value ≡ node R.eq row.now (plan_of yes.value) (plan_of no.value)) }
+        ensures size { IfOk result (λ tree. self.new.size ≡ size_of (plan_of tree.value)) }
+        ensures small { OnOk result (self.new.size ≤ 65536) }
+        ensures full { OnErr result ((count : ℕ) → self.new.fault ≡ Full count
+            → (65536 < count) × (65536 < size_of (node R.eq row.now (plan_of yes.value) (plan_of no.value)))) }
+        ensures wide { OnErr result ((w : Wide) → self.new.fault ≡ TooWide w → ⊥) }
+        ensures trail { self.new.trail ≡ self.old.trail }
+    {
+        let yes_size = self.size;
+        self.size = no_size;
+        self.join_sides(alloc, row, yes, no, yes_size)
     }
 }
 

@@ -1,5 +1,6 @@
 -- The laws of affine functions as ranks, proved.
-use Rattle.std.proofs.Common.{◌≡◌, ℕ, ◌<◌, ◌↔◌, ℤ, pos, negsuc, neg_ℤ, ◌+ℤ◌, ◌*ℤ◌, ◌≤ℤ◌, ◌<ℤ◌, Bool, true, false, List, length, set, int_lt, cond, arith, inl, ⊎_elim, refl, ◌∙◌, ap}
+use Rattle.std.proofs.Common.{◌≡◌, ℕ, ◌<◌, ◌↔◌, ℤ, pos, negsuc, neg_ℤ, ◌+ℤ◌, ◌*ℤ◌, ◌≤ℤ◌, ◌<ℤ◌, Bool, true, false, List, length, set}
+use Rattle.std.proofs.Common.{int_lt, cond, arith, inl, ⊎_elim, refl, ◌∙◌, ap}
 use Rattle.std.proofs.Common.{eqb, ◌≢◌}
 use Rattle.std.proofs.lemmas.Bool.Decides.{eqb_tells}
 use Rattle.std.proofs.lemmas.Int.{ints, by_lt_z}
@@ -38,7 +39,8 @@ only_is a store =
 pub excess_is : (a b : Affine) (store : List ℤ) → MeetsAny store (only (excess_of a b)) ↔ (value_at b store <ℤ value_at a store)
 excess_is a b store =
     let found = only_is (excess_of a b) store in
-    let whole : value_at (excess_of a b) store ≡ value_at (difference_of a b) store +ℤ value_at (constant_of (negsuc 0)) store = value_sum (difference_of a b) (constant_of (negsuc 0)) store in
+    let whole : value_at (excess_of a b) store ≡ value_at (difference_of a b) store +ℤ value_at (constant_of (negsuc 0)) store =
+    value_sum (difference_of a b) (constant_of (negsuc 0)) store in
     let part = value_difference a b store in
     let one = value_constant (negsuc 0) store in
     (λ met. let least = found.0 met in omega (arith, ints), λ more. found.1 (omega (arith, ints)))
@@ -46,8 +48,11 @@ excess_is a b store =
 pub negative_is : (a : Affine) (store : List ℤ) → MeetsAny store (only (complement_of a)) ↔ (pos 0 ≤ℤ value_at a store → ⊥)
 negative_is a store =
     let found = only_is (complement_of a) store in
-    let is = value_complement a store in
-    (λ met natural. let least = found.0 met in omega (arith, ints), λ fails. by_lt_z (value_at a store) (pos 0) (λ less. found.1 (omega (arith, ints))) (λ from. absurd (fails from)))
+    let is = value_complement a store in (
+      λ met natural. let least = found.0 met in omega (arith, ints),
+      λ fails. by_lt_z (value_at a store) (pos 0)
+          (λ less. found.1 (omega (arith, ints))) (λ from. absurd (fails from)),
+    )
 
 more_is : (a : Affine) (store : List ℤ) → value_at (sum_of a (constant_of (pos 1))) store ≡ value_at a store +ℤ pos 1
 more_is a store = value_sum a (constant_of (pos 1)) store ∙ ap (λ t. value_at a store +ℤ t) (value_constant (pos 1) store)
@@ -55,7 +60,9 @@ more_is a store = value_sum a (constant_of (pos 1)) store ∙ ap (λ t. value_at
 pub more_exceeds : (a : Affine) (store : List ℤ) → value_at a store <ℤ value_at (sum_of a (constant_of (pos 1))) store
 more_exceeds a store = let is = more_is a store in omega (arith, ints)
 
-pub more_keeps : (a b : Affine) (store next : List ℤ) → (value_at (sum_of b (constant_of (pos 1))) next <ℤ value_at (sum_of a (constant_of (pos 1))) store) ↔ (value_at b next <ℤ value_at a store)
+pub more_keeps : (a b : Affine) (store next : List ℤ)
+    → (value_at (sum_of b (constant_of (pos 1))) next <ℤ value_at (sum_of a (constant_of (pos 1))) store)
+    ↔ (value_at b next <ℤ value_at a store)
 more_keeps a b store next =
     let first = more_is a store in
     let second = more_is b next in
@@ -65,20 +72,26 @@ pub chain_is : (u v w : ℤ) → (v <ℤ u → ⊥) → (w <ℤ v → ⊥) → w
 chain_is u v w first second both = by_lt_z v u first (λ at_most. second (omega (arith, ints)))
 
 same_place : (i : ℕ) → eqb i i ≡ true
-same_place i = ⊎_elim (λ (same : (eqb i i ≡ true) × (i ≡ i)). same.0) (λ (apart : (eqb i i ≡ false) × (i ≢ i)). absurd (apart.1 refl)) (eqb_tells i i)
+same_place i = ⊎_elim (λ (same : (eqb i i ≡ true) × (i ≡ i)). same.0)
+    (λ (apart : (eqb i i ≡ false) × (i ≢ i)). absurd (apart.1 refl)) (eqb_tells i i)
 
 -- the value with a number set at the place
-pub value_set : (a : Affine) (place : ℕ) (store : List ℤ) (z : ℤ) → place < 16 → length store ≡ 16 → value_at a (set store place z) ≡ value_at (without a place) store +ℤ coefficient a place *ℤ z
+pub value_set : (a : Affine) (place : ℕ) (store : List ℤ) (z : ℤ) → place < 16 → length store ≡ 16
+    → value_at a (set store place z) ≡ value_at (without a place) store +ℤ coefficient a place *ℤ z
 value_set a place store z low long =
     let inside : place < length store = omega arith in
-    let none : coefficient (without a place) place ≡ pos 0 = number_at-clear a.coef place place ∙ ap (λ t. cond t (pos 0) (number_at a.coef place)) (same_place place) in
-    let here : number_at (set store place z) place ≡ z = number_at-set store place place z inside ∙ ap (λ t. cond t z (number_at store place)) (same_place place) in
+    let none : coefficient (without a place) place ≡ pos 0 = number_at-clear a.coef place place
+    ∙ ap (λ t. cond t (pos 0) (number_at a.coef place)) (same_place place) in
+    let here : number_at (set store place z) place ≡ z = number_at-set store place place z inside
+    ∙ ap (λ t. cond t z (number_at store place)) (same_place place) in
     form_apart a place (set store place z) (pos 1) low
-    ∙ ap (λ t. t +ℤ coefficient a place *ℤ number_at (set store place z) place) (form_unmentioned (without a place) place store (pos 1) z inside none)
+    ∙ ap (λ t. t +ℤ coefficient a place *ℤ number_at (set store place z) place)
+    (form_unmentioned (without a place) place store (pos 1) z inside none)
     ∙ ap (λ t. value_at (without a place) store +ℤ coefficient a place *ℤ t) here
 
 -- the product with the coefficient moves as the trend of its sign says
-product_moves : (c z w : ℤ) (up down : Bool) → int_lt (pos 0) c ≡ up → int_lt c (pos 0) ≡ down → RunsWith (cond up rising (cond down falling unmentioned)) z w → (c *ℤ z) ≤ℤ (c *ℤ w)
+product_moves : (c z w : ℤ) (up down : Bool) → int_lt (pos 0) c ≡ up → int_lt c (pos 0) ≡ down
+    → RunsWith (cond up rising (cond down falling unmentioned)) z w → (c *ℤ z) ≤ℤ (c *ℤ w)
 product_moves c z w true down is other runs = let above : pos 0 ≤ℤ c = omega (arith, ints) in mul_le c z w above runs
 product_moves c z w false true is other runs =
     let above : pos 0 ≤ℤ neg_ℤ c = omega (arith, ints) in
@@ -90,14 +103,20 @@ product_moves c z w false false is other runs =
     let none : c ≡ pos 0 = omega (arith, ints) in
     rw (none, zero_mul z, zero_mul w) (omega (arith, ints))
 
-pub trend_is : (a : Affine) (place : ℕ) (store : List ℤ) (z w : ℤ) → place < 16 → length store ≡ 16 → RunsWith (trend_of a place) z w → value_at a (set store place w) <ℤ value_at a (set store place z) → ⊥
+pub trend_is : (a : Affine) (place : ℕ) (store : List ℤ) (z w : ℤ) → place < 16 → length store ≡ 16 → RunsWith (trend_of a place) z w
+    → value_at a (set store place w) <ℤ value_at a (set store place z) → ⊥
 trend_is a place store z w low long runs less =
     let here = value_set a place store z low long in
     let there = value_set a place store w low long in
-    let moves = product_moves (coefficient a place) z w (int_lt (pos 0) (coefficient a place)) (int_lt (coefficient a place) (pos 0)) refl refl runs in
+    let moves = product_moves (coefficient a place) z w (int_lt (pos 0) (coefficient a place))
+    (int_lt (coefficient a place) (pos 0)) refl refl runs in
     omega (arith, ints)
 
-pub equal_is : (rank other : AffineRank) → IsTrue (pointwise int_eq rank.value.coef other.value.coef && int_eq rank.value.constant other.value.constant) ↔ (rank ≡ other)
+pub equal_is : (rank other : AffineRank)
+    → IsTrue (pointwise int_eq rank.value.coef other.value.coef && int_eq rank.value.constant other.value.constant)
+    ↔ (rank ≡ other)
 equal_is rank other =
-    let decided = affine_eq-Decides rank.value other.value in
-    (λ equal. ap (λ (a : Affine). let r : AffineRank = record { value = a } in r) (decided.0 equal), λ same. decided.1 (ap (λ (r : AffineRank). r.value) same))
+    let decided = affine_eq-Decides rank.value other.value in (
+      λ equal. ap (λ (a : Affine). let r : AffineRank = record { value = a } in r) (decided.0 equal),
+      λ same. decided.1 (ap (λ (r : AffineRank). r.value) same),
+    )

@@ -24,7 +24,8 @@ pub equivalence_by : {K P : Type 0} (f : K → P) (E : K → K → Bool) → ((x
 equivalence_by f E tells = record {
   refl = λ x. (tells x x).1 refl;
   symm = λ x y. both_ways (E x y) (E y x) (λ e. (tells y x).1 (sym ((tells x y).0 e))) (λ e. (tells x y).1 (sym ((tells y x).0 e)));
-  congr = λ x y z same. both_ways (E x z) (E y z) (λ e. (tells y z).1 (sym ((tells x y).0 same) ∙ (tells x z).0 e)) (λ e. (tells x z).1 ((tells x y).0 same ∙ (tells y z).0 e));
+  congr = λ x y z same. both_ways (E x z) (E y z) (λ e. (tells y z).1 (sym ((tells x y).0 same) ∙ (tells x z).0 e))
+      (λ e. (tells x z).1 ((tells x y).0 same ∙ (tells y z).0 e));
 }
 
 pub pick_eq-Decides : (pick other : Pick) → Decides (same_pick pick other) (pick ≡ other)
@@ -42,7 +43,8 @@ why_eq-Decides Left Left = (λ e. refl, λ e. refl)
 why_eq-Decides Right Right = (λ e. refl, λ e. refl)
 why_eq-Decides Now Now = (λ e. refl, λ e. refl)
 why_eq-Decides Dead Dead = (λ e. refl, λ e. refl)
-why_eq-Decides (Step pick) (Step other) = let decided = pick_eq-Decides pick other in (λ e. ap (λ t. Step t) (decided.0 e), λ e. decided.1 (cc))
+why_eq-Decides (Step pick) (Step other) = let decided = pick_eq-Decides pick other in
+    (λ e. ap (λ t. Step t) (decided.0 e), λ e. decided.1 (cc))
 why_eq-Decides _ _ = (λ e. absurd (false≢true e), λ e. absurd (cc))
 
 op_eq-Decides : (op other : Op) → Decides ((op_eq.ghosts).eq op other) (op ≡ other)
@@ -55,7 +57,8 @@ wide_eq-Decides : (wide other : Operands) → Decides ((wide_eq.ghosts).eq wide 
 wide_eq-Decides wide other =
     Decides-like _ (λ (all : (wide.left ≡ other.left) × ((wide.right ≡ other.right) × (wide.op ≡ other.op))). parts all.0 all.1.0 all.1.1)
     (λ same. (ap (λ t. t.left) same, (ap (λ t. t.right) same, ap (λ t. t.op) same)))
-    (Decides-and _ _ (Decides-int_eq wide.left other.left) (Decides-and _ _ (Decides-int_eq wide.right other.right) (op_eq-Decides wide.op other.op)))
+    (Decides-and _ _ (Decides-int_eq wide.left other.left) (Decides-and _ _ (Decides-int_eq wide.right other.right)
+    (op_eq-Decides wide.op other.op)))
   where
     parts : wide.left ≡ other.left → wide.right ≡ other.right → wide.op ≡ other.op → wide ≡ other
     parts lefts rights ops =
@@ -64,9 +67,12 @@ wide_eq-Decides wide other =
         ∙ ap (λ (t : Op). let w : Operands = record { left = other.left; right = other.right; op = t } in w) ops
 
 pub cause_eq-Decides : (cause other : Cause) → Decides (same_cause cause other) (cause ≡ other)
-cause_eq-Decides (Wide wide) (Wide other) = let decided = wide_eq-Decides wide other in (λ e. ap (λ t. Wide t) (decided.0 e), λ e. decided.1 (cc))
-cause_eq-Decides (Rows count) (Rows other) = let decided = Decides-eqb count other in (λ e. ap (λ t. Rows t) (decided.0 e), λ e. decided.1 (cc))
-cause_eq-Decides (Nodes count) (Nodes other) = let decided = Decides-eqb count other in (λ e. ap (λ t. Nodes t) (decided.0 e), λ e. decided.1 (cc))
+cause_eq-Decides (Wide wide) (Wide other) = let decided = wide_eq-Decides wide other in
+    (λ e. ap (λ t. Wide t) (decided.0 e), λ e. decided.1 (cc))
+cause_eq-Decides (Rows count) (Rows other) = let decided = Decides-eqb count other in
+    (λ e. ap (λ t. Rows t) (decided.0 e), λ e. decided.1 (cc))
+cause_eq-Decides (Nodes count) (Nodes other) = let decided = Decides-eqb count other in
+    (λ e. ap (λ t. Nodes t) (decided.0 e), λ e. decided.1 (cc))
 cause_eq-Decides (Point num den) (Point other by) =
     Decides-like _ (λ (both : (num ≡ other) × (den ≡ by)). cc) (λ (same : Point num den ≡ Point other by). (cc, cc))
     (Decides-and _ _ (slice_eq-Decides Decides-int_eq num other _ refl) (Decides-int_eq den by))
@@ -77,11 +83,14 @@ cause_eq-Decides _ _ = (λ e. absurd (false≢true e), λ e. absurd (cc))
 pub plan_eq-Decides : {R : Type 0} (same : R → R → Bool) → ((rank other : R) → Decides (same rank other) (rank ≡ other))
     → (plan other : Plan R) → Decides (same_plan same plan other) (plan ≡ other)
 plan_eq-Decides same tells bottom bottom = (λ e. refl, λ e. refl)
-plan_eq-Decides same tells (top cause) (top other) = let decided = cause_eq-Decides cause other in (λ e. ap (λ t. top t) (decided.0 e), λ e. decided.1 (cc))
+plan_eq-Decides same tells (top cause) (top other) = let decided = cause_eq-Decides cause other in
+    (λ e. ap (λ t. top t) (decided.0 e), λ e. decided.1 (cc))
 plan_eq-Decides same tells (leaf why rank) (leaf other second) =
     Decides-like _ (λ (both : (why ≡ other) × (rank ≡ second)). cc) (λ (whole : leaf why rank ≡ leaf other second). (cc, cc))
     (Decides-and _ _ (why_eq-Decides why other) (tells rank second))
 plan_eq-Decides same tells (branch row this that) (branch other first second) =
-    Decides-like _ (λ (all : (row ≡ other) × ((this ≡ first) × (that ≡ second))). cc) (λ (whole : branch row this that ≡ branch other first second). (cc, (cc, cc)))
-    (Decides-and _ _ (row_eq-Decides row other) (Decides-and _ _ (plan_eq-Decides same tells this first) (plan_eq-Decides same tells that second)))
+    Decides-like _ (λ (all : (row ≡ other) × ((this ≡ first) × (that ≡ second))). cc)
+    (λ (whole : branch row this that ≡ branch other first second). (cc, (cc, cc)))
+    (Decides-and _ _ (row_eq-Decides row other) (Decides-and _ _ (plan_eq-Decides same tells this first)
+    (plan_eq-Decides same tells that second)))
 plan_eq-Decides same tells _ _ = (λ e. absurd (false≢true e), λ e. absurd (cc))

@@ -7,4 +7,5 @@ use Rattle.decision_tree.specs.Plans.{Plan}
 
 abbrev pub family_code : {R : Type 0} → Coded R → Coded (Family R)
 family_code {R} code =
-    code_by (ℕ × List (Plan R)) (coded× coded_ℕ (coded_list (plan_code code))) (λ family. (family.part, family.trees)) (λ both. record { part = both.0; trees = both.1 }) (λ family. refl)
+    code_by (ℕ × List (Plan R)) (coded× coded_ℕ (coded_list (plan_code code))) (λ family. (family.part, family.trees))
+    (λ both. record { part = both.0; trees = both.1 }) (λ family. refl)

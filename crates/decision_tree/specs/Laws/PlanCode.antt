@@ -34,7 +34,8 @@ module _ {R : Type 0} where
   first [] = bottom
   first (plan ∷ rest) = plan
 
-  plans_of_marks : (plan : Plan R) (rest : List (Mark R)) (stack : List (Plan R)) → plans (marks plan ++ rest) stack ≡ plans rest (plan ∷ stack)
+  plans_of_marks : (plan : Plan R) (rest : List (Mark R)) (stack : List (Plan R))
+      → plans (marks plan ++ rest) stack ≡ plans rest (plan ∷ stack)
   plans_of_marks bottom rest stack = refl
   plans_of_marks (top cause) rest stack = refl
   plans_of_marks (leaf why rank) rest stack = refl
@@ -49,5 +50,6 @@ module _ {R : Type 0} where
 
   abbrev pub plan_code : Coded R → Coded (Plan R)
   plan_code code =
-      code_by (List (Mark R)) (coded_list (coded⊎ (cause_type.the_row).coded (coded⊎ (coded× (why_type.the_row).coded code) (coded_list (row_type.the_row).coded))))
+      code_by (List (Mark R)) (coded_list (coded⊎ (cause_type.the_row).coded
+      (coded⊎ (coded× (why_type.the_row).coded code) (coded_list (row_type.the_row).coded))))
       marks (λ t. first (plans t [])) back

@@ -11,7 +11,7 @@ pub returns-in-Err-graft-clause-full : goal.returns-in-Err-graft-clause-full
 returns-in-Err-graft-clause-full g t c count is =
     let way : c.turn.new.self.trail ≡ c.args.walk.now.trail ++ complement c.in-Node.row ∷ [] = c.in_default.ensures.turned c.args.walk.now.trail c.in-Node.row (c.in_ok-this-in-Node.ensures.trail ∙ c.in_ok-down-in-Node.ensures.down) in
     let more = c.in-Err-graft.ensures.full count is in
-    (more.0, rw c.in-Node.is (graft_second g.R.PartialEq.eq g.met.R.Rank.equal_law (joined_at g.R.PartialEq.eq g.R.Rank.where_greater g.R.Rank.greater_fits c.args.join (plan_of c.args.second.now)) c.args.walk.now.trail c.in-Node.row (plan_of c.in-Node.yes.value) (plan_of c.in-Node.no.value) 65536 (rw (← way, ← c.deref-in-Node-2.ensures) more.1)))
+    (more.0, rw c.in-Node.is (graft_second g.R.PartialEq.eq g.met.R.Rank.equal_law (joined_at g.R.PartialEq.eq g.R.Rank.where_greater g.R.Rank.greater_fits c.args.join (plan_of c.args.second.now)) c.args.walk.now.trail c.in-Node.row (plan_of c.in-Node.yes.value) (plan_of c.in-Node.no.value) 65536 (rw (← way, ← c.deref-in-Node-4.ensures) more.1)))
 
 pub returns-in-Bottom-clause-tree : goal.returns-in-Bottom-clause-tree
 returns-in-Bottom-clause-tree g t c = rw c.in-Bottom.is (rw c.in-Bottom.is at c.graft_leaf.ensures.tree)
@@ -31,10 +31,16 @@ returns-in-Leaf-clause-tree g t c = rw c.in-Leaf.is (rw c.in-Leaf.is at c.graft_
 pub returns-in-Leaf-clause-fits : goal.returns-in-Leaf-clause-fits
 returns-in-Leaf-clause-fits g t c = rw c.in-Leaf.is (rw c.in-Leaf.is at c.graft_leaf-in-Leaf.ensures.fits)
 
-pub returns-in-Err-clause-wide : goal.returns-in-Err-clause-wide
-returns-in-Err-clause-wide g t c w is fits =
+pub returns-in-Err-turn-clause-wide : goal.returns-in-Err-turn-clause-wide
+returns-in-Err-turn-clause-wide g t c w is fits =
     let sides : GraftFits g.R.PartialEq.eq (JoinFits g.R.PartialEq.eq g.R.Rank.where_greater g.R.Rank.greater_fits c.args.join (plan_of c.args.second.now)) c.args.walk.now.trail (branch c.in-Node.row (plan_of c.in-Node.yes.value) (plan_of c.in-Node.no.value)) = rw c.in-Node.is at fits in
-    c.in-Err.ensures.wide w is c.args.walk.now.trail c.in-Node.row (c.in_ok-this-in-Node.ensures.trail ∙ c.in_ok-down-in-Node.ensures.down) sides.1
+    c.in-Err-turn.ensures.wide w is c.args.walk.now.trail c.in-Node.row (c.in_ok-this-in-Node.ensures.trail ∙ c.in_ok-down-in-Node.ensures.down) sides.1
+
+pub returns-in_err-other-in-Node-2-clause-full : goal.returns-in_err-other-in-Node-2-clause-full
+returns-in_err-other-in-Node-2-clause-full g t c = on_err c.from_residual-in_err-other-in-Node-2.result (λ count is.
+    let way : c.down_no-then-is_smaller.new.self.trail ≡ c.args.walk.now.trail ++ complement c.in-Node.row ∷ [] = c.in_ok-down_no-in-Node-2.ensures.down in
+    let more = c.in_err-other-in-Node-2.ensures.full count is in
+    (more.0, rw c.in-Node.is (graft_second g.R.PartialEq.eq g.met.R.Rank.equal_law (joined_at g.R.PartialEq.eq g.R.Rank.where_greater g.R.Rank.greater_fits c.args.join (plan_of c.args.second.now)) c.args.walk.now.trail c.in-Node.row (plan_of c.in-Node.yes.value) (plan_of c.in-Node.no.value) 65536 (rw (← way, ← c.deref-then-is_smaller.ensures) more.1))))
 
 -- ---- where the yes side is a leaf
 
