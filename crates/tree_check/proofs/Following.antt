@@ -23,14 +23,14 @@ use Rattle.decision_tree.specs.Plans.{bottom, plan_of}
 use Rattle.tree_support.specs.Flow.{Arc, above_end, assigning, below_end, rows_given, testing}
 use Rattle.tree_support.specs.Setting.{Trees, trees_in}
 use Rattle.tree_support.specs.Support.{HasNoStore}
-use Rattle.tree_check.specs.declared.finding.Finding.{Finding}
+use Rattle.rows_in_hand.specs.declared.finding.Finding.{Finding}
 use Rattle.tree_check.specs.Moves.{less_over, less_over_each}
-use Rattle.tree_check.specs.Searches.{IsSearched}
+use Rattle.rows_in_hand.specs.Searches.{IsSearched}
 use Rattle.tree_check.specs.Walks.{systems_behind}
 use Rattle.tree_support.specs.Forming.{Formed, given}
-use Rattle.tree_check.specs.Hands.{Adds, AreFormed, Held, IsMetNowhere, all_asked, asked}
-use Rattle.tree_check.proofs.Choosing.{nowhere_with}
-use Rattle.tree_check.proofs.Holding.{held_more, nowhere_added}
+use Rattle.rows_in_hand.specs.Hands.{Adds, AreFormed, Held, IsMetNowhere, all_asked, asked}
+use Rattle.rows_in_hand.proofs.Choosing.{nowhere_with}
+use Rattle.rows_in_hand.proofs.Holding.{held_more, nowhere_added}
 use Rattle.tree_check.proofs.Walking.{asked_more, searched_first, searched_then}
 
 -- ---- what a label of a valid program names

@@ -12,11 +12,11 @@ use Rattle.tree_support.specs.Forming.{Formed}
 use Rattle.tree_support.specs.Setting.{Setting, Trees, trees_in}
 use Rattle.tree_support.specs.Systems.{of_keep, of_leaf, of_pick, of_rank, of_why, undefined_at, unedged, unnatural}
 use Rattle.tree_support.specs.Support.{HasNoStore}
-use Rattle.tree_check.specs.declared.finding.Finding.{Finding}
-use Rattle.tree_check.specs.Hands.{IsTried, all_asked}
+use Rattle.rows_in_hand.specs.declared.finding.Finding.{Finding}
+use Rattle.rows_in_hand.specs.Hands.{IsTried, all_asked}
 use Rattle.tree_check.specs.Leaves.{IsEndTried, IsExitTried, IsTruthTried}
 use Rattle.tree_check.specs.Checking.{families_of}
-use Rattle.tree_check.specs.Searches.{IsSearched}
+use Rattle.rows_in_hand.specs.Searches.{IsSearched}
 use Rattle.tree_check.proofs.Walking.{plain_searched, searched_first, searched_none, searched_then}
 
 -- past the last part nothing is defined

@@ -1,6 +1,3 @@
-pub mod Holding
-pub mod Choosing
-pub mod Justifying
 pub mod Walking
 pub mod Following
 pub mod Leaving

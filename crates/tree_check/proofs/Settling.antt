@@ -22,7 +22,7 @@ use Rattle.tree_support.proofs.Dropping.{changes, same_counts}
 use Rattle.tree_check.specs.Checking.{WasCutShort}
 use Rattle.tree_check.specs.declared.survey.Refuted.{Refuted}
 use Rattle.tree_check.specs.Rounds.{Advances, IsSupportedAt, defined_in, defined_of, dropped_by, without_refuted}
-use Rattle.tree_check.specs.Searches.{Finds}
+use Rattle.rows_in_hand.specs.Searches.{Finds}
 use Rattle.tree_check.specs.Surveys.{IsReviewed}
 
 module _ {R : Type 0} where

@@ -21,13 +21,13 @@ use Rattle.tree_support.specs.Forming.{Formed, given}
 use Rattle.tree_support.specs.Setting.{Setting, Trees, trees_in}
 use Rattle.tree_support.specs.Support.{HasNoStore}
 use Rattle.tree_support.specs.Systems.{System, of_arcs, of_leaf, of_now, of_pick, of_why, systems, undefined_at, unedged, unnatural}
-use Rattle.tree_check.specs.declared.finding.Finding.{Finding}
+use Rattle.rows_in_hand.specs.declared.finding.Finding.{Finding}
 use Rattle.tree_check.specs.declared.leaf.Part.{Part}
 use Rattle.tree_check.specs.declared.leaf.Part.TheVariants.{True, Exit, Ending}
-use Rattle.tree_check.specs.Hands.{Held, IsMetNowhere, all_asked}
+use Rattle.rows_in_hand.specs.Hands.{Held, IsMetNowhere, all_asked}
 use Rattle.tree_check.specs.Leaves.{IsEndTried, IsExitTried, IsTruthTried, part_formula}
 use Rattle.tree_check.specs.Moves.{less_over, less_over_each}
-use Rattle.tree_check.specs.Searches.{Finds, IsSearched}
+use Rattle.rows_in_hand.specs.Searches.{Finds, IsSearched}
 use Rattle.tree_check.specs.Surveys.{IsReviewed, IsSurveyed, systems_within}
 use Rattle.tree_check.specs.Walks.{side_of}
 use Rattle.tree_check.proofs.Following.{nowhere_more}
@@ -223,7 +223,7 @@ held_empty rows wide empty none =
       shown = λ item row member. absurd (let low = member.1 in omega arith);
       there = λ item member. absurd (let low = member.1 in omega arith);
       whole = λ is. (refl, λ k d low. absurd (omega arith));
-      few = omega arith;
+      apart = λ two. absurd (let low = two.row_in.1 in omega arith);
       missing = λ item member. absurd (let low = member.1 in omega arith);
       outside = tt;
     })

@@ -15,12 +15,12 @@ use Rattle.linear_solve.proofs.Lists.{all_of, member_of}
 use Rattle.tree_support.specs.Forming.{Formed}
 use Rattle.tree_support.specs.Support.{HasNoStore, choices, kinds_of}
 use Rattle.tree_support.specs.Systems.{Claim, System, exceeding, moved_by, nothing, plain}
-use Rattle.tree_check.specs.declared.finding.Finding.{Finding}
-use Rattle.tree_check.specs.Hands.{IsMetNowhere, IsTried, Refutes, all_asked, all_chosen, asked, kind_of, kinds, unformed}
-use Rattle.tree_check.specs.Searches.{Finds, IsClaimFormed, IsClaimTried, IsSearched, lists_there}
+use Rattle.rows_in_hand.specs.declared.finding.Finding.{Finding}
+use Rattle.rows_in_hand.specs.Hands.{IsMetNowhere, IsTried, Refutes, all_asked, all_chosen, asked, kind_of, kinds, unformed}
+use Rattle.rows_in_hand.specs.Searches.{Finds, IsClaimFormed, IsClaimTried, IsSearched, lists_there}
 use Rattle.tree_check.specs.Walks.{ending, side_of, systems_behind}
-use Rattle.tree_check.proofs.Choosing.{nowhere_with}
-use Rattle.tree_check.proofs.Justifying.{justified, justified_unformed, kinds_with}
+use Rattle.rows_in_hand.proofs.Choosing.{nowhere_with}
+use Rattle.rows_in_hand.proofs.Justifying.{justified, justified_unformed, kinds_with}
 
 pub asked_more : (asks : List Formed) (a : Formed) → all_asked (asks ++ a ∷ []) ≡ all_asked asks ++ asked a ∷ []
 asked_more asks a = map-append (λ a. asked a) asks (a ∷ [])

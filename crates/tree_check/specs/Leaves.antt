@@ -7,9 +7,10 @@ use Rattle.ctl_formula.specs.Formulas.{Ctl, af_exit, exit, truth}
 use Rattle.tree_support.specs.Setting.{Setting}
 use Rattle.tree_support.specs.Forming.{Formed}
 use Rattle.tree_check.specs.Checking.{families_of}
-use Rattle.tree_check.specs.Hands.{IsTried, all_asked}
-use Rattle.tree_check.specs.declared.finding.Finding.{Finding}
+use Rattle.rows_in_hand.specs.Hands.{IsTried, all_asked}
+use Rattle.rows_in_hand.specs.declared.finding.Finding.{Finding}
 use Rattle.tree_check.specs.declared.leaf.Part.{Part}
+use Rattle.tree_check.specs.declared.leaf.Stand.{Stand}
 use Rattle.tree_check.specs.declared.leaf.Part.TheVariants.{True, Exit, Ending}
 use Rattle.tree_check.specs.declared.moves.Moves.{Moves}
 use Rattle.tree_check.specs.Moves.{arcs_of}
@@ -40,3 +41,7 @@ module _ {R : Type 0} where
     pub formula : at.formula ≡ part_formula part
     pub arcs : at.flow.arcs label ≡ arcs_of moves
     pub parts : at.parts ≡ families_of smaller
+
+  -- it is so in whatever setting the stand is for the part
+  abbrev pub WhereStood : Part → Stand R → (Setting R → Type 0) → Type 0
+  WhereStood part stand Is = (at : Setting R) → IsAt at part stand.label stand.moves.now stand.parts.now → Is at

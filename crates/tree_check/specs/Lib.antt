@@ -1,6 +1,4 @@
 pub mod Checking
-pub mod Hands
-pub mod Searches
 pub mod Walks
 pub mod Moves
 pub mod Leaves

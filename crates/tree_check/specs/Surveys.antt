@@ -7,8 +7,8 @@ use Rattle.tree_support.specs.Forming.{Formed, given}
 use Rattle.tree_support.specs.Setting.{Setting, Trees}
 use Rattle.tree_support.specs.Support.{HasNoStore}
 use Rattle.tree_support.specs.Systems.{System, of_leaf, systems}
-use Rattle.tree_check.specs.Searches.{Finds}
-use Rattle.tree_check.specs.declared.finding.Finding.{Finding}
+use Rattle.rows_in_hand.specs.Searches.{Finds}
+use Rattle.rows_in_hand.specs.declared.finding.Finding.{Finding}
 use Rattle.tree_check.specs.declared.survey.Refuted.{Refuted}
 
 module _ {R : Type 0} (ranks : Ranks R) (at : Setting R) (family : Trees R) (label : ℕ) where

@@ -38,11 +38,17 @@ pub fn check<D: NumDomain, R: Rank>(
     requires states { length inv.now ≡ length (all_labels (statements graph.now.body)) }
     requires trees { length family.old.trees ≡ length (all_labels (statements graph.now.body)) }
     requires leaves { (label : ℕ) → leaves_of (trees_in family.old.trees label) < 2 ^ 64 - 1 }
-    ensures legal { IfOk result (λ drops. Eliminates R.Rank.own (setting_of (statements graph.now.body) (told_by D.told_bounds D.told_rows D.seen_empty inv.now) (ctl formula.now) (families_of parts.now)) (trees_in family.old.trees) drops.items (trees_in family.new.trees)) }
-    ensures supported { OnOk result (IsSupported R.Rank.own (setting_of (statements graph.now.body) (told_by D.told_bounds D.told_rows D.seen_empty inv.now) (ctl formula.now) (families_of parts.now)) (trees_in family.new.trees)) }
+    ensures legal { IfOk result (λ drops. Eliminates R.Rank.own (setting_of (statements graph.now.body)
+        (told_by D.told_bounds D.told_rows D.seen_empty inv.now) (ctl formula.now) (families_of parts.now))
+        (trees_in family.old.trees) drops.items (trees_in family.new.trees)) }
+    ensures supported { OnOk result (IsSupported R.Rank.own (setting_of (statements graph.now.body)
+        (told_by D.told_bounds D.told_rows D.seen_empty inv.now) (ctl formula.now) (families_of parts.now))
+        (trees_in family.new.trees)) }
     ensures labels { length family.new.trees ≡ length family.old.trees }
     ensures part { family.new.part ≡ family.old.part }
-    ensures begun { OnErr result (WasCutShort R.Rank.own (setting_of (statements graph.now.body) (told_by D.told_bounds D.told_rows D.seen_empty inv.now) (ctl formula.now) (families_of parts.now)) (trees_in family.old.trees) (trees_in family.new.trees)) }
+    ensures begun { OnErr result (WasCutShort R.Rank.own (setting_of (statements graph.now.body)
+        (told_by D.told_bounds D.told_rows D.seen_empty inv.now) (ctl formula.now) (families_of parts.now))
+        (trees_in family.old.trees) (trees_in family.new.trees)) }
 {
     let premises = Premises {
         alloc,

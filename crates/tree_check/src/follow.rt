@@ -6,17 +6,16 @@ ghost use Rattle.tree_support.specs.Forming.{Formed, given, minus, plus};
 ghost use Rattle.tree_support.specs.Setting.{trees_in};
 ghost use Rattle.linear_cons.specs.Functions.{constant_of, variable_at};
 ghost use Rattle.linear_forms.specs.Linearising as exactness;
-ghost use Rattle.tree_check.specs.Hands.{AreFormed, Forms, Held, IsMetNowhere, all_asked, asked};
+ghost use Rattle.rows_in_hand.specs.Hands.{AreFormed, Forms, IsMetNowhere, all_asked, asked};
 ghost use Rattle.tree_check.specs.Moves.{HasPlace, arcs_of, less_over_each};
-ghost use Rattle.tree_check.specs.Searches.{IsLonger, IsSame, IsSearched};
+ghost use Rattle.rows_in_hand.specs.Searches.{Holds, IsLonger, IsSame, IsSearched, WhereAsked};
 ghost use Rattle.tree_check.specs.Walks.{systems_behind};
 
-use crate::finding::Finding;
-use crate::hand::Hand;
 use crate::moves::Moves;
 use crate::walk::Way;
 use decision_tree::{Rank, Tree};
 use linear_cons::{Affine, Linear, Row, RowKind, Rows, Wide};
+use rows_in_hand::{Finding, Hand};
 use std::alloc::AllocError;
 
 /// The place that is no variable's, where a value is kept while it is chosen.
@@ -25,8 +24,10 @@ const CHOSEN_PLACE: u8 = 15;
 /// Adds the rows. False where no store meets the rows in hand with them.
 pub(crate) fn add_rows(rows: &[Row], hand: &mut Hand) -> Result<bool, AllocError>
     ensures longer { IfOk result (λ added. IsLonger hand.old hand.new) }
-    ensures held { IfOk result (λ added. added ≡ true → (asks : List Formed) → Held (all_asked asks) hand.old.rows.items hand.old.wide → Held (all_asked (asks ++ rows_given rows.now)) hand.new.rows.items hand.new.wide) }
-    ensures nowhere { IfOk result (λ added. added ≡ false → (asks : List Formed) → Held (all_asked asks) hand.old.rows.items hand.old.wide → IsMetNowhere (all_asked (asks ++ rows_given rows.now))) }
+    ensures held { IfOk result (λ added. added ≡ true → WhereAsked hand.old (λ asks.
+        Holds hand.new (all_asked (asks ++ rows_given rows.now)))) }
+    ensures nowhere { IfOk result (λ added. added ≡ false → WhereAsked hand.old (λ asks.
+        IsMetNowhere (all_asked (asks ++ rows_given rows.now)))) }
 {
     for row in rows {
         if !hand.add(Ok(Row::of(row.affine)))? {
@@ -46,7 +47,9 @@ pub(crate) fn refute_at<R: Rank>(
 ) -> Result<bool, AllocError>
     requires { IfSome way.now.sets (λ s. s.0 < 16) }
     ensures same { IfOk result (λ refuted. refuted ≡ false → IsSame hand.old hand.new) }
-    ensures searched { IfOk result (λ refuted. (asks : List Formed) → Held (all_asked asks) hand.old.rows.items hand.old.wide → IsSearched R.Rank.own (systems_behind way.now.edge way.now.sets way.now.limit (trees_in (map plan_of trees.now) label) asks) refuted found.new) }
+    ensures searched { IfOk result (λ refuted. WhereAsked hand.old (λ asks.
+        IsSearched R.Rank.own (systems_behind way.now.edge way.now.sets way.now.limit (trees_in (map plan_of trees.now) label) asks)
+        refuted found.new)) }
 {
     match trees.get(label as usize) {
         Some(tree) => {
@@ -71,7 +74,9 @@ fn refute_behind<R: Rank>(
 ) -> Result<bool, AllocError>
     requires { IfSome way.now.sets (λ s. s.0 < 16) }
     ensures same { IfOk result (λ refuted. refuted ≡ false → IsSame hand.old hand.new) }
-    ensures searched { IfOk result (λ refuted. (asks : List Formed) → Held (all_asked asks) hand.old.rows.items hand.old.wide → IsSearched R.Rank.own (systems_behind way.now.edge way.now.sets way.now.limit (trees_in (map plan_of trees.now) label) (asks ++ rows_given rows.now)) refuted found.new) }
+    ensures searched { IfOk result (λ refuted. WhereAsked hand.old (λ asks.
+        IsSearched R.Rank.own (systems_behind way.now.edge way.now.sets way.now.limit (trees_in (map plan_of trees.now) label)
+        (asks ++ rows_given rows.now)) refuted found.new)) }
 {
     let mark = hand.mark();
     if !add_rows(rows, hand)? {
@@ -96,7 +101,9 @@ fn refute_each<R: Rank>(
     found: &mut Option<Finding>,
 ) -> Result<bool, AllocError>
     ensures same { IfOk result (λ refuted. refuted ≡ false → IsSame hand.old hand.new) }
-    ensures searched { IfOk result (λ refuted. (asks : List Formed) → Held (all_asked asks) hand.old.rows.items hand.old.wide → IsSearched R.Rank.own (less_over_each (trees_in (map plan_of trees.now)) limit.now (testing edge label conjunctions.now) asks) refuted found.new) }
+    ensures searched { IfOk result (λ refuted. WhereAsked hand.old (λ asks.
+        IsSearched R.Rank.own (less_over_each (trees_in (map plan_of trees.now)) limit.now (testing edge label conjunctions.now) asks)
+        refuted found.new)) }
 {
     let way = Way {
         edge,
@@ -123,7 +130,9 @@ fn refute_above<R: Rank>(
 ) -> Result<bool, AllocError>
     requires { IfSome way.now.sets (λ s. s.0 < 16) }
     ensures same { IfOk result (λ refuted. refuted ≡ false → IsSame hand.old hand.new) }
-    ensures searched { IfOk result (λ refuted. (asks : List Formed) → Held (all_asked asks) hand.old.rows.items hand.old.wide → IsSearched R.Rank.own (systems_behind way.now.edge way.now.sets way.now.limit (trees_in (map plan_of trees.now) label) ((asks ++ above_end value.now.affine value.now.lo) ++ below_end value.now.affine value.now.hi)) refuted found.new) }
+    ensures searched { IfOk result (λ refuted. WhereAsked hand.old (λ asks.
+        IsSearched R.Rank.own (systems_behind way.now.edge way.now.sets way.now.limit (trees_in (map plan_of trees.now) label)
+        ((asks ++ above_end value.now.affine value.now.lo) ++ below_end value.now.affine value.now.hi)) refuted found.new)) }
 {
     let mark = hand.mark();
     let formed = above(value);
@@ -148,7 +157,9 @@ fn refute_below<R: Rank>(
 ) -> Result<bool, AllocError>
     requires { IfSome way.now.sets (λ s. s.0 < 16) }
     ensures same { IfOk result (λ refuted. refuted ≡ false → IsSame hand.old hand.new) }
-    ensures searched { IfOk result (λ refuted. (asks : List Formed) → Held (all_asked asks) hand.old.rows.items hand.old.wide → IsSearched R.Rank.own (systems_behind way.now.edge way.now.sets way.now.limit (trees_in (map plan_of trees.now) label) (asks ++ below_end value.now.affine value.now.hi)) refuted found.new) }
+    ensures searched { IfOk result (λ refuted. WhereAsked hand.old (λ asks.
+        IsSearched R.Rank.own (systems_behind way.now.edge way.now.sets way.now.limit (trees_in (map plan_of trees.now) label)
+        (asks ++ below_end value.now.affine value.now.hi)) refuted found.new)) }
 {
     let mark = hand.mark();
     let formed = below(value);
@@ -166,8 +177,10 @@ fn refute_below<R: Rank>(
 fn add_end(formed: Option<Result<RowKind, Wide>>, hand: &mut Hand) -> Result<bool, AllocError>
     ensures same { IfOk result (λ added. added ≡ false → IsSame hand.old hand.new) }
     ensures longer { IfOk result (λ added. IsLonger hand.old hand.new) }
-    ensures held { IfOk result (λ added. added ≡ true → (asks ends : List Formed) → AreFormed ends formed → Held (all_asked asks) hand.old.rows.items hand.old.wide → Held (all_asked (asks ++ ends)) hand.new.rows.items hand.new.wide) }
-    ensures nowhere { IfOk result (λ added. added ≡ false → (asks ends : List Formed) → AreFormed ends formed → Held (all_asked asks) hand.old.rows.items hand.old.wide → IsMetNowhere (all_asked (asks ++ ends))) }
+    ensures held { IfOk result (λ added. added ≡ true → (asks ends : List Formed) → AreFormed ends formed → Holds hand.old (all_asked asks)
+        → Holds hand.new (all_asked (asks ++ ends))) }
+    ensures nowhere { IfOk result (λ added. added ≡ false → (asks ends : List Formed) → AreFormed ends formed
+        → Holds hand.old (all_asked asks) → IsMetNowhere (all_asked (asks ++ ends))) }
 {
     match formed {
         None => Ok(true),
@@ -225,7 +238,9 @@ impl Moves {
     ) -> Result<bool, AllocError>
         requires { HasPlace self.now }
         ensures same { IfOk result (λ refuted. refuted ≡ false → IsSame hand.old hand.new) }
-        ensures searched { IfOk result (λ refuted. (asks : List Formed) → Held (all_asked asks) hand.old.rows.items hand.old.wide → IsSearched R.Rank.own (less_over_each (trees_in (map plan_of trees.now)) limit.now (arcs_of self.now) asks) refuted found.new) }
+        ensures searched { IfOk result (λ refuted. WhereAsked hand.old (λ asks.
+            IsSearched R.Rank.own (less_over_each (trees_in (map plan_of trees.now)) limit.now (arcs_of self.now) asks)
+            refuted found.new)) }
     {
         match self {
             Moves::Pass { next } => {
@@ -273,7 +288,8 @@ fn refute_assigned<R: Rank>(
 ) -> Result<bool, AllocError>
     requires { IfSome sets (λ s. s.0 < 16) }
     ensures same { IfOk result (λ refuted. refuted ≡ false → IsSame hand.old hand.new) }
-    ensures searched { IfOk result (λ refuted. (asks : List Formed) → Held (all_asked asks) hand.old.rows.items hand.old.wide → IsSearched R.Rank.own (systems_behind 0 sets (Some limit.now) (trees_in (map plan_of trees.now) label) asks) refuted found.new) }
+    ensures searched { IfOk result (λ refuted. WhereAsked hand.old (λ asks.
+        IsSearched R.Rank.own (systems_behind 0 sets (Some limit.now) (trees_in (map plan_of trees.now) label) asks) refuted found.new)) }
 {
     let way = Way {
         edge: 0,

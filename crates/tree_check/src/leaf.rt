@@ -1,24 +1,21 @@
 //! One leaf of a family, by its why.
 ghost use Rattle.std.specs.Prelude.{◌≡◌, ◌∷◌, List, [], false, IfOk, map};
 ghost use Rattle.decision_tree.specs.Plans.{leaf, plan_of};
-ghost use Rattle.tree_support.specs.Forming.{Formed};
-ghost use Rattle.tree_support.specs.Setting.{Setting, trees_in};
+ghost use Rattle.tree_support.specs.Setting.{trees_in};
 ghost use Rattle.tree_support.specs.Systems.{of_leaf, of_pick, of_why, unedged, unnatural, undefined_at};
-ghost use Rattle.tree_check.specs.Hands.{Held, IsTried, all_asked};
-ghost use Rattle.tree_check.specs.Leaves.{IsAt, IsEndTried, IsExitTried, IsTruthTried};
+ghost use Rattle.rows_in_hand.specs.Hands.{IsTried, all_asked};
+ghost use Rattle.tree_check.specs.Leaves.{IsEndTried, IsExitTried, IsTruthTried, WhereStood};
 ghost use Rattle.tree_check.specs.Checking.{families_of};
 ghost use Rattle.tree_check.specs.declared.leaf.Part.TheVariants.{Ending};
 ghost use Rattle.tree_check.specs.Moves.{HasPlace};
-ghost use Rattle.tree_check.specs.Searches.{IsClaimFormed, IsSame, IsSearched};
+ghost use Rattle.rows_in_hand.specs.Searches.{IsClaimFormed, IsSame, IsSearched, WhereAsked};
 
-use crate::claim::try_claim;
-use crate::finding::Finding;
 use crate::follow::refute_at;
-use crate::hand::Hand;
 use crate::moves::Moves;
 use crate::walk::Way;
 use decision_tree::{Alternatives, Family, Pick, Rank, Tree, Why};
 use linear_cons::Wide;
+use rows_in_hand::{Finding, Hand, try_claim};
 use std::alloc::AllocError;
 
 /// The edge number of a system that has no edge.
@@ -58,7 +55,9 @@ impl<'a, R: Rank> Stand<'a, R> {
     ) -> Result<bool, AllocError>
         requires { HasPlace self.now.moves.now }
         ensures same { IfOk result (λ refuted. refuted ≡ false → IsSame hand.old hand.new) }
-        ensures searched { IfOk result (λ refuted. (at : Setting R) → IsAt at self.now.part self.now.label self.now.moves.now self.now.parts.now → (asks : List Formed) → Held (all_asked asks) hand.old.rows.items hand.old.wide → IsSearched R.Rank.own (of_leaf at (leaf why.now rank.now) (trees_in (map plan_of self.now.family.now)) self.now.label asks) refuted found.new) }
+        ensures searched { IfOk result (λ refuted. WhereStood self.now.part self.now (λ at. WhereAsked hand.old (λ asks.
+            IsSearched R.Rank.own (of_leaf at (leaf why.now rank.now) (trees_in (map plan_of self.now.family.now)) self.now.label asks)
+            refuted found.new))) }
     {
         match self.part {
             Part::True => {
@@ -89,7 +88,9 @@ impl<'a, R: Rank> Stand<'a, R> {
     ) -> Result<bool, AllocError>
         requires { HasPlace self.now.moves.now }
         ensures same { IfOk result (λ refuted. refuted ≡ false → IsSame hand.old hand.new) }
-        ensures searched { IfOk result (λ refuted. (at : Setting R) → IsAt at Ending self.now.label self.now.moves.now self.now.parts.now → (asks : List Formed) → Held (all_asked asks) hand.old.rows.items hand.old.wide → IsSearched R.Rank.own (of_why at why.now (trees_in (map plan_of self.now.family.now)) rank.now self.now.label asks) refuted found.new) }
+        ensures searched { IfOk result (λ refuted. WhereStood Ending self.now (λ at. WhereAsked hand.old (λ asks.
+            IsSearched R.Rank.own (of_why at why.now (trees_in (map plan_of self.now.family.now)) rank.now self.now.label asks)
+            refuted found.new))) }
     {
         match why {
             Why::End => {
@@ -124,7 +125,9 @@ impl<'a, R: Rank> Stand<'a, R> {
     ) -> Result<bool, AllocError>
         requires { HasPlace self.now.moves.now }
         ensures same { IfOk result (λ refuted. refuted ≡ false → IsSame hand.old hand.new) }
-        ensures searched { IfOk result (λ refuted. (at : Setting R) → IsAt at Ending self.now.label self.now.moves.now self.now.parts.now → (asks : List Formed) → Held (all_asked asks) hand.old.rows.items hand.old.wide → IsSearched R.Rank.own (of_pick at pick.now (trees_in (map plan_of self.now.family.now)) rank.now self.now.label asks) refuted found.new) }
+        ensures searched { IfOk result (λ refuted. WhereStood Ending self.now (λ at. WhereAsked hand.old (λ asks.
+            IsSearched R.Rank.own (of_pick at pick.now (trees_in (map plan_of self.now.family.now)) rank.now self.now.label asks)
+            refuted found.new))) }
     {
         match pick {
             Pick::All => {
@@ -142,7 +145,7 @@ impl<'a, R: Rank> Stand<'a, R> {
 /// The systems of a leaf that says that the truth holds.
 fn refute_truth(why: &Why, hand: &mut Hand, found: &mut Option<Finding>) -> Result<bool, AllocError>
     ensures same { IfOk result (λ refuted. refuted ≡ false → IsSame hand.old hand.new) }
-    ensures tried { IfOk result (λ refuted. (asks : List Formed) → Held (all_asked asks) hand.old.rows.items hand.old.wide → IsTruthTried why.now asks refuted found.new) }
+    ensures tried { IfOk result (λ refuted. WhereAsked hand.old (λ asks. IsTruthTried why.now asks refuted found.new)) }
 {
     match why {
         Why::Atom => Ok(false),
@@ -161,7 +164,7 @@ fn refute_exit(
     found: &mut Option<Finding>,
 ) -> Result<bool, AllocError>
     ensures same { IfOk result (λ refuted. refuted ≡ false → IsSame hand.old hand.new) }
-    ensures tried { IfOk result (λ refuted. (asks : List Formed) → Held (all_asked asks) hand.old.rows.items hand.old.wide → IsExitTried why.now label asks refuted found.new) }
+    ensures tried { IfOk result (λ refuted. WhereAsked hand.old (λ asks. IsExitTried why.now label asks refuted found.new)) }
 {
     match why {
         Why::End => {
@@ -182,7 +185,7 @@ fn refute_elsewhere(
     found: &mut Option<Finding>,
 ) -> Result<bool, AllocError>
     ensures same { IfOk result (λ refuted. refuted ≡ false → IsSame hand.old hand.new) }
-    ensures tried { IfOk result (λ refuted. (asks : List Formed) → Held (all_asked asks) hand.old.rows.items hand.old.wide → IsEndTried label asks refuted found.new) }
+    ensures tried { IfOk result (λ refuted. WhereAsked hand.old (λ asks. IsEndTried label asks refuted found.new)) }
 {
     if label == 0 {
         return Ok(false);
@@ -194,7 +197,7 @@ fn refute_elsewhere(
 /// Looks for a reason against the one system of a why that stands elsewhere.
 fn refute_plain(hand: &mut Hand, found: &mut Option<Finding>) -> Result<bool, AllocError>
     ensures same { IfOk result (λ refuted. refuted ≡ false → IsSame hand.old hand.new) }
-    ensures tried { IfOk result (λ refuted. (asks : List Formed) → Held (all_asked asks) hand.old.rows.items hand.old.wide → IsTried (all_asked asks) 2 refuted found.new) }
+    ensures tried { IfOk result (λ refuted. WhereAsked hand.old (λ asks. IsTried (all_asked asks) 2 refuted found.new)) }
 {
     let refuted = hand.settle(UNEDGED, found)?;
     Ok(refuted)
@@ -207,7 +210,8 @@ fn refute_rank<R: Rank>(
     found: &mut Option<Finding>,
 ) -> Result<bool, AllocError>
     ensures same { IfOk result (λ refuted. refuted ≡ false → IsSame hand.old hand.new) }
-    ensures searched { IfOk result (λ refuted. (asks : List Formed) → Held (all_asked asks) hand.old.rows.items hand.old.wide → IsSearched R.Rank.own (record { edge = unedged; asks = asks; claim = unnatural rank.now } ∷ []) refuted found.new) }
+    ensures searched { IfOk result (λ refuted. WhereAsked hand.old (λ asks.
+        IsSearched R.Rank.own (record { edge = unedged; asks = asks; claim = unnatural rank.now } ∷ []) refuted found.new)) }
 {
     let formed = negative(rank);
     let refuted = try_claim(&formed, UNEDGED, hand, found)?;
@@ -231,7 +235,8 @@ fn refute_part<R: Rank>(
     found: &mut Option<Finding>,
 ) -> Result<bool, AllocError>
     ensures same { IfOk result (λ refuted. refuted ≡ false → IsSame hand.old hand.new) }
-    ensures searched { IfOk result (λ refuted. (asks : List Formed) → Held (all_asked asks) hand.old.rows.items hand.old.wide → IsSearched R.Rank.own (undefined_at (families_of parts.now number label) asks) refuted found.new) }
+    ensures searched { IfOk result (λ refuted. WhereAsked hand.old (λ asks.
+        IsSearched R.Rank.own (undefined_at (families_of parts.now number label) asks) refuted found.new)) }
 {
     match parts.get(number) {
         Some(family) => {

@@ -5,10 +5,7 @@
 #![tactic(auto)]
 
 mod checking;
-mod claim;
-mod finding;
 mod follow;
-mod hand;
 pub mod laws;
 mod leaf;
 mod moves;

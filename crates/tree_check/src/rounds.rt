@@ -7,7 +7,8 @@ ghost use Rattle.tree_support.specs.Elimination.{cause_of};
 ghost use Rattle.tree_support.specs.Setting.{trees_in};
 ghost use Rattle.tree_support.specs.Support.{IsSupported};
 ghost use Rattle.tree_check.specs.Moves.{HasPlace, arcs_of};
-ghost use Rattle.tree_check.specs.Rounds.{Advances, AreClean, IsApart, IsSameElsewhere, IsSupportedAt, dropped_by, setting_on, without_refuted};
+ghost use Rattle.tree_check.specs.Rounds.{Advances, AreClean, IsApart, IsSameElsewhere, IsSupportedAt, dropped_by, setting_on};
+ghost use Rattle.tree_check.specs.Rounds.{without_refuted};
 ghost use Rattle.tree_check.specs.Surveys.{IsReviewed};
 
 use crate::leaf::{Part, Stand};
@@ -42,7 +43,8 @@ impl<'a, D: NumDomain, R: Rank> Premises<'a, D, R> {
         requires trees { length trees.old ≡ length (all_labels (statements self.now.graph.now.body)) }
         requires states { length self.now.inv.now ≡ length (all_labels (statements self.now.graph.now.body)) }
         requires leaves { (label : ℕ) → leaves_of (trees_in (map plan_of trees.old) label) < 2 ^ 64 - 1 }
-        ensures advances { Advances R.Rank.own (setting_on D.NumDomain.own self.now) (map plan_of trees.old) drops.old.items (map plan_of trees.new) drops.new.items }
+        ensures advances { Advances R.Rank.own (setting_on D.NumDomain.own self.now) (map plan_of trees.old) drops.old.items
+            (map plan_of trees.new) drops.new.items }
         ensures supported { OnOk result (IsSupported R.Rank.own (setting_on D.NumDomain.own self.now) (trees_in (map plan_of trees.new))) }
     {
         let mut clean = unmarked(self.alloc, self.graph.labels())?;
@@ -62,7 +64,8 @@ impl<'a, D: NumDomain, R: Rank> Premises<'a, D, R> {
         requires leaves { (label : ℕ) → leaves_of (trees_in (map plan_of trees.old) label) < 2 ^ 64 - 1 }
         requires marks { length clean.old ≡ length (all_labels (statements self.now.graph.now.body)) }
         requires clean { AreClean R.Rank.own (setting_on D.NumDomain.own self.now) (trees_in (map plan_of trees.old)) clean.old }
-        ensures advances { Advances R.Rank.own (setting_on D.NumDomain.own self.now) (map plan_of trees.old) drops.old.items (map plan_of trees.new) drops.new.items }
+        ensures advances { Advances R.Rank.own (setting_on D.NumDomain.own self.now) (map plan_of trees.old) drops.old.items
+            (map plan_of trees.new) drops.new.items }
         ensures supported { OnOk result (IsSupported R.Rank.own (setting_on D.NumDomain.own self.now) (trees_in (map plan_of trees.new))) }
     {
         loop {
@@ -86,9 +89,12 @@ impl<'a, D: NumDomain, R: Rank> Premises<'a, D, R> {
         requires leaves { (label : ℕ) → leaves_of (trees_in (map plan_of trees.old) label) < 2 ^ 64 - 1 }
         requires marks { length clean.old ≡ length (all_labels (statements self.now.graph.now.body)) }
         requires clean { AreClean R.Rank.own (setting_on D.NumDomain.own self.now) (trees_in (map plan_of trees.old)) clean.old }
-        ensures advances { Advances R.Rank.own (setting_on D.NumDomain.own self.now) (map plan_of trees.old) drops.old.items (map plan_of trees.new) drops.new.items }
-        ensures clean { OnOk result (AreClean R.Rank.own (setting_on D.NumDomain.own self.now) (trees_in (map plan_of trees.new)) clean.new) }
-        ensures supported { OnOk result (drops.new.items ≡ drops.old.items → IsSupported R.Rank.own (setting_on D.NumDomain.own self.now) (trees_in (map plan_of trees.new))) }
+        ensures advances { Advances R.Rank.own (setting_on D.NumDomain.own self.now) (map plan_of trees.old) drops.old.items
+            (map plan_of trees.new) drops.new.items }
+        ensures clean { OnOk result (AreClean R.Rank.own (setting_on D.NumDomain.own self.now)
+            (trees_in (map plan_of trees.new)) clean.new) }
+        ensures supported { OnOk result (drops.new.items ≡ drops.old.items
+            → IsSupported R.Rank.own (setting_on D.NumDomain.own self.now) (trees_in (map plan_of trees.new))) }
     {
         for label in (0..self.graph.labels()).rev() {
             self.visit(label, trees, drops, clean)?;
@@ -111,9 +117,12 @@ impl<'a, D: NumDomain, R: Rank> Premises<'a, D, R> {
         requires leaves { (label : ℕ) → leaves_of (trees_in (map plan_of trees.old) label) < 2 ^ 64 - 1 }
         requires marks { length clean.old ≡ length (all_labels (statements self.now.graph.now.body)) }
         requires clean { AreClean R.Rank.own (setting_on D.NumDomain.own self.now) (trees_in (map plan_of trees.old)) clean.old }
-        ensures advances { Advances R.Rank.own (setting_on D.NumDomain.own self.now) (map plan_of trees.old) drops.old.items (map plan_of trees.new) drops.new.items }
-        ensures clean { OnOk result (AreClean R.Rank.own (setting_on D.NumDomain.own self.now) (trees_in (map plan_of trees.new)) clean.new) }
-        ensures supported { OnOk result (drops.new.items ≡ drops.old.items → IsSupportedAt R.Rank.own (setting_on D.NumDomain.own self.now) (trees_in (map plan_of trees.new)) label) }
+        ensures advances { Advances R.Rank.own (setting_on D.NumDomain.own self.now) (map plan_of trees.old) drops.old.items
+            (map plan_of trees.new) drops.new.items }
+        ensures clean { OnOk result (AreClean R.Rank.own (setting_on D.NumDomain.own self.now)
+            (trees_in (map plan_of trees.new)) clean.new) }
+        ensures supported { OnOk result (drops.new.items ≡ drops.old.items
+            → IsSupportedAt R.Rank.own (setting_on D.NumDomain.own self.now) (trees_in (map plan_of trees.new)) label) }
     {
         if clean[label as usize] {
             return Ok(());
@@ -131,7 +140,8 @@ impl<'a, D: NumDomain, R: Rank> Premises<'a, D, R> {
     /// Takes their marks from the labels whose systems read the tree at this one.
     fn disturb(&self, label: u32, clean: &mut [bool])
         requires marks { length clean.old ≡ length (all_labels (statements self.now.graph.now.body)) }
-        ensures { (other : ℕ) → slice_index_or clean.new other false ≡ true → (slice_index_or clean.old other false ≡ true) × IsApart (setting_on D.NumDomain.own self.now) other label }
+        ensures { (other : ℕ) → slice_index_or clean.new other false ≡ true
+            → (slice_index_or clean.old other false ≡ true) × IsApart (setting_on D.NumDomain.own self.now) other label }
     {
         for other in 0..self.graph.labels() {
             if self.reads(other, label) {
@@ -163,9 +173,11 @@ impl<'a, D: NumDomain, R: Rank> Premises<'a, D, R> {
         requires trees { length trees.old ≡ length (all_labels (statements self.now.graph.now.body)) }
         requires states { length self.now.inv.now ≡ length (all_labels (statements self.now.graph.now.body)) }
         requires leaves { (label : ℕ) → leaves_of (trees_in (map plan_of trees.old) label) < 2 ^ 64 - 1 }
-        ensures advances { Advances R.Rank.own (setting_on D.NumDomain.own self.now) (map plan_of trees.old) drops.old.items (map plan_of trees.new) drops.new.items }
+        ensures advances { Advances R.Rank.own (setting_on D.NumDomain.own self.now) (map plan_of trees.old) drops.old.items
+            (map plan_of trees.new) drops.new.items }
         ensures elsewhere { IsSameElsewhere label (map plan_of trees.old) (map plan_of trees.new) }
-        ensures supported { OnOk result (drops.new.items ≡ drops.old.items → IsSupportedAt R.Rank.own (setting_on D.NumDomain.own self.now) (trees_in (map plan_of trees.new)) label) }
+        ensures supported { OnOk result (drops.new.items ≡ drops.old.items
+            → IsSupportedAt R.Rank.own (setting_on D.NumDomain.own self.now) (trees_in (map plan_of trees.new)) label) }
     {
         let state = self.inv.at(label);
         if state.is_empty() {
@@ -191,9 +203,11 @@ impl<'a, D: NumDomain, R: Rank> Premises<'a, D, R> {
         requires alive { (setting_on D.NumDomain.own self.now).dead label ≡ false }
         requires arcs { (setting_on D.NumDomain.own self.now).flow.arcs label ≡ arcs_of moves.now }
         requires rows { (setting_on D.NumDomain.own self.now).rows label ≡ rows.now }
-        ensures advances { Advances R.Rank.own (setting_on D.NumDomain.own self.now) (map plan_of trees.old) drops.old.items (map plan_of trees.new) drops.new.items }
+        ensures advances { Advances R.Rank.own (setting_on D.NumDomain.own self.now) (map plan_of trees.old) drops.old.items
+            (map plan_of trees.new) drops.new.items }
         ensures elsewhere { IsSameElsewhere label (map plan_of trees.old) (map plan_of trees.new) }
-        ensures supported { OnOk result (drops.new.items ≡ drops.old.items → IsSupportedAt R.Rank.own (setting_on D.NumDomain.own self.now) (trees_in (map plan_of trees.new)) label) }
+        ensures supported { OnOk result (drops.new.items ≡ drops.old.items
+            → IsSupportedAt R.Rank.own (setting_on D.NumDomain.own self.now) (trees_in (map plan_of trees.new)) label) }
     {
         let mut first = 0;
         while let Some(refuted) = self.refuted(label, first, moves, rows, trees)? {
@@ -217,7 +231,8 @@ impl<'a, D: NumDomain, R: Rank> Premises<'a, D, R> {
         requires alive { (setting_on D.NumDomain.own self.now).dead label ≡ false }
         requires arcs { (setting_on D.NumDomain.own self.now).flow.arcs label ≡ arcs_of moves.now }
         requires rows { (setting_on D.NumDomain.own self.now).rows label ≡ rows.now }
-        ensures { IfOk result (λ refuted. IsReviewed R.Rank.own (setting_on D.NumDomain.own self.now) (trees_in (map plan_of trees.now)) label first refuted) }
+        ensures { IfOk result (λ refuted.
+            IsReviewed R.Rank.own (setting_on D.NumDomain.own self.now) (trees_in (map plan_of trees.now)) label first refuted) }
     {
         let survey = Survey {
             stand: Stand {

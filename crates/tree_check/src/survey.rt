@@ -1,22 +1,21 @@
 //! The leaves of a label's tree, one after the other.
 ghost use Rattle.std.specs.Prelude.{◌≡◌, ◌+◌, ◌-◌, ◌^◌, ◌<◌, ◌++◌, ◌∷◌, List, [], true, false, IfOk, map};
 ghost use Rattle.decision_tree.specs.Plans.{leaf, leaves_of, plan_of};
-ghost use Rattle.tree_support.specs.Forming.{Formed, given};
-ghost use Rattle.tree_support.specs.Setting.{Setting, trees_in};
-ghost use Rattle.tree_check.specs.Hands.{Held, IsMetNowhere, all_asked};
-ghost use Rattle.tree_check.specs.Leaves.{IsAt};
+ghost use Rattle.tree_support.specs.Forming.{given};
+ghost use Rattle.tree_support.specs.Setting.{trees_in};
+ghost use Rattle.rows_in_hand.specs.Hands.{IsMetNowhere, all_asked};
+ghost use Rattle.tree_check.specs.Leaves.{WhereStood};
 ghost use Rattle.tree_check.specs.Moves.{HasPlace};
-ghost use Rattle.tree_check.specs.Searches.{IsLonger, IsSame};
+ghost use Rattle.rows_in_hand.specs.Searches.{Holds, IsLonger, IsSame, WhereAsked};
 ghost use Rattle.tree_check.specs.Surveys.{IsReviewed, IsSurveyed};
 ghost use Rattle.tree_check.specs.Walks.{side_of};
 
-use crate::finding::Finding;
 use crate::follow::add_rows;
-use crate::hand::Hand;
 use crate::leaf::{Stand, UNEDGED};
 use crate::walk::Way;
 use decision_tree::{Rank, Tree, Why};
 use linear_cons::Row;
+use rows_in_hand::{Finding, Hand};
 use std::alloc::{AllocError, Global};
 
 /// A leaf, by its number at its label, and the reason against it.
@@ -38,7 +37,9 @@ impl<'a, R: Rank> Survey<'a, R> {
     pub(crate) fn refuted(&self, alloc: Global, rows: &[Row]) -> Result<Option<Refuted>, AllocError>
         requires place { HasPlace self.now.stand.moves.now }
         requires few { leaves_of (trees_in (map plan_of self.now.stand.family.now) self.now.stand.label) < 2 ^ 64 - 1 }
-        ensures { IfOk result (λ refuted. (at : Setting R) → IsAt at self.now.stand.part self.now.stand.label self.now.stand.moves.now self.now.stand.parts.now → at.dead self.now.stand.label ≡ false → at.rows self.now.stand.label ≡ rows.now → IsReviewed R.Rank.own at (trees_in (map plan_of self.now.stand.family.now)) self.now.stand.label self.now.first refuted) }
+        ensures { IfOk result (λ refuted. WhereStood self.now.stand.part self.now.stand (λ at. at.dead self.now.stand.label ≡ false
+            → at.rows self.now.stand.label ≡ rows.now →
+            IsReviewed R.Rank.own at (trees_in (map plan_of self.now.stand.family.now)) self.now.stand.label self.now.first refuted)) }
     {
         let Some(tree) = self.stand.family.get(self.stand.label as usize) else {
             return Ok(None);
@@ -71,7 +72,10 @@ impl<'a, R: Rank> Survey<'a, R> {
         requires few { passed.old + leaves_of (plan_of tree.now) < 2 ^ 64 - 1 }
         ensures same { IfOk result (λ refuted. refuted ≡ false → IsSame hand.old hand.new) }
         ensures passed { IfOk result (λ refuted. refuted ≡ false → passed.new ≡ passed.old + leaves_of (plan_of tree.now)) }
-        ensures surveyed { IfOk result (λ refuted. (at : Setting R) → IsAt at self.now.stand.part self.now.stand.label self.now.stand.moves.now self.now.stand.parts.now → (asks : List Formed) → Held (all_asked asks) hand.old.rows.items hand.old.wide → IsSurveyed R.Rank.own at (trees_in (map plan_of self.now.stand.family.now)) self.now.stand.label self.now.first (plan_of tree.now) asks passed.old passed.new refuted found.new) }
+        ensures surveyed { IfOk result (λ refuted. WhereStood self.now.stand.part self.now.stand (λ at. WhereAsked hand.old (λ asks.
+            IsSurveyed R.Rank.own at
+            (trees_in (map plan_of self.now.stand.family.now)) self.now.stand.label self.now.first
+            (plan_of tree.now) asks passed.old passed.new refuted found.new))) }
     {
         match tree {
             Tree::Node { row, yes, no } => {
@@ -107,7 +111,10 @@ impl<'a, R: Rank> Survey<'a, R> {
     ) -> Result<bool, AllocError>
         requires { HasPlace self.now.stand.moves.now }
         ensures same { IfOk result (λ refuted. refuted ≡ false → IsSame hand.old hand.new) }
-        ensures surveyed { IfOk result (λ refuted. (at : Setting R) → IsAt at self.now.stand.part self.now.stand.label self.now.stand.moves.now self.now.stand.parts.now → (asks : List Formed) → Held (all_asked asks) hand.old.rows.items hand.old.wide → IsSurveyed R.Rank.own at (trees_in (map plan_of self.now.stand.family.now)) self.now.stand.label self.now.first (leaf why.now rank.now) asks number number refuted found.new) }
+        ensures surveyed { IfOk result (λ refuted. WhereStood self.now.stand.part self.now.stand (λ at. WhereAsked hand.old (λ asks.
+            IsSurveyed R.Rank.own at
+            (trees_in (map plan_of self.now.stand.family.now)) self.now.stand.label self.now.first
+            (leaf why.now rank.now) asks number number refuted found.new))) }
     {
         if number < self.first {
             return Ok(false);
@@ -131,7 +138,10 @@ impl<'a, R: Rank> Survey<'a, R> {
         requires few { passed.old + leaves_of (plan_of side.now) < 2 ^ 64 - 1 }
         ensures same { IfOk result (λ refuted. refuted ≡ false → IsSame hand.old hand.new) }
         ensures passed { IfOk result (λ refuted. refuted ≡ false → passed.new ≡ passed.old + leaves_of (plan_of side.now)) }
-        ensures surveyed { IfOk result (λ refuted. (at : Setting R) → IsAt at self.now.stand.part self.now.stand.label self.now.stand.moves.now self.now.stand.parts.now → (asks : List Formed) → Held (all_asked asks) hand.old.rows.items hand.old.wide → IsSurveyed R.Rank.own at (trees_in (map plan_of self.now.stand.family.now)) self.now.stand.label self.now.first (plan_of side.now) (asks ++ given (side_of row.now.affine holds) ∷ []) passed.old passed.new refuted found.new) }
+        ensures surveyed { IfOk result (λ refuted. WhereStood self.now.stand.part self.now.stand (λ at. WhereAsked hand.old (λ asks.
+            IsSurveyed R.Rank.own at
+            (trees_in (map plan_of self.now.stand.family.now)) self.now.stand.label self.now.first (plan_of side.now)
+            (asks ++ given (side_of row.now.affine holds) ∷ []) passed.old passed.new refuted found.new))) }
     {
         let mark = hand.mark();
         if !self.enter(row, holds, hand)? {
@@ -150,8 +160,10 @@ impl<'a, R: Rank> Survey<'a, R> {
     fn enter(&self, row: &Row, holds: bool, hand: &mut Hand) -> Result<bool, AllocError>
         ensures same { IfOk result (λ entered. entered ≡ false → IsSame hand.old hand.new) }
         ensures longer { IfOk result (λ entered. IsLonger hand.old hand.new) }
-        ensures held { IfOk result (λ entered. entered ≡ true → (asks : List Formed) → Held (all_asked asks) hand.old.rows.items hand.old.wide → Held (all_asked (asks ++ given (side_of row.now.affine holds) ∷ [])) hand.new.rows.items hand.new.wide) }
-        ensures nowhere { IfOk result (λ entered. entered ≡ false → (asks : List Formed) → Held (all_asked asks) hand.old.rows.items hand.old.wide → IsMetNowhere (all_asked (asks ++ given (side_of row.now.affine holds) ∷ []))) }
+        ensures held { IfOk result (λ entered. entered ≡ true → WhereAsked hand.old (λ asks.
+            Holds hand.new (all_asked (asks ++ given (side_of row.now.affine holds) ∷ [])))) }
+        ensures nowhere { IfOk result (λ entered. entered ≡ false → WhereAsked hand.old (λ asks.
+            IsMetNowhere (all_asked (asks ++ given (side_of row.now.affine holds) ∷ [])))) }
     {
         let way: Way<R> = Way {
             edge: UNEDGED,

@@ -8,8 +8,6 @@ ghost use Rattle.decision_tree.specs.Plans.{leaves_of, plan_of};
 ghost use Rattle.tree_support.specs.Setting.{trees_in};
 
 use crate::check;
-use crate::finding::Finding;
-use crate::hand::Hand;
 use crate::leaf::{Part, Stand};
 use crate::moves::Moves;
 use crate::walk::Way;
@@ -19,6 +17,7 @@ use decision_tree::{AffineRank, Cause, Family, Pick, Tree, TreeList, Why};
 use forward_inv::{Inv, invariants};
 use interval_dom::Boxes;
 use linear_cons::{Affine, Linear, Row, RowKind};
+use rows_in_hand::{Finding, Hand};
 use std::alloc::{AllocError, Global};
 use std::process::Abort;
 use std::test::Fail;

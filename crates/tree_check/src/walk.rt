@@ -3,18 +3,15 @@ ghost use Rattle.std.specs.Prelude.{◌≡◌, ◌++◌, ◌∷◌, ◌<◌, Lis
 ghost use Rattle.linear_cons.specs.Functions.{complement_of};
 ghost use Rattle.decision_tree.specs.Plans.{leaf, plan_of};
 ghost use Rattle.decision_tree.specs.declared.reason.Why.{Why};
-ghost use Rattle.tree_support.specs.Forming.{Formed};
 ghost use Rattle.tree_support.specs.Support.{HasNoStore};
 ghost use Rattle.tree_support.specs.Systems.{exceeding, moved_by};
-ghost use Rattle.tree_check.specs.Hands.{Adds, Forms, Held, IsMetNowhere, Item, all_asked, asked};
-ghost use Rattle.tree_check.specs.Searches.{IsSame, IsSearched, IsLonger, IsClaimFormed};
+ghost use Rattle.rows_in_hand.specs.Hands.{Forms, IsMetNowhere, all_asked, asked};
+ghost use Rattle.rows_in_hand.specs.Searches.{Holds, IsClaimFormed, IsLonger, IsSame, IsSearched, WhereAsked};
 ghost use Rattle.tree_check.specs.Walks.{ending, side_of, systems_behind};
 
-use crate::claim::try_claim;
-use crate::finding::Finding;
-use crate::hand::Hand;
 use decision_tree::{Alternatives, Rank, Tree};
 use linear_cons::{Affine, Row, RowKind, Wide};
+use rows_in_hand::{Finding, Hand, try_claim};
 use std::alloc::AllocError;
 
 /// How the leaves of a tree are looked at: over an edge, which may set a place to the value of a function, and with the rank that
@@ -37,7 +34,8 @@ impl<R: Rank> Way<R> {
     ) -> Result<bool, AllocError>
         requires { IfSome self.now.sets (λ s. s.0 < 16) }
         ensures same { IfOk result (λ refuted. refuted ≡ false → IsSame hand.old hand.new) }
-        ensures searched { IfOk result (λ refuted. (asks : List Formed) → Held (all_asked asks) hand.old.rows.items hand.old.wide → IsSearched R.Rank.own (systems_behind self.now.edge self.now.sets self.now.limit (plan_of tree.now) asks) refuted found.new) }
+        ensures searched { IfOk result (λ refuted. WhereAsked hand.old (λ asks.
+            IsSearched R.Rank.own (systems_behind self.now.edge self.now.sets self.now.limit (plan_of tree.now) asks) refuted found.new)) }
     {
         match tree {
             Tree::Node { row, yes, no } => {
@@ -67,7 +65,9 @@ impl<R: Rank> Way<R> {
     ) -> Result<bool, AllocError>
         requires { IfSome self.now.sets (λ s. s.0 < 16) }
         ensures same { IfOk result (λ refuted. refuted ≡ false → IsSame hand.old hand.new) }
-        ensures searched { IfOk result (λ refuted. (asks : List Formed) → Held (all_asked asks) hand.old.rows.items hand.old.wide → IsSearched R.Rank.own (systems_behind self.now.edge self.now.sets self.now.limit (plan_of side.now) (asks ++ moved_by self.now.sets (side_of row.now.affine holds) ∷ [])) refuted found.new) }
+        ensures searched { IfOk result (λ refuted. WhereAsked hand.old (λ asks.
+            IsSearched R.Rank.own (systems_behind self.now.edge self.now.sets self.now.limit (plan_of side.now)
+            (asks ++ moved_by self.now.sets (side_of row.now.affine holds) ∷ [])) refuted found.new)) }
     {
         let mark = hand.mark();
         if !self.enter(row, holds, hand)? {
@@ -86,8 +86,10 @@ impl<R: Rank> Way<R> {
         requires { IfSome self.now.sets (λ s. s.0 < 16) }
         ensures same { IfOk result (λ entered. entered ≡ false → IsSame hand.old hand.new) }
         ensures longer { IfOk result (λ entered. IsLonger hand.old hand.new) }
-        ensures held { IfOk result (λ entered. entered ≡ true → (asks : List Formed) → Held (all_asked asks) hand.old.rows.items hand.old.wide → Held (all_asked (asks ++ moved_by self.now.sets (side_of row.now.affine holds) ∷ [])) hand.new.rows.items hand.new.wide) }
-        ensures nowhere { IfOk result (λ entered. entered ≡ false → (asks : List Formed) → Held (all_asked asks) hand.old.rows.items hand.old.wide → IsMetNowhere (all_asked (asks ++ moved_by self.now.sets (side_of row.now.affine holds) ∷ []))) }
+        ensures held { IfOk result (λ entered. entered ≡ true → WhereAsked hand.old (λ asks.
+            Holds hand.new (all_asked (asks ++ moved_by self.now.sets (side_of row.now.affine holds) ∷ [])))) }
+        ensures nowhere { IfOk result (λ entered. entered ≡ false → WhereAsked hand.old (λ asks.
+            IsMetNowhere (all_asked (asks ++ moved_by self.now.sets (side_of row.now.affine holds) ∷ [])))) }
     {
         let formed = self.moved_side(row, holds);
         let added = hand.add(formed)?;
@@ -139,7 +141,8 @@ impl<R: Rank> Way<R> {
     ) -> Result<bool, AllocError>
         requires { IfSome self.now.sets (λ s. s.0 < 16) }
         ensures same { IfOk result (λ refuted. refuted ≡ false → IsSame hand.old hand.new) }
-        ensures searched { IfOk result (λ refuted. (why : Why) (asks : List Formed) → Held (all_asked asks) hand.old.rows.items hand.old.wide → IsSearched R.Rank.own (ending self.now.edge self.now.sets self.now.limit (leaf why rank.now) asks) refuted found.new) }
+        ensures searched { IfOk result (λ refuted. (why : Why) → WhereAsked hand.old (λ asks.
+            IsSearched R.Rank.own (ending self.now.edge self.now.sets self.now.limit (leaf why rank.now) asks) refuted found.new)) }
     {
         match &self.limit {
             None => Ok(false),

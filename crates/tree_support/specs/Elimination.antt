@@ -63,11 +63,10 @@ module _ {R : Type 0} (ranks : Ranks R) where
       ((a : Formed) × Contains system.asks a × FormsWhole a × (row_kind_of (exact a) ≡ kind))
       ⊎ (ClaimFits ranks system.claim × Contains choice kind)
 
-  -- Nothing that could be formed decides the system at once: none is never met, and of at most 4,096 rows no two are opposed.
+  -- Nothing that could be formed decides the system at once: none is never met, and no two rows are opposed.
   pub record IsOpen (system : System R) (choice : List RowKind) : Type 0 where
     pub there : Shows system choice Never → ⊥
-    pub apart : length (rows_of system choice) ≤ 4096 → (row other : Row) → Shows system choice (Kept row) → Shows system choice (Kept other)
-        → AreOpposed row other → ⊥
+    pub apart : (row other : Row) → Shows system choice (Kept row) → Shows system choice (Kept other) → AreOpposed row other → ⊥
 
   -- the list is one of the claim's; where these can't be formed none is seen
   pub record IsSeen (system : System R) (choice : List RowKind) : Type 0 where

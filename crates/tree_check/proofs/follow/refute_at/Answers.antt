@@ -1,4 +1,4 @@
-use Rattle.tree_check.specs.Hands.{all_asked}
+use Rattle.rows_in_hand.specs.Hands.{all_asked}
 use Rattle.tree_check.proofs.Following.{past_none}
 use Rattle.tree_check.proofs.Walking.{bottom_searched}
 use Rattle.tree_check.proofs.follow.refute_at.Goals as goal

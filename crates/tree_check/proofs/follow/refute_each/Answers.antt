@@ -1,8 +1,8 @@
 use Rattle.std.proofs.Common.{◌+◌, true, false, arith, map, ◌∙◌}
 use Rattle.decision_tree.specs.Plans.{plan_of}
 use Rattle.tree_support.specs.Setting.{trees_in}
-use Rattle.tree_check.specs.Hands.{all_asked}
-use Rattle.tree_check.proofs.Choosing.{held_same}
+use Rattle.rows_in_hand.specs.Hands.{all_asked}
+use Rattle.rows_in_hand.proofs.Choosing.{held_same}
 use Rattle.tree_check.proofs.Following.{arcs_end, arcs_found, arcs_searched}
 use Rattle.tree_check.proofs.follow.refute_each.Goals as goal
 

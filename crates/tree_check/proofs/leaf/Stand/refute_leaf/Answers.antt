@@ -1,9 +1,9 @@
 use Rattle.std.proofs.Common.{◌∙◌, ap, map, subst}
 use Rattle.decision_tree.specs.Plans.{plan_of}
 use Rattle.tree_support.specs.Setting.{trees_in}
-use Rattle.tree_check.specs.Hands.{all_asked}
+use Rattle.rows_in_hand.specs.Hands.{all_asked}
 use Rattle.tree_check.specs.Leaves.{IsAt, part_formula}
-use Rattle.tree_check.proofs.Choosing.{held_same}
+use Rattle.rows_in_hand.proofs.Choosing.{held_same}
 use Rattle.tree_check.proofs.Leaving.{exit_searched, rank_found, rank_searched, truth_searched}
 use Rattle.tree_check.proofs.leaf.Stand.refute_leaf.Goals as goal
 

@@ -1,9 +1,9 @@
 use Rattle.std.proofs.Common.{map}
 use Rattle.decision_tree.specs.Plans.{plan_of}
 use Rattle.tree_support.specs.Setting.{trees_in}
-use Rattle.tree_check.specs.Hands.{all_asked}
+use Rattle.rows_in_hand.specs.Hands.{all_asked}
 use Rattle.tree_check.specs.Checking.{families_of}
-use Rattle.tree_check.proofs.Choosing.{held_same}
+use Rattle.rows_in_hand.proofs.Choosing.{held_same}
 use Rattle.tree_check.proofs.Leaving.{end_searched, other_searched, step_found, step_searched}
 use Rattle.tree_check.proofs.leaf.Stand.refute_why.Goals as goal
 

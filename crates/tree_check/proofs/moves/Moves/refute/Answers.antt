@@ -2,8 +2,8 @@ use Rattle.std.proofs.Common.{None, map, sym}
 use Rattle.tree_support.specs.Flow.{testing}
 use Rattle.decision_tree.specs.Plans.{plan_of}
 use Rattle.tree_support.specs.Setting.{trees_in}
-use Rattle.tree_check.specs.Hands.{all_asked}
-use Rattle.tree_check.proofs.Choosing.{held_same}
+use Rattle.rows_in_hand.specs.Hands.{all_asked}
+use Rattle.rows_in_hand.proofs.Choosing.{held_same}
 use Rattle.tree_check.proofs.Following.{between_searched, exact_searched, test_found, test_searched, unasked_searched}
 use Rattle.tree_check.proofs.moves.Moves.refute.Goals as goal
 

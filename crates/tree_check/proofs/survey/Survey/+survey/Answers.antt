@@ -2,9 +2,9 @@ use Rattle.std.proofs.Common.{map, ◌++◌, ◌∷◌, []}
 use Rattle.decision_tree.specs.Plans.{plan_of}
 use Rattle.tree_support.specs.Forming.{given}
 use Rattle.tree_support.specs.Setting.{trees_in}
-use Rattle.tree_check.specs.Hands.{all_asked}
+use Rattle.rows_in_hand.specs.Hands.{all_asked}
 use Rattle.tree_check.specs.Walks.{side_of}
-use Rattle.tree_check.proofs.Choosing.{held_same}
+use Rattle.rows_in_hand.proofs.Choosing.{held_same}
 use Rattle.tree_check.proofs.Surveying.{surveyed_first, surveyed_nowhere, surveyed_then}
 use Rattle.tree_check.proofs.survey.Survey.+survey.Goals as goal
 

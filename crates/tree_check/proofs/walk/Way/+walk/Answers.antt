@@ -1,9 +1,9 @@
 use Rattle.std.proofs.Common.{⊎_elim, ◌++◌, ◌∷◌, []}
 use Rattle.decision_tree.specs.Plans.{plan_of}
 use Rattle.tree_support.specs.Systems.{moved_by}
-use Rattle.tree_check.specs.Hands.{all_asked}
+use Rattle.rows_in_hand.specs.Hands.{all_asked}
 use Rattle.tree_check.specs.Walks.{side_of}
-use Rattle.tree_check.proofs.Choosing.{held_same}
+use Rattle.rows_in_hand.proofs.Choosing.{held_same}
 use Rattle.tree_check.proofs.Walking.{bottom_searched, nowhere_behind, searched_first, searched_then, top_searched}
 use Rattle.tree_check.proofs.walk.Way.+walk.Goals as goal
 

@@ -1,5 +1,5 @@
 use Rattle.tree_support.specs.Systems.{exceeding}
-use Rattle.tree_check.specs.Hands.{all_asked}
+use Rattle.rows_in_hand.specs.Hands.{all_asked}
 use Rattle.tree_check.proofs.Walking.{claim_searched}
 use Rattle.tree_check.proofs.walk.Way.refute_less.Goals as goal
 

@@ -1,0 +1,5 @@
+pub mod Shortening
+pub mod Tightest
+pub mod Holding
+pub mod Choosing
+pub mod Justifying

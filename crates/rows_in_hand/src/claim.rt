@@ -1,0 +1,110 @@
+//! The alternatives of a claim.
+ghost use Rattle.std.specs.Prelude.{◌≡◌, ◌∷◌, ◌++◌, List, [], true, false, IfOk, IfErr};
+ghost use Rattle.linear_cons.specs.Exact.{IsOutside};
+ghost use Rattle.rows_in_hand.specs.Hands.{IsMetNowhere, IsTried, all_chosen, unformed};
+ghost use Rattle.rows_in_hand.specs.Searches.{Holds, IsClaimTried, IsLonger, IsSame, IsTriedWith, WhereHeld, lists_there, rows_there};
+
+use crate::finding::Finding;
+use crate::hand::Hand;
+use decision_tree::Alternatives;
+use linear_cons::{RowKind, Wide};
+use std::alloc::AllocError;
+
+/// Looks for a reason against a system of the edge, whose other rows are in hand, with each of its claim's alternatives.
+#[inline(never)]
+pub fn try_claim(
+    formed: &Result<Alternatives, Wide>,
+    edge: u32,
+    hand: &mut Hand,
+    found: &mut Option<Finding>,
+) -> Result<bool, AllocError>
+    requires { IfErr formed.now IsOutside }
+    ensures same { IfOk result (λ refuted. refuted ≡ false → IsSame hand.old hand.new) }
+    ensures tried { IfOk result (λ refuted. WhereHeld hand.old (λ items. IsClaimTried items formed.now edge refuted found.new)) }
+{
+    match formed {
+        Ok(alternatives) => try_each(&alternatives.list, edge, hand, found),
+        Err(wide) => try_unformed(*wide, edge, hand, found),
+    }
+}
+
+/// Tries each of the alternatives that are there.
+fn try_each(
+    list: &[Option<[Option<RowKind>; 3]>; 2],
+    edge: u32,
+    hand: &mut Hand,
+    found: &mut Option<Finding>,
+) -> Result<bool, AllocError>
+    ensures same { IfOk result (λ refuted. refuted ≡ false → IsSame hand.old hand.new) }
+    ensures tried { IfOk result (λ refuted. WhereHeld hand.old (λ items. IsTriedWith items (lists_there list.now) edge refuted found.new)) }
+{
+    for alternative in list {
+        if let Some(kinds) = alternative {
+            if try_one(kinds, edge, hand, found)? {
+                return Ok(true);
+            }
+        }
+    }
+    Ok(false)
+}
+
+/// Tries one alternative.
+fn try_one(
+    kinds: &[Option<RowKind>; 3],
+    edge: u32,
+    hand: &mut Hand,
+    found: &mut Option<Finding>,
+) -> Result<bool, AllocError>
+    ensures same { IfOk result (λ refuted. refuted ≡ false → IsSame hand.old hand.new) }
+    ensures tried { IfOk result (λ refuted. WhereHeld hand.old (λ items.
+        IsTried (items ++ all_chosen (rows_there kinds.now)) edge refuted found.new)) }
+{
+    let mark = hand.mark();
+    if !add_each(kinds, hand)? {
+        hand.back(mark);
+        return Ok(false);
+    }
+    if hand.settle(edge, found)? {
+        return Ok(true);
+    }
+    hand.back(mark);
+    Ok(false)
+}
+
+/// Adds each row that is there. False where no store meets the rows with them.
+fn add_each(kinds: &[Option<RowKind>; 3], hand: &mut Hand) -> Result<bool, AllocError>
+    ensures longer { IfOk result (λ added. IsLonger hand.old hand.new) }
+    ensures held { IfOk result (λ added. added ≡ true → WhereHeld hand.old (λ items.
+        Holds hand.new (items ++ all_chosen (rows_there kinds.now)))) }
+    ensures nowhere { IfOk result (λ added. added ≡ false → WhereHeld hand.old (λ items.
+        IsMetNowhere (items ++ all_chosen (rows_there kinds.now)))) }
+{
+    for kind in kinds {
+        if let Some(kind) = kind {
+            if !hand.add(Ok(*kind))? {
+                return Ok(false);
+            }
+        }
+    }
+    Ok(true)
+}
+
+/// Tries the system without its alternatives, which can't be formed.
+fn try_unformed(
+    wide: Wide,
+    edge: u32,
+    hand: &mut Hand,
+    found: &mut Option<Finding>,
+) -> Result<bool, AllocError>
+    requires { IsOutside wide }
+    ensures same { IfOk result (λ refuted. refuted ≡ false → IsSame hand.old hand.new) }
+    ensures tried { IfOk result (λ refuted. WhereHeld hand.old (λ items. IsTried (items ++ unformed ∷ []) edge refuted found.new)) }
+{
+    let mark = hand.mark();
+    let _ = hand.add(Err(wide))?;
+    if hand.settle(edge, found)? {
+        return Ok(true);
+    }
+    hand.back(mark);
+    Ok(false)
+}
