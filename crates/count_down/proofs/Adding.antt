@@ -9,7 +9,8 @@ use Rattle.linear_cons.specs.declared.bounds.Bounds.{Bounds}
 use Rattle.linear_cons.specs.Functions.{coefficient}
 use Rattle.linear_cons.proofs.Places.{number_at_places}
 use Rattle.linear_cons.proofs.Ring.{zero_mul}
-use Rattle.linear_forms.specs.Linearising.{exactly, linear_of}
+use Rattle.linear_cons.specs.Ends.{exactly}
+use Rattle.linear_forms.specs.Linearising.{linear_of}
 use Rattle.linear_forms.proofs.Exactness.{linear_exact}
 use Rattle.step_meaning.specs.declared.expression.Op2.{Op2}
 use Rattle.step_meaning.specs.declared.expression.Op2.TheVariants.{Add, Sub, Mul, Less, LessEqual, Greater, GreaterEqual, Equal, NotEqual, And, Or}

@@ -6,7 +6,8 @@ use Rattle.linear_cons.specs.declared.row.RowKind.{RowKind}
 use Rattle.linear_cons.specs.declared.row.RowKind.TheVariants.{Always, Never, Row as Kept}
 use Rattle.linear_cons.specs.Rows.{IsRowOf, row_kind_of}
 use Rattle.linear_cons.proofs.KindLaws.{row_kind_unique}
-use Rattle.linear_forms.specs.Linearising.{exactly, form_of, linear_of}
+use Rattle.linear_cons.specs.Ends.{exactly}
+use Rattle.linear_forms.specs.Linearising.{form_of, linear_of}
 use Rattle.linear_forms.specs.Spreading.{Claim, all_rows_of, before, claims, kept_before, pairs, rows_of, spread_of, with_constraint}
 use Rattle.linear_forms.proofs.Exactness.{linear_exact}
 use Rattle.linear_forms.proofs.SpreadExactness.{claimed, exact_constraint}

@@ -2,7 +2,6 @@
 use Rattle.std.proofs.Common.{◌≡◌, ℕ, zero, suc, get_or, ◌<◌, ◌≤◌, ℤ, pos, ◌<ℤ◌, inl, inr, List, [], ◌∷◌, map, length, All, Contains, ⊎_elim, refl, ap, subst, arith}
 use Rattle.std.proofs.lemmas.Bool.{cases_lt}
 use Rattle.std.proofs.lemmas.Int.{ints}
-use Rattle.std.proofs.lemmas.List.{length-append, length-map}
 use Rattle.std.proofs.lemmas.List.Elements.{All-contains, Contains-append_left, Contains-append_right}
 use Rattle.linear_cons.specs.declared.affine.Affine.{Affine}
 use Rattle.linear_cons.specs.declared.row.RowKind.{RowKind}
@@ -14,7 +13,7 @@ use Rattle.tree_support.specs.declared.dropped.Dropped.{Dropped}
 use Rattle.tree_support.specs.declared.dropped.Reason.{Reason}
 use Rattle.tree_support.specs.declared.dropped.Reason.TheVariants.{Point, Wide as TooWide, Rows}
 use Rattle.tree_support.specs.Certificates.{affine_ranks}
-use Rattle.tree_support.specs.Elimination.{Eliminates, IsOpen, IsSeen, Justifies, Shows, rows_in, rows_of}
+use Rattle.tree_support.specs.Elimination.{Eliminates, IsOpen, IsSeen, Justifies, Shows, rows_in}
 use Rattle.tree_support.specs.Forming.{Formed, exact}
 use Rattle.tree_support.specs.Setting.{Setting, Trees}
 use Rattle.tree_support.specs.Support.{ClaimFits, HasNoStore, IsSupported, choices, kinds_of}
@@ -76,13 +75,6 @@ module _ (system : System AffineRank) (choice : List RowKind) where
       (Contains-append_left (map (λ (a : Formed). row_kind_of (exact a)) system.asks) choice (row_kind_of (exact asked.0)) own)
   shown_inside kind (inr asked) = Contains-append_right (map (λ (a : Formed). row_kind_of (exact a)) system.asks) choice kind asked.1
 
-  few_rows : length system.asks < 4096 → length choice ≤ 1 → length (rows_of affine_ranks system choice) ≤ 4096
-  few_rows few short =
-      let kept = few_kept (kinds_of affine_ranks system choice) in
-      let both = length-append (map (λ (a : Formed). row_kind_of (exact a)) system.asks) choice in
-      let mapped = length-map system.asks (λ (a : Formed). row_kind_of (exact a)) in
-      omega arith
-
 -- kinds that clash aren't both met by a point
 clash_unmet : (kind other : RowKind) → Clash kind other → (num : List ℤ) (den : ℤ) → pos 0 <ℤ den → PointMeetsKind num den kind → PointMeetsKind num den other → ⊥
 clash_unmet Never other clashes num den some met too = met
@@ -94,15 +86,15 @@ clash_unmet Always (Kept other) clashes num den some met too = clashes
 clash_unmet (Kept row) Always clashes num den some met too = clashes
 
 -- a system that shows kinds that clash isn't open
-clash_shut : (system : System AffineRank) (choice : List RowKind) (kind other : RowKind) → length (rows_of affine_ranks system choice) ≤ 4096 → Clash kind other
+clash_shut : (system : System AffineRank) (choice : List RowKind) (kind other : RowKind) → Clash kind other
     → Shows affine_ranks system choice kind → Shows affine_ranks system choice other → IsOpen affine_ranks system choice → ⊥
-clash_shut system choice Never other few clashes one two is_open = is_open.there one
-clash_shut system choice Always Never few clashes one two is_open = is_open.there two
-clash_shut system choice (Kept row) Never few clashes one two is_open = is_open.there two
-clash_shut system choice (Kept row) (Kept other) few clashes one two is_open = is_open.apart few row other one two clashes
-clash_shut system choice Always Always few clashes one two is_open = clashes
-clash_shut system choice Always (Kept other) few clashes one two is_open = clashes
-clash_shut system choice (Kept row) Always few clashes one two is_open = clashes
+clash_shut system choice Never other clashes one two is_open = is_open.there one
+clash_shut system choice Always Never clashes one two is_open = is_open.there two
+clash_shut system choice (Kept row) Never clashes one two is_open = is_open.there two
+clash_shut system choice (Kept row) (Kept other) clashes one two is_open = is_open.apart row other one two clashes
+clash_shut system choice Always Always clashes one two is_open = clashes
+clash_shut system choice Always (Kept other) clashes one two is_open = clashes
+clash_shut system choice (Kept row) Always clashes one two is_open = clashes
 
 -- what is seen of a claim is at most one row
 seen_short : (system : System AffineRank) (choice : List RowKind) → IsSeen affine_ranks system choice → length choice ≤ 1
@@ -128,7 +120,7 @@ blocked_unmet system blocked choice inside num den some met =
 shut : (system : System AffineRank) → IsBlocked system → (choice : List RowKind)
     → (ClaimFits affine_ranks system.claim → Contains (choices affine_ranks system.claim) choice) → length choice ≤ 1 → IsOpen affine_ranks system choice → ⊥
 shut system blocked choice one_of short is_open =
-    clash_shut system choice (row_kind_of blocked.one) (row_kind_of blocked.two) (few_rows system choice blocked.few short)
+    clash_shut system choice (row_kind_of blocked.one) (row_kind_of blocked.two)
     (clash blocked.one blocked.two blocked.cancels) (shows system choice blocked.one one_of blocked.asks_one)
     (shows system choice blocked.two one_of blocked.asks_two) is_open
 

@@ -6,7 +6,8 @@ use Rattle.linear_cons.specs.declared.bounds.Bounds.{Bounds}
 use Rattle.linear_cons.specs.Functions.{coefficient, constant_of, substituted, value_at, variable_at}
 use Rattle.linear_cons.proofs.Forms.{form_unmentioned, value_constant, value_substituted, value_sum}
 use Rattle.linear_cons.proofs.Ring.{zero_mul}
-use Rattle.linear_forms.specs.Linearising.{exactly, form_of, is_exact, linear_of}
+use Rattle.linear_cons.specs.Ends.{exactly}
+use Rattle.linear_forms.specs.Linearising.{form_of, is_exact, linear_of}
 use Rattle.step_meaning.specs.Syntax.{Expression}
 use Rattle.step_meaning.specs.Countdown.{added, amount, change_by}
 use Rattle.step_meaning.specs.Turns.{MayAssign}

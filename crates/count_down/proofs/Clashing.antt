@@ -3,7 +3,6 @@ use Rattle.std.proofs.Common.{◌≡◌, ℕ, ◌-◌, ◌*◌, ◌<◌, ◌≤�
 use Rattle.std.proofs.Math.Nat.{mul-le-mul}
 use Rattle.std.proofs.lemmas.Bool.{cases_lt}
 use Rattle.std.proofs.lemmas.Int.{by_lt_z, ints}
-use Rattle.std.proofs.lemmas.Nat.Gcd.{dvd-zero}
 use Rattle.linear_cons.specs.declared.affine.Affine.{Affine}
 use Rattle.linear_cons.specs.declared.row.Row.{Row}
 use Rattle.linear_cons.specs.declared.row.RowKind.{RowKind}
@@ -12,6 +11,7 @@ use Rattle.linear_cons.specs.Divisor.{IsPrimitive}
 use Rattle.linear_cons.specs.Functions.{IsConstant, IsQuotient, coefficient, constant_of, multiple_of, sum_of, value_at}
 use Rattle.linear_cons.specs.Numbers.{at_places, number_at}
 use Rattle.linear_cons.specs.Rows.{AreOpposed, IsRowOf, row_kind_of}
+use Rattle.linear_cons.proofs.Dividing.{zeros_not_primitive}
 use Rattle.linear_cons.proofs.Forms.{same_coefficient, same_constant, value_constant, value_multiple, value_sum}
 use Rattle.linear_cons.proofs.KindLaws.{row_kind_is}
 use Rattle.linear_cons.proofs.Places.{length-at_places, number_at_places}
@@ -29,11 +29,6 @@ zero_factor g z positive is =
     (λ from. by_lt_z (pos 0) z
     (λ more. absurd (let p = mul_lt (pos g) (pos 0) z above more in omega (arith, ints)))
     (λ to. omega (arith, ints)))
-
-zeros_not_primitive : (xs : List ℤ) → ((i : ℕ) → i < 16 → number_at xs i ≡ pos 0) → ¬ IsPrimitive xs
-zeros_not_primitive xs zeros primitive =
-    let two : ◌≡◌ {A = ℕ} 2 1 = primitive 2 (λ i h. rw (zeros i h) (dvd-zero 2)) in
-    omega arith
 
 -- a constant function has no row
 no_row : (a : Affine) (row : Row) → IsQuotient a row.affine → ¬ IsConstant a

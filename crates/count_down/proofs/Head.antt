@@ -1,5 +1,5 @@
 -- The label of a loop's test, and those of the assignments before it.
-use Rattle.std.proofs.Common.{◌≡◌, ℕ, ◌+◌, ◌*◌, ◌^◌, ◌<◌, ◌≤◌, ℤ, pos, negsuc, neg_ℤ, ◌*ℤ◌, ◌<ℤ◌, true, false, List, ◌++◌, None, Some, length, length-append, All, sym, subst, arith}
+use Rattle.std.proofs.Common.{◌≡◌, ℕ, ◌+◌, ◌*◌, ◌^◌, ◌<◌, ◌≤◌, ℤ, pos, negsuc, neg_ℤ, ◌*ℤ◌, ◌<ℤ◌, true, false, List, ◌++◌, None, Some, length, All, sym, subst, arith}
 use Rattle.std.proofs.Math.Nat.{mul-le-mul}
 use Rattle.std.proofs.lemmas.Int.{ints}
 use Rattle.std.proofs.lemmas.List.Elements.{All-append, Contains-append_left, Contains-append_right}
@@ -10,7 +10,8 @@ use Rattle.linear_cons.specs.Functions.{IsQuotient, constant_of, value_at}
 use Rattle.linear_cons.specs.Rows.{row_kind_of}
 use Rattle.linear_cons.proofs.KindLaws.{primitive_quotient, row_kind_is}
 use Rattle.linear_cons.proofs.Ring.{mul_le, mul_one, mul_neg}
-use Rattle.linear_forms.specs.Linearising.{exactly, linear_of}
+use Rattle.linear_cons.specs.Ends.{exactly}
+use Rattle.linear_forms.specs.Linearising.{linear_of}
 use Rattle.linear_forms.specs.Spreading.{spread_of}
 use Rattle.linear_forms.proofs.Exactness.{linear_exact}
 use Rattle.control_flow.specs.Labels.{assigns, tests}
@@ -37,14 +38,13 @@ use Rattle.count_down.proofs.Heading.{asked_row, leaves_yes, never_taken, steps_
 use Rattle.count_down.proofs.Inside.{IsAhead}
 use Rattle.count_down.proofs.Last.{IsLast, unset_claim}
 use Rattle.count_down.proofs.Leading.{below, led_modest, limit, size_before, sizes}
-use Rattle.count_down.proofs.Leads.{Blocks, IsGiven, LeadsDown, Passes, all_lead, rows_long, tested, testing_all, testing_asked}
+use Rattle.count_down.proofs.Leads.{Blocks, IsGiven, LeadsDown, Passes, all_lead, tested, testing_all, testing_asked}
 use Rattle.count_down.proofs.Lining.{Natural, Negative}
 use Rattle.count_down.proofs.Modest.{modest_fits, sizes_grown, small_sizes}
-use Rattle.count_down.proofs.RowCounts.{IsNarrow, false_few, true_few}
 use Rattle.count_down.proofs.Putting.{put_fits}
 use Rattle.count_down.proofs.Stepping.{from_yes, more_natural, more_negative}
 
-module _ (body : Statements) (told : Told) (parts : ℕ → Trees AffineRank) (family : Trees AffineRank) (ground : IsGiven body told parts)
+module _ (body : Statements) (told : Told) (parts : ℕ → Trees AffineRank) (family : Trees AffineRank) (ground : IsGiven body parts)
     (m s : ℕ) (turn : 0 < m) (short : m ≤ 1024) (rest : s ≤ 1024) where
   -- ---- the test
   module _ (row : Row) (small : IsSmall row.affine) (long : length row.affine.coef ≡ 16) (test : Expression) (asked : Asks test row) (label p q : ℕ) (round after : Count)
@@ -63,17 +63,7 @@ module _ (body : Statements) (told : Told) (parts : ℕ → Trees AffineRank) (f
     first_modest : IsModest first.f
     first_modest = sizes_grown (2 ^ 74) (2 ^ 91) first.f (omega arith) first.sizes
 
-    module _ (asks : List Formed) (few_asks : length asks ≤ length (told.rows label) + 1) (rows : List Row) (few : length rows ≤ 64) where
-      all_asks : List Formed
-      all_asks = asks ++ rows_given rows
-
-      few_all : length (asks ++ rows_given rows) + 1 < 4096
-      few_all =
-          let both = length-append asks (rows_given rows) in
-          let same = rows_long rows in
-          let told_few = ground.rows label in
-          omega arith
-
+    module _ (asks : List Formed) (rows : List Row) where
       -- into a turn, which counts down
       turn_yes : Natural asks v → Blocks body told parts family (ranked (bound m s e 0)) asks (tested 0 p rows)
       turn_yes natural =
@@ -85,7 +75,7 @@ module _ (body : Statements) (told : Told) (parts : ℕ → Trees AffineRank) (f
           (sym first.tree)
           (from_yes None m s e 0 first.f round.most
           (unset_fits m s e 0 first.f round.most short (omega arith) (let most = first.few in omega arith) own_modest first_modest)
-          round.change (omega (arith, ints)) (λ store long. first.value store) 0 (asks ++ rows_given rows) few_all turn (omega arith)
+          round.change (omega (arith, ints)) (λ store long. first.value store) 0 (asks ++ rows_given rows) turn (omega arith)
           (omega (arith, ints))
           (more_natural asks (asks ++ rows_given rows) v (λ a inside. Contains-append_left asks (rows_given rows) a inside) natural))
 
@@ -95,7 +85,7 @@ module _ (body : Statements) (told : Told) (parts : ℕ → Trees AffineRank) (f
           let quotient : IsQuotient e e = primitive_quotient e long in
           subst (λ tree. All IsBlocked (at_leaves (moved_by None) (unless_less 0 None (ranked (constant_of (pos (0 + 1 + s))))) tree
           (asks ++ rows_given rows))) (sym first.tree)
-          (never_taken m s e first.f round.most 0 (constant_of (pos (0 + 1 + s))) (asks ++ rows_given rows) few_all
+          (never_taken m s e first.f round.most 0 (constant_of (pos (0 + 1 + s))) (asks ++ rows_given rows)
           (rows_fit first.f (row_kind_of first.f) (row_kind_is first.f) first_modest)
           (more_negative asks (asks ++ rows_given rows) v (λ a inside. Contains-append_left asks (rows_given rows) a inside) falls_below)
           (more_natural (rows_given rows) (asks ++ rows_given rows) v (λ a inside. Contains-append_right asks (rows_given rows) a inside)
@@ -107,7 +97,7 @@ module _ (body : Statements) (told : Told) (parts : ℕ → Trees AffineRank) (f
           let few_last = second.few in
           subst (λ tree. All IsBlocked (at_leaves (moved_by None) (unless_less 1 None (ranked (bound m s e 0))) tree (asks ++ rows_given rows)))
           (sym second.tree)
-          (leaves_yes None tt 1 (asks ++ rows_given rows) (omega (arith, few_all)) second.why m s e 0 after.most turn (omega arith)
+          (leaves_yes None tt 1 (asks ++ rows_given rows) second.why m s e 0 after.most turn (omega arith)
           (more_natural asks (asks ++ rows_given rows) v (λ a inside. Contains-append_left asks (rows_given rows) a inside) natural)
           (claim_fits None (constant_of (pos after.most)) (bound m s e 0) tt
           (sizes_grown most_size (most_size * 2 ^ 20) (constant_of (pos after.most)) (omega arith) (steps_sizes after.most (omega arith)))
@@ -118,12 +108,12 @@ module _ (body : Statements) (told : Told) (parts : ℕ → Trees AffineRank) (f
           let few_last = second.few in
           subst (λ tree. All IsBlocked (at_leaves (moved_by None) (unless_less 1 None (ranked (constant_of (pos (0 + 1 + s))))) tree
           (asks ++ rows_given rows))) (sym second.tree)
-          (steps_less None tt 1 (asks ++ rows_given rows) (omega (arith, few_all)) second.why after.most (0 + 1 + s) (omega arith)
+          (steps_less None tt 1 (asks ++ rows_given rows) second.why after.most (0 + 1 + s) (omega arith)
           (unset_claim after.most (0 + 1 + s) (omega arith) (omega arith)))
 
-    pub head_passes : IsNarrow (tests true test p q) → family label ≡ count_tree m s e 0
+    pub head_passes : family label ≡ count_tree m s e 0
         → Passes body told parts family m s label (tests true test p q)
-    head_passes narrow tree =
+    head_passes tree =
         let bounds : Bounds = told.bounds label in
         record {
           e = e;
@@ -131,24 +121,21 @@ module _ (body : Statements) (told : Told) (parts : ℕ → Trees AffineRank) (f
           tree = tree;
           modest = own_modest;
           steps = omega arith;
-          yes_arcs = λ asks few_asks natural.
+          yes_arcs = λ asks natural.
               All-append (Blocks body told parts family (ranked (bound m s e 0)) asks) (testing 0 p (spread_of bounds test true))
               (testing 1 q (spread_of bounds test false))
-              (testing_all (Blocks body told parts family (ranked (bound m s e 0)) asks) 64 0 p (spread_of bounds test true)
-              (true_few bounds test narrow.1)
-              (λ rows few. turn_yes asks few_asks rows few natural))
-              (testing_all (Blocks body told parts family (ranked (bound m s e 0)) asks) 64 1 q (spread_of bounds test false)
-              (false_few bounds test narrow.0)
-              (λ rows few. out_yes asks few_asks rows few natural));
-          no_arcs = λ asks few_asks falls_below.
+              (testing_all (Blocks body told parts family (ranked (bound m s e 0)) asks) 0 p (spread_of bounds test true)
+              (λ rows. turn_yes asks rows natural))
+              (testing_all (Blocks body told parts family (ranked (bound m s e 0)) asks) 1 q (spread_of bounds test false)
+              (λ rows. out_yes asks rows natural));
+          no_arcs = λ asks falls_below.
               All-append (Blocks body told parts family (ranked (constant_of (pos (0 + 1 + s)))) asks) (testing 0 p (spread_of bounds test true))
               (testing 1 q (spread_of bounds test false))
-              (testing_asked (Blocks body told parts family (ranked (constant_of (pos (0 + 1 + s)))) asks) row 64 0 p (spread_of bounds test true)
-              (true_few bounds test narrow.1) (each_has bounds row test asked)
-              (λ rows few has. turn_no asks few_asks rows few has falls_below))
-              (testing_all (Blocks body told parts family (ranked (constant_of (pos (0 + 1 + s)))) asks) 64 1 q (spread_of bounds test false)
-              (false_few bounds test narrow.0)
-              (λ rows few. out_no asks few_asks rows few));
+              (testing_asked (Blocks body told parts family (ranked (constant_of (pos (0 + 1 + s)))) asks) row 0 p (spread_of bounds test true)
+              (each_has bounds row test asked)
+              (λ rows has. turn_no asks rows has falls_below))
+              (testing_all (Blocks body told parts family (ranked (constant_of (pos (0 + 1 + s)))) asks) 1 q (spread_of bounds test false)
+              (λ rows. out_no asks rows));
         }
 
   -- ---- an assignment before the loop
@@ -187,8 +174,7 @@ module _ (body : Statements) (told : Told) (parts : ℕ → Trees AffineRank) (f
               omega (arith, ints);
           fits = put_fits x low (form_of v) m s here (1 + j) behind_it j (size_before more) short (omega arith) (omega arith) modest
               (sizes row x v more led) (omega arith) size_small;
-          few = omega arith;
           step = omega arith;
         } in
-        all_lead body told parts family ground m s here (1 + j) turn label (assigns x v next) tree modest (omega arith)
+        all_lead body told parts family m s here (1 + j) turn label (assigns x v next) tree modest (omega arith)
         (all_one (LeadsDown body told parts family m s here (1 + j)) (assigning x next (linear_of bounds v)) (rw exact leads))

@@ -37,13 +37,13 @@ asked_row e row rows by fit has =
     has_given (other ∷ more) (inr later) = contains_later (given other.affine) (given row.affine) (rows_given more) (has_given more later)
 
 -- ---- steps to a leaf within a constant
-module _ (sets : Option (ℕ × Affine)) (place : SetsPlace sets) (edge : ℕ) (asks : List Formed) (few : length asks < 4096) (why : Why) where
+module _ (sets : Option (ℕ × Affine)) (place : SetsPlace sets) (edge : ℕ) (asks : List Formed) (why : Why) where
   -- from within a greater constant
   pub steps_less : (j k : ℕ) → j < k → ClaimFits affine_ranks (exceeding (ranked (constant_of (pos j))) sets (ranked (constant_of (pos k))))
       → All IsBlocked (at_leaves (moved_by sets) (unless_less edge sets (ranked (constant_of (pos k)))) (leaf why (ranked (constant_of (pos j)))) asks)
   steps_less j k less fits =
       all_one IsBlocked (record { edge = edge; asks = asks; claim = exceeding (ranked (constant_of (pos j))) sets (ranked (constant_of (pos k))) })
-      (by_claim _ few (excess sets place (constant_of (pos j)) (constant_of (pos k))) (pos j -ℤ pos k) (inr (fits, refl)) (omega (arith, ints))
+      (by_claim _ (excess sets place (constant_of (pos j)) (constant_of (pos k))) (pos j -ℤ pos k) (inr (fits, refl)) (omega (arith, ints))
       (λ store long.
       let claim = claim_value sets place (constant_of (pos j)) (constant_of (pos k)) store long in
       let first = value_constant (pos j) (store_after sets store) in
@@ -56,7 +56,7 @@ module _ (sets : Option (ℕ × Affine)) (place : SetsPlace sets) (edge : ℕ) (
       → All IsBlocked (at_leaves (moved_by sets) (unless_less edge sets (ranked (bound m s e k))) (leaf why (ranked (constant_of (pos j)))) asks)
   leaves_yes m s e k j turn less natural fits =
       all_one IsBlocked (record { edge = edge; asks = asks; claim = exceeding (ranked (constant_of (pos j))) sets (ranked (bound m s e k)) })
-      (by_fall _ few (λ store. value_at e store) (excess sets place (constant_of (pos j)) (bound m s e k)) (inr (fits, refl))
+      (by_fall _ (λ store. value_at e store) (excess sets place (constant_of (pos j)) (bound m s e k)) (inr (fits, refl))
       (record {
         scale = 1;
         some = omega arith;
@@ -76,14 +76,14 @@ module _ (sets : Option (ℕ × Affine)) (place : SetsPlace sets) (edge : ℕ) (
       natural)
 
 -- An edge whose asks contradict its side is never taken: e is below 0 by what is asked, and at least 0. Nothing matters of the tree behind.
-pub never_taken : (m s : ℕ) (e f : Affine) (j edge : ℕ) (b : Affine) (asks : List Formed) → length asks + 1 < 4096 → RowsFit None tt (row_kind_of f)
+pub never_taken : (m s : ℕ) (e f : Affine) (j edge : ℕ) (b : Affine) (asks : List Formed) → RowsFit None tt (row_kind_of f)
     → Negative asks (λ store. value_at e store) → Natural asks (λ store. value_at e store)
     → All IsBlocked (at_leaves (moved_by None) (unless_less edge None (ranked b)) (count_tree m s f j) asks)
-never_taken m s e f j edge b asks few fit negative natural =
+never_taken m s e f j edge b asks fit negative natural =
     let v : List ℤ → ℤ = λ store. value_at e store in
     let same : (store : List ℤ) → length store ≡ 16 → v store ≡ v store +ℤ pos 0 = λ store long. omega (arith, ints) in
-    sides None tt f (row_kind_of f) (row_kind_is f) fit edge (bound m s f j) (constant_of (pos (j + 1 + s))) b asks few
-    (λ more short extends there.
-    by_sides _ short v v (pos 0) (omega (arith, ints)) same (more_negative asks more v extends negative) (more_natural asks more v extends natural))
-    (λ more short extends there.
-    by_sides _ short v v (pos 0) (omega (arith, ints)) same (more_negative asks more v extends negative) (more_natural asks more v extends natural))
+    sides None tt f (row_kind_of f) (row_kind_is f) fit edge (bound m s f j) (constant_of (pos (j + 1 + s))) b asks
+    (λ more extends there.
+    by_sides _ v v (pos 0) (omega (arith, ints)) same (more_negative asks more v extends negative) (more_natural asks more v extends natural))
+    (λ more extends there.
+    by_sides _ v v (pos 0) (omega (arith, ints)) same (more_negative asks more v extends negative) (more_natural asks more v extends natural))

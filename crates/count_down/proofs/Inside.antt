@@ -1,5 +1,5 @@
 -- The labels inside a loop that counts a function down.
-use Rattle.std.proofs.Common.{true, false, ◌≡◌, ℕ, ◌+◌, ◌*◌, ◌^◌, ◌<◌, ◌≤◌, ℤ, pos, ◌+ℤ◌, ◌-ℤ◌, ◌*ℤ◌, ◌≤ℤ◌, inl, inr, List, [], None, Some, length, set, refl, ap, ◌∙◌, arith}
+use Rattle.std.proofs.Common.{true, false, ◌≡◌, ℕ, ◌+◌, ◌*◌, ◌^◌, ◌<◌, ◌≤◌, ℤ, pos, ◌+ℤ◌, ◌-ℤ◌, ◌*ℤ◌, ◌≤ℤ◌, inl, inr, List, [], None, Some, set, refl, ap, ◌∙◌, arith}
 use Rattle.std.proofs.lemmas.Int.{ints, int_max_is}
 use Rattle.std.proofs.lemmas.List.Elements.{All-append}
 use Rattle.linear_cons.specs.declared.affine.Affine.{Affine}
@@ -8,7 +8,8 @@ use Rattle.linear_cons.specs.Functions.{coefficient, constant_of, value_at}
 use Rattle.linear_cons.proofs.Places.{number_at_places}
 use Rattle.linear_cons.proofs.Ring.{zero_mul}
 use Rattle.linear_cons.proofs.Sizes.{SizesAtMost}
-use Rattle.linear_forms.specs.Linearising.{exactly, linear_of}
+use Rattle.linear_cons.specs.Ends.{exactly}
+use Rattle.linear_forms.specs.Linearising.{linear_of}
 use Rattle.linear_forms.specs.Spreading.{spread_of}
 use Rattle.control_flow.specs.Actions.{IsSorted}
 use Rattle.control_flow.specs.Labels.{Action, ends, assigns, passes, tests}
@@ -30,13 +31,12 @@ use Rattle.count_down.proofs.Adding.{short_exact, short_size}
 use Rattle.count_down.proofs.Carrying.{counted, shifted_value, unmentioned}
 use Rattle.count_down.proofs.CountingLaws.{Follows}
 use Rattle.count_down.proofs.Fitting.{unset_fits}
-use Rattle.count_down.proofs.Leads.{IsGiven, LeadsDown, Passes, all_lead, assigning_all, rows_long, testing_all}
+use Rattle.count_down.proofs.Leads.{IsGiven, LeadsDown, Passes, all_lead, assigning_all, testing_all}
 use Rattle.count_down.proofs.Modest.{ahead_modest, sizes_grown, sizes_shifted, small_sizes}
-use Rattle.count_down.proofs.RowCounts.{IsNarrow, false_few, true_few}
 use Rattle.count_down.proofs.Noughts.{nought_step}
 use Rattle.count_down.proofs.Putting.{put_fits}
 
-module _ (body : Statements) (told : Told) (parts : ℕ → Trees AffineRank) (family : Trees AffineRank) (ground : IsGiven body told parts)
+module _ (body : Statements) (told : Told) (parts : ℕ → Trees AffineRank) (family : Trees AffineRank) (ground : IsGiven body parts)
     (m s : ℕ) (turn : 0 < m) (short : m ≤ 1024) (rest : s ≤ 1024) (e : Affine) (small : IsSmall e) where
   -- the tree of the label counts down what e will be behind the steps of the count
   pub record IsAhead (l : ℕ) (c : Count) : Type 0 where
@@ -74,9 +74,8 @@ module _ (body : Statements) (told : Told) (parts : ℕ → Trees AffineRank) (f
 
   -- an arc that changes no store leads to fewer steps
   pub unset_leads : (o c : Count) (edge target : ℕ) (asks : List Formed) → IsFew 2048 o → IsAhead target c → c.most < o.most → c.change ≤ℤ o.change
-      → length asks ≤ 64
       → LeadsDown body told parts family m s (shifted e o.change) o.most (record { edge = edge; target = target; asks = asks; sets = None })
-  unset_leads o c edge target asks own there steps change few =
+  unset_leads o c edge target asks own there steps change =
       let most = own.most in
       record {
         f = there.f;
@@ -87,7 +86,6 @@ module _ (body : Statements) (told : Told) (parts : ℕ → Trees AffineRank) (f
         is = λ store long. let first = there.value store in let second = shifted_value e o.change store in omega (arith, ints);
         fits = unset_fits m s (shifted e o.change) o.most there.f c.most short (omega arith) (omega arith) (inside_modest o own)
             (modest there.f there.sizes);
-        few = few;
         step = steps;
       }
 
@@ -97,10 +95,10 @@ module _ (body : Statements) (told : Told) (parts : ℕ → Trees AffineRank) (f
     before = step_by (change_by e x v) c
 
     -- an assignment of a variable that e doesn't mention
-    unmentioned_leads : coefficient e x ≡ pos 0 → (a : Affine) (asks : List Formed) → length asks ≤ 2
+    unmentioned_leads : coefficient e x ≡ pos 0 → (a : Affine) (asks : List Formed)
         → LeadsDown body told parts family m s (shifted e before.change) before.most
         (record { edge = 0; target = next; asks = asks; sets = Some (x, a) })
-    unmentioned_leads none a asks two =
+    unmentioned_leads none a asks =
         let most = own.most in
         let zero : change_by e x v ≡ pos 0 = ap (λ t. t *ℤ amount (added x v)) none ∙ zero_mul (amount (added x v)) in
         record {
@@ -116,7 +114,6 @@ module _ (body : Statements) (told : Told) (parts : ℕ → Trees AffineRank) (f
               omega (arith, ints);
           fits = nought_step x low a m s (shifted e before.change) before.most there.f c.most short (omega arith) (omega arith)
               (inside_modest before own) (modest there.f there.sizes) (there.same x low ∙ none);
-          few = omega arith;
           step = omega arith;
         }
 
@@ -144,7 +141,6 @@ module _ (body : Statements) (told : Told) (parts : ℕ → Trees AffineRank) (f
               omega (arith, ints);
           fits = put_fits x low (form_of v) m s (shifted e before.change) before.most there.f c.most (2 ^ 74) short (omega arith) (omega arith)
               (inside_modest before own) there.sizes (omega arith) (omega arith);
-          few = omega arith;
           step = omega arith;
         } in
         rw exact put
@@ -157,29 +153,29 @@ module _ (body : Statements) (told : Told) (parts : ℕ → Trees AffineRank) (f
     assigned_leads (inr literal) = added_leads literal
 
   -- at a label whose count is that of a step and of what follows
-  pub inside_passes : (l : ℕ) (action : Action) → IsSorted ground.vars action → IsNarrow action → Follows e IsAhead IsInside ahead l action
+  pub inside_passes : (l : ℕ) (action : Action) → IsSorted ground.vars action → Follows e IsAhead IsInside ahead l action
       → Passes body told parts family m s l action
-  inside_passes l ends sorted narrow follows = absurd follows
-  inside_passes l (assigns x v next) sorted narrow follows =
+  inside_passes l ends sorted follows = absurd follows
+  inside_passes l (assigns x v next) sorted follows =
       let few = ground.few_vars in
       let place = sorted.0 in
       let c : Count = follows.1.0 in
       let o : Count = step_by (change_by e x v) c in
       let own = follows.1.2.1 in
       let most = own.most in
-      all_lead body told parts family ground m s (shifted e o.change) o.most turn l (assigns x v next) follows.1.2.0 (inside_modest o own)
+      all_lead body told parts family m s (shifted e o.change) o.most turn l (assigns x v next) follows.1.2.0 (inside_modest o own)
       (omega arith)
       (all_one (LeadsDown body told parts family m s (shifted e o.change) o.most) (assigning x next (linear_of (told.bounds l) v))
       (assigned_leads x (omega arith) (told.bounds l) v next c follows.1.1 own follows.0))
-  inside_passes l (passes next) sorted narrow follows =
+  inside_passes l (passes next) sorted follows =
       let c : Count = follows.0 in
       let o : Count = step_by (pos 0) c in
       let own = follows.2.1 in
       let most = own.most in
-      all_lead body told parts family ground m s (shifted e o.change) o.most turn l (passes next) follows.2.0 (inside_modest o own) (omega arith)
+      all_lead body told parts family m s (shifted e o.change) o.most turn l (passes next) follows.2.0 (inside_modest o own) (omega arith)
       (all_one (LeadsDown body told parts family m s (shifted e o.change) o.most) (record { edge = 0; target = next; asks = []; sets = None })
-      (unset_leads o c 0 next [] own follows.1 (omega arith) (omega (arith, ints)) (omega arith)))
-  inside_passes l (tests head test p q) sorted narrow follows =
+      (unset_leads o c 0 next [] own follows.1 (omega arith) (omega (arith, ints))))
+  inside_passes l (tests head test p q) sorted follows =
       let c : Count = follows.0 in
       let d : Count = follows.1 in
       let o : Count = either_of c d in
@@ -188,12 +184,10 @@ module _ (body : Statements) (told : Told) (parts : ℕ → Trees AffineRank) (f
       let bounds : Bounds = told.bounds l in
       let greater = int_max_is c.change d.change in
       let Leads : Arc → Type 0 = LeadsDown body told parts family m s (shifted e o.change) o.most in
-      all_lead body told parts family ground m s (shifted e o.change) o.most turn l (tests head test p q) follows.4.0 (inside_modest o own)
+      all_lead body told parts family m s (shifted e o.change) o.most turn l (tests head test p q) follows.4.0 (inside_modest o own)
       (omega arith)
       (All-append Leads (testing 0 p (spread_of bounds test true)) (testing 1 q (spread_of bounds test false))
-      (testing_all Leads 64 0 p (spread_of bounds test true) (true_few bounds test narrow.1)
-      (λ rows few. unset_leads o c 0 p (rows_given rows) own follows.2 (omega arith) (omega (arith, ints, int_max_is c.change d.change))
-      (let same = rows_long rows in omega arith)))
-      (testing_all Leads 64 1 q (spread_of bounds test false) (false_few bounds test narrow.0)
-      (λ rows few. unset_leads o d 1 q (rows_given rows) own follows.3 (omega arith) (omega (arith, ints, int_max_is c.change d.change))
-      (let same = rows_long rows in omega arith))))
+      (testing_all Leads 0 p (spread_of bounds test true)
+      (λ rows. unset_leads o c 0 p (rows_given rows) own follows.2 (omega arith) (omega (arith, ints, int_max_is c.change d.change))))
+      (testing_all Leads 1 q (spread_of bounds test false)
+      (λ rows. unset_leads o d 1 q (rows_given rows) own follows.3 (omega arith) (omega (arith, ints, int_max_is c.change d.change)))))

@@ -1,12 +1,10 @@
 -- The systems at a label whose tree counts down are blocked where its arcs are.
-use Rattle.std.proofs.Common.{◌≡◌, ℕ, zero, suc, ◌+◌, ◌<◌, ◌≤◌, nat_lt, ℤ, pos, negsuc, ◌-ℤ◌, inl, inr, Bool, true, false, if◌then◌else◌, List, [], ◌∷◌, ◌++◌, None, length, All, Contains, refl, sym, subst, arith}
+use Rattle.std.proofs.Common.{◌≡◌, ℕ, zero, suc, ◌+◌, ◌<◌, nat_lt, ℤ, pos, negsuc, ◌-ℤ◌, inl, inr, Bool, true, false, if◌then◌else◌, List, [], ◌∷◌, ◌++◌, None, All, Contains, refl, sym, subst, arith}
 use Rattle.std.specs.List.{flat_map}
 use Rattle.std.proofs.lemmas.Bool.Decides.{nat_tests}
 use Rattle.std.proofs.lemmas.Int.{ints}
-use Rattle.std.proofs.lemmas.List.{length-append, length-map}
 use Rattle.std.proofs.lemmas.List.Elements.{All-append, All-cons, Contains-append_right}
 use Rattle.linear_cons.specs.declared.affine.Affine.{Affine}
-use Rattle.linear_cons.specs.declared.row.Row.{Row}
 use Rattle.linear_cons.specs.declared.row.RowKind.{RowKind}
 use Rattle.linear_cons.specs.declared.row.RowKind.TheVariants.{Always, Never, Row as Kept}
 use Rattle.linear_cons.specs.Functions.{complement_of, constant_of, value_at}
@@ -78,26 +76,24 @@ module _ (body : Statements) (told : Told) (parts : ℕ → Trees AffineRank) (f
   pub record IsGood (m s : ℕ) (e : Affine) (k : ℕ) : Type 0 where
     pub tree : family label ≡ count_tree m s e k
     pub kept : IsWhole (parts 0 label)
-    pub few : length (told.rows label) + 1 < 4096
     pub turn : 0 < m
     pub rows : RowsFit None tt (row_kind_of e)
     pub bounds : ClaimFits affine_ranks (unnatural (ranked (bound m s e k)))
     pub lasts : ClaimFits affine_ranks (unnatural (ranked (constant_of (pos (k + 1 + s)))))
-    pub yes_arcs : (asks : List Formed) → length asks ≤ length (told.rows label) + 1 → Natural asks (λ store. value_at e store)
+    pub yes_arcs : (asks : List Formed) → Natural asks (λ store. value_at e store)
         → ArcsBlocked (ranked (bound m s e k)) asks
-    pub no_arcs : (asks : List Formed) → length asks ≤ length (told.rows label) + 1 → Negative asks (λ store. value_at e store)
+    pub no_arcs : (asks : List Formed) → Negative asks (λ store. value_at e store)
         → ArcsBlocked (ranked (constant_of (pos (k + 1 + s)))) asks
 
   module _ (m s : ℕ) (e : Affine) (k : ℕ) (good : IsGood m s e k) where
     abbrev v : List ℤ → ℤ
     v store = value_at e store
 
-    yes_leaf : (asks : List Formed) → length asks ≤ length (told.rows label) + 1 → Natural asks v
+    yes_leaf : (asks : List Formed) → Natural asks v
         → All IsBlocked (of_leaf at (within (bound m s e k)) family label asks)
-    yes_leaf asks short natural =
-        let few = good.few in
+    yes_leaf asks natural =
         leaf_blocked (ranked (bound m s e k)) asks good.kept
-        (by_fall (not_natural (ranked (bound m s e k)) asks) (omega arith) v (complement_of (bound m s e k)) (inr (good.bounds, refl))
+        (by_fall (not_natural (ranked (bound m s e k)) asks) v (complement_of (bound m s e k)) (inr (good.bounds, refl))
         (record {
           scale = 1;
           some = omega arith;
@@ -114,44 +110,37 @@ module _ (body : Statements) (told : Told) (parts : ℕ → Trees AffineRank) (f
               omega (arith, ints);
         })
         natural)
-        (good.yes_arcs asks short natural)
+        (good.yes_arcs asks natural)
 
-    no_leaf : (asks : List Formed) → length asks ≤ length (told.rows label) + 1 → Negative asks v
+    no_leaf : (asks : List Formed) → Negative asks v
         → All IsBlocked (of_leaf at (within (constant_of (pos (k + 1 + s)))) family label asks)
-    no_leaf asks short negative =
-        let few = good.few in
+    no_leaf asks negative =
         let last : Affine = constant_of (pos (k + 1 + s)) in
         leaf_blocked (ranked last) asks good.kept
-        (by_claim (not_natural (ranked last) asks) (omega arith) (complement_of last) (negsuc 0 -ℤ pos (k + 1 + s)) (inr (good.lasts, refl)) (omega (arith, ints))
+        (by_claim (not_natural (ranked last) asks) (complement_of last) (negsuc 0 -ℤ pos (k + 1 + s)) (inr (good.lasts, refl)) (omega (arith, ints))
         (λ store long. let own = value_complement last store in let value = value_constant (pos (k + 1 + s)) store in omega (arith, ints)))
-        (good.no_arcs asks short negative)
+        (good.no_arcs asks negative)
 
     abbrev given_rows : List Formed
     given_rows = rows_given (told.rows label)
 
-    long_rows : length given_rows ≡ length (told.rows label)
-    long_rows = length-map (told.rows label) (λ (row : Row). given row.affine)
-
     asked : (a : Affine) → Contains (given_rows ++ given a ∷ []) (given a)
     asked a = Contains-append_right given_rows (given a ∷ []) (given a) (0, omega arith, refl)
-
-    short_with : (path : List Formed) → length path ≤ 1 → length (given_rows ++ path) ≤ length (told.rows label) + 1
-    short_with path one = let both = length-append given_rows path in let rows = long_rows in omega arith
 
     leaves : (kind : RowKind) → IsRowOf e kind → RowsFit None tt kind → (place : ℕ)
         → All IsBlocked (of_leaf at (leaf_numbered (split kind (within (bound m s e k)) (within (constant_of (pos (k + 1 + s))))) place) family label
         (region at (split kind (within (bound m s e k)) (within (constant_of (pos (k + 1 + s))))) label place))
     leaves Always is fit place =
-        yes_leaf (given_rows ++ []) (short_with [] (omega arith)) (inr (e.constant, is.1, λ store long. constant_value e store is.0))
+        yes_leaf (given_rows ++ []) (inr (e.constant, is.1, λ store long. constant_value e store is.0))
     leaves Never is fit place =
-        no_leaf (given_rows ++ []) (short_with [] (omega arith)) (inr (e.constant, is.1, λ store long. constant_value e store is.0))
+        no_leaf (given_rows ++ []) (inr (e.constant, is.1, λ store long. constant_value e store is.0))
     leaves (Kept row) is fit zero =
-        yes_leaf (given_rows ++ given row.affine ∷ []) (short_with (given row.affine ∷ []) (omega arith))
+        yes_leaf (given_rows ++ given row.affine ∷ [])
         (inl (row.affine, (given row.affine, asked row.affine, fit.0, refl), lower_of None tt e row is))
     leaves (Kept row) is fit (suc place) =
         let second : nat_lt (suc place) 1 ≡ false = grind (arith, nat_tests) in
         rw second
-        (no_leaf (given_rows ++ given (complement_of row.affine) ∷ []) (short_with (given (complement_of row.affine) ∷ []) (omega arith))
+        (no_leaf (given_rows ++ given (complement_of row.affine) ∷ [])
         (inl (complement_of row.affine, (given (complement_of row.affine), asked (complement_of row.affine), fit.1, refl), falls_of None tt e row is)))
 
     pub label_blocked : (place : ℕ) → All IsBlocked (systems at family label place)

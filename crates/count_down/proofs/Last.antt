@@ -28,9 +28,8 @@ use Rattle.count_down.specs.Candidates.{most_within, nothing}
 use Rattle.count_down.specs.Trees.{ranked, within}
 use Rattle.count_down.proofs.CountingLaws.{Follows}
 use Rattle.count_down.proofs.Fitting.{claim_fits, most_size, steps_sizes}
-use Rattle.count_down.proofs.Leads.{Blocked, IsGiven, assigning_all, rows_long, testing_all}
+use Rattle.count_down.proofs.Leads.{Blocked, IsGiven, assigning_all, testing_all}
 use Rattle.count_down.proofs.Modest.{sizes_grown}
-use Rattle.count_down.proofs.RowCounts.{IsNarrow, false_few, true_few}
 use Rattle.count_down.proofs.Noughts.{steps_claim}
 use Rattle.count_down.proofs.Straight.{IsStep, steps_blocked}
 
@@ -40,7 +39,7 @@ unset_claim j k few more =
     claim_fits None (constant_of (pos j)) (constant_of (pos k)) tt
     (sizes_grown most_size (most_size * 2 ^ 20) (constant_of (pos j)) (omega arith) (steps_sizes j few)) (steps_sizes k more)
 
-module _ (body : Statements) (told : Told) (parts : ℕ → Trees AffineRank) (family : Trees AffineRank) (ground : IsGiven body told parts) where
+module _ (body : Statements) (told : Told) (parts : ℕ → Trees AffineRank) (family : Trees AffineRank) (ground : IsGiven body parts) where
   -- the tree of the label is the number of steps of the count
   pub record IsLast (l : ℕ) (c : Count) : Type 0 where
     pub why : Why
@@ -62,16 +61,14 @@ module _ (body : Statements) (told : Told) (parts : ℕ → Trees AffineRank) (f
 
   pub steps_done : (l : ℕ) → l < length (all_labels body) → Steps l (action_at body l) → Blocked body told parts family l
   steps_done l low steps =
-      let rows = ground.rows l in
       let few = steps.few in
-      steps_blocked body told parts family l steps.k steps.tree (ground.kept l low) (omega arith) (omega arith)
+      steps_blocked body told parts family l steps.k steps.tree (ground.kept l low) (omega arith)
       (λ arc inside. All-contains (IsStep body told parts family l steps.k) (arcs_by (told.bounds l) (action_at body l)) arc steps.arcs inside)
 
-  unset_step : (l k : ℕ) (c : Count) (edge target : ℕ) (asks : List Formed) → IsLast target c → c.most < k → k ≤ 2048 → length asks ≤ 64
+  unset_step : (l k : ℕ) (c : Count) (edge target : ℕ) (asks : List Formed) → IsLast target c → c.most < k → k ≤ 2048
       → IsStep body told parts family l k (record { edge = edge; target = target; asks = asks; sets = None })
-  unset_step l k c edge target asks there less few short = record {
+  unset_step l k c edge target asks there less few = record {
     place = tt;
-    few = let rows = ground.rows l in omega arith;
     why = there.why;
     steps = c.most;
     tree = there.tree;
@@ -80,11 +77,9 @@ module _ (body : Statements) (told : Told) (parts : ℕ → Trees AffineRank) (f
   }
 
   set_step : (l k x : ℕ) → x < 16 → (c : Count) (target : ℕ) (a : Affine) (asks : List Formed) → IsLast target c → c.most < k → k ≤ 2048
-      → length asks ≤ 2
       → IsStep body told parts family l k (record { edge = 0; target = target; asks = asks; sets = Some (x, a) })
-  set_step l k x low c target a asks there less few short = record {
+  set_step l k x low c target a asks there less few = record {
     place = low;
-    few = let rows = ground.rows l in omega arith;
     why = there.why;
     steps = c.most;
     tree = there.tree;
@@ -93,10 +88,10 @@ module _ (body : Statements) (told : Told) (parts : ℕ → Trees AffineRank) (f
   }
 
   -- at a label whose count is that of a step and of what follows
-  pub last_labels : (l : ℕ) (action : Action) → IsSorted ground.vars action → IsNarrow action → Follows nothing IsLast IsBehind last l action
+  pub last_labels : (l : ℕ) (action : Action) → IsSorted ground.vars action → Follows nothing IsLast IsBehind last l action
       → Steps l action
-  last_labels l ends sorted narrow follows = absurd follows
-  last_labels l (assigns x v next) sorted narrow follows =
+  last_labels l ends sorted follows = absurd follows
+  last_labels l (assigns x v next) sorted follows =
       let few = ground.few_vars in
       let place = sorted.0 in
       let low : x < 16 = omega arith in
@@ -108,9 +103,9 @@ module _ (body : Statements) (told : Told) (parts : ℕ → Trees AffineRank) (f
         few = most;
         arcs = all_one (IsStep body told parts family l (1 + c.most)) (assigning x next (linear_of (told.bounds l) v))
             (assigning_all (λ (arc : Arc). IsStep body told parts family l (1 + c.most) arc) x next (linear_of (told.bounds l) v)
-            (λ a asks short. set_step l (1 + c.most) x low c next a asks follows.1.1 (omega arith) most short));
+            (λ a asks. set_step l (1 + c.most) x low c next a asks follows.1.1 (omega arith) most));
       }
-  last_labels l (passes next) sorted narrow follows =
+  last_labels l (passes next) sorted follows =
       let c : Count = follows.0 in
       let most = follows.2.1.most in
       record {
@@ -118,9 +113,9 @@ module _ (body : Statements) (told : Told) (parts : ℕ → Trees AffineRank) (f
         tree = follows.2.0;
         few = most;
         arcs = all_one (IsStep body told parts family l (1 + c.most)) (record { edge = 0; target = next; asks = []; sets = None })
-            (unset_step l (1 + c.most) c 0 next [] follows.1 (omega arith) most (omega arith));
+            (unset_step l (1 + c.most) c 0 next [] follows.1 (omega arith) most);
       }
-  last_labels l (tests head test p q) sorted narrow follows =
+  last_labels l (tests head test p q) sorted follows =
       let c : Count = follows.0 in
       let d : Count = follows.1 in
       let k : ℕ = 1 + max c.most d.most in
@@ -132,8 +127,8 @@ module _ (body : Statements) (told : Told) (parts : ℕ → Trees AffineRank) (f
         tree = follows.4.0;
         few = most;
         arcs = All-append Is (testing 0 p (spread_of bounds test true)) (testing 1 q (spread_of bounds test false))
-            (testing_all Is 64 0 p (spread_of bounds test true) (true_few bounds test narrow.1)
-            (λ rows few. unset_step l k c 0 p (rows_given rows) follows.2 (omega arith) most (let same = rows_long rows in omega arith)))
-            (testing_all Is 64 1 q (spread_of bounds test false) (false_few bounds test narrow.0)
-            (λ rows few. unset_step l k d 1 q (rows_given rows) follows.3 (omega arith) most (let same = rows_long rows in omega arith)));
+            (testing_all Is 0 p (spread_of bounds test true)
+            (λ rows. unset_step l k c 0 p (rows_given rows) follows.2 (omega arith) most))
+            (testing_all Is 1 q (spread_of bounds test false)
+            (λ rows. unset_step l k d 1 q (rows_given rows) follows.3 (omega arith) most));
       }

@@ -1,7 +1,6 @@
 -- Labels whose trees count down are blocked where each of their arcs leads to such a tree of fewer steps.
-use Rattle.std.proofs.Common.{◌≡◌, ℕ, ◌+◌, ◌<◌, ◌≤◌, ℤ, pos, ◌+ℤ◌, ◌≤ℤ◌, Bool, true, false, if◌then◌else◌, List, [], ◌∷◌, ◌++◌, Option, None, Some, length, All, sym, subst, arith}
+use Rattle.std.proofs.Common.{◌≡◌, ℕ, ◌+◌, ◌<◌, ◌≤◌, ℤ, pos, ◌+ℤ◌, ◌≤ℤ◌, Bool, true, false, if◌then◌else◌, List, [], ◌∷◌, ◌++◌, None, Some, length, All, sym, subst, arith}
 use Rattle.std.proofs.lemmas.Int.{ints}
-use Rattle.std.proofs.lemmas.List.{length-append, length-map}
 use Rattle.std.proofs.lemmas.List.Elements.{All-cons, All-contains, Contains-append_left}
 use Rattle.linear_cons.specs.declared.affine.Affine.{Affine}
 use Rattle.linear_cons.specs.declared.bounds.Linear.{Linear}
@@ -17,7 +16,7 @@ use Rattle.step_meaning.specs.Valid.{IsBody}
 use Rattle.decision_tree.specs.declared.affine_rank.AffineRank.{AffineRank}
 use Rattle.ctl_formula.specs.Formulas.{af_exit}
 use Rattle.tree_support.specs.Flow.{Arc, above_end, arcs_by, assigning, below_end, rows_given, testing}
-use Rattle.tree_support.specs.Forming.{Formed, given}
+use Rattle.tree_support.specs.Forming.{Formed}
 use Rattle.tree_support.specs.Setting.{Trees}
 use Rattle.tree_support.specs.Systems.{at_leaves, moved_by, systems, unless_less}
 use Rattle.tree_support.specs.Told.{Told, setting_of}
@@ -30,7 +29,6 @@ use Rattle.count_down.specs.Trees.{IsWhole, bound, count_tree, ranked}
 use Rattle.count_down.proofs.Fitting.{bound_sizes, natural_fits, rows_fit, steps_sizes}
 use Rattle.count_down.proofs.Labelled.{label_blocked}
 use Rattle.count_down.proofs.Lining.{Natural, Negative}
-use Rattle.count_down.proofs.RowCounts.{AreFew, IsNarrow}
 use Rattle.count_down.proofs.Stepping.{StepFits, from_no, from_yes, more_natural, more_negative}
 
 -- ---- lists of arcs
@@ -42,20 +40,12 @@ abbrev pub tested : ℕ → ℕ → List Row → Arc
 tested edge next rows = record { edge = edge; target = next; asks = rows_given rows; sets = None }
 
 module _ (P : Arc → Type 0) where
-  -- an arc of an assignment sets the place to something, and asks for two functions at most
-  pub assigning_all : (x next : ℕ) (value : Linear) → ((a : Affine) (asks : List Formed) → length asks ≤ 2
+  -- an arc of an assignment sets the place to something
+  pub assigning_all : (x next : ℕ) (value : Linear) → ((a : Affine) (asks : List Formed)
       → P (record { edge = 0; target = next; asks = asks; sets = Some (x, a) }))
       → P (assigning x next value)
   assigning_all x next value each = by (is_exact value)
     where
-      above_short : (end : Option ℤ) → length (above_end value.affine end) ≤ 1
-      above_short None = omega arith
-      above_short (Some z) = omega arith
-
-      below_short : (end : Option ℤ) → length (below_end value.affine end) ≤ 1
-      below_short None = omega arith
-      below_short (Some z) = omega arith
-
       by : (exact : Bool) → P (if exact then record { edge = 0; target = next; asks = []; sets = Some (x, value.affine) }
           else record {
             edge = 0;
@@ -64,39 +54,28 @@ module _ (P : Arc → Type 0) where
             sets = Some
                 (x, variable_at 15);
           })
-      by true = each value.affine [] (omega arith)
-      by false =
-          let both = length-append (above_end value.affine value.lo) (below_end value.affine value.hi) in
-          let one = above_short value.lo in
-          let two = below_short value.hi in
-          each (variable_at 15) (above_end value.affine value.lo ++ below_end value.affine value.hi) (omega arith)
+      by true = each value.affine []
+      by false = each (variable_at 15) (above_end value.affine value.lo ++ below_end value.affine value.hi)
 
   -- an arc of a test asks for the rows of a conjunction
-  pub testing_all : (n edge next : ℕ) (xs : List (List Row)) → AreFew n xs → ((rows : List Row) → length rows ≤ n → P (tested edge next rows))
+  pub testing_all : (edge next : ℕ) (xs : List (List Row)) → ((rows : List Row) → P (tested edge next rows)) → All P (testing edge next xs)
+  testing_all edge next [] each = all_none P
+  testing_all edge next (rows ∷ more) each = All-cons P (tested edge next rows) (testing edge next more) (each rows) (testing_all edge next more each)
+
+  pub testing_asked : (row : Row) (edge next : ℕ) (xs : List (List Row)) → EachHas row xs → ((rows : List Row) → Has row rows → P (tested edge next rows))
       → All P (testing edge next xs)
-  testing_all n edge next [] few each = all_none P
-  testing_all n edge next (rows ∷ more) few each = All-cons P (tested edge next rows) (testing edge next more) (each rows few.0)
-      (testing_all n edge next more few.1 each)
-
-  pub testing_asked : (row : Row) (n edge next : ℕ) (xs : List (List Row)) → AreFew n xs → EachHas row xs
-      → ((rows : List Row) → length rows ≤ n → Has row rows → P (tested edge next rows)) → All P (testing edge next xs)
-  testing_asked row n edge next [] few has each = all_none P
-  testing_asked row n edge next (rows ∷ more) few has each =
-      All-cons P (tested edge next rows) (testing edge next more) (each rows few.0 has.0) (testing_asked row n edge next more few.1 has.1 each)
-
-pub rows_long : (rows : List Row) → length (rows_given rows) ≡ length rows
-rows_long rows = length-map rows (λ (row : Row). given row.affine)
+  testing_asked row edge next [] has each = all_none P
+  testing_asked row edge next (rows ∷ more) has each =
+      All-cons P (tested edge next rows) (testing edge next more) (each rows has.0) (testing_asked row edge next more has.1 each)
 
 -- ---- what is given
 
--- A valid body with a graph, fewer than 3,000 rows at each label, and a family of the truth without undefined leaves.
-pub record IsGiven (body : Statements) (told : Told) (parts : ℕ → Trees AffineRank) : Type 0 where
+-- A valid body with a graph, and a family of the truth without undefined leaves.
+pub record IsGiven (body : Statements) (parts : ℕ → Trees AffineRank) : Type 0 where
   pub vars : ℕ
   pub few_vars : vars ≤ 15
   pub sorted : IsBody vars body
   pub few : size_of body < 1024
-  pub narrow : (label : ℕ) → label < length (all_labels body) → IsNarrow (action_at body label)
-  pub rows : (label : ℕ) → length (told.rows label) < 3000
   pub kept : (label : ℕ) → label < length (all_labels body) → IsWhole (parts 0 label)
 
 module _ (body : Statements) (told : Told) (parts : ℕ → Trees AffineRank) (family : Trees AffineRank) where
@@ -115,30 +94,28 @@ module _ (body : Statements) (told : Told) (parts : ℕ → Trees AffineRank) (f
     pub tree : family label ≡ count_tree m s e k
     pub modest : IsModest e
     pub steps : k + 1 + s ≤ 4096
-    pub yes_arcs : (asks : List Formed) → length asks ≤ length (told.rows label) + 1 → Natural asks (λ store. value_at e store)
+    pub yes_arcs : (asks : List Formed) → Natural asks (λ store. value_at e store)
         → All (Blocks (ranked (bound m s e k)) asks) (arcs_by (told.bounds label) action)
-    pub no_arcs : (asks : List Formed) → length asks ≤ length (told.rows label) + 1 → Negative asks (λ store. value_at e store)
+    pub no_arcs : (asks : List Formed) → Negative asks (λ store. value_at e store)
         → All (Blocks (ranked (constant_of (pos (k + 1 + s)))) asks) (arcs_by (told.bounds label) action)
 
-  pub passes_blocked : IsGiven body told parts → (m s label : ℕ) → label < length (all_labels body) → 0 < m → m ≤ 1024
+  pub passes_blocked : IsGiven body parts → (m s label : ℕ) → label < length (all_labels body) → 0 < m → m ≤ 1024
       → Passes m s label (action_at body label) → Blocked label
   passes_blocked ground m s label low turn short passes =
-      let rows = ground.rows label in
       label_blocked body told parts family label m s passes.e passes.k
       (record {
         tree = passes.tree;
         kept = ground.kept label low;
-        few = omega arith;
         turn = turn;
         rows = rows_fit passes.e (row_kind_of passes.e) (row_kind_is passes.e) passes.modest;
         bounds = natural_fits (bound m s passes.e passes.k) (bound_sizes m s passes.e passes.k short passes.steps passes.modest);
         lasts = natural_fits (constant_of (pos (passes.k + 1 + s))) (steps_sizes (passes.k + 1 + s) passes.steps);
-        yes_arcs = λ asks small natural arc inside.
+        yes_arcs = λ asks natural arc inside.
             All-contains (Blocks (ranked (bound m s passes.e passes.k)) asks) (arcs_by (told.bounds label) (action_at body label)) arc
-            (passes.yes_arcs asks small natural) inside;
-        no_arcs = λ asks small negative arc inside.
+            (passes.yes_arcs asks natural) inside;
+        no_arcs = λ asks negative arc inside.
             All-contains (Blocks (ranked (constant_of (pos (passes.k + 1 + s)))) asks) (arcs_by (told.bounds label) (action_at body label)) arc
-            (passes.no_arcs asks small negative) inside;
+            (passes.no_arcs asks negative) inside;
       })
 
   -- the arc leads to a tree that counts down what is at most as much, in fewer steps
@@ -150,15 +127,9 @@ module _ (body : Statements) (told : Told) (parts : ℕ → Trees AffineRank) (f
     pub less : d ≤ℤ pos 0
     pub is : (store : List ℤ) → length store ≡ 16 → value_at f (store_after arc.sets store) ≡ value_at e store +ℤ d
     pub fits : StepFits arc.sets m s e k f j
-    pub few : length arc.asks ≤ 64
     pub step : j < k
 
-  module _ (m s : ℕ) (e : Affine) (k : ℕ) (turn : 0 < m) (label : ℕ) (rows : length (told.rows label) < 3000) (arc : Arc)
-      (leads : LeadsDown m s e k arc)
-      (asks : List Formed) (short : length asks ≤ length (told.rows label) + 1) where
-    few_asked : length (asks ++ arc.asks) + 1 < 4096
-    few_asked = let both = length-append asks arc.asks in let few = leads.few in omega arith
-
+  module _ (m s : ℕ) (e : Affine) (k : ℕ) (turn : 0 < m) (arc : Arc) (leads : LeadsDown m s e k arc) (asks : List Formed) where
     leads_yes : Natural asks (λ store. value_at e store) → Blocks (ranked (bound m s e k)) asks arc
     leads_yes natural =
         let step = leads.step in
@@ -166,7 +137,7 @@ module _ (body : Statements) (told : Told) (parts : ℕ → Trees AffineRank) (f
         let none = mul_zero (pos m) in
         subst (λ tree. All IsBlocked (at_leaves (moved_by arc.sets) (unless_less arc.edge arc.sets (ranked (bound m s e k))) tree (asks ++ arc.asks)))
         (sym leads.tree)
-        (from_yes arc.sets m s e k leads.f leads.j leads.fits leads.d leads.less leads.is arc.edge (asks ++ arc.asks) few_asked turn (omega arith)
+        (from_yes arc.sets m s e k leads.f leads.j leads.fits leads.d leads.less leads.is arc.edge (asks ++ arc.asks) turn (omega arith)
         (omega (arith, ints))
         (more_natural asks (asks ++ arc.asks) (λ store. value_at e store) (λ a inside. Contains-append_left asks arc.asks a inside) natural))
 
@@ -174,23 +145,23 @@ module _ (body : Statements) (told : Told) (parts : ℕ → Trees AffineRank) (f
     leads_no negative =
         subst (λ tree. All IsBlocked (at_leaves (moved_by arc.sets) (unless_less arc.edge arc.sets (ranked (constant_of (pos (k + 1 + s))))) tree
         (asks ++ arc.asks))) (sym leads.tree)
-        (from_no arc.sets m s e k leads.f leads.j leads.fits leads.d leads.less leads.is arc.edge (asks ++ arc.asks) few_asked leads.step
+        (from_no arc.sets m s e k leads.f leads.j leads.fits leads.d leads.less leads.is arc.edge (asks ++ arc.asks) leads.step
         (more_negative asks (asks ++ arc.asks) (λ store. value_at e store) (λ a inside. Contains-append_left asks arc.asks a inside) negative))
 
   -- a label all of whose arcs lead to fewer steps
-  pub all_lead : IsGiven body told parts → (m s : ℕ) (e : Affine) (k : ℕ) → 0 < m → (label : ℕ) (action : Action) → family label ≡ count_tree m s e k
+  pub all_lead : (m s : ℕ) (e : Affine) (k : ℕ) → 0 < m → (label : ℕ) (action : Action) → family label ≡ count_tree m s e k
       → IsModest e
       → k + 1 + s ≤ 4096 → All (LeadsDown m s e k) (arcs_by (told.bounds label) action) → Passes m s label action
-  all_lead ground m s e k turn label action tree modest steps leads = record {
+  all_lead m s e k turn label action tree modest steps leads = record {
     e = e;
     k = k;
     tree = tree;
     modest = modest;
     steps = steps;
-    yes_arcs = λ asks short natural.
+    yes_arcs = λ asks natural.
         all_weaken (LeadsDown m s e k) (Blocks (ranked (bound m s e k)) asks) (arcs_by (told.bounds label) action)
-        (λ arc own. leads_yes m s e k turn label (ground.rows label) arc own asks short natural) leads;
-    no_arcs = λ asks short negative.
+        (λ arc own. leads_yes m s e k turn arc own asks natural) leads;
+    no_arcs = λ asks negative.
         all_weaken (LeadsDown m s e k) (Blocks (ranked (constant_of (pos (k + 1 + s)))) asks) (arcs_by (told.bounds label) action)
-        (λ arc own. leads_no m s e k turn label (ground.rows label) arc own asks short negative) leads;
+        (λ arc own. leads_no m s e k turn arc own asks negative) leads;
   }

@@ -17,13 +17,11 @@ pub mod Carrying
 pub mod Fitting
 pub mod Straight
 pub mod Putting
-pub mod RowCounts
 pub mod Noughts
 pub mod Leads
 pub mod Inside
 pub mod Last
 pub mod Head
-pub mod NarrowTests
 pub mod Settled
 pub mod Over
 pub mod Adding

@@ -79,9 +79,9 @@ sinks : (a : Affine) (p : ℕ) (z : ℤ) → 0 < p → z <ℤ pos 0 → ((store 
 sinks a p z some below is =
     cancel a a p p (z +ℤ z) some some (omega (arith, ints)) (λ store long. let own = is store long in omega (arith, ints))
 
-module _ (system : System AffineRank) (few : length system.asks < 4096) where
+module _ (system : System AffineRank) where
   pub by : (a b : Affine) → AsksFor system a → AsksFor system b → Cancel a b → IsBlocked system
-  by a b one two cancels = record { one = a; two = b; asks_one = one; asks_two = two; cancels = cancels; few = few }
+  by a b one two cancels = record { one = a; two = b; asks_one = one; asks_two = two; cancels = cancels }
 
   -- a function that is asked falls with v, which is at least 0
   pub by_fall : (v : List ℤ → ℤ) (a : Affine) → AsksFor system a → Falls v a → Natural system.asks v → IsBlocked system

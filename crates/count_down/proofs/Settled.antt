@@ -44,8 +44,6 @@ use Rattle.count_down.proofs.Leads.{Blocked, IsGiven, Passes, passes_blocked}
 use Rattle.count_down.proofs.Measured.{counting_measured, free_measured, most_before, nothing_small}
 use Rattle.count_down.proofs.Modest.{sizes_grown, small_sizes}
 use Rattle.count_down.proofs.Over.{asked_over}
-use Rattle.count_down.proofs.RowCounts.{IsNarrow}
-use Rattle.count_down.proofs.NarrowTests.{labels_are_narrow}
 use Rattle.count_down.proofs.Straight.{end_blocked}
 
 each_weaken : (P Q : ℕ → Label → Type 0) → ((l : ℕ) (x : Label) → P l x → Q l x) → (n : ℕ) (xs : List Label) → EachFrom P n xs → EachFrom Q n xs
@@ -64,7 +62,7 @@ trees_stand xs (y ∷ ys) k e =
           (trees_stand (xs ++ y ∷ []) ys (k + 1) longer),
     )
 
-module _ (body : Statements) (told : Told) (parts : ℕ → Trees AffineRank) (family : Trees AffineRank) (ground : IsGiven body told parts)
+module _ (body : Statements) (told : Told) (parts : ℕ → Trees AffineRank) (family : Trees AffineRank) (ground : IsGiven body parts)
     (ended_is : family 0 ≡ ended) where
   abbrev Is : ℕ → Plan AffineRank → Type 0
   Is l tree = family l ≡ tree
@@ -74,7 +72,7 @@ module _ (body : Statements) (told : Told) (parts : ℕ → Trees AffineRank) (f
   Done l action = ((m : ℕ) × (s : ℕ) × (0 < m) × (m ≤ 1024) × Passes body told parts family m s l action) ⊎ Steps body told parts family ground l action
 
   abbrev IsSettled : ℕ → Label → Type 0
-  IsSettled l x = IsSorted ground.vars x.action → IsNarrow x.action → Done l x.action
+  IsSettled l x = IsSorted ground.vars x.action → Done l x.action
 
   -- ---- statements without loops, behind which the program ends
 
@@ -101,7 +99,7 @@ module _ (body : Statements) (told : Told) (parts : ℕ → Trees AffineRank) (f
     behind_settled =
         each_weaken (λ l x. Follows nothing (IsLast body told parts family ground) (IsBehind body told parts family ground)
         (last body told parts family ground) l x.action) IsSettled
-        (λ l x follows sort narrow. inr (last_labels body told parts family ground l x.action sort narrow follows))
+        (λ l x follows sort. inr (last_labels body told parts family ground l x.action sort follows))
         n (labels_of n 0 left more)
         (list_followed nothing (IsLast body told parts family ground) (IsBehind body told parts family ground)
         (last body told parts family ground) n 0 left more none
@@ -199,13 +197,13 @@ module _ (body : Statements) (told : Told) (parts : ℕ → Trees AffineRank) (f
         → EachFrom IsSettled k (labels_of k after rest block)
     inside_settled k after rest block followed =
         each_weaken (λ l x. Follows e Ahead Inside weaker l x.action) IsSettled
-        (λ l x follows sort narrow.
+        (λ l x follows sort.
         inl (
           m,
           s,
           some_turn,
           short_turn,
-          inside_passes body told parts family ground m s some_turn short_turn short_last e counts.small l x.action sort narrow follows,
+          inside_passes body told parts family ground m s some_turn short_turn short_last e counts.small l x.action sort follows,
         ))
         k (labels_of k after rest block) followed
 
@@ -229,7 +227,7 @@ module _ (body : Statements) (told : Told) (parts : ℕ → Trees AffineRank) (f
       action = tests true test (entry_label (n + 1) turn_at round)
           (entry_label after_at 0 more);
     })
-    head_settled sort narrow =
+    head_settled sort =
         let over = asked_over ground.vars test row sorted.0.0 asks in
         let long = over.places in
         inl (
@@ -239,7 +237,7 @@ module _ (body : Statements) (told : Told) (parts : ℕ → Trees AffineRank) (f
           short_turn,
           head_passes body told parts family ground m s some_turn short_turn short_last row counts.small long test asks n
               (entry_label (n + 1) turn_at round) (entry_label after_at 0 more) by_turn (before (change_by nothing) more none)
-              round_entered counts.falls refl (behind_entered after_at later more free sorted.1 few_more behind_trees) refl narrow trees.0,
+              round_entered counts.falls refl (behind_entered after_at later more free sorted.1 few_more behind_trees) refl trees.0,
         )
 
     loop_settled : EachFrom IsSettled n (labels_of n 0 left (sequence (while_loop test round step) more))
@@ -290,7 +288,7 @@ module _ (body : Statements) (told : Told) (parts : ℕ → Trees AffineRank) (f
       let turn = turn_short row.affine more in
       let last_few = last_short more in
       let steps = steps_short more in (
-        (λ sort narrow. inl (
+        (λ sort. inl (
           turn_of_loop row.affine more,
           last_of_loop more,
           turn_some row later.product more later.counts,
@@ -328,18 +326,18 @@ module _ (body : Statements) (told : Told) (parts : ℕ → Trees AffineRank) (f
 
   settled_blocked : ((l : ℕ) → length (all_labels body) ≤ l → family l ≡ bottom) → EachFrom IsSettled 1 (labels_of 1 0 [] body)
       → AllBlocked (setting_of body told af_exit parts) family
-  settled_blocked past settled zero = end_blocked body told parts family ended_is (let rows = ground.rows 0 in omega arith)
+  settled_blocked past settled zero = end_blocked body told parts family ended_is
   settled_blocked past settled (suc k) = ⊎_elim
       (λ (low : suc k < length (all_labels body)).
       let count = count_of_labels body in
       let labels = length-labels_of 1 0 [] body in
       let own = each_at IsSettled 1 (labels_of 1 0 [] body) settled k (suc k) (omega arith) (omega arith) in
-      done_blocked (suc k) low (own (labels_are_sorted ground.vars body ground.sorted (suc k) low) (ground.narrow (suc k) low)))
+      done_blocked (suc k) low (own (labels_are_sorted ground.vars body ground.sorted (suc k) low)))
       (λ (high : length (all_labels body) ≤ suc k). past_blocked (suc k) (past (suc k) high))
       (cases_lt (suc k) (length (all_labels body)))
 
 -- the trees of a reason
-blocked_by : (countdown : Countdown) (body : Statements) (told : Told) (parts : ℕ → Trees AffineRank) (ground : IsGiven body told parts)
+blocked_by : (countdown : Countdown) (body : Statements) (told : Told) (parts : ℕ → Trees AffineRank) (ground : IsGiven body parts)
     → IsCountdownBy countdown body
     → AllBlocked (setting_of body told af_exit parts) (trees_in (candidate_by countdown body))
 blocked_by Straight body told parts ground free =
@@ -369,7 +367,7 @@ blocked_by (Loop row) body told parts ground counts =
 
 -- a candidate
 pub candidate_blocked : (vars : ℕ) (block : Block) (told : Told) (parts : ℕ → Trees AffineRank) (trees : List (Plan AffineRank))
-    → IsGround vars block told parts
+    → IsGround vars block parts
     → IsCandidate trees (statements block) → AllBlocked (setting_of (statements block) told af_exit parts) (trees_in trees)
 candidate_blocked vars block told parts trees ground candidate =
     subst (λ t. AllBlocked (setting_of (statements block) told af_exit parts) (trees_in t)) (sym candidate.2)
@@ -379,8 +377,6 @@ candidate_blocked vars block told parts trees ground candidate =
       few_vars = ground.few_variables;
       sorted = ground.sorted;
       few = ground.few_labels;
-      narrow = labels_are_narrow block ground.narrow;
-      rows = ground.few_rows;
       kept = ground.whole;
     })
     candidate.1)

@@ -3,7 +3,7 @@
 use Rattle.std.proofs.Common.{◌≡◌, ℕ, ◌+◌, ◌<◌, ℤ, pos, negsuc, neg_ℤ, ◌+ℤ◌, ◌-ℤ◌, ◌*ℤ◌, ◌≤ℤ◌, ◌<ℤ◌, inl, inr, List, [], ◌∷◌, ◌++◌, Option, None, Some, length, All, Contains, refl, ap, ◌∙◌, arith}
 use Rattle.std.specs.Bool.{⊤}
 use Rattle.std.proofs.lemmas.Int.{ints}
-use Rattle.std.proofs.lemmas.List.{length-append, length-set}
+use Rattle.std.proofs.lemmas.List.{length-set}
 use Rattle.std.proofs.lemmas.List.Elements.{All-append, Contains-append_left, Contains-append_right}
 use Rattle.linear_cons.specs.declared.affine.Affine.{Affine}
 use Rattle.linear_cons.specs.declared.row.Row.{Row}
@@ -137,27 +137,24 @@ module _ (sets : Option (ℕ × Affine)) (place : SetsPlace sets) where
 
   -- what holds at both sides of a split holds of its leaves
   pub sides : (f : Affine) (kind : RowKind) → IsRowOf f kind → RowsFit kind → (edge : ℕ) (first second b : Affine) (asks : List Formed)
-      → length asks + 1 < 4096
-      → ((more : List Formed) → length more < 4096 → Extends asks more → Natural more (behind f) → IsBlocked (system edge more first b))
-      → ((more : List Formed) → length more < 4096 → Extends asks more → Negative more (behind f) → IsBlocked (system edge more second b))
+      → ((more : List Formed) → Extends asks more → Natural more (behind f) → IsBlocked (system edge more first b))
+      → ((more : List Formed) → Extends asks more → Negative more (behind f) → IsBlocked (system edge more second b))
       → All IsBlocked (at_leaves (moved_by sets) (unless_less edge sets (ranked b)) (split kind (within first) (within second)) asks)
-  sides f Always is fit edge first second b asks few one two =
+  sides f Always is fit edge first second b asks one two =
       all_one IsBlocked (system edge asks first b)
-      (one asks (omega arith) (λ a inside. inside) (inr (f.constant, is.1, λ store long. constant_value f (store_after sets store) is.0)))
-  sides f Never is fit edge first second b asks few one two =
+      (one asks (λ a inside. inside) (inr (f.constant, is.1, λ store long. constant_value f (store_after sets store) is.0)))
+  sides f Never is fit edge first second b asks one two =
       all_one IsBlocked (system edge asks second b)
-      (two asks (omega arith) (λ a inside. inside) (inr (f.constant, is.1, λ store long. constant_value f (store_after sets store) is.0)))
-  sides f (Kept row) is fit edge first second b asks few one two =
+      (two asks (λ a inside. inside) (inr (f.constant, is.1, λ store long. constant_value f (store_after sets store) is.0)))
+  sides f (Kept row) is fit edge first second b asks one two =
       let this : Formed = moved_by sets row.affine in
       let that : Formed = moved_by sets (complement_of row.affine) in
-      let this_long = length-append asks (this ∷ []) in
-      let that_long = length-append asks (that ∷ []) in
       All-append IsBlocked (system edge (asks ++ this ∷ []) first b ∷ []) (system edge (asks ++ that ∷ []) second b ∷ [])
       (all_one IsBlocked (system edge (asks ++ this ∷ []) first b)
-      (one (asks ++ this ∷ []) (omega arith) (λ a inside. Contains-append_left asks (this ∷ []) a inside)
+      (one (asks ++ this ∷ []) (λ a inside. Contains-append_left asks (this ∷ []) a inside)
       (inl (exact this, (this, Contains-append_right asks (this ∷ []) this (0, omega arith, refl), fit.0, refl), lower_of f row is))))
       (all_one IsBlocked (system edge (asks ++ that ∷ []) second b)
-      (two (asks ++ that ∷ []) (omega arith) (λ a inside. Contains-append_left asks (that ∷ []) a inside)
+      (two (asks ++ that ∷ []) (λ a inside. Contains-append_left asks (that ∷ []) a inside)
       (inl (exact that, (that, Contains-append_right asks (that ∷ []) that (0, omega arith, refl), fit.1, refl), falls_of f row is))))
 
 -- what is asked by fewer is asked by more
@@ -185,14 +182,14 @@ pub record StepFits (sets : Option (ℕ × Affine)) (m s : ℕ) (e : Affine) (k 
 module _ (sets : Option (ℕ × Affine)) (m s : ℕ) (e : Affine) (k : ℕ) (f : Affine) (j : ℕ) (fits : StepFits sets m s e k f j)
     (d : ℤ) (less : d ≤ℤ pos 0)
     (is : (store : List ℤ) → length store ≡ 16 → value_at f (store_after sets store) ≡ value_at e store +ℤ d)
-    (edge : ℕ) (asks : List Formed) (few : length asks + 1 < 4096) where
+    (edge : ℕ) (asks : List Formed) where
   -- where e is at least 0
   pub from_yes : 0 < m → j < k + m → (pos j +ℤ pos m *ℤ d) <ℤ pos k → Natural asks (λ store. value_at e store)
       → All IsBlocked (at_leaves (moved_by sets) (unless_less edge sets (ranked (bound m s e k))) (count_tree m s f j) asks)
   from_yes turn last_less bound_less natural =
-      sides sets fits.place f (row_kind_of f) (row_kind_is f) fits.rows edge (bound m s f j) (constant_of (pos (j + 1 + s))) (bound m s e k) asks few
-      (λ more short extends there.
-      by_claim _ short (excess sets fits.place (bound m s f j) (bound m s e k)) (pos j +ℤ pos m *ℤ d -ℤ pos k) (inr (fits.bounds, refl))
+      sides sets fits.place f (row_kind_of f) (row_kind_is f) fits.rows edge (bound m s f j) (constant_of (pos (j + 1 + s))) (bound m s e k) asks
+      (λ more extends there.
+      by_claim _ (excess sets fits.place (bound m s f j) (bound m s e k)) (pos j +ℤ pos m *ℤ d -ℤ pos k) (inr (fits.bounds, refl))
       (omega (arith, ints))
       (λ store long.
       let claim = claim_value sets fits.place (bound m s f j) (bound m s e k) store long in
@@ -202,8 +199,8 @@ module _ (sets : Option (ℕ × Affine)) (m s : ℕ) (e : Affine) (k : ℕ) (f :
       let put = ap (λ t. pos m *ℤ t) after in
       let spread = mul_add (pos m) (value_at e store +ℤ pos 1) d in
       omega (arith, ints)))
-      (λ more short extends there.
-      by_fall _ short (λ store. value_at e store) (excess sets fits.place (constant_of (pos (j + 1 + s))) (bound m s e k)) (inr (fits.last, refl))
+      (λ more extends there.
+      by_fall _ (λ store. value_at e store) (excess sets fits.place (constant_of (pos (j + 1 + s))) (bound m s e k)) (inr (fits.last, refl))
       (record {
         scale = 1;
         some = omega arith;
@@ -227,12 +224,12 @@ module _ (sets : Option (ℕ × Affine)) (m s : ℕ) (e : Affine) (k : ℕ) (f :
       → All IsBlocked (at_leaves (moved_by sets) (unless_less edge sets (ranked (constant_of (pos (k + 1 + s))))) (count_tree m s f j) asks)
   from_no last_less negative =
       sides sets fits.place f (row_kind_of f) (row_kind_is f) fits.rows edge (bound m s f j) (constant_of (pos (j + 1 + s)))
-      (constant_of (pos (k + 1 + s))) asks few
-      (λ more short extends there.
-      by_sides _ short (λ store. value_at e store) (behind sets fits.place f) d less is
+      (constant_of (pos (k + 1 + s))) asks
+      (λ more extends there.
+      by_sides _ (λ store. value_at e store) (behind sets fits.place f) d less is
       (more_negative asks more (λ store. value_at e store) extends negative) there)
-      (λ more short extends there.
-      by_claim _ short (excess sets fits.place (constant_of (pos (j + 1 + s))) (constant_of (pos (k + 1 + s)))) (pos j -ℤ pos k)
+      (λ more extends there.
+      by_claim _ (excess sets fits.place (constant_of (pos (j + 1 + s))) (constant_of (pos (k + 1 + s)))) (pos j -ℤ pos k)
       (inr (fits.lasts, refl)) (omega (arith, ints))
       (λ store long.
       let claim = claim_value sets fits.place (constant_of (pos (j + 1 + s))) (constant_of (pos (k + 1 + s))) store long in

@@ -1,9 +1,7 @@
 -- The systems at the end, and at labels whose trees are constants.
-use Rattle.std.proofs.Common.{◌≡◌, ℕ, ◌+◌, ◌<◌, ◌≤◌, pos, negsuc, ◌-ℤ◌, inr, List, [], ◌++◌, length, All, Contains, refl, sym, subst, arith}
+use Rattle.std.proofs.Common.{◌≡◌, ℕ, ◌<◌, ◌≤◌, pos, negsuc, ◌-ℤ◌, inr, List, [], ◌++◌, All, Contains, refl, sym, subst, arith}
 use Rattle.std.proofs.lemmas.Int.{ints}
-use Rattle.std.proofs.lemmas.List.{length-append, length-map}
 use Rattle.linear_cons.specs.declared.affine.Affine.{Affine}
-use Rattle.linear_cons.specs.declared.row.Row.{Row}
 use Rattle.linear_cons.specs.Functions.{complement_of, constant_of}
 use Rattle.linear_cons.proofs.Forms.{value_complement, value_constant}
 use Rattle.step_meaning.specs.Syntax.{Statements}
@@ -13,7 +11,7 @@ use Rattle.decision_tree.specs.Paths.{leaf_numbered}
 use Rattle.decision_tree.specs.Plans.{leaf}
 use Rattle.tree_support.specs.Certificates.{affine_ranks}
 use Rattle.tree_support.specs.Flow.{Arc, flow_of, rows_given}
-use Rattle.tree_support.specs.Forming.{Formed, given}
+use Rattle.tree_support.specs.Forming.{Formed}
 use Rattle.tree_support.specs.Setting.{Trees}
 use Rattle.tree_support.specs.Support.{ClaimFits}
 use Rattle.tree_support.specs.Systems.{at_leaves, exceeding, moved_by, of_leaf, region, systems, unless_less}
@@ -32,45 +30,37 @@ module _ (body : Statements) (told : Told) (parts : ℕ → Trees AffineRank) (f
   abbrev rows_at : ℕ → List Formed
   rows_at label = rows_given (told.rows label) ++ []
 
-  long_rows : (label : ℕ) → length (rows_at label) ≡ length (told.rows label)
-  long_rows label =
-      let both = length-append (rows_given (told.rows label)) [] in
-      let rows = length-map (told.rows label) (λ (row : Row). given row.affine) in
-      omega arith
-
   -- a number of steps is a natural
-  natural : (label k : ℕ) → length (told.rows label) < 4096 → k ≤ 4096
+  natural : (label k : ℕ) → k ≤ 4096
       → IsBlocked (not_natural body told parts family label (ranked (constant_of (pos k))) (rows_at label))
-  natural label k few short =
+  natural label k short =
       let last : Affine = constant_of (pos k) in
-      let rows = long_rows label in
-      by_claim (not_natural body told parts family label (ranked last) (rows_at label)) (omega arith) (complement_of last) (negsuc 0 -ℤ pos k)
+      by_claim (not_natural body told parts family label (ranked last) (rows_at label)) (complement_of last) (negsuc 0 -ℤ pos k)
       (inr (natural_fits last (steps_sizes k short), refl)) (omega (arith, ints))
       (λ store long. let own = value_complement last store in let value = value_constant (pos k) store in omega (arith, ints))
 
-  pub end_blocked : family 0 ≡ ended → length (told.rows 0) < 4096 → (place : ℕ) → All IsBlocked (systems (at body told parts family 0) family 0 place)
-  end_blocked is few place =
+  pub end_blocked : family 0 ≡ ended → (place : ℕ) → All IsBlocked (systems (at body told parts family 0) family 0 place)
+  end_blocked is place =
       where_alive IsBlocked (told.dead 0)
       (of_leaf (at body told parts family 0) (leaf_numbered (family 0) place) family 0 (region (at body told parts family 0) (family 0) 0 place))
       (subst
       (λ tree. All IsBlocked (of_leaf (at body told parts family 0) (leaf_numbered tree place) family 0 (region (at body told parts family 0) tree 0 place)))
       (sym is)
-      (all_one IsBlocked (not_natural body told parts family 0 (ranked (constant_of (pos 0))) (rows_at 0)) (natural 0 0 few (omega arith))))
+      (all_one IsBlocked (not_natural body told parts family 0 (ranked (constant_of (pos 0))) (rows_at 0)) (natural 0 0 (omega arith))))
 
   -- the arc leads to a tree that is a smaller number of steps
   pub record IsStep (label k : ℕ) (arc : Arc) : Type 0 where
     pub place : SetsPlace arc.sets
-    pub few : length (told.rows label) + length arc.asks < 4096
     pub why : Why
     pub steps : ℕ
     pub tree : family arc.target ≡ leaf why (ranked (constant_of (pos steps)))
     pub less : steps < k
     pub fits : ClaimFits affine_ranks (exceeding (ranked (constant_of (pos steps))) arc.sets (ranked (constant_of (pos k))))
 
-  pub steps_blocked : (label k : ℕ) → family label ≡ within (constant_of (pos k)) → IsWhole (parts 0 label) → length (told.rows label) < 4096 → k ≤ 4096
+  pub steps_blocked : (label k : ℕ) → family label ≡ within (constant_of (pos k)) → IsWhole (parts 0 label) → k ≤ 4096
       → ((arc : Arc) → Contains ((flow_of body told.bounds).arcs label) arc → IsStep label k arc)
       → (place : ℕ) → All IsBlocked (systems (at body told parts family label) family label place)
-  steps_blocked label k is kept few short each place =
+  steps_blocked label k is kept short each place =
       where_alive IsBlocked (told.dead label)
       (of_leaf (at body told parts family label) (leaf_numbered (family label) place) family label
       (region (at body told parts family label) (family label) label place))
@@ -78,12 +68,9 @@ module _ (body : Statements) (told : Told) (parts : ℕ → Trees AffineRank) (f
       (λ tree. All IsBlocked (of_leaf (at body told parts family label) (leaf_numbered tree place) family label
       (region (at body told parts family label) tree label place)))
       (sym is)
-      (leaf_blocked body told parts family label (ranked (constant_of (pos k))) (rows_at label) kept (natural label k few short)
+      (leaf_blocked body told parts family label (ranked (constant_of (pos k))) (rows_at label) kept (natural label k short)
       (λ arc inside.
       let step : IsStep label k arc = each arc inside in
-      let rows = long_rows label in
-      let both = length-append (rows_at label) arc.asks in
-      let few_asks = step.few in
       subst (λ tree. All IsBlocked (at_leaves (moved_by arc.sets) (unless_less arc.edge arc.sets (ranked (constant_of (pos k)))) tree (rows_at label ++ arc.asks)))
       (sym step.tree)
-      (steps_less arc.sets step.place arc.edge (rows_at label ++ arc.asks) (omega arith) step.why step.steps k step.less step.fits))))
+      (steps_less arc.sets step.place arc.edge (rows_at label ++ arc.asks) step.why step.steps k step.less step.fits))))

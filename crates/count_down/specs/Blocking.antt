@@ -1,12 +1,11 @@
 -- Blocked systems: two of the functions that a system asks for can't both be at least 0, and their rows are seen to be opposed, so no point
 -- meets the system and no legal elimination gives its leaf up.
-use Rattle.std.specs.Prelude.{◌≡◌, ◌⊎◌, ℕ, ◌<◌, ◌≤◌, List, [], length, All, Contains}
+use Rattle.std.specs.Prelude.{◌≡◌, ◌⊎◌, ℕ, ◌<◌, ◌≤◌, List, length, All, Contains}
 use Rattle.linear_cons.specs.declared.affine.Affine.{Affine}
 use Rattle.linear_cons.specs.Functions.{complement_of}
 use Rattle.step_meaning.specs.Syntax.{size_of, statements}
 use Rattle.step_meaning.specs.Valid.{IsBody}
 use Rattle.step_meaning.specs.declared.statement.Block.{Block}
-use Rattle.control_flow.specs.Faults.{wide_places}
 use Rattle.control_flow.specs.Labels.{all_labels}
 use Rattle.decision_tree.specs.declared.affine_rank.AffineRank.{AffineRank}
 use Rattle.decision_tree.specs.AffineRanks.{excess_of}
@@ -15,7 +14,6 @@ use Rattle.tree_support.specs.Forming.{Formed, FormsWhole, exact}
 use Rattle.tree_support.specs.Setting.{Setting, Trees}
 use Rattle.tree_support.specs.Support.{ClaimFits, moved_rank}
 use Rattle.tree_support.specs.Systems.{Claim, nothing, unnatural, exceeding, System, systems}
-use Rattle.tree_support.specs.Told.{Told}
 use Rattle.count_down.specs.Cancelling.{Cancel}
 use Rattle.count_down.specs.Trees.{IsWhole}
 
@@ -33,26 +31,22 @@ AskedIn asks a = (f : Formed) × Contains asks f × FormsWhole f × (exact f ≡
 abbrev pub AsksFor : System AffineRank → Affine → Type 0
 AsksFor system a = AskedIn system.asks a ⊎ (ClaimFits affine_ranks system.claim × ClaimAsks system.claim a)
 
--- two functions that the system asks for cancel, and with its claim it asks for at most 4,096
+-- two functions that the system asks for cancel
 pub record IsBlocked (system : System AffineRank) : Type 0 where
   pub one : Affine
   pub two : Affine
   pub asks_one : AsksFor system one
   pub asks_two : AsksFor system two
   pub cancels : Cancel one two
-  pub few : length system.asks < 4096
 
 -- each system of each leaf is blocked
 abbrev pub AllBlocked : Setting AffineRank → Trees AffineRank → Type 0
 AllBlocked at family = (label place : ℕ) → All IsBlocked (systems at family label place)
 
--- What is known where a candidate is checked: a body over at most 15 variables, which has fewer than 1,024 statements and no test that
--- spreads, itself or negated, to more than 64 conjunctions, as each program with a graph; fewer than 3,000 rows told of each label; and,
--- first of the parts, a family without undefined leaves at the labels, as that of the truth.
-pub record IsGround (vars : ℕ) (block : Block) (told : Told) (parts : ℕ → Trees AffineRank) : Type 0 where
+-- What is known where a candidate is checked: a body over at most 15 variables with fewer than 1,024 statements, as each program with a
+-- graph; and, first of the parts, a family without undefined leaves at the labels, as that of the truth.
+pub record IsGround (vars : ℕ) (block : Block) (parts : ℕ → Trees AffineRank) : Type 0 where
   pub few_variables : vars ≤ 15
   pub sorted : IsBody vars (statements block)
   pub few_labels : size_of (statements block) < 1024
-  pub narrow : wide_places block ≡ []
-  pub few_rows : (label : ℕ) → length (told.rows label) < 3000
   pub whole : (label : ℕ) → label < length (all_labels (statements block)) → IsWhole (parts 0 label)

@@ -30,16 +30,16 @@ pub fn blocked_families_are_kept()
 
 /// All systems of a candidate are blocked, for the part `AF exit` and whatever is told of the stores.
 pub fn candidates_are_blocked()
-    ensures { (vars : ℕ) (block : Block) (told : Told) (parts : ℕ → Trees AffineRank) (trees : List (Plan AffineRank)) → IsGround vars block told parts
+    ensures { (vars : ℕ) (block : Block) (told : Told) (parts : ℕ → Trees AffineRank) (trees : List (Plan AffineRank)) → IsGround vars block parts
         → IsCandidate trees (statements block) → AllBlocked (setting_of (statements block) told af_exit parts) (trees_in trees) }
 {}
 
 /// So no legal elimination gives up a leaf of a candidate, and it is supported.
 pub fn candidates_are_kept()
-    ensures kept { (vars : ℕ) (block : Block) (told : Told) (parts : ℕ → Trees AffineRank) (trees : List (Plan AffineRank)) → IsGround vars block told parts
+    ensures kept { (vars : ℕ) (block : Block) (told : Told) (parts : ℕ → Trees AffineRank) (trees : List (Plan AffineRank)) → IsGround vars block parts
         → IsCandidate trees (statements block) → (drops : List Dropped) (new : Trees AffineRank)
         → Eliminates affine_ranks (setting_of (statements block) told af_exit parts) (trees_in trees) drops new → drops ≡ [] }
-    ensures supported { (vars : ℕ) (block : Block) (told : Told) (parts : ℕ → Trees AffineRank) (trees : List (Plan AffineRank)) → IsGround vars block told parts
+    ensures supported { (vars : ℕ) (block : Block) (told : Told) (parts : ℕ → Trees AffineRank) (trees : List (Plan AffineRank)) → IsGround vars block parts
         → IsCandidate trees (statements block) → IsSupported affine_ranks (setting_of (statements block) told af_exit parts) (trees_in trees) }
 {}
 

@@ -1,10 +1,7 @@
 -- What the check leaves of a family bounds the runs.
-use Rattle.std.proofs.Common.{◌≡◌, ℕ, zero, suc, ◌<◌, ◌≤◌, List, [], ◌∷◌, length, slice_get, subst, arith}
-use Rattle.std.proofs.lemmas.List.Elements.{All-head, All-tail}
+use Rattle.std.proofs.Common.{◌≡◌, ℕ, ◌<◌, ◌≤◌, List, [], length, subst, arith}
 use Rattle.step_meaning.specs.declared.program.Program.{Program}
 use Rattle.step_meaning.specs.Syntax.{Statements, size_of, statements}
-use Rattle.linear_cons.specs.declared.row.Row.{Row}
-use Rattle.control_flow.specs.Faults.{wide_places}
 use Rattle.control_flow.specs.Labels.{all_labels}
 use Rattle.control_flow.proofs.LabelLaws.{count_of_labels}
 use Rattle.count_down.specs.Blocking.{IsGround}
@@ -17,8 +14,7 @@ use Rattle.tree_support.specs.declared.dropped.Dropped.{Dropped}
 use Rattle.tree_support.specs.Elimination.{Eliminates}
 use Rattle.tree_support.specs.Flow.{chosen_place}
 use Rattle.tree_support.specs.Setting.{trees_in}
-use Rattle.tree_support.specs.Told.{Told, setting_of, told_at}
-use Rattle.ctl_rounds.specs.Bounds.{TellFew}
+use Rattle.tree_support.specs.Told.{Told, setting_of}
 use Rattle.ctl_rounds.specs.Checked.{IsChecked}
 use Rattle.ctl_rounds.proofs.Kept.{complements_undefined, each_kept, kept_at, over_undefined}
 
@@ -26,23 +22,14 @@ use Rattle.ctl_rounds.proofs.Kept.{complements_undefined, each_kept, kept_at, ov
 pub short : (body : Statements) (labels : ℕ) → labels ≡ length (all_labels body) → labels ≤ 1024 → size_of body < 1024
 short body labels own few = let count = count_of_labels body in omega (arith, count, own, few)
 
--- fewer than 3,000 rows are told of each label where each set tells fewer
-pub few_told : {D : Type 0} (rows : D → List Row) (states : List D) → TellFew rows states → (label : ℕ)
-    → length (told_at rows [] (slice_get states label)) < 3000
-few_told rows [] few label = omega arith
-few_told rows (state ∷ states) few zero = All-head (λ s. length (rows s) < 3000) state states few
-few_told rows (state ∷ states) few (suc label) = few_told rows states (All-tail (λ s. length (rows s) < 3000) state states few) label
-
 -- where a candidate of a program with a graph is checked
 pub grounded : (program : Program) (told : Told) (old new : List (Plan AffineRank)) (is : IsChecked (statements program.body) told old new)
-    → ((label : ℕ) → length (told.rows label) < 3000) → wide_places program.body ≡ [] → (labels : ℕ) → labels ≡ length (all_labels (statements program.body))
-    → labels ≤ 1024 → IsGround (length program.names) program.body told is.parts
-grounded program told old new is few narrow labels own most = record {
+    → (labels : ℕ) → labels ≡ length (all_labels (statements program.body))
+    → labels ≤ 1024 → IsGround (length program.names) program.body is.parts
+grounded program told old new is labels own most = record {
   few_variables = program.valid.few;
   sorted = program.valid.well_sorted;
   few_labels = short (statements program.body) labels own most;
-  narrow = narrow;
-  few_rows = few;
   whole = is.truth;
 }
 

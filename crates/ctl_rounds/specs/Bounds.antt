@@ -1,9 +1,8 @@
 -- Trees that bound the runs of a program.
-use Rattle.std.specs.Prelude.{◌≡◌, ℕ, ◌<◌, List, length, All}
+use Rattle.std.specs.Prelude.{◌≡◌, ℕ}
 use Rattle.step_meaning.specs.Outcome.{Store}
 use Rattle.step_meaning.specs.Run.{EndsWithinBound, IsInput, start}
 use Rattle.step_meaning.specs.Syntax.{Statements}
-use Rattle.linear_cons.specs.declared.row.Row.{Row}
 use Rattle.linear_cons.specs.Functions.{value_at}
 use Rattle.control_flow.specs.Edges.{configuration}
 use Rattle.decision_tree.specs.declared.affine_rank.AffineRank.{AffineRank}
@@ -25,7 +24,3 @@ abbrev pub BoundsStates : ℕ → Statements → Trees AffineRank → Type 0
 BoundsStates vars body trees =
     (label : ℕ) (store : Store) (why : Why) (rank : AffineRank) → IsReachedState vars body label store → eval (trees label) store ≡ leaf why rank
     → EndsWithinBound (value_at rank.value store) (configuration body label store)
-
--- fewer than 3,000 rows are told of each of the sets
-abbrev pub TellFew : {D : Type 0} → (D → List Row) → List D → Type 0
-TellFew rows states = All (λ state. length (rows state) < 3000) states

@@ -1,10 +1,9 @@
 //! The analysis of how long the runs of a program are.
-ghost use Rattle.std.specs.Prelude.{◌≡◌, ◌<◌, ◌-◌, ◌^◌, [], IfOk, Some, length, pos, ℕ};
+ghost use Rattle.std.specs.Prelude.{◌≡◌, ◌<◌, ◌-◌, ◌^◌, IfOk, Some, length, pos, ℕ};
 ghost use Rattle.linear_cons.specs.Functions.{constant_of};
 ghost use Rattle.step_meaning.specs.Countdown.{IsCountdown};
 ghost use Rattle.step_meaning.specs.Counts.{HasNoLoop};
 ghost use Rattle.step_meaning.specs.Syntax.{statements};
-ghost use Rattle.control_flow.specs.Faults.{wide_places};
 ghost use Rattle.control_flow.specs.Labels.{all_labels, entry_of};
 ghost use Rattle.count_down.specs.Candidates.{last_steps};
 ghost use Rattle.count_down.specs.Trees.{ComplementsFit, IsTreeOver, IsWhole, ranked};
@@ -12,7 +11,7 @@ ghost use Rattle.decision_tree.specs.Plans.{leaves_of, rank_of};
 ghost use Rattle.forward_inv.specs.Invariants.{AreInvariants};
 ghost use Rattle.tree_support.specs.Setting.{trees_in};
 ghost use Rattle.tree_support.specs.Told.{told_by};
-ghost use Rattle.ctl_rounds.specs.Bounds.{BoundsInputs, BoundsStates, TellFew};
+ghost use Rattle.ctl_rounds.specs.Bounds.{BoundsInputs, BoundsStates};
 ghost use Rattle.ctl_rounds.specs.Checked.{IsChecked};
 ghost use Rattle.ctl_rounds.specs.Parts.{undefined_trees};
 
@@ -33,10 +32,9 @@ use tree_check::laws::eliminations_spare_places;
 use tree_support::laws::{invariants_tell_the_truth, supported_families_bound_runs};
 
 /// For each label of the program a tree whose leaves, where they are defined, bound the runs from each state with which the label is
-/// reached: what the check leaves of the candidate of a countdown program, and else no defined leaf. Where the invariants tell fewer than
-/// 3,000 rows of each label it leaves all of a candidate: so the tree at the entry of a countdown program has no undefined leaf, and that
-/// of a program without loops is one leaf, the most steps of a path. The graph is one of the program, and the invariants have each state
-/// that is reached. The only error is want of memory.
+/// reached: what the check leaves of the candidate of a countdown program, and else no defined leaf. It leaves all of a candidate: so the
+/// tree at the entry of a countdown program has no undefined leaf, and that of a program without loops is one leaf, the most steps of a
+/// path. The graph is one of the program, and the invariants have each state that is reached. The only error is want of memory.
 pub fn analyse<D: NumDomain>(
     alloc: Global,
     graph: &Graph,
@@ -45,15 +43,14 @@ pub fn analyse<D: NumDomain>(
 ) -> Result<Family<AffineRank>, AllocError>
     requires names { graph.now.names ≡ program.now.names }
     requires body { statements graph.now.body ≡ statements program.now.body }
-    requires narrow { wide_places program.now.body ≡ [] }
     requires invariants { AreInvariants D.has (length program.now.names) (statements program.now.body) inv.now }
     ensures labels { IfOk result (λ family. length family.trees ≡ length (all_labels (statements program.now.body))) }
     ensures states { IfOk result (λ family. BoundsStates (length program.now.names) (statements program.now.body) (trees_in family.trees)) }
     ensures inputs { IfOk result (λ family. BoundsInputs (length program.now.names) (statements program.now.body) (trees_in family.trees (entry_of (statements program.now.body)))) }
     ensures complements { IfOk result (λ family. ComplementsFit (trees_in family.trees (entry_of (statements program.now.body)))) }
     ensures variables { IfOk result (λ family. IsTreeOver (length program.now.names) (trees_in family.trees (entry_of (statements program.now.body)))) }
-    ensures countdown { TellFew D.told_rows inv.now → IsCountdown (statements program.now.body) → IfOk result (λ family. IsWhole (trees_in family.trees (entry_of (statements program.now.body)))) }
-    ensures loopless { TellFew D.told_rows inv.now → HasNoLoop (statements program.now.body) → IfOk result (λ family. rank_of (trees_in family.trees (entry_of (statements program.now.body))) ≡ Some (ranked (constant_of (pos (last_steps (statements program.now.body)))))) }
+    ensures countdown { IsCountdown (statements program.now.body) → IfOk result (λ family. IsWhole (trees_in family.trees (entry_of (statements program.now.body)))) }
+    ensures loopless { HasNoLoop (statements program.now.body) → IfOk result (λ family. rank_of (trees_in family.trees (entry_of (statements program.now.body))) ≡ Some (ranked (constant_of (pos (last_steps (statements program.now.body)))))) }
 {
     invariants_tell_the_truth::<D>();
     supported_families_bound_runs();

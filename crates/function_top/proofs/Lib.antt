@@ -4,7 +4,6 @@ pub mod Truth
 pub mod Formed
 pub mod Named
 pub mod Over
-pub mod FewRows
 pub mod Headline
 pub mod Running
 pub mod Reported

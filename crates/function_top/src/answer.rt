@@ -4,7 +4,6 @@ ghost use Rattle.std.specs.Prelude.{◌≡◌, ◌≤◌, ◌<◌, ◌+◌, ℕ,
 ghost use Rattle.outside.specs.Faults.{Rose};
 ghost use Rattle.outside.specs.Source.{ConsumesUpTo};
 ghost use Rattle.step_meaning.specs.Syntax.{statements};
-ghost use Rattle.control_flow.specs.Faults.{wide_places};
 ghost use Rattle.function_top.specs.Due.{IsDueOn, IsDueOnProgram};
 ghost use Rattle.function_top.specs.Refusals.{fault_text};
 ghost use Rattle.function_top.specs.Text.{IsRead};
@@ -68,7 +67,6 @@ fn answer_on(alloc: Global, program: &Program) -> Result<Due, AllocError>
 fn analysed(alloc: Global, graph: &Graph, program: &Program) -> Result<Due, AllocError>
     requires names { graph.now.names ≡ program.now.names }
     requires body { statements graph.now.body ≡ statements program.now.body }
-    requires narrow { wide_places program.now.body ≡ [] }
     ensures { IfOk result (λ due. IsDueOnProgram program.now due.status due.bytes.items) }
 {
     edges_lead_to_labels();

@@ -21,7 +21,8 @@ pub fn push_line(
     names: &Names,
 ) -> Result<(), AllocError>
     requires { IsClaimOver names.now claim.now }
-    ensures text { OnOk result (text.new.items ≡ text.old.items ++ (joined (bytes_in rows.now) ++ (codes ": " ++ claim_text names.now claim.now))) }
+    ensures text { OnOk result (text.new.items ≡ text.old.items
+        ++ (joined (bytes_in rows.now) ++ (codes ": " ++ claim_text names.now claim.now))) }
     ensures kept { BeginsWith text.new.items text.old.items }
 {
     push_joined(text, rows)?;

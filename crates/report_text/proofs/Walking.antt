@@ -12,7 +12,7 @@ use Rattle.line_text.specs.LineText.{functions_of}
 use Rattle.line_text.specs.declared.claim.Claim.{Claim}
 use Rattle.report_text.specs.declared.line.Line.{Line}
 use Rattle.report_text.specs.declared.line.Top.{Top}
-use Rattle.linear_solve.specs.Tightest.{AreTightest}
+use Rattle.linear_cons.specs.Tightest.{AreTightest}
 use Rattle.report_text.proofs.Tightening.{tightest_met}
 use Rattle.report_text.specs.Leaves.{AreLines, AreLinesOf, IsLineOf, leaves_below, none, skipped, stands}
 use Rattle.report_text.specs.Walk.{AreAdded}

@@ -6,7 +6,7 @@ use Rattle.linear_cons.specs.Functions.{IsConstant, NumbersFit, complement_of}
 use Rattle.linear_cons.specs.Rows.{MeetsAll}
 use Rattle.linear_solve.specs.Answers.{IsAnswerTo, IsEmpty}
 use Rattle.linear_solve.specs.declared.answer.Answer.{Answer}
-use Rattle.linear_solve.specs.Tightest.{AreTightest}
+use Rattle.linear_cons.specs.Tightest.{AreTightest}
 use Rattle.decision_tree.specs.declared.affine_rank.AffineRank.{AffineRank}
 use Rattle.decision_tree.specs.Plans.{Plan, bottom, top, leaf, branch}
 use Rattle.decision_tree.specs.Paths.{MeetsPath}

@@ -76,7 +76,8 @@ verdict_line (line ∷ more) = codes "verdict: some inputs"
 -- the lines of a report
 abbrev pub report_lines : Header → (exact proved unknown : List (List ℕ)) → Option Explain → List (List ℕ)
 report_lines header exact proved unknown explain =
-    exact_part header exact ++ (codes "proved:" ∷ (proved ++ (codes "unknown:" ∷ (unknown ++ (explain_part explain ++ verdict_line unknown ∷ [])))))
+    exact_part header exact
+    ++ (codes "proved:" ∷ (proved ++ (codes "unknown:" ∷ (unknown ++ (explain_part explain ++ verdict_line unknown ∷ [])))))
 
 -- the lines one after the other, each ended by a newline byte
 abbrev pub ended_lines : List (List ℕ) → List ℕ

@@ -3,7 +3,7 @@ ghost use Rattle.std.specs.Prelude.{◌≡◌, ℕ, ℤ, List, ◌++◌, ◌↔�
 ghost use Rattle.linear_cons.specs.Rows.{MeetsAll};
 ghost use Rattle.linear_cons.specs.declared.affine.Affine.{Affine};
 ghost use Rattle.linear_cons.specs.declared.row.Row.{Row};
-ghost use Rattle.linear_solve.specs.Tightest.{AreTightest};
+ghost use Rattle.linear_cons.specs.Tightest.{AreTightest};
 ghost use Rattle.decision_tree.specs.Paths.{MeetsPath};
 ghost use Rattle.decision_tree.specs.Evaluation.{eval};
 ghost use Rattle.decision_tree.specs.Plans.{Plan};
@@ -45,9 +45,10 @@ pub fn a_front_is_cut_into_fronts()
 /// A printed report is cut into the lines that were printed; and each whole exact, proved or unknown
 /// line of a front of it is the text of a line of the report's, in the same section.
 pub fn printed_reports_are_cut_into_their_lines()
-    ensures sections { (names : List (List ℕ)) (report : Report) (text : List ℕ) (printed : IsReportText names report text) → AreNames names →
-        sections_of text ≡ sections_printed report.header printed.exact printed.proved printed.unknown report.explain }
-    ensures lines { (names : List (List ℕ)) (report : Report) (front rest : List ℕ) → AreNames names → IsReportText names report (front ++ rest) → SaysOnly names report front }
+    ensures sections { (names : List (List ℕ)) (report : Report) (text : List ℕ) (printed : IsReportText names report text)
+        → AreNames names → sections_of text ≡ sections_printed report.header printed.exact printed.proved printed.unknown report.explain }
+    ensures lines { (names : List (List ℕ)) (report : Report) (front rest : List ℕ) → AreNames names
+        → IsReportText names report (front ++ rest) → SaysOnly names report front }
 {
     lines_have_their_own_form();
     numerals_say_their_numbers();

@@ -2,7 +2,7 @@
 ghost use Rattle.std.specs.Prelude.{◌≡◌, List, [], ◌∷◌, ◌++◌, IfOk, OnOk, MatchBool};
 ghost use Rattle.linear_cons.specs.Functions.{NumbersFit, complement_of};
 ghost use Rattle.linear_solve.specs.Answers.{HasNoStore};
-ghost use Rattle.linear_solve.specs.Tightest.{AreTightest};
+ghost use Rattle.linear_cons.specs.Tightest.{AreDistinct, AreTightest};
 ghost use Rattle.decision_tree.specs.Plans.{plan_of};
 ghost use Rattle.report_text.specs.declared.line.Top.{Top};
 ghost use Rattle.report_text.specs.Leaves.{AreLinesOf, ComplementsFit, HasConstantRanks, MayStand, claim_of, leaves_below};
@@ -17,7 +17,7 @@ use crate::line_list::Lines;
 use decision_tree::{AffineRank, PathFault, Trail, Tree};
 use line_text::Claim;
 use linear_cons::{MOST_ROWS, Row, Rows};
-use linear_solve::{Answer, decide};
+use linear_solve::{Answer, decide_tightest};
 use std::alloc::{AllocError, Global};
 
 /// One line for each leaf of the tree whose condition the solver doesn't answer as empty, in the
@@ -46,7 +46,8 @@ fn add_lines(
 ) -> Result<(), AllocError>
     requires { ComplementsFit (plan_of tree.now) }
     ensures trail { OnOk result (trail.new ≡ trail.old) }
-    ensures added { OnOk result (AreAdded (leaves_below top.now (functions_of trail.old) (plan_of tree.now)) lines.old.items lines.new.items) }
+    ensures added { OnOk result (AreAdded (leaves_below top.now (functions_of trail.old) (plan_of tree.now))
+        lines.old.items lines.new.items) }
 {
     match tree {
         Tree::Bottom | Tree::Top(_) => add_undefined(alloc, trail, lines),
@@ -128,15 +129,16 @@ fn condition(alloc: Global, trail: &Trail) -> Result<Rows, AllocError>
     Ok(Rows::of(rows))
 }
 
-/// True only where no store meets the rows, and false only where a point does or they lie beyond what
+/// True only where no store meets the tightest rows, and false only where a point does or they lie beyond what
 /// the solver decides.
 fn has_no_store(alloc: Global, rows: &[Row]) -> Result<bool, AllocError>
+    requires { AreDistinct rows.now }
     ensures { IfOk result (λ empty. MatchBool empty (HasNoStore rows.now) (MayStand rows.now)) }
 {
     if rows.len() > MOST_ROWS {
         return Ok(false);
     }
-    match decide(alloc, rows)? {
+    match decide_tightest(alloc, rows)? {
         Answer::Empty => Ok(true),
         Answer::Point { .. } | Answer::Wide(_) | Answer::Rows { .. } => Ok(false),
     }

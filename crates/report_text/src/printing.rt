@@ -4,7 +4,8 @@ ghost use Rattle.line_text.specs.Buffer.{bytes_in};
 ghost use Rattle.line_text.specs.LineText.{functions_of};
 ghost use Rattle.line_text.specs.Names.{IsOver};
 ghost use Rattle.line_text.specs.Numeral.{numeral};
-ghost use Rattle.report_text.specs.Printed.{AreRowTexts, AreTextsOf, IsExactAdded, IsLineOver, IsReportOver, IsReportText, IsSectionAdded, IsTextOf, adviser_lines, cause_text, ended_lines, explain_part, verdict_line};
+ghost use Rattle.report_text.specs.Printed.{AreRowTexts, AreTextsOf, IsExactAdded, IsLineOver, IsReportOver, IsReportText, IsSectionAdded};
+ghost use Rattle.report_text.specs.Printed.{IsTextOf, adviser_lines, cause_text, ended_lines, explain_part, verdict_line};
 
 use crate::line::Line;
 use crate::line_list::Lines;
@@ -71,7 +72,8 @@ fn push_whole(text: &mut Vec<u8>, tests: u32) -> Result<(), AllocError>
 
 /// Appends the header of a level behind which the next one stopped.
 fn push_partial(text: &mut Vec<u8>, tests: u32, cause: Stop) -> Result<(), AllocError>
-    ensures { OnOk result (text.new.items ≡ text.old.items ++ ((codes "exact, " ++ (numeral tests ++ (codes " tests, then " ++ (cause_text cause ++ codes ":")))) ++ 10 ∷ [])) }
+    ensures { OnOk result (text.new.items ≡ text.old.items
+        ++ ((codes "exact, " ++ (numeral tests ++ (codes " tests, then " ++ (cause_text cause ++ codes ":")))) ++ 10 ∷ [])) }
 {
     text.extend_from_slice(b"exact, ")?;
     push_numeral(text, u128::from(tests))?;

@@ -8,9 +8,8 @@ use Rattle.decision_tree.specs.Plans.{rank_of}
 use Rattle.tree_support.specs.Flow.{chosen_place}
 use Rattle.tree_support.specs.Setting.{trees_in}
 use Rattle.tree_support.specs.Told.{setting_of, told_by}
-use Rattle.ctl_rounds.specs.Bounds.{TellFew}
 use Rattle.ctl_rounds.specs.Checked.{IsChecked}
-use Rattle.ctl_rounds.proofs.Bounding.{complements, few_told, grounded, over_variables, short, shows, unchanged}
+use Rattle.ctl_rounds.proofs.Bounding.{complements, grounded, over_variables, short, shows, unchanged}
 use Rattle.ctl_rounds.proofs.analysis.analyse.Goals as goal
 
 pub checked-requires-clause-leaves : goal.checked-requires-clause-leaves
@@ -38,9 +37,8 @@ returns-in_ok-checked-in-Some g c =
     let is : IsChecked body told old new = rw c.requires.body at c.in_ok-checked-in-Some.ensures in
     let own : c.labels-labels.result ≡ length (all_labels body) = rw c.requires.body at c.labels-labels.ensures.count in
     let few_labels = short body c.labels-labels.result own c.labels-labels.ensures.few in
-    let kept : TellFew g.D.NumDomain.told_rows c.args.inv.now → is.drops ≡ [] = λ few. c.candidates_are_kept.ensures.kept vars c.args.program.now.body told is.parts old
-    (grounded c.args.program.now told old new is (few_told g.D.NumDomain.told_rows c.args.inv.now few) c.requires.narrow c.labels-labels.result own
-    c.labels-labels.ensures.few) candidate is.drops (trees_in new) is.legal in
+    let kept : is.drops ≡ [] = c.candidates_are_kept.ensures.kept vars c.args.program.now.body told is.parts old
+    (grounded c.args.program.now told old new is c.labels-labels.result own c.labels-labels.ensures.few) candidate is.drops (trees_in new) is.legal in
     let truth = c.invariants_tell_the_truth.ensures vars body c.args.inv.now c.requires.invariants in
     let spares = c.candidates_are_over_the_variables.ensures.spares vars body old valid.few valid.well_sorted few_labels candidate in
     let ending = shows body told old new is
@@ -53,8 +51,8 @@ returns-in_ok-checked-in-Some g c =
           (c.candidates_are_over_the_variables.ensures.complements vars body old valid.few valid.well_sorted few_labels candidate (entry_of body));
       variables = over_variables body told old new is vars
           (c.candidates_are_over_the_variables.ensures.over vars body old valid.few valid.well_sorted few_labels candidate) (entry_of body);
-      countdown = λ few counts. subst IsWhole (sym (unchanged body told old new is (kept few) (entry_of body)))
+      countdown = λ counts. subst IsWhole (sym (unchanged body told old new is kept (entry_of body)))
           (rw (c.in-Some.is, c.requires.body) at c.in_ok-family.ensures.entry);
-      loopless = λ few free. ap rank_of (unchanged body told old new is (kept few) (entry_of body))
+      loopless = λ free. ap rank_of (unchanged body told old new is kept (entry_of body))
           ∙ c.loopless_candidates_promise_the_most_steps.ensures old body free candidate;
     }

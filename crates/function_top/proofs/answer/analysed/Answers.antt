@@ -4,7 +4,6 @@ use Rattle.step_meaning.specs.Syntax.{statements}
 use Rattle.control_flow.specs.Labels.{entry_of}
 use Rattle.decision_tree.specs.Plans.{plan_of}
 use Rattle.tree_support.specs.Setting.{trees_in}
-use Rattle.function_top.proofs.FewRows.{boxes_tell_few}
 use Rattle.function_top.proofs.Over.{tree_over}
 use Rattle.function_top.proofs.Reported.{plan_at, report_due}
 use Rattle.function_top.proofs.answer.analysed.Goals as goal
@@ -35,7 +34,6 @@ returns c = λ text short derived stand.
     in
     let same : trees_in c.in_ok-family.family.trees (entry_of body) ≡ tree =
     rw (c.items.ensures, entry) at (plan_at c.items.result.now c.entry.result c.index-items-entry.result low c.index-items-entry.is) in
-    let few = boxes_tell_few c.in_ok-inv.inv in
     let is = c.in_ok-report.ensures in
     report_due text names body tree is.0 c.in_ok-report.field-0.bytes.items short derived (rw same at c.in_ok-family.ensures.inputs)
-    (rw same at (c.in_ok-family.ensures.countdown few)) (rw same at (c.in_ok-family.ensures.loopless few)) is.1 is.2 c.in_ok-report.field-0.status is.3
+    (rw same at c.in_ok-family.ensures.countdown) (rw same at c.in_ok-family.ensures.loopless) is.1 is.2 c.in_ok-report.field-0.status is.3
