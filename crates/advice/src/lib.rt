@@ -1,0 +1,20 @@
+//! Advisers of the analysis: they are shown facts about loops, and may hint at what could bound a loop.
+//!
+//! A hint only proposes: what it leads to is checked, so nothing that is claimed rests on it. It stands on `linear_cons`. The front doors:
+//! the trait `Adviser`, and `consult`.
+#![tactic(auto)]
+
+mod adviser;
+mod consulting;
+mod fact;
+mod guard;
+mod memory;
+mod range;
+#[cfg(test)]
+mod tests;
+
+pub use adviser::Adviser;
+pub use consulting::consult;
+pub use fact::{FactKind, Hint, LoopFact};
+pub use guard::GuardAdviser;
+pub use range::RangeAdviser;

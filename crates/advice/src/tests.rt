@@ -1,0 +1,103 @@
+//! Facts and their hints by hand, and the order in which advisers are consulted.
+use crate::adviser::Adviser;
+use crate::consulting::consult;
+use crate::fact::{FactKind, Hint, LoopFact};
+use crate::guard::GuardAdviser;
+use crate::range::RangeAdviser;
+use linear_cons::{Affine, PLACES, Row, RowKind};
+use std::alloc::Global;
+use std::test::Fail;
+
+/// `x * x0 + y * x1 + constant`.
+fn plane(x: i128, y: i128, constant: i128) -> Affine {
+    let mut coef = [0; PLACES];
+    coef[0] = x;
+    coef[1] = y;
+    Affine { coef, constant }
+}
+
+/// The row of a function that has one.
+fn row(function: Affine) -> Option<Row> {
+    match Row::of(function) {
+        RowKind::Row(row) => Some(row),
+        RowKind::Always | RowKind::Never => None,
+    }
+}
+
+/// A fact with at most one fall.
+fn fact(label: u32, kind: FactKind, measure: Affine, fall: Option<Row>) -> LoopFact {
+    LoopFact {
+        label,
+        kind,
+        measure,
+        falls: [fall, None, None],
+    }
+}
+
+/// The hint with at most two split rows.
+fn split(label: u32, first: Option<Row>, second: Option<Row>, turns: Affine) -> Option<Hint> {
+    Some(Hint {
+        label,
+        split: [first, second, None, None],
+        turns,
+    })
+}
+
+#[test]
+fn hints_of_facts(rt: HostRuntime) -> Result<(), Fail> {
+    // x counts down by -y at label 1, and x lies at a distance of x from its lower end at label 2.
+    let falling = row(plane(0, -1, -1));
+    let guard = fact(1, FactKind::Guard, plane(1, 0, -1), falling);
+    let range = fact(2, FactKind::Range, plane(1, 0, 0), None);
+    let counting = split(1, row(plane(1, 0, -1)), falling, plane(1, 0, 0));
+    let distance = split(2, row(plane(1, 0, 0)), None, plane(1, 0, 1));
+    let mut first = GuardAdviser::new();
+    let mut second = RangeAdviser::new();
+    first.observe(3, &guard);
+    second.observe(3, &guard);
+    assert_eq!(rt; first.hint(3), counting);
+    assert_eq!(rt; second.hint(3), None);
+    first.observe(4, &range);
+    second.observe(4, &range);
+    // The fact of the turn before is none of this one.
+    assert_eq!(rt; first.hint(4), None);
+    assert_eq!(rt; second.hint(4), distance);
+    // The last fact counts, a constant measure has no row, and one more has to fit.
+    let constant = fact(5, FactKind::Guard, plane(0, 0, 7), None);
+    let steep = fact(6, FactKind::Guard, plane(1, 0, i128::MAX), None);
+    first.observe(5, &guard);
+    first.observe(5, &constant);
+    assert_eq!(rt; first.hint(5), split(5, None, None, plane(0, 0, 8)));
+    first.observe(5, &steep);
+    assert_eq!(rt; first.hint(5), None);
+    assert_eq!(rt; first.asked(), 4);
+    assert_eq!(rt; second.asked(), 2);
+    Ok(())
+}
+
+#[test]
+fn advisers_in_their_order(rt: HostRuntime) -> Result<(), Fail> {
+    let alloc = rt.alloc();
+    let guard = fact(1, FactKind::Guard, plane(1, 0, -1), None);
+    let other = fact(3, FactKind::Guard, plane(0, 1, 0), None);
+    let range = fact(2, FactKind::Range, plane(1, 0, 0), None);
+    let mut advisers = both(alloc)?;
+    let hints = consult(alloc, &mut advisers, 0, &[guard, range, other])?;
+    assert_eq!(rt; hints.len(), 2);
+    assert_eq!(rt; hints.first().map(|hint| hint.label), Some(2));
+    assert_eq!(rt; hints.last().map(|hint| hint.label), Some(3));
+    let hints = consult(alloc, &mut advisers, 1, &[])?;
+    assert_eq!(rt; hints.len(), 0);
+    for adviser in &advisers {
+        assert_eq!(rt; adviser.asked(), 2);
+    }
+    Ok(())
+}
+
+/// One on ranges, and then one on tests.
+fn both(alloc: Global) -> Result<Vec<Box<dyn Adviser>>, Fail> {
+    let mut advisers: Vec<Box<dyn Adviser>> = Vec::new(alloc);
+    advisers.push(Box::new(alloc, RangeAdviser::new())?)?;
+    advisers.push(Box::new(alloc, GuardAdviser::new())?)?;
+    Ok(advisers)
+}

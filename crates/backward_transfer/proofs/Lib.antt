@@ -1,0 +1,4 @@
+pub mod Making
+pub mod Standing
+pub mod Throughout
+pub mod Trying

@@ -1,0 +1,4 @@
+pub mod Mentions
+pub mod Ranges
+pub mod Steps
+pub mod Tests

@@ -1,0 +1,58 @@
+-- The shapes of trees moved back over an assignment and over a step that changes nothing, before they are trimmed, and beside each where
+-- the functions and ranks that it forms fit.
+use Rattle.std.specs.Prelude.{ℕ, Bool, ⊤}
+use Rattle.linear_cons.specs.Functions.{SubstitutionFits, substituted}
+use Rattle.linear_cons.specs.Rows.{row_kind_of}
+use Rattle.linear_cons.specs.declared.affine.Affine.{Affine}
+use Rattle.linear_cons.specs.declared.row.RowKind.{RowKind}
+use Rattle.linear_cons.specs.declared.row.RowKind.TheVariants.{Always, Never, Row as Kept}
+use Rattle.decision_tree.specs.Nodes.{node}
+use Rattle.decision_tree.specs.Plans.{Plan, branch, leaf}
+use Rattle.decision_tree.specs.declared.reason.Pick.TheVariants.{All as EveryState}
+use Rattle.decision_tree.specs.declared.reason.Why.TheVariants.{Step}
+
+-- a leaf of that rank, for every next state
+abbrev pub step_to : {R : Type 0} → R → Plan R
+step_to rank = leaf (Step EveryState) rank
+
+-- the constraint asked: one that always or never holds is decided at once
+abbrev pub asked : {R : Type 0} → (R → R → Bool) → RowKind → Plan R → Plan R → Plan R
+asked same Always this that = this
+asked same Never this that = that
+asked same (Kept row) this that = node same row this that
+
+-- what is asked of the sides that stand
+abbrev pub AskedFits : RowKind → Type 0 → Type 0 → Type 0
+AskedFits Always This That = This
+AskedFits Never This That = That
+AskedFits (Kept row) This That = This × That
+
+module _ {R : Type 0} (same : R → R → Bool) (one_more : R → R) where
+  -- one more step at each leaf that is defined
+  abbrev pub stepped : Plan R → Plan R
+  stepped (branch row this that) = node same row (stepped this) (stepped that)
+  stepped (leaf why rank) = step_to (one_more rank)
+  stepped end = end
+
+-- each rank that it forms fits
+abbrev pub StepFits : {R : Type 0} → (R → Type 0) → Plan R → Type 0
+StepFits more_fits (branch row this that) = StepFits more_fits this × StepFits more_fits that
+StepFits more_fits (leaf why rank) = more_fits rank
+StepFits more_fits end = ⊤
+
+module _ {R : Type 0} (same : R → R → Bool) (put : R → ℕ → Affine → R) (one_more : R → R) where
+  -- a function put in for the variable at a place, in rows and ranks, and one more step at each leaf that is defined
+  abbrev pub assigned : ℕ → Affine → Plan R → Plan R
+  assigned place by (branch row this that) =
+      asked same (row_kind_of (substituted row.affine place by)) (assigned place by this) (assigned place by that)
+  assigned place by (leaf why rank) = step_to (one_more (put rank place by))
+  assigned place by end = end
+
+module _ {R : Type 0} (put : R → ℕ → Affine → R) (put_fits : R → ℕ → Affine → Type 0) (more_fits : R → Type 0) where
+  -- each function and each rank that it forms fits
+  abbrev pub AssignFits : ℕ → Affine → Plan R → Type 0
+  AssignFits place by (branch row this that) =
+      SubstitutionFits row.affine place by
+      × AskedFits (row_kind_of (substituted row.affine place by)) (AssignFits place by this) (AssignFits place by that)
+  AssignFits place by (leaf why rank) = put_fits rank place by × more_fits (put rank place by)
+  AssignFits place by end = ⊤

@@ -1,0 +1,143 @@
+//! Trees moved back over an assignment.
+ghost use Rattle.std.specs.Prelude.{◌≡◌, ℕ, ◌<◌, ◌≤◌, [], Err, IfOk, OnErr, OnOk};
+ghost use Rattle.linear_cons.specs.Exact.{IsOutside};
+ghost use Rattle.linear_cons.specs.Functions.{SubstitutionFits, substituted};
+ghost use Rattle.linear_cons.specs.Rows.{row_kind_of};
+ghost use Rattle.linear_cons.specs.declared.exact.Wide.{Wide};
+ghost use Rattle.decision_tree.specs.Plans.{plan_of, size_of};
+ghost use Rattle.tree_unify.specs.Shapes.{TrimFits, trimmed};
+ghost use Rattle.tree_unify.specs.declared.fault.TreeFault.TheVariants.{Full as TooFull, Wide as TooWide};
+ghost use Rattle.backward_transfer.specs.Steps.{AssignFits, assigned, step_to};
+
+use crate::stepping::step_leaf;
+use decision_tree::{Rank, Tree};
+use linear_cons::{Affine, Row, RowKind};
+use std::alloc::Global;
+use tree_unify::{Stopped, TreeFault, Walk, trim};
+
+/// The tree before the value is assigned to the variable at the place, with the tree behind it given: the
+/// function is put in for the variable in rows and ranks, a row that becomes constant takes its side, each
+/// defined leaf has one more step, for every next state, and the whole is trimmed. `Full` comes exactly
+/// where it would have more than 65,536 nodes before it is trimmed, `Wide` exactly where a number of a row
+/// or rank with the function put in, of a rank with one more, or of a complement of a row that trimming
+/// asks, is outside `i128`; where both stand, either may come. `Memory` says nothing.
+pub fn back_assign<R: Rank>(
+    alloc: Global,
+    tree: &Tree<R>,
+    place: u8,
+    value: &Affine,
+) -> Result<Tree<R>, TreeFault>
+    requires { place < 16 }
+    ensures tree { IfOk result (λ made. plan_of made
+        ≡ trimmed R.eq [] (assigned R.eq R.substituted R.one_more place value.now (plan_of tree.now))) }
+    ensures small { OnOk result (size_of (assigned R.eq R.substituted R.one_more place value.now (plan_of tree.now)) ≤ 65536) }
+    ensures moved { OnOk result (AssignFits R.substituted R.subst_fits R.add_one_fits place value.now (plan_of tree.now)) }
+    ensures rows { OnOk result (TrimFits R.eq [] (assigned R.eq R.substituted R.one_more place value.now (plan_of tree.now))) }
+    ensures full { (count : ℕ) → result ≡ Err (TooFull count)
+        → (65536 < count) × (65536 < size_of (assigned R.eq R.substituted R.one_more place value.now (plan_of tree.now))) }
+    ensures wide { (w : Wide) → result ≡ Err (TooWide w)
+        → AssignFits R.substituted R.subst_fits R.add_one_fits place value.now (plan_of tree.now)
+        → TrimFits R.eq [] (assigned R.eq R.substituted R.one_more place value.now (plan_of tree.now)) → ⊥ }
+    ensures operands { (w : Wide) → result ≡ Err (TooWide w) → IsOutside w }
+{
+    let mut walk = Walk::new(alloc);
+    match put(alloc, &mut walk, tree, place, value) {
+        Ok(moved) => trim(alloc, &moved, &[]),
+        Err(_) => Err(walk.fault),
+    }
+}
+
+/// The tree with the function put in for the variable, and one more step at each defined leaf; the walk
+/// knows the size.
+fn put<R: Rank>(
+    alloc: Global,
+    walk: &mut Walk,
+    tree: &Tree<R>,
+    place: u8,
+    by: &Affine,
+) -> Result<Box<Tree<R>>, Stopped>
+    requires { place < 16 }
+    ensures tree { IfOk result (λ made. plan_of made.value ≡ assigned R.eq R.substituted R.one_more place by.now (plan_of tree.now)) }
+    ensures size { IfOk result (λ made. walk.new.size ≡ size_of (plan_of made.value)) }
+    ensures small { OnOk result (walk.new.size ≤ 65536) }
+    ensures fits { OnOk result (AssignFits R.substituted R.subst_fits R.add_one_fits place by.now (plan_of tree.now)) }
+    ensures full { OnErr result ((count : ℕ) → walk.new.fault ≡ TooFull count
+        → (65536 < count) × (65536 < size_of (assigned R.eq R.substituted R.one_more place by.now (plan_of tree.now)))) }
+    ensures wide { OnErr result ((w : Wide) → walk.new.fault ≡ TooWide w
+        → AssignFits R.substituted R.subst_fits R.add_one_fits place by.now (plan_of tree.now) → ⊥) }
+    ensures operands { OnErr result ((w : Wide) → walk.new.fault ≡ TooWide w → IsOutside w) }
+{
+    match tree {
+        Tree::Bottom => walk.copied(alloc, tree),
+        Tree::Top(_) => walk.copied(alloc, tree),
+        Tree::Leaf { why: _, rank } => put_leaf(alloc, walk, rank, place, by),
+        Tree::Node { row, yes, no } => {
+            let kind = put_row(alloc, walk, row, place, by)?;
+            match &*kind {
+                RowKind::Always => put(alloc, walk, yes, place, by),
+                RowKind::Never => put(alloc, walk, no, place, by),
+                RowKind::Row(row) => {
+                    let first = put(alloc, walk, yes, place, by)?;
+                    let size = walk.size;
+                    match put(alloc, walk, no, place, by) {
+                        Ok(other) => walk.join_sides(alloc, row, first, other, size),
+                        Err(stopped) => {
+                            Tree::discard(first);
+                            Err(stopped)
+                        }
+                    }
+                }
+            }
+        }
+    }
+}
+
+/// What the row becomes with the function put in, in a box of its own.
+#[inline(never)]
+fn put_row(
+    alloc: Global,
+    walk: &mut Walk,
+    row: &Row,
+    place: u8,
+    by: &Affine,
+) -> Result<Box<RowKind>, Stopped>
+    requires { place < 16 }
+    ensures kind { IfOk result (λ kind. kind.value ≡ row_kind_of (substituted row.now.affine place by.now)) }
+    ensures fits { OnOk result (SubstitutionFits row.now.affine place by.now) }
+    ensures full { OnErr result ((count : ℕ) → walk.new.fault ≡ TooFull count → ⊥) }
+    ensures wide { OnErr result ((w : Wide) → walk.new.fault ≡ TooWide w → SubstitutionFits row.now.affine place by.now → ⊥) }
+    ensures operands { OnErr result ((w : Wide) → walk.new.fault ≡ TooWide w → IsOutside w) }
+{
+    let moved = match row.affine.subst(place, by) {
+        Ok(moved) => moved,
+        Err(wide) => return Err(walk.stop(TreeFault::Wide(wide))),
+    };
+    match Box::new(alloc, Row::of(moved)) {
+        Ok(kind) => Ok(kind),
+        Err(error) => Err(walk.stop(TreeFault::Memory(error.into()))),
+    }
+}
+
+/// A leaf of the rank with the function put in and one more, for every next state; its size is known.
+#[inline(never)]
+fn put_leaf<R: Rank>(
+    alloc: Global,
+    walk: &mut Walk,
+    rank: &R,
+    place: u8,
+    by: &Affine,
+) -> Result<Box<Tree<R>>, Stopped>
+    requires { place < 16 }
+    ensures tree { IfOk result (λ made. plan_of made.value ≡ step_to (R.one_more (R.substituted rank.now place by.now))) }
+    ensures size { OnOk result (walk.new.size ≡ 1) }
+    ensures fits { OnOk result (R.subst_fits rank.now place by.now × R.add_one_fits (R.substituted rank.now place by.now)) }
+    ensures full { OnErr result ((count : ℕ) → walk.new.fault ≡ TooFull count → ⊥) }
+    ensures wide { OnErr result ((w : Wide) → walk.new.fault ≡ TooWide w
+        → R.subst_fits rank.now place by.now → R.add_one_fits (R.substituted rank.now place by.now) → ⊥) }
+    ensures operands { OnErr result ((w : Wide) → walk.new.fault ≡ TooWide w → IsOutside w) }
+{
+    match rank.subst(place, by) {
+        Ok(moved) => step_leaf(alloc, walk, &moved),
+        Err(wide) => Err(walk.stop(TreeFault::Wide(wide))),
+    }
+}

@@ -1,0 +1,115 @@
+//! Trees moved back over a step that changes nothing.
+ghost use Rattle.std.specs.Prelude.{◌≡◌, ℕ, ◌<◌, ◌≤◌, [], Err, IfOk, OnErr, OnOk};
+ghost use Rattle.linear_cons.specs.Exact.{IsOutside};
+ghost use Rattle.linear_cons.specs.declared.exact.Wide.{Wide};
+ghost use Rattle.decision_tree.specs.Plans.{bottom, plan_of, size_of};
+ghost use Rattle.tree_unify.specs.Shapes.{TrimFits, trimmed};
+ghost use Rattle.tree_unify.specs.declared.fault.TreeFault.TheVariants.{Full as TooFull, Wide as TooWide};
+ghost use Rattle.backward_transfer.specs.Steps.{StepFits, step_to, stepped};
+
+use decision_tree::{Pick, Rank, Tree, Why};
+use std::alloc::Global;
+use tree_unify::{Stopped, TreeFault, Walk, trim};
+
+/// The tree before a step that changes nothing, with the tree behind it given: one more step at each
+/// defined leaf, for every next state, and trimmed. `Full` comes exactly where it would have more than
+/// 65,536 nodes before it is trimmed, `Wide` exactly where a rank with one more, or a complement of a row
+/// that trimming asks, has a number outside `i128`; where both stand, either may come. `Memory` says
+/// nothing.
+pub fn back_skip<R: Rank>(alloc: Global, tree: &Tree<R>) -> Result<Tree<R>, TreeFault>
+    ensures tree { IfOk result (λ made. plan_of made ≡ trimmed R.eq [] (stepped R.eq R.one_more (plan_of tree.now))) }
+    ensures small { OnOk result (size_of (stepped R.eq R.one_more (plan_of tree.now)) ≤ 65536) }
+    ensures ranks { OnOk result (StepFits R.add_one_fits (plan_of tree.now)) }
+    ensures rows { OnOk result (TrimFits R.eq [] (stepped R.eq R.one_more (plan_of tree.now))) }
+    ensures full { (count : ℕ) → result ≡ Err (TooFull count)
+        → (65536 < count) × (65536 < size_of (stepped R.eq R.one_more (plan_of tree.now))) }
+    ensures wide { (w : Wide) → result ≡ Err (TooWide w) → StepFits R.add_one_fits (plan_of tree.now)
+        → TrimFits R.eq [] (stepped R.eq R.one_more (plan_of tree.now)) → ⊥ }
+    ensures operands { (w : Wide) → result ≡ Err (TooWide w) → IsOutside w }
+{
+    let mut walk = Walk::new(alloc);
+    match step(alloc, &mut walk, tree) {
+        Ok(moved) => trim(alloc, &moved, &[]),
+        Err(_) => Err(walk.fault),
+    }
+}
+
+/// The tree with one more step at each defined leaf; the walk knows the size.
+pub(crate) fn step<R: Rank>(
+    alloc: Global,
+    walk: &mut Walk,
+    tree: &Tree<R>,
+) -> Result<Box<Tree<R>>, Stopped>
+    ensures tree { IfOk result (λ made. plan_of made.value ≡ stepped R.eq R.one_more (plan_of tree.now)) }
+    ensures size { IfOk result (λ made. walk.new.size ≡ size_of (plan_of made.value)) }
+    ensures small { OnOk result (walk.new.size ≤ 65536) }
+    ensures trail { OnOk result (walk.new.trail ≡ walk.old.trail) }
+    ensures fits { OnOk result (StepFits R.add_one_fits (plan_of tree.now)) }
+    ensures full { OnErr result ((count : ℕ) → walk.new.fault ≡ TooFull count
+        → (65536 < count) × (65536 < size_of (stepped R.eq R.one_more (plan_of tree.now)))) }
+    ensures wide { OnErr result ((w : Wide) → walk.new.fault ≡ TooWide w → StepFits R.add_one_fits (plan_of tree.now) → ⊥) }
+    ensures operands { OnErr result ((w : Wide) → walk.new.fault ≡ TooWide w → IsOutside w) }
+{
+    match tree {
+        Tree::Bottom => walk.copied(alloc, tree),
+        Tree::Top(_) => walk.copied(alloc, tree),
+        Tree::Leaf { why: _, rank } => step_leaf(alloc, walk, rank),
+        Tree::Node { row, yes, no } => {
+            let first = step(alloc, walk, yes)?;
+            let size = walk.size;
+            match step(alloc, walk, no) {
+                Ok(other) => walk.join_sides(alloc, row, first, other, size),
+                Err(stopped) => {
+                    Tree::discard(first);
+                    Err(stopped)
+                }
+            }
+        }
+    }
+}
+
+/// A leaf of the rank with one more, for every next state; its size is known.
+#[inline(never)]
+pub(crate) fn step_leaf<R: Rank>(
+    alloc: Global,
+    walk: &mut Walk,
+    rank: &R,
+) -> Result<Box<Tree<R>>, Stopped>
+    ensures tree { IfOk result (λ made. plan_of made.value ≡ step_to (R.one_more rank.now)) }
+    ensures size { OnOk result (walk.new.size ≡ 1) }
+    ensures trail { OnOk result (walk.new.trail ≡ walk.old.trail) }
+    ensures fits { OnOk result (R.add_one_fits rank.now) }
+    ensures full { OnErr result ((count : ℕ) → walk.new.fault ≡ TooFull count → ⊥) }
+    ensures wide { OnErr result ((w : Wide) → walk.new.fault ≡ TooWide w → R.add_one_fits rank.now → ⊥) }
+    ensures operands { OnErr result ((w : Wide) → walk.new.fault ≡ TooWide w → IsOutside w) }
+{
+    let more = match rank.add_one() {
+        Ok(more) => more,
+        Err(wide) => return Err(walk.stop(TreeFault::Wide(wide))),
+    };
+    match Tree::boxed_leaf(alloc, &Why::Step(Pick::All), &more) {
+        Ok(leaf) => {
+            walk.size = 1;
+            Ok(leaf)
+        }
+        Err(error) => Err(walk.stop(TreeFault::Memory(error))),
+    }
+}
+
+/// No claim; its size is known.
+#[inline(never)]
+pub(crate) fn none<R: Rank>(alloc: Global, walk: &mut Walk) -> Result<Box<Tree<R>>, Stopped>
+    ensures tree { IfOk result (λ made. plan_of made.value ≡ bottom) }
+    ensures size { OnOk result (walk.new.size ≡ 1) }
+    ensures trail { OnOk result (walk.new.trail ≡ walk.old.trail) }
+    ensures full { OnErr result ((count : ℕ) → walk.new.fault ≡ TooFull count → ⊥) }
+    ensures wide { OnErr result ((w : Wide) → walk.new.fault ≡ TooWide w → ⊥) }
+{
+    match Tree::boxed_bottom(alloc) {
+        Ok(none) => {
+            walk.size = 1;
+            Ok(none)
+        }
+        Err(error) => Err(walk.stop(TreeFault::Memory(error))),
+    }
+}

@@ -1,0 +1,12 @@
+pub mod Writing
+pub mod EndSums
+pub mod Members
+pub mod Voids
+pub mod TermLaws
+pub mod StatedLaws
+pub mod Assigned
+pub mod Listed
+pub mod PlainRows
+pub mod UnaryEnds
+pub mod RowMembers
+pub mod Exchanging

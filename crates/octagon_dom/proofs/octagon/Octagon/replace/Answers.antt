@@ -1,0 +1,28 @@
+use Rattle.std.proofs.Common.{◌≡◌, ◌∙◌, ap, length, set, subst, sym}
+use Rattle.octagon_dom.specs.Cells.{IsBelow}
+use Rattle.octagon_dom.specs.Laws.Rows.{empty_none}
+use Rattle.octagon_dom.proofs.Writing.{written_back}
+use Rattle.octagon_dom.proofs.octagon.Octagon.replace.Goals as goal
+
+pub returns-then-has_none-clause-keeps : goal.returns-then-has_none-clause-keeps
+returns-then-has_none-clause-keeps c store z is has covers =
+    absurd (empty_none c.close_up.new.self store (sym c.has_none.ensures ∙ c.if-has_none.true) ((c.close_up.ensures.same store is).0 has))
+
+pub returns-clause-keeps : goal.returns-clause-keeps
+returns-clause-keeps c store z is has covers =
+    let len : c.close_up.new.self.cells.len ≡ 1024 =
+    sym c.as_mut_slice.ensures.len ∙ ap length c.as_mut_slice.ensures.value ∙ c.close_up.new.self.size in
+    let before = subst (λ items. IsBelow items store) (sym c.as_mut_slice.ensures.value) ((c.close_up.ensures.same store is).0 has) in
+    subst (λ items. IsBelow items (set store c.args.place z)) (sym (written_back _ c.set.new.cells _ c.set.ensures.long len))
+    (c.set.ensures.keeps store z is before covers)
+
+pub returns-then-has_none-clause-sets : goal.returns-then-has_none-clause-sets
+returns-then-has_none-clause-sets c simple store long has =
+    absurd (empty_none c.close_up.new.self store (sym c.has_none.ensures ∙ c.if-has_none.true) has)
+
+pub returns-clause-sets : goal.returns-clause-sets
+returns-clause-sets c simple store long has =
+    let len : c.close_up.new.self.cells.len ≡ 1024 =
+    sym c.as_mut_slice.ensures.len ∙ ap length c.as_mut_slice.ensures.value ∙ c.close_up.new.self.size in
+    c.set.ensures.sets simple store long
+    (subst (λ items. IsBelow items store) (written_back _ c.set.new.cells _ c.set.ensures.long len) has)

@@ -1,0 +1,6 @@
+pub mod Cells
+pub mod Stated
+pub mod Terms
+pub mod Assignments
+pub mod Octagons
+pub mod Laws

@@ -1,0 +1,54 @@
+-- The bounds that rows state.
+use Rattle.std.specs.Prelude.{◌≡◌, ◌≢◌, ℕ, ◌+◌, ◌*◌, ◌-◌, ◌^◌, ◌<◌, ℤ, pos, negsuc, ◌+ℤ◌, ◌-ℤ◌, ◌*ℤ◌, ◌≤ℤ◌, ◌<ℤ◌, List, Some, int_lt}
+use Rattle.std.specs.Prelude.{if◌then◌else◌}
+use Rattle.linear_cons.specs.declared.bounds.Bounds.{Bounds}
+use Rattle.linear_cons.specs.declared.row.Row.{Row}
+use Rattle.linear_cons.specs.Bounds.{IsUpTo, LiesIn}
+use Rattle.linear_cons.specs.Numbers.{number_at}
+use Rattle.linear_cons.specs.Rows.{Meets}
+use Rattle.num_domain.specs.declared.bound.Bound.{Bound}
+use Rattle.num_domain.specs.Ends.{some_end}
+use Rattle.octagon_dom.specs.declared.stated.Stated.{Stated}
+use Rattle.octagon_dom.specs.Cells.{AreCellsOf, signed, tightened, turned}
+
+-- it is a bound on two signed places
+pub record IsBetweenTwo (stated : Stated) : Type 0 where
+  pub from : stated.high < 32
+  pub to : stated.low < 32
+  pub apart : stated.high ≢ stated.low
+
+-- the store keeps to the bound
+abbrev pub HoldsIn : Stated → List ℤ → Type 0
+HoldsIn stated store = IsUpTo (some_end stated.step) (signed store stated.high -ℤ signed store stated.low)
+
+-- the bound is entered, and then its twin: each of the two shortens the ways between all signed places
+pub record AreEntered (old : List (Bound ℤ)) (stated : Stated) (new : List (Bound ℤ)) : Type 0 where
+  pub between : List (Bound ℤ)
+  pub own : AreCellsOf (tightened old stated.high stated.low (some_end stated.step)) between
+  pub twin : AreCellsOf (tightened between (turned stated.low) (turned stated.high) (some_end stated.step)) new
+
+-- the number is at least -2^126 and below 2^126: twice the number fits 128 bits
+pub record IsHalfSized (c : ℤ) : Type 0 where
+  pub from : negsuc (2 ^ 126 - 1) ≤ℤ c
+  pub below : c <ℤ pos (2 ^ 126)
+
+-- the row states the bound: the stores that meet the row are those that keep to the bound, if its number fits
+pub record IsStatedBy (row : Row) (stated : Stated) : Type 0 where
+  pub between : IsBetweenTwo stated
+  pub keeps : (store : List ℤ) → Meets store row → HoldsIn stated store
+  pub exact : (c : ℤ) → some_end stated.step ≡ Some c → (store : List ℤ) → HoldsIn stated store → Meets store row
+  pub fits : IsHalfSized row.affine.constant → (c : ℤ) × (some_end stated.step ≡ Some c)
+
+-- the signed place that has the sign of the factor
+abbrev pub signed_place : ℤ → ℕ → ℕ
+signed_place factor place = if int_lt factor (pos 0) then 2 * place + 1 else 2 * place
+
+-- where the factor times the number at the place is at least the negative of the rest, the bound holds
+pub record IsRefining (factor rest : ℤ) (place : ℕ) (stated : Stated) : Type 0 where
+  pub between : IsBetweenTwo stated
+  pub keeps : (store : List ℤ) → pos 0 ≤ℤ (factor *ℤ number_at store place +ℤ rest) → HoldsIn stated store
+
+-- where the bounds hold, the row implies the bound
+pub record IsImpliedBy (row : Row) (bounds : Bounds) (stated : Stated) : Type 0 where
+  pub between : IsBetweenTwo stated
+  pub keeps : (store : List ℤ) → LiesIn bounds store → Meets store row → HoldsIn stated store

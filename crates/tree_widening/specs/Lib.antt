@@ -1,0 +1,4 @@
+pub mod Leaves
+pub mod Widening
+pub mod Judging
+pub mod Places

@@ -1,0 +1,120 @@
+//! The widening of a tree.
+ghost use Rattle.std.specs.Prelude.{◌≡◌, ℕ, ◌<◌, ◌≤◌, [], Err, IfOk, OnErr, OnOk};
+ghost use Rattle.linear_cons.specs.Exact.{IsOutside};
+ghost use Rattle.linear_cons.specs.declared.exact.Wide.{Wide};
+ghost use Rattle.linear_cons.specs.declared.row.Row.{Row};
+ghost use Rattle.decision_tree.specs.Plans.{plan_of, size_of};
+ghost use Rattle.decision_tree.specs.declared.path.PathFault.TheVariants.{Wide as TooWide};
+ghost use Rattle.tree_unify.specs.Pruned.{HasRow};
+ghost use Rattle.tree_unify.specs.declared.fault.TreeFault.TheVariants.{Full, Wide as WideFault};
+ghost use Rattle.tree_unify.specs.Shapes.{TrimWithFits};
+ghost use Rattle.tree_widening.specs.Widening.{ExceedFits, IsHeld, IsWidened, IsWideningOf, WidenedFits, WideningFits, same_rank};
+
+use crate::against::tells_against;
+use crate::extrapolation::grow;
+use crate::walk::{Stopped, Walk};
+use decision_tree::{AffineRank, Cause, PathFault, Tree, Why};
+use std::alloc::Global;
+use tree_unify::TreeFault;
+
+/// The most nodes of a tree that is widened, leaves included.
+const MOST_NODES: u64 = 65_536;
+
+/// The old tree, widened by the new one. It has the old tree's nodes, but for those whose sides become
+/// equal. A leaf that was given up stays. A claim stays where each leaf of the new tree, trimmed by the
+/// claim's path, makes a claim whose rank the solver shows to exceed it nowhere there, and else is given up.
+/// A leaf without a claim takes the first claim of the new tree there, raised by its constant rise over
+/// the claim beside it times the last row on the path; where there is no such rise as it is, and where the
+/// new tree has no claim there, or the old tree is a single leaf, the leaf stays without a claim.
+///
+/// `Full` comes only where the old tree has more than 65,536 nodes, `Wide` only where a number that may be
+/// formed lies outside `i128`. `Memory` says nothing.
+pub fn widen(
+    alloc: Global,
+    old: &Tree<AffineRank>,
+    new: &Tree<AffineRank>,
+) -> Result<Tree<AffineRank>, TreeFault>
+    ensures widened { IfOk result (λ made. IsWideningOf (plan_of old.now) (plan_of new.now) (plan_of made)) }
+    ensures rows { IfOk result (λ made. (row : Row) → HasRow row (plan_of made) → HasRow row (plan_of old.now)) }
+    ensures size { IfOk result (λ made. size_of (plan_of made) ≤ size_of (plan_of old.now)) }
+    ensures full { (count : ℕ) → result ≡ Err (Full count) → (65536 < count) × (65536 < size_of (plan_of old.now)) }
+    ensures wide { (w : Wide) → result ≡ Err (WideFault w) → WideningFits (plan_of old.now) (plan_of new.now) → ⊥ }
+    ensures operands { (w : Wide) → result ≡ Err (WideFault w) → IsOutside w }
+{
+    if old.size() > MOST_NODES {
+        return Err(TreeFault::Full {
+            count: MOST_NODES + 1,
+        });
+    }
+    let mut walk = Walk::new(alloc);
+    match weave(alloc, &mut walk, old, old, true, new) {
+        Ok(made) => Ok(Box::into_inner(made)),
+        Err(_) => match walk.fault {
+            PathFault::Wide(wide) => Err(TreeFault::Wide(wide)),
+            PathFault::Memory(error) => Err(TreeFault::Memory(error)),
+        },
+    }
+}
+
+/// The part of the old tree behind the rows of the walk, widened. It stands on a side of the node above it,
+/// or is the whole tree, which counts as above itself. The walk is where it was.
+fn weave(
+    alloc: Global,
+    walk: &mut Walk,
+    old: &Tree<AffineRank>,
+    above: &Tree<AffineRank>,
+    holds: bool,
+    new: &Tree<AffineRank>,
+) -> Result<Box<Tree<AffineRank>>, Stopped>
+    ensures widened { IfOk result (λ made. IsWidened (plan_of new.now) (plan_of above.now) holds walk.old.trail (plan_of old.now)
+        (plan_of made.value)) }
+    ensures trail { OnOk result (walk.new.trail ≡ walk.old.trail) }
+    ensures wide { OnErr result ((w : Wide) → walk.new.fault ≡ TooWide w
+        → WidenedFits (plan_of new.now) (plan_of above.now) holds walk.old.trail (plan_of old.now) → ⊥) }
+    ensures operands { OnErr result ((w : Wide) → walk.new.fault ≡ TooWide w → IsOutside w) }
+{
+    match old {
+        Tree::Bottom => grow(alloc, walk, above, holds, new),
+        Tree::Top(cause) => walk.given_up(alloc, cause),
+        Tree::Leaf { why, rank } => hold(alloc, walk, why, rank, new),
+        Tree::Node { row, yes, no } => {
+            walk.down(row)?;
+            let this = weave(alloc, walk, yes, old, true, new)?;
+            if let Err(stopped) = walk.turn() {
+                Tree::discard(this);
+                return Err(stopped);
+            }
+            match weave(alloc, walk, no, old, false, new) {
+                Ok(other) => {
+                    walk.trail.up();
+                    walk.join_sides(alloc, row, this, other)
+                }
+                Err(stopped) => {
+                    Tree::discard(this);
+                    Err(stopped)
+                }
+            }
+        }
+    }
+}
+
+/// The claim, or what it is given up for. The walk is where it was.
+#[inline(never)]
+fn hold(
+    alloc: Global,
+    walk: &mut Walk,
+    why: &Why,
+    rank: &AffineRank,
+    new: &Tree<AffineRank>,
+) -> Result<Box<Tree<AffineRank>>, Stopped>
+    ensures tree { IfOk result (λ made. IsHeld why.now rank.now walk.old.trail (plan_of new.now) (plan_of made.value)) }
+    ensures trail { OnOk result (walk.new.trail ≡ walk.old.trail) }
+    ensures wide { OnErr result ((w : Wide) → walk.new.fault ≡ TooWide w
+        → TrimWithFits same_rank (ExceedFits rank.now) walk.old.trail (plan_of new.now) → ⊥) }
+    ensures operands { OnErr result ((w : Wide) → walk.new.fault ≡ TooWide w → IsOutside w) }
+{
+    if tells_against(alloc, walk, rank, new)? {
+        return walk.given_up(alloc, &Cause::Given);
+    }
+    walk.claim(alloc, why, rank)
+}
