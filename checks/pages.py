@@ -1,0 +1,87 @@
+#!/usr/bin/env python3
+"""Sees that the pages agree with the code: ends with 1 and a line for each place where they don't.
+
+- Each crate of crates.txt has one row in docs/ARCHITECTURE.md, which names exactly the crates of the repository that it stands on.
+- Each word in backquotes that looks like a name of the code occurs in the code.
+- Each program under examples/ stands in docs/EXAMPLES.md with its report, as the files have them.
+"""
+import re
+import sys
+from pathlib import Path
+
+TOP = Path(__file__).resolve().parent.parent
+PAGES = ["README.md"] + [f"docs/{name}.md" for name in ("ARCHITECTURE", "DECISIONS", "EXAMPLES", "GLOSSARY", "LANGUAGE", "PROOFS", "REPORT", "WORKING")]
+# Words of the toolchain and of the command line, which the code doesn't spell.
+ELSEWHERE = {"Answers", "Invariants", "IfErr", "IfOk", "IfSome", "MatchOption", "OnErr", "OnOk", "abbrev", "always", "certificate", "const", "continue", "enum",
+             "extern", "function", "indexmap", "main", "noexec", "num_traits", "result", "start_io", "thiserror", "typedef", "unfoldable", "verdict"}
+
+
+def crates():
+    """The crates in order, each with the crates of the repository that it stands on."""
+    found = {}
+    for line in (TOP / "crates.txt").read_text().splitlines():
+        if line.strip() and not line.startswith("#"):
+            name, _, rest = line.partition(":")
+            found[name.strip()] = rest.split()
+    return {name: [other for other in rest if other in found] for name, rest in found.items()}
+
+
+def wrong_rows():
+    """What the map of the crates says otherwise than crates.txt."""
+    listed = crates()
+    rows = {}
+    for line in (TOP / "docs/ARCHITECTURE.md").read_text().splitlines():
+        cells = [cell.strip() for cell in line.strip().strip("|").split("|")]
+        name = cells[0].strip("`")
+        if line.startswith("| `") and name in listed:
+            if name in rows:
+                yield f"docs/ARCHITECTURE.md: {name} has two rows"
+            rows[name] = re.findall(r"`(\w+)`", cells[2])
+    for name, others in listed.items():
+        if name not in rows:
+            yield f"docs/ARCHITECTURE.md: {name} has no row"
+        elif sorted(rows[name]) != sorted(others):
+            yield f"docs/ARCHITECTURE.md: {name} stands on {' '.join(others)}"
+
+
+def code():
+    """The text of all code, specifications and lists of the repository."""
+    files = [path for kind in ("*.rt", "*.antt", "*.edit") for path in (TOP / "crates").rglob(kind) if "out" not in path.parts]
+    files += [path for folder in ("bench", "examples", "checks") for path in (TOP / folder).iterdir() if path.is_file()]
+    names = {path.stem for path in files} | set(crates())
+    return names, "\n".join(path.read_text() for path in files)
+
+
+def unknown_names():
+    """Words in backquotes, of at least five letters, that the code doesn't have."""
+    files, text = code()
+    words = set(re.findall(r"[A-Za-z_]\w*", text)) | files | ELSEWHERE
+    for page in PAGES:
+        path = TOP / page
+        for number, line in enumerate(path.read_text().splitlines() if path.exists() else [], 1):
+            for quoted in re.findall(r"`([A-Za-z_][\w:.]*)`", line):
+                for word in re.split(r"::|[.:]", quoted):
+                    if len(word) >= 5 and word not in words:
+                        yield f"{page}:{number}: `{word}` is nowhere in the code"
+
+
+def missing_examples():
+    """Programs and reports that the page of examples doesn't show as the files have them."""
+    page = (TOP / "docs/EXAMPLES.md").read_text()
+    for program in sorted((TOP / "examples").glob("*.c")):
+        report = program.with_suffix(".report")
+        if not report.exists():
+            yield f"examples/{program.name} has no report"
+        elif f"```c\n{program.read_text()}```\n\n```\n{report.read_text()}```\n" not in page:
+            yield f"docs/EXAMPLES.md doesn't show {program.name} with its report"
+
+
+def main():
+    faults = [*wrong_rows(), *unknown_names(), *missing_examples()]
+    for fault in faults:
+        print(fault)
+    return 1 if faults else 0
+
+
+if __name__ == "__main__":
+    sys.exit(main())
