@@ -1,11 +1,9 @@
-//! Facts and their hints by hand, and the order in which advisers are consulted.
+//! Facts and their hints by hand.
 use crate::adviser::Adviser;
-use crate::consulting::consult;
 use crate::fact::{FactKind, Hint, LoopFact};
 use crate::guard::GuardAdviser;
 use crate::range::RangeAdviser;
 use linear_cons::{Affine, PLACES, Row, RowKind};
-use std::alloc::Global;
 use std::test::Fail;
 
 /// `x * x0 + y * x1 + constant`.
@@ -73,31 +71,4 @@ fn hints_of_facts(rt: HostRuntime) -> Result<(), Fail> {
     assert_eq!(rt; first.asked(), 4);
     assert_eq!(rt; second.asked(), 2);
     Ok(())
-}
-
-#[test]
-fn advisers_in_their_order(rt: HostRuntime) -> Result<(), Fail> {
-    let alloc = rt.alloc();
-    let guard = fact(1, FactKind::Guard, plane(1, 0, -1), None);
-    let other = fact(3, FactKind::Guard, plane(0, 1, 0), None);
-    let range = fact(2, FactKind::Range, plane(1, 0, 0), None);
-    let mut advisers = both(alloc)?;
-    let hints = consult(alloc, &mut advisers, 0, &[guard, range, other])?;
-    assert_eq!(rt; hints.len(), 2);
-    assert_eq!(rt; hints.first().map(|hint| hint.label), Some(2));
-    assert_eq!(rt; hints.last().map(|hint| hint.label), Some(3));
-    let hints = consult(alloc, &mut advisers, 1, &[])?;
-    assert_eq!(rt; hints.len(), 0);
-    for adviser in &advisers {
-        assert_eq!(rt; adviser.asked(), 2);
-    }
-    Ok(())
-}
-
-/// One on ranges, and then one on tests.
-fn both(alloc: Global) -> Result<Vec<Box<dyn Adviser>>, Fail> {
-    let mut advisers: Vec<Box<dyn Adviser>> = Vec::new(alloc);
-    advisers.push(Box::new(alloc, RangeAdviser::new())?)?;
-    advisers.push(Box::new(alloc, GuardAdviser::new())?)?;
-    Ok(advisers)
 }
