@@ -1,5 +1,5 @@
 -- What a turn of advice does to the advisers.
-use Rattle.std.specs.Prelude.{◌≡◌, ℕ, ◌+◌, List, length, map}
+use Rattle.std.specs.Prelude.{◌≡◌, ℕ, ◌+◌, List, map}
 
 -- each of them, in its place, was asked once
 abbrev pub AreAskedOnce : {A : Type 0} → (A → ℕ) → List A → List A → Type 0

@@ -1,5 +1,5 @@
 //! A turn of advice.
-ghost use Rattle.std.specs.Prelude.{◌≡◌, ℕ, ◌+◌, ◌-◌, ◌<◌, ◌≤◌, ◌^◌, All, IfOk, OnOk, OnErr, length};
+ghost use Rattle.std.specs.Prelude.{◌≡◌, ◌+◌, ◌-◌, ◌<◌, ◌≤◌, ◌^◌, All, IfOk, OnOk, OnErr, length};
 ghost use Rattle.advice.specs.Asking.{AreAskedOnce};
 
 use crate::adviser::Adviser;

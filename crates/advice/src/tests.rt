@@ -1,9 +1,14 @@
 //! Facts and their hints by hand.
+
+ghost use Rattle.std.specs.Prelude.{◌<◌, ◌-◌, ◌^◌};
+
 use crate::adviser::Adviser;
+use crate::consulting::consult;
 use crate::fact::{FactKind, Hint, LoopFact};
 use crate::guard::GuardAdviser;
 use crate::range::RangeAdviser;
 use linear_cons::{Affine, PLACES, Row, RowKind};
+use std::alloc::{AllocError, Global};
 use std::test::Fail;
 
 /// `x * x0 + y * x1 + constant`.
@@ -70,5 +75,47 @@ fn hints_of_facts(rt: HostRuntime) -> Result<(), Fail> {
     assert_eq!(rt; first.hint(5), None);
     assert_eq!(rt; first.asked(), 4);
     assert_eq!(rt; second.asked(), 2);
+    Ok(())
+}
+
+/// What two advisers hint in turn 3.
+fn consulted(
+    alloc: Global,
+    facts: &[LoopFact],
+    first: Box<dyn Adviser>,
+    second: Box<dyn Adviser>,
+) -> Result<Vec<Hint>, AllocError>
+    requires first { asked_of first < 2 ^ 64 - 1 }
+    requires second { asked_of second < 2 ^ 64 - 1 }
+{
+    let mut advisers: Vec<Box<dyn Adviser>> = Vec::with_capacity(alloc, 2)?;
+    advisers.push(first)?;
+    advisers.push(second)?;
+    consult(alloc, &mut advisers, 3, facts)
+}
+
+#[test]
+fn hints_come_in_the_order_of_the_advisers(rt: HostRuntime) -> Result<(), Fail> {
+    let guard = fact(1, FactKind::Guard, plane(1, 0, -1), None);
+    let range = fact(2, FactKind::Range, plane(1, 0, 0), None);
+    let counting = split(1, row(plane(1, 0, -1)), None, plane(1, 0, 0));
+    let distance = split(2, row(plane(1, 0, 0)), None, plane(1, 0, 1));
+    let guards = Box::new(rt.alloc(), GuardAdviser::new())?;
+    let ranges = Box::new(rt.alloc(), RangeAdviser::new())?;
+    let hints = consulted(rt.alloc(), &[range, guard], guards, ranges)?;
+    assert_eq!(rt; hints.len(), 2);
+    assert_eq!(rt; hints.get(0).copied(), counting);
+    assert_eq!(rt; hints.get(1).copied(), distance);
+    let guards = Box::new(rt.alloc(), GuardAdviser::new())?;
+    let ranges = Box::new(rt.alloc(), RangeAdviser::new())?;
+    let hints = consulted(rt.alloc(), &[range, guard], ranges, guards)?;
+    assert_eq!(rt; hints.get(0).copied(), distance);
+    assert_eq!(rt; hints.get(1).copied(), counting);
+    // Who has no hint leaves no gap.
+    let guards = Box::new(rt.alloc(), GuardAdviser::new())?;
+    let ranges = Box::new(rt.alloc(), RangeAdviser::new())?;
+    let hints = consulted(rt.alloc(), &[range], guards, ranges)?;
+    assert_eq!(rt; hints.len(), 1);
+    assert_eq!(rt; hints.get(0).copied(), distance);
     Ok(())
 }

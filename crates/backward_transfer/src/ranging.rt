@@ -1,5 +1,5 @@
 //! Trees moved back over the assignment of a value in a range.
-ghost use Rattle.std.specs.Prelude.{◌≡◌, ℕ, ◌<◌, ◌≤◌, ℤ, [], Err, Ok, IfErr, IfOk, IsTrue, OkIff, OnErr, OnOk, ◌↔◌, ⊤};
+ghost use Rattle.std.specs.Prelude.{◌≡◌, ℕ, ◌<◌, ◌≤◌, [], Err, Ok, IfErr, IfOk, IsTrue, OkIff, OnErr, OnOk, ◌↔◌, ⊤};
 ghost use Rattle.linear_cons.specs.Exact.{IsOutside};
 ghost use Rattle.linear_cons.specs.declared.exact.Wide.{Wide};
 ghost use Rattle.linear_cons.specs.declared.row.RowKind.TheVariants.{Always, Never};

@@ -1,6 +1,6 @@
 //! Equal copies of programs and of their parts.
 
-ghost use Rattle.std.specs.Prelude.{◌≡◌, ◌++◌, IfOk, map, vec_items};
+ghost use Rattle.std.specs.Prelude.{◌≡◌, IfOk};
 ghost use Rattle.step_meaning.specs.Syntax.{expression, statement, statements};
 
 use std::alloc::{AllocError, Global};

@@ -1,7 +1,7 @@
 //! Laws of the definitions, each the contract of a function that does nothing: what labels, edges and steps have to do with each other.
 
-ghost use Rattle.std.specs.Prelude.{◌≡◌, ◌⊎◌, ℕ, ℤ, ◌<◌, ◌+◌, Bool, Option, Some, [], length, slice_set};
-ghost use Rattle.step_meaning.specs.Syntax.{Expression, Statements, free, list_of, range, size_of};
+ghost use Rattle.std.specs.Prelude.{◌≡◌, ◌⊎◌, ℕ, ℤ, ◌<◌, ◌+◌, Bool, Some, [], length, slice_set};
+ghost use Rattle.step_meaning.specs.Syntax.{Expression, Statements, free, list_of, size_of};
 ghost use Rattle.step_meaning.specs.Outcome.{Store, May};
 ghost use Rattle.step_meaning.specs.Run.{EndsWithin};
 ghost use Rattle.step_meaning.specs.Step.{Configuration, Next, Step, front};

@@ -42,7 +42,7 @@ use Rattle.count_down.proofs.Noughts.{other_zero}
 
 -- ---- functions
 module _ (vars : ℕ) where
-  over_places : (f : ℕ → ℤ) (c : ℤ) → ((place : ℕ) → place < 16 → vars ≤ place → f place ≡ pos 0)
+  pub over_places : (f : ℕ → ℤ) (c : ℤ) → ((place : ℕ) → place < 16 → vars ≤ place → f place ≡ pos 0)
       → IsOver vars (record { coef = at_places f; constant = c })
   over_places f c none = record {
     places = length-at_places f;
@@ -52,10 +52,10 @@ module _ (vars : ℕ) where
         (cases_lt place 16);
   }
 
-  over_constant : (z : ℤ) → IsOver vars (constant_of z)
+  pub over_constant : (z : ℤ) → IsOver vars (constant_of z)
   over_constant z = over_places (λ i. pos 0) z (λ place low high. refl)
 
-  over_sum : (a b : Affine) → IsOver vars a → IsOver vars b → IsOver vars (sum_of a b)
+  pub over_sum : (a b : Affine) → IsOver vars a → IsOver vars b → IsOver vars (sum_of a b)
   over_sum a b own other =
       over_places (λ i. coefficient a i +ℤ coefficient b i) (a.constant +ℤ b.constant)
       (λ place low high. rw (own.past place high, other.past place high) refl)
@@ -63,7 +63,7 @@ module _ (vars : ℕ) where
   over_multiple : (a : Affine) (by : ℤ) → IsOver vars a → IsOver vars (multiple_of a by)
   over_multiple a by own = over_places (λ i. coefficient a i *ℤ by) (a.constant *ℤ by) (λ place low high. rw (own.past place high) (zero_mul by))
 
-  over_put : (a : Affine) (x : ℕ) (v : Affine) → IsOver vars a → IsOver vars v → IsOver vars (substituted a x v)
+  pub over_put : (a : Affine) (x : ℕ) (v : Affine) → IsOver vars a → IsOver vars v → IsOver vars (substituted a x v)
   over_put a x v own other =
       over_places (λ i. coefficient (without a x) i +ℤ coefficient (products_added a x v) i)
       ((without a x).constant +ℤ (products_added a x v).constant)
@@ -75,7 +75,7 @@ module _ (vars : ℕ) where
       (eqb_tells place x) in
       omega (arith, ints))
 
-  over_quotient : (a q : Affine) → IsQuotient a q → IsOver vars a → IsOver vars q
+  pub over_quotient : (a q : Affine) → IsQuotient a q → IsOver vars a → IsOver vars q
   over_quotient a q by own = record {
     places = by.places;
     past = λ place high. ⊎_elim
@@ -115,7 +115,7 @@ module _ (vars : ℕ) where
   number_spares (pair And l r) sorted place high = absurd sorted
   number_spares (pair Or l r) sorted place high = absurd sorted
 
-  over_form : (v : Expression) → IsNumber vars v → IsOver vars (form_of v)
+  pub over_form : (v : Expression) → IsNumber vars v → IsOver vars (form_of v)
   over_form v sorted = over_places (λ place. coefficient_in v place) (constant_in v) (λ place low high. number_spares v sorted place high)
 
   compared_over : (op : Op2) (a b : Expression) (row : Row) → IsNumber vars a → IsNumber vars b → AsksByComparing op a b row → IsOver vars row.affine

@@ -1,6 +1,6 @@
 //! Laws of satisfaction, each the contract of a function that does nothing.
 
-ghost use Rattle.std.specs.Prelude.{◌↔◌, ℤ, true};
+ghost use Rattle.std.specs.Prelude.{◌↔◌, ℤ};
 ghost use Rattle.step_meaning.specs.Step.{Configuration};
 ghost use Rattle.step_meaning.specs.Run.{EndsWithinBound};
 ghost use Rattle.ctl_formula.specs.Formulas.{Ctl, af_exit, normal};

@@ -1,6 +1,6 @@
 //! The reader of a symbol.
 
-ghost use Rattle.std.specs.Prelude.{◌≡◌, ◌≢◌, ◌∷◌, ◌<◌, ◌≤◌, List, MatchOption, IfSome, length};
+ghost use Rattle.std.specs.Prelude.{◌≡◌, ◌≢◌, ◌∷◌, ◌<◌, List, MatchOption, IfSome};
 ghost use Rattle.derivation.specs.Word.{Word, symbol};
 ghost use Rattle.derivation.specs.Spelled.{words_from, IsBehind};
 

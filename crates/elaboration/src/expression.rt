@@ -3,7 +3,7 @@
 ghost use Rattle.std.specs.Prelude.{◌≡◌, ◌+◌, ◌<◌, ◌^◌, IfOk};
 ghost use Rattle.concrete_syntax.specs.Mirror.{operand as operand_of, tail as tail_of, expression as expression_of, range_end};
 ghost use Rattle.step_meaning.specs.Syntax as syntax;
-ghost use Rattle.elaboration.specs.Expressions.{value, grouped, operand_typed, operand_faults, tail_faults, mixed_in, expression_typed, expression_faults, number_faults, as_test, end_value, range_faults, is_infinite_as, in_order, signed_typed, signed_faults, whole_faults};
+ghost use Rattle.elaboration.specs.Expressions.{value, grouped, operand_typed, operand_faults, expression_typed, expression_faults, number_faults, as_test, end_value, range_faults, is_infinite_as, in_order, signed_typed, signed_faults, whole_faults};
 ghost use Rattle.elaboration.specs.Faults.{earliest};
 ghost use Rattle.elaboration.specs.Typing.{typed_of};
 ghost use Rattle.elaboration.specs.Widths.{operand_width, tail_width, expression_width, end_width};

@@ -1,12 +1,12 @@
 //! The front door: the program that a tree stands for.
 
-ghost use Rattle.std.specs.Prelude.{◌≡◌, ◌+◌, ◌<◌, ◌^◌, IfOk, IfErr, ⊤};
+ghost use Rattle.std.specs.Prelude.{◌≡◌, ◌+◌, ◌<◌, ◌^◌, IfOk, IfErr};
 ghost use Rattle.concrete_syntax.specs.Mirror.{program as program_of, prelude as prelude_of};
 ghost use Rattle.step_meaning.specs.Syntax.{statements};
 ghost use Rattle.step_meaning.specs.Places.{places};
 ghost use Rattle.elaboration.specs.Places.{program_places};
 ghost use Rattle.elaboration.specs.Elaborates.{StandsFor, IsRefusalOf};
-ghost use Rattle.elaboration.specs.Widths.{head_width, program_width, prelude_width, preludes_width};
+ghost use Rattle.elaboration.specs.Widths.{head_width, program_width, prelude_width};
 
 use crate::fault::Fault;
 use crate::scope::Scope;

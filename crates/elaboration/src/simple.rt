@@ -1,7 +1,7 @@
 //! Simple statements and declarations, which nothing nests in.
 
 ghost use Rattle.std.specs.Prelude.{◌≡◌, ◌+◌, ◌<◌, ◌^◌, ◌++◌, ◌∷◌, [], IfOk, OnOk, vec_items};
-ghost use Rattle.concrete_syntax.specs.Mirror.{action as action_of, simple as simple_of, part as part_of, parts as parts_of, declaration as declaration_of, optional_simple};
+ghost use Rattle.concrete_syntax.specs.Mirror.{action as action_of, simple as simple_of, part as part_of, declaration as declaration_of};
 ghost use Rattle.step_meaning.specs.Syntax as syntax;
 ghost use Rattle.step_meaning.specs.Places.{all_places, statement_places};
 ghost use Rattle.elaboration.specs.Faults.{earliest};

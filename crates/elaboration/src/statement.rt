@@ -5,11 +5,10 @@ ghost use Rattle.concrete_syntax.specs.Trees.{conditional as conditional_tree, w
 ghost use Rattle.concrete_syntax.specs.Mirror.{expression as expression_of, start as start_of, optional, optional_simple as optional_simple_of, statement as statement_of, otherwise as otherwise_of, items as items_of};
 ghost use Rattle.step_meaning.specs.Syntax as syntax;
 ghost use Rattle.step_meaning.specs.Places as step_places;
-ghost use Rattle.elaboration.specs.Expressions.{as_test, expression_typed, expression_faults};
 ghost use Rattle.elaboration.specs.Faults.{earliest};
 ghost use Rattle.elaboration.specs.Scopes.{close};
 ghost use Rattle.elaboration.specs.Statements.{statement_scope, statement_meaning, statement_faults, otherwise_scope, otherwise_meaning, otherwise_faults, items_scope, items_meaning, items_faults, start_scope, start_meaning, start_faults, optional_test, optional_faults, optional_simple_meaning, optional_simple_faults, loop_meaning, loop_faults};
-ghost use Rattle.elaboration.specs.Places.{place_in, places_in, statement_tokens, otherwise_tokens, items_tokens, start_tokens, optional_simple_tokens, loop_tokens};
+ghost use Rattle.elaboration.specs.Places.{places_in, statement_tokens, otherwise_tokens, items_tokens, start_tokens, optional_simple_tokens, loop_tokens};
 ghost use Rattle.elaboration.specs.Widths.{statement_width, otherwise_width, items_width, start_width, optional_width, optional_simple_width, loop_width};
 
 use crate::expression::{any, test};

@@ -2,7 +2,7 @@
 
 ghost use Rattle.std.specs.Prelude.{◌≡◌, IfOk};
 ghost use Rattle.step_meaning.specs.Syntax.{expression};
-ghost use Rattle.elaboration.specs.Expressions.{Typed as TypedTree, as_test, mixed};
+ghost use Rattle.elaboration.specs.Expressions.{as_test, mixed};
 ghost use Rattle.elaboration.specs.Faults.{earliest};
 ghost use Rattle.elaboration.specs.Typing.{typed_of};
 

@@ -1,7 +1,6 @@
 //! The ends at each place.
 ghost use Rattle.std.specs.Prelude.{◌≡◌, ◌<◌, length};
 ghost use Rattle.num_domain.specs.Ends.{some_end};
-ghost use Rattle.octagon_dom.specs.Cells.{is_void};
 ghost use Rattle.octagon_dom.specs.Octagons.{bounds_of_cells, ends_at, lower_half, upper_half};
 
 use crate::cells::at;

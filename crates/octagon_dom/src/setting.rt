@@ -1,6 +1,6 @@
 //! What an assignment does to the cells.
 ghost use Rattle.std.specs.Prelude.{◌≡◌, ◌≢◌, ◌<◌, ℤ, neg_ℤ, ◌+ℤ◌, ◌-ℤ◌, ◌/◌, List, length, slice_set};
-ghost use Rattle.linear_cons.specs.Bounds.{Covers, IsFrom, IsUpTo};
+ghost use Rattle.linear_cons.specs.Bounds.{Covers, IsUpTo};
 ghost use Rattle.linear_cons.specs.Numbers.{number_at};
 ghost use Rattle.num_domain.specs.Ends.{some_end};
 ghost use Rattle.linear_cons.specs.Functions.{IsConstant};
@@ -8,7 +8,7 @@ ghost use Rattle.octagon_dom.specs.Assignments.{FitsEnds, IsSimpleBeside, SetsVa
 ghost use Rattle.octagon_dom.specs.Cells.{IsBelow, negative_end, signed, sum_end};
 ghost use Rattle.octagon_dom.specs.Terms.{IsOneTerm};
 
-use crate::cells::{sum, turned};
+use crate::cells::sum;
 use crate::closing::state;
 use crate::ends::bounds_of;
 use crate::moving::{flip, shift};

@@ -1,5 +1,5 @@
 //! The signed places that a function adds up.
-ghost use Rattle.std.specs.Prelude.{◌≡◌, ◌≢◌, ◌<◌, ◌+◌, pos, negsuc, MatchOption};
+ghost use Rattle.std.specs.Prelude.{◌≢◌, ◌<◌, ◌+◌, pos, negsuc, MatchOption};
 ghost use Rattle.octagon_dom.specs.Terms.{AreTermsBelow, IsUnitTerm};
 
 use linear_cons::{Affine, PLACES};

@@ -1,5 +1,5 @@
 //! The alternatives of a claim.
-ghost use Rattle.std.specs.Prelude.{◌≡◌, ◌∷◌, ◌++◌, List, [], true, false, IfOk, IfErr};
+ghost use Rattle.std.specs.Prelude.{◌≡◌, ◌∷◌, ◌++◌, [], true, false, IfOk, IfErr};
 ghost use Rattle.linear_cons.specs.Exact.{IsOutside};
 ghost use Rattle.rows_in_hand.specs.Hands.{IsMetNowhere, IsTried, all_chosen, unformed};
 ghost use Rattle.rows_in_hand.specs.Searches.{Holds, IsClaimTried, IsLonger, IsSame, IsTriedWith, WhereHeld, lists_there, rows_there};

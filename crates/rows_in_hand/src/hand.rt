@@ -1,5 +1,5 @@
 //! The rows in hand on a search.
-ghost use Rattle.std.specs.Prelude.{◌≡◌, List, [], IfOk, None, Ok, MatchOption, length, take};
+ghost use Rattle.std.specs.Prelude.{◌≡◌, [], IfOk, None, Ok, MatchOption, length, take};
 ghost use Rattle.linear_cons.specs.declared.row.RowKind.TheVariants.{Row as Kept};
 ghost use Rattle.linear_solve.specs.Answers.{HasNoStore};
 ghost use Rattle.rows_in_hand.specs.Hands.{Adds, Gives, IsTried, is_there, restored};

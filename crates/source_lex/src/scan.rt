@@ -1,13 +1,11 @@
 //! Where the parts of a text end.
 
-ghost use Rattle.std.specs.Prelude.{◌≡◌, ℕ, ◌+◌, ◌^◌, ◌<◌, ◌≤◌, length, min, IsTrue, All, MatchOption, slice_index};
-ghost use Rattle.std.specs.Bool.{IsFalse};
+ghost use Rattle.std.specs.Prelude.{◌≡◌, ◌+◌, ◌^◌, ◌<◌, ◌≤◌, length, min, IsTrue, All, MatchOption, slice_index};
 ghost use Rattle.source_lex.specs.Runs.{Run};
 ghost use Rattle.source_lex.specs.ByteClass.{has};
 ghost use Rattle.source_lex.specs.Bytes.{is_digit};
-ghost use Rattle.source_lex.specs.Gaps.{ClosesBlock};
 ghost use Rattle.source_lex.specs.Signs.{is_single_sign, is_double_sign};
-ghost use Rattle.source_lex.specs.Words.{decimal_value, LiteralAt, DoubleSignAt, SingleSignAt, TokenAt};
+ghost use Rattle.source_lex.specs.Words.{decimal_value, LiteralAt, TokenAt};
 ghost use Rattle.source_lex.specs.Scans.{FirstCloseAt, NeverCloses, NoSignAt};
 
 use crate::bytes;

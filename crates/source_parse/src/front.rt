@@ -4,7 +4,7 @@ ghost use Rattle.std.specs.Prelude.{◌≡◌, ◌≤◌, ◌<◌, ℕ, List, le
 ghost use Rattle.source_lex.specs.Tokens.{TokensOf};
 ghost use Rattle.concrete_syntax.specs.Mirror.{program as program_tree};
 ghost use Rattle.step_meaning.specs.Places.{places};
-ghost use Rattle.step_meaning.specs.Syntax.{Statements, statements, size_of};
+ghost use Rattle.step_meaning.specs.Syntax.{statements, size_of};
 ghost use Rattle.concrete_syntax.specs.Trees.{Program as Concrete};
 ghost use Rattle.elaboration.specs.Elaborates.{HasFirstFault, StandsFor};
 ghost use Rattle.elaboration.specs.Places.{program_places};

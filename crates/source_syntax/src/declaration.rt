@@ -1,6 +1,6 @@
 //! Declarations. The parts of one are read by a loop.
 
-ghost use Rattle.std.specs.Prelude.{◌≡◌, ◌≤◌, IfOk};
+ghost use Rattle.std.specs.Prelude.{◌≤◌, IfOk};
 ghost use Rattle.derivation.specs.Pieces.{first};
 ghost use Rattle.derivation.specs.Spelled.{words_from, IsBehind};
 ghost use Rattle.concrete_syntax.specs.Mirror.{part as part_tree, declaration as declaration_tree, start as start_tree};

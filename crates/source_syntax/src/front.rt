@@ -1,10 +1,9 @@
 //! The front door: the syntax of a text.
 
-ghost use Rattle.std.specs.Prelude.{◌≡◌, ◌≤◌, ℕ, length, drop, All, IfOk, IfErr};
+ghost use Rattle.std.specs.Prelude.{◌≡◌, ◌≤◌, length, drop, IfOk, IfErr};
 ghost use Rattle.derivation.specs.Word.{words};
 ghost use Rattle.derivation.specs.Comes.{FirstFault, IsSpelledBy};
 ghost use Rattle.derivation.specs.Spelled.{all_spelled, words_from};
-ghost use Rattle.source_lex.specs.Spans.{IsWithin};
 ghost use Rattle.source_lex.specs.Tokens.{TokensOf};
 ghost use Rattle.concrete_syntax.specs.Mirror.{program as program_tree};
 ghost use Rattle.source_syntax.specs.Failures.{IfFault};
@@ -15,7 +14,7 @@ use crate::program::program;
 use concrete_syntax::Program;
 use derivation::{Lexeme, Rule, lexemes};
 use source_lex::{LexFault, Token, lex, start_of};
-use std::alloc::{AllocError, Global};
+use std::alloc::Global;
 
 /// The syntax of a text: its tokens, and the concrete tree that they spell.
 #[derive(Drop)]

@@ -1,6 +1,6 @@
 //! Readers of single words. Each reads at a place of the list of words and answers the place behind.
 
-ghost use Rattle.std.specs.Prelude.{◌≡◌, ◌∷◌, ◌≤◌, IfOk, IfErr, ℕ, ℤ, List};
+ghost use Rattle.std.specs.Prelude.{◌≡◌, ◌∷◌, ◌≤◌, IfOk, IfErr};
 ghost use Rattle.derivation.specs.Word.{symbol, name as named};
 ghost use Rattle.derivation.specs.Spelled.{words_from, IsBehind};
 ghost use Rattle.source_syntax.specs.Failures.{IfFault};

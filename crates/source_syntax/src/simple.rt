@@ -1,7 +1,6 @@
 //! The parts of statements that no statement is a part of: tests, expressions that may be missing, and simple statements.
 
 ghost use Rattle.std.specs.Prelude.{◌≡◌, ◌≤◌, IfOk};
-ghost use Rattle.derivation.specs.Pieces.{first};
 ghost use Rattle.derivation.specs.Spelled.{words_from, IsBehind};
 ghost use Rattle.concrete_syntax.specs.Mirror.{expression as expression_tree, optional as optional_tree, simple as simple_tree, action as action_tree, optional_simple as finish_tree};
 ghost use Rattle.source_syntax.specs.Openings.{opening_of_simple, opening_of_action, semicolon_follows, parenthesis_follows};

@@ -18,7 +18,7 @@ impl Model for Names {
 }
 
 impl Names {
-    ghost use Rattle.std.specs.Prelude.{◌≡◌, map, vec_items, length};
+    ghost use Rattle.std.specs.Prelude.{◌≡◌, map, vec_items};
 
     /// The names of this list, in its order.
     pub fn of(list: Vec<Vec<u8>>) -> Names

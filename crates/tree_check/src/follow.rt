@@ -1,5 +1,5 @@
 //! The targets of a label's arcs, and of parts at the same label.
-ghost use Rattle.std.specs.Prelude.{◌≡◌, ◌++◌, ◌∷◌, ◌<◌, List, [], true, false, IfOk, IfSome, Some, map};
+ghost use Rattle.std.specs.Prelude.{◌≡◌, ◌++◌, ◌<◌, List, true, false, IfOk, IfSome, Some, map};
 ghost use Rattle.decision_tree.specs.Plans.{plan_of};
 ghost use Rattle.tree_support.specs.Flow.{above_end, below_end, rows_given, testing};
 ghost use Rattle.tree_support.specs.Forming.{Formed, given, minus, plus};

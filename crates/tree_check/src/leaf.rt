@@ -1,5 +1,5 @@
 //! One leaf of a family, by its why.
-ghost use Rattle.std.specs.Prelude.{◌≡◌, ◌∷◌, List, [], false, IfOk, map};
+ghost use Rattle.std.specs.Prelude.{◌≡◌, ◌∷◌, [], false, IfOk, map};
 ghost use Rattle.decision_tree.specs.Plans.{leaf, plan_of};
 ghost use Rattle.tree_support.specs.Setting.{trees_in};
 ghost use Rattle.tree_support.specs.Systems.{of_leaf, of_pick, of_why, unedged, unnatural, undefined_at};

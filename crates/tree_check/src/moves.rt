@@ -1,5 +1,5 @@
 //! What is done at a label, ready to be followed.
-ghost use Rattle.std.specs.Prelude.{◌≡◌, ◌<◌, List, IfOk, length};
+ghost use Rattle.std.specs.Prelude.{◌≡◌, ◌<◌, IfOk, length};
 ghost use Rattle.step_meaning.specs.Syntax.{statements};
 ghost use Rattle.control_flow.specs.Labels.{action_at, all_labels};
 ghost use Rattle.tree_support.specs.Flow.{arcs_by};

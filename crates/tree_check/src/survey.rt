@@ -1,5 +1,5 @@
 //! The leaves of a label's tree, one after the other.
-ghost use Rattle.std.specs.Prelude.{◌≡◌, ◌+◌, ◌-◌, ◌^◌, ◌<◌, ◌++◌, ◌∷◌, List, [], true, false, IfOk, map};
+ghost use Rattle.std.specs.Prelude.{◌≡◌, ◌+◌, ◌-◌, ◌^◌, ◌<◌, ◌++◌, ◌∷◌, [], true, false, IfOk, map};
 ghost use Rattle.decision_tree.specs.Plans.{leaf, leaves_of, plan_of};
 ghost use Rattle.tree_support.specs.Forming.{given};
 ghost use Rattle.tree_support.specs.Setting.{trees_in};

@@ -1,9 +1,8 @@
 //! The walk over the leaves of another tree.
-ghost use Rattle.std.specs.Prelude.{◌≡◌, ◌++◌, ◌∷◌, ◌<◌, List, [], Bool, true, false, IfOk, IfSome, map};
+ghost use Rattle.std.specs.Prelude.{◌≡◌, ◌++◌, ◌∷◌, ◌<◌, [], true, false, IfOk, IfSome};
 ghost use Rattle.linear_cons.specs.Functions.{complement_of};
 ghost use Rattle.decision_tree.specs.Plans.{leaf, plan_of};
 ghost use Rattle.decision_tree.specs.declared.reason.Why.{Why};
-ghost use Rattle.tree_support.specs.Support.{HasNoStore};
 ghost use Rattle.tree_support.specs.Systems.{exceeding, moved_by};
 ghost use Rattle.rows_in_hand.specs.Hands.{Forms, IsMetNowhere, all_asked, asked};
 ghost use Rattle.rows_in_hand.specs.Searches.{Holds, IsClaimFormed, IsLonger, IsSame, IsSearched, WhereAsked};

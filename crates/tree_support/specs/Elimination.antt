@@ -1,5 +1,5 @@
 -- Legal eliminations: leaves are given up one after the other, each for a reason that holds for one of its systems at that moment.
-use Rattle.std.specs.Prelude.{◌≡◌, ◌⊎◌, ℕ, ◌+◌, ◌<◌, ◌≤◌, ◌==◌, ℤ, pos, ◌<ℤ◌, List, [], ◌∷◌, length, All, Contains, Bool, true, Option, None, Some, if◌then◌else◌}
+use Rattle.std.specs.Prelude.{◌≡◌, ◌⊎◌, ℕ, ◌+◌, ◌<◌, ◌==◌, ℤ, pos, ◌<ℤ◌, List, [], ◌∷◌, length, All, Contains, Bool, true, Option, None, Some, if◌then◌else◌}
 use Rattle.std.specs.List.{filter_map}
 use Rattle.linear_cons.specs.declared.row.Row.{Row}
 use Rattle.linear_cons.specs.declared.row.RowKind.{RowKind}
