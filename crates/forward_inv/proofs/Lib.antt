@@ -1,3 +1,7 @@
 pub mod Reached
-pub mod Tops
 pub mod Unstuck
+pub mod Spared
+pub mod Members
+pub mod Entering
+pub mod Arriving
+pub mod Comparing

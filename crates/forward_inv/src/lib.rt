@@ -4,8 +4,10 @@
 //! `invariants`, and `Inv`, which holds one set for each label; `laws` says which states are reached.
 #![tactic(auto)]
 
+mod behind;
 pub mod laws;
 mod sets;
+mod sweeps;
 #[cfg(test)]
 mod tests;
 

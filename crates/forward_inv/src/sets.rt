@@ -1,9 +1,13 @@
 //! Sets of stores, one for each label of a program.
-ghost use Rattle.std.specs.Prelude.{◌≡◌, ◌<◌, IfOk, Some, length, slice_get};
+ghost use Rattle.std.specs.Prelude.{◌≡◌, ◌<◌, ℕ, IfOk, Some, length, slice_get};
 ghost use Rattle.step_meaning.specs.Syntax.{statements};
+ghost use Rattle.forward_inv.specs.Behind.{MeetsBehind};
 ghost use Rattle.forward_inv.specs.Invariants.{AreInvariants};
 
+use crate::behind::meet_rows;
+use crate::sweeps::guesses;
 use control_flow::Graph;
+use inductive_sets::inductive;
 use num_domain::NumDomain;
 use std::alloc::{AllocError, Global};
 use std::marker::Model;
@@ -42,13 +46,14 @@ impl<D: NumDomain> Inv<D> {
     }
 }
 
-/// Sets that have each store with which their label is reached. Each is the set of all stores so far. The error is want of memory.
+/// Sets that have each store with which their label is reached, whatever number stands at place 15. Each member of the set of a label that
+/// lies behind one row meets the row. The error is want of memory.
 pub fn invariants<D: NumDomain>(alloc: Global, graph: &Graph) -> Result<Inv<D>, AllocError>
-    ensures { IfOk result (λ inv. AreInvariants D.has (length graph.now.names) (statements graph.now.body) inv) }
+    ensures members { IfOk result (λ inv. AreInvariants D.has (length graph.now.names) (statements graph.now.body) inv) }
+    ensures behind { IfOk result (λ inv. (label : ℕ) → MeetsBehind D.has (statements graph.now.body) inv label) }
 {
-    let mut states = Vec::new(alloc);
-    for _ in 0..graph.labels() {
-        states.push(D::top(alloc)?)?;
-    }
+    let guesses: Vec<D> = guesses(alloc, graph)?;
+    let mut states = inductive(alloc, graph, &guesses)?;
+    meet_rows(alloc, graph, &mut states)?;
     Ok(Inv::of(states))
 }

@@ -56,7 +56,8 @@ module _ {D : Type 0} (has : D → List ℤ → Type 0) where
   holds_at (r ∷ lists) (s ∷ sets) zero rows holds is = let same : r ≡ rows = cc in subst (λ t. HoldsRows has t s) same holds.0
   holds_at (r ∷ lists) (s ∷ sets) (suc i) rows holds is = holds_at lists sets i rows holds.1 is
 
-  some_weaker : {X : Type 0} (P Q : X → Type 0) (x : Option X) → ((y : X) → P y → Q y) → IsSomeAnd x P → IsSomeAnd x Q
+  -- what is there is also what follows from it
+  pub some_weaker : {X : Type 0} (P Q : X → Type 0) (x : Option X) → ((y : X) → P y → Q y) → IsSomeAnd x P → IsSomeAnd x Q
   some_weaker P Q None there holds = holds
   some_weaker P Q (Some y) there holds = there y holds
 

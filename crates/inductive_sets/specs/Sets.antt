@@ -1,5 +1,5 @@
 -- Sets of stores, one for each label of a program, and what the edges do to them. A set is what says which stores are its members.
-use Rattle.std.specs.Prelude.{◌≡◌, ℕ, ℤ, List, [], ◌∷◌, length, map, Option, None, Some, slice_get, IfSome, IsSomeAnd, ⊤}
+use Rattle.std.specs.Prelude.{◌≡◌, ℕ, ℤ, List, [], ◌∷◌, length, Option, None, Some, slice_get, IfSome, IsSomeAnd, ⊤}
 use Rattle.step_meaning.specs.Syntax.{Statements}
 use Rattle.step_meaning.specs.Outcome.{Store}
 use Rattle.linear_cons.specs.declared.row.Row.{Row}

@@ -1,13 +1,13 @@
 //! Sets that each edge keeps.
-ghost use Rattle.std.specs.Prelude.{◌≡◌, ◌<◌, IfOk, IsTrue, length, Some, slice_get, IsSomeAnd, ◌∷◌, []};
+ghost use Rattle.std.specs.Prelude.{◌≡◌, ◌<◌, IfOk, IsTrue, length, Some, slice_get, ◌∷◌, []};
 ghost use Rattle.step_meaning.specs.Syntax.{statements};
 ghost use Rattle.control_flow.specs.Edges.{EachEdge, edges_from};
 ghost use Rattle.control_flow.specs.Labels.{action_at, all_labels};
 ghost use Rattle.inductive_sets.specs.Sets.{AreInductive, HoldEach, KeepsEdge};
 
-use crate::flow::flow;
 use crate::guess::{sets_of, told};
 use crate::implied::{implied_of, implies_all};
+use crate::transfer::flow;
 use control_flow::laws::edges_lead_to_labels;
 use control_flow::{Edge, Graph};
 use linear_cons::Rows;

@@ -5,7 +5,7 @@ use Rattle.control_flow.proofs.LabelLaws.{labels_are_sorted}
 use Rattle.inductive_sets.specs.Sets.{IsMemberOf}
 use Rattle.inductive_sets.proofs.Flowing.{tested_in}
 use Rattle.inductive_sets.proofs.Named.{test_named}
-use Rattle.inductive_sets.proofs.flow.tested.Goals as goal
+use Rattle.inductive_sets.proofs.transfer.tested.Goals as goal
 
 pub spread-requires : goal.spread-requires
 spread-requires g c =

@@ -4,7 +4,7 @@ use Rattle.control_flow.specs.Labels.{action_at}
 use Rattle.control_flow.proofs.LabelLaws.{labels_are_sorted}
 use Rattle.inductive_sets.proofs.Flowing.{assigned_in}
 use Rattle.inductive_sets.proofs.Named.{value_named}
-use Rattle.inductive_sets.proofs.flow.assigned.Goals as goal
+use Rattle.inductive_sets.proofs.transfer.assigned.Goals as goal
 
 pub linearise-value-requires : goal.linearise-value-requires
 linearise-value-requires g c =

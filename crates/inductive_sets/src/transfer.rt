@@ -12,8 +12,9 @@ use linear_forms::{linearise, spread};
 use num_domain::NumDomain;
 use std::alloc::{AllocError, Global};
 
-/// The stores that an edge of the kind leads to, from the label and the set's members; no set where it leads nowhere.
-pub(crate) fn flow<D: NumDomain>(
+/// A set that has each store to which an edge of the kind leads from the label with a member of the set; `None` where it leads nowhere, as
+/// where the label has no edge of the kind. The only error is want of memory.
+pub fn flow<D: NumDomain>(
     alloc: Global,
     graph: &Graph,
     label: u32,
