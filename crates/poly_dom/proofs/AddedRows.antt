@@ -1,0 +1,146 @@
+-- Lists of rows that grow.
+use Rattle.std.proofs.Common.{◌≡◌, ◌⊎◌, ◌<◌, ◌≤◌, ℤ, true, false, Bool, not, List, [], ◌∷◌, ◌++◌, length, Some, Contains, inl, inr, ⊎_elim, arith, refl, sym, subst, ◌∙◌}
+use Rattle.std.proofs.Common.{◌+◌, ◌≤ℤ◌, pos, cond, suc, zero, take, drop}
+use Rattle.std.specs.List.{filter, remove}
+use Rattle.std.proofs.lemmas.List.Elements.{All-append, All-contains_itself, All-drop, All-filter, All-take, Contains-append_cases}
+use Rattle.std.proofs.lemmas.List.Elements.{Contains-append_left, Contains-append_right}
+use Rattle.std.proofs.lemmas.List.{length-append}
+use Rattle.linear_cons.specs.declared.row.Row.{Row}
+use Rattle.linear_cons.specs.Functions.{complement_of, value_at}
+use Rattle.linear_cons.specs.Rows.{Meets, MeetsAll}
+use Rattle.linear_cons.specs.Settling.{settles, tells}
+use Rattle.linear_cons.proofs.RowLaws.{met_either}
+use Rattle.linear_cons.proofs.Telling.{settled_row_holds, told_holds}
+use Rattle.linear_solve.specs.Answers.{HasNoStore}
+use Rattle.linear_solve.proofs.Lists.{all_of, member_of}
+use Rattle.num_domain.proofs.LineLaws.{all_none, all_one}
+use Rattle.poly_dom.specs.Lists.{AddsAll, AddsImplied, AreCommon, HasRoom, Imply, IsAdded}
+
+-- ---- one row more
+
+-- the one member of a list of one
+only : {X : Type 0} (x y : X) → Contains (x ∷ []) y → y ≡ x
+only x y (zero, low, is) = sym is
+only x y (suc k, low, is) = absurd (omega (arith, low))
+
+-- a row that the list tells adds nothing
+pub added_told : (row : Row) (rows : List Row) → length rows ≤ 256 → settles rows row ≡ Some true → IsAdded row rows rows
+added_told row rows few told = record {
+  keeps = λ store met own. met;
+  met = λ store met. settled_row_holds rows row store told met;
+  inside = λ small store met. met;
+  among = λ other member. inl member;
+  few = few;
+}
+
+-- a row behind some of the old ones, which imply the old ones with it where nothing is given up
+pub added_behind : (row : Row) (old kept : List Row) → ((other : Row) → Contains kept other → Contains old other)
+    → (length old < 256 → (store : List ℤ) → MeetsAll store kept → Meets store row → MeetsAll store old) → length kept < 256
+    → IsAdded row old (kept ++ row ∷ [])
+added_behind row old kept are implied few = record {
+  keeps = λ store met own. All-append (λ r. Meets store r) kept (row ∷ [])
+      (all_of (λ r. Meets store r) kept (λ other member. member_of (λ r. Meets store r) old other met (are other member)))
+      (all_one (λ r. Meets store r) row own);
+  met = λ store met. last store met;
+  inside = λ small store met. implied small store (first store met) (last store met);
+  among = λ other member. ⊎_elim (λ old. inl (are other old)) (λ one. inr (only row other one))
+      (Contains-append_cases kept (row ∷ []) other member);
+  few = let long = length-append kept (row ∷ []) in omega (arith, long, few);
+}
+  where
+    last : (store : List ℤ) → MeetsAll store (kept ++ row ∷ []) → Meets store row
+    last store met = member_of (λ r. Meets store r) (kept ++ row ∷ []) row met
+        (Contains-append_right kept (row ∷ []) row (0, omega arith, refl))
+
+    first : (store : List ℤ) → MeetsAll store (kept ++ row ∷ []) → MeetsAll store kept
+    first store met = all_of (λ r. Meets store r) kept
+        (λ other member. member_of (λ r. Meets store r) (kept ++ row ∷ []) other met (Contains-append_left kept (row ∷ []) other member))
+
+-- ---- the rows that another doesn't tell
+
+-- the test that the row doesn't tell another
+abbrev pub untold : Row → Row → Bool
+untold row given = not (tells row.affine given.affine)
+
+pub untold_in : (row : Row) (rows : List Row) (other : Row) → Contains (filter (untold row) rows) other → Contains rows other
+untold_in row rows other member =
+    member_of (Contains rows) (filter (untold row) rows) other
+    (All-filter (untold row) (Contains rows) rows (All-contains_itself rows)) member
+
+-- with the row they imply those that it tells
+pub untold_met : (row : Row) (rows : List Row) (store : List ℤ) → MeetsAll store (filter (untold row) rows) → Meets store row
+    → MeetsAll store rows
+untold_met row [] store met own = all_none (λ r. Meets store r)
+untold_met row (given ∷ rows) store met own =
+    by (tells row.affine given.affine) refl met (λ kept. untold_met row rows store kept own)
+  where
+    by : (told : Bool) → tells row.affine given.affine ≡ told
+        → MeetsAll store (cond (not told) (given ∷ filter (untold row) rows) (filter (untold row) rows))
+        → (MeetsAll store (filter (untold row) rows) → MeetsAll store rows) → MeetsAll store (given ∷ rows)
+    by true is kept rest = All-append (λ r. Meets store r) (given ∷ []) rows
+        (all_one (λ r. Meets store r) given (told_holds row.affine given.affine store is own)) (rest kept)
+    by false is kept rest = All-append (λ r. Meets store r) (given ∷ []) rows
+        (all_one (λ r. Meets store r) given (kept 0 given (omega arith)))
+        (rest (λ k d h. kept (suc k) d (omega (arith, h))))
+
+-- the row behind those that it doesn't tell, once there is room
+pub added_row : (row : Row) (old kept room new : List Row) → kept ≡ filter (untold row) old → length kept ≤ length old
+    → HasRoom kept room → new ≡ room ++ row ∷ [] → IsAdded row old new
+added_row row old kept room new are short made is =
+    subst (IsAdded row old) (sym is) (added_behind row old room
+    (λ other member. untold_in row old other (subst (λ rows. Contains rows other) are (made.among other member)))
+    (λ small store met own. untold_met row old store (subst (MeetsAll store) (made.same (omega (arith, short, small)) ∙ are) met) own)
+    made.room)
+
+-- a list without its oldest row
+pub without_oldest : (old new : List Row) → new ≡ remove old 0 → length new + 1 ≡ length old → length old ≤ 256
+    → 256 ≤ length old → HasRoom old new
+without_oldest old new is less few full = record {
+  among = λ row member. member_of (Contains old) (remove old 0) row (All-append (Contains old) (take 0 old) (drop 1 old)
+      (All-take (Contains old) 0 old (All-contains_itself old)) (All-drop (Contains old) 1 old (All-contains_itself old)))
+      (subst (λ rows. Contains rows row) is member);
+  room = omega (arith, less, few);
+  same = λ small. absurd (omega (arith, small, full));
+}
+
+-- ---- several rows more
+
+-- a list that grew by one row of the others
+pub adds_more : (rows old now new : List Row) (row : Row) → Contains rows row → AddsAll rows old now → IsAdded row now new
+    → AddsAll rows old new
+adds_more rows old now new row member before added = record {
+  keeps = λ store met all. added.keeps store (before.keeps store met all) (member_of (λ r. Meets store r) rows row all member);
+  few = added.few;
+}
+
+-- the same where the given ones imply the row
+pub implied_more : (rows given old now new : List Row) (row : Row) → Contains rows row → Imply given row
+    → AddsImplied rows given old now → IsAdded row now new → AddsImplied rows given old new
+implied_more rows given old now new row member implied before added = record {
+  keeps = λ store met all. added.keeps store (before.keeps store met all) (member_of (λ r. Meets store r) rows row all member);
+  keeps_given = λ store met all. added.keeps store (before.keeps_given store met all) (implied store all);
+  among = λ other now. ⊎_elim (λ was. before.among other was) (λ one. inr (subst (Contains rows) (sym one) member)) (added.among other now);
+  few = added.few;
+}
+
+-- a row of no list or of the other one is of the other one
+pub one_of : (rows : List Row) (row : Row) → Contains [] row ⊎ Contains rows row → Contains rows row
+one_of rows row either = ⊎_elim (λ (none : Contains [] row). absurd (omega (arith, none.1))) (λ one. one) either
+
+-- what each list implies of the other's rows, one list after the other
+pub common_of : (rows others first both : List Row) → AddsImplied rows others [] first → AddsImplied others rows first both
+    → AreCommon rows others both
+common_of rows others first both own other = record {
+  own = λ store met. other.keeps_given store (own.keeps store (all_none (λ r. Meets store r)) met) met;
+  other = λ store met. other.keeps store (own.keeps_given store (all_none (λ r. Meets store r)) met) met;
+  among = λ row member. ⊎_elim (λ was. inl (one_of rows row (own.among row was))) (λ theirs. inr theirs) (other.among row member);
+  few = other.few;
+}
+
+-- rows that no store meets together with a row's complement imply the row
+pub implied_by_none : (rows both : List Row) (row complement : Row) → complement.affine ≡ complement_of row.affine
+    → both ≡ rows ++ complement ∷ [] → HasNoStore both → Imply rows row
+implied_by_none rows both row complement is all none store met = ⊎_elim (λ own. own)
+    (λ other. absurd (none store (subst (MeetsAll store) (sym all) (All-append (λ r. Meets store r) rows (complement ∷ []) met
+    (all_one (λ r. Meets store r) complement (subst (λ a. pos 0 ≤ℤ value_at a store) (sym is) other))))))
+    (met_either row.affine store)

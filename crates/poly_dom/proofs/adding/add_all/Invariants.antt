@@ -1,0 +1,5 @@
+use Rattle.poly_dom.specs.Lists.{AddsAll}
+use Rattle.poly_dom.proofs.adding.add_all.Given as goal
+
+abbrev pub invariant-loop-row : goal.invariant-loop-row
+invariant-loop-row l = AddsAll l.more l.fn.rows.items l.rows.items

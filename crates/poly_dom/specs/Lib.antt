@@ -1,0 +1,4 @@
+pub mod Lists
+pub mod Assignments
+pub mod Laws
+pub mod Polyhedra

@@ -1,0 +1,141 @@
+-- What is known of a label whose tree is made, and that the tree tells.
+use Rattle.std.proofs.Common.{◌≡◌, ℕ, ◌<◌, ◌≤◌, Bool, true, false, Some, List, length, set, sym, ap, subst, ◌∙◌, arith}
+use Rattle.linear_forms.specs.Linearising.{form_of}
+use Rattle.linear_cons.specs.Functions.{value_at}
+use Rattle.linear_forms.specs.Meeting.{MeetsOne}
+use Rattle.linear_forms.specs.Spreading.{spread_of}
+use Rattle.linear_forms.proofs.Naming.{number_names, test_names}
+use Rattle.decision_tree.specs.Evaluation.{eval}
+use Rattle.decision_tree.specs.Plans.{Plan}
+use Rattle.decision_tree.specs.declared.affine_rank.AffineRank.{AffineRank}
+use Rattle.step_meaning.specs.AffineExpressions.{IsAffine}
+use Rattle.step_meaning.specs.Naming.{NamesBelow}
+use Rattle.step_meaning.specs.Outcome.{Store}
+use Rattle.step_meaning.specs.Step.{front}
+use Rattle.step_meaning.specs.Syntax.{Expression, Statements}
+use Rattle.step_meaning.specs.Valid.{IsBody, IsNumber, IsTest}
+use Rattle.control_flow.specs.Actions.{IsSorted, LeadsBelow}
+use Rattle.control_flow.specs.Edges.{is_head_by}
+use Rattle.control_flow.specs.Labels.{Action, ends, assigns, passes, tests, action_at, all_labels, rest}
+use Rattle.control_flow.proofs.LabelLaws.{edges_lead_to_labels, labels_are_sorted}
+use Rattle.count_down.specs.Trees.{IsTreeOver}
+use Rattle.unroll.specs.Building.{AtNext, IsBefore, IsBeforeBoth, TellsAt, TellsTree, left_by}
+use Rattle.unroll.specs.Levels.{ComplementsFit, RanksCount, tree_at}
+use Rattle.unroll.specs.Measures.{anywhere}
+use Rattle.unroll.specs.Plain.{ActionFits, IsPlain, IsPlainAction, IsPlainTest}
+use Rattle.unroll.proofs.Lifting.{assign_tree, pass_tree, test_tree}
+use Rattle.unroll.proofs.LevelLaws.{is_loop}
+use Rattle.unroll.proofs.Ordering.{does, does_something, heads_are_loops}
+use Rattle.unroll.proofs.PlainLabels.{labels_are_plain}
+
+-- an assignment at a label
+pub record IsAssigned (x : ℕ) (e : Expression) (next labels : ℕ) : Type 0 where
+  pub place : x < 16
+  pub affine : IsAffine e
+  pub names : NamesBelow 16 e
+  pub inside : next < labels
+
+-- a test at a label
+pub record IsTested (c : Expression) (then_to else_to labels : ℕ) : Type 0 where
+  pub plain : IsPlainTest c
+  pub names : NamesBelow 16 c
+  pub inside : then_to < labels
+  pub also : else_to < labels
+
+module _ (body : Statements) (vars : ℕ) (few : vars ≤ 15) (valid : IsBody vars body) (plain : IsPlain body) (l : ℕ) (low : l < length (all_labels body)) where
+  sorted_as : (action : Action) → action ≡ action_at body l → IsSorted vars action
+  sorted_as action is = subst (IsSorted vars) (sym is) (labels_are_sorted vars body valid l low)
+
+  plain_as : (action : Action) → action ≡ action_at body l → IsPlainAction action
+  plain_as action is = subst IsPlainAction (sym is) (labels_are_plain body plain l low)
+
+  below_as : (action : Action) → action ≡ action_at body l → LeadsBelow (length (all_labels body)) action
+  below_as action is = subst (LeadsBelow (length (all_labels body))) (sym is) (edges_lead_to_labels body l low)
+
+  pub is_assigned : (x : ℕ) (e : Expression) (next : ℕ) → assigns x e next ≡ action_at body l → IsAssigned x e next (length (all_labels body))
+  is_assigned x e next is =
+      let sorted = sorted_as (assigns x e next) is in record {
+        place = let below = sorted.0 in omega (arith, below, few);
+        affine = plain_as (assigns x e next) is;
+        names = number_names vars 16 (omega (arith, few)) e sorted.1;
+        inside = below_as (assigns x e next) is;
+      }
+
+  pub is_passed : (next : ℕ) → passes next ≡ action_at body l → next < length (all_labels body)
+  is_passed next is = below_as (passes next) is
+
+  pub is_tested : (head : Bool) (c : Expression) (p q : ℕ) → tests head c p q ≡ action_at body l → IsTested c p q (length (all_labels body))
+  is_tested head c p q is =
+      let below = below_as (tests head c p q) is in record {
+        plain = plain_as (tests head c p q) is;
+        names = test_names vars 16 (omega (arith, few)) c (sorted_as (tests head c p q) is);
+        inside = below.0;
+        also = below.1;
+      }
+
+  -- the end is done at no label but 0
+  pub never_ends : 0 < l → ends ≡ action_at body l → ⊥
+  never_ends some is = let something : does (action_at body l) ≡ true = does_something body l low some in let nothing : false ≡ true = ap does is ∙ something in absurd (cc)
+
+  module _ (some : 0 < l) (fit : ActionFits (action_at body l)) (trees : List (Plan AffineRank)) (limit left : ℕ) (allows : left_by (is_head_by (action_at body l)) limit ≡ Some left)
+      (behind : AtNext (action_at body l) (TellsAt left body trees)) where
+    allows_loop : left_by (is_loop (front (rest body l))) limit ≡ Some left
+    allows_loop = subst (λ t. left_by t limit ≡ Some left) (heads_are_loops body l low) allows
+
+    apart : l ≡ 0 → ⊥
+    apart nought = absurd (omega arith)
+
+    behind_as : (action : Action) → action ≡ action_at body l → AtNext action (TellsAt left body trees)
+    behind_as action is = subst (λ a. AtNext a (TellsAt left body trees)) (sym is) behind
+
+    module _ (made : Plan AffineRank) (ranks : RanksCount made) (complements : ComplementsFit made)
+        (variables : (vars : ℕ) → IsBody vars body → IsTreeOver vars made) where
+      pub assigned_tells : (x : ℕ) (e : Expression) (next : ℕ) → assigns x e next ≡ action_at body l
+          → ((s : Store) → length s ≡ 16 → IsBefore (eval (tree_at trees next) (set s x (value_at (form_of e) s))) (eval made s)) → TellsTree limit body l made
+      assigned_tells x e next is before =
+          assign_tree body l low apart limit left allows_loop made ranks complements variables vars x e next (sym is) few (sorted_as (assigns x e next) is).1
+          (plain_as (assigns x e next) is) (tree_at trees next) (behind_as (assigns x e next) is) before
+
+      pub passed_tells : (next : ℕ) → passes next ≡ action_at body l → ((s : Store) → IsBefore (eval (tree_at trees next) s) (eval made s)) → TellsTree limit body l made
+      passed_tells next is before =
+          pass_tree body l low apart limit left allows_loop made ranks complements variables next (sym is) (tree_at trees next) (behind_as (passes next) is) before
+
+      pub tested_tells : (head : Bool) (c : Expression) (p q : ℕ) → tests head c p q ≡ action_at body l
+          → ((s : Store) → MeetsOne s (spread_of anywhere c true) → MeetsOne s (spread_of anywhere c false) → IsBeforeBoth (eval (tree_at trees p) s) (eval (tree_at trees q) s) (eval made s))
+          → ((s : Store) → MeetsOne s (spread_of anywhere c true) → (MeetsOne s (spread_of anywhere c false) → ⊥) → IsBefore (eval (tree_at trees p) s) (eval made s))
+          → ((s : Store) → (MeetsOne s (spread_of anywhere c true) → ⊥) → MeetsOne s (spread_of anywhere c false) → IsBefore (eval (tree_at trees q) s) (eval made s))
+          → TellsTree limit body l made
+      tested_tells head c p q is both holds fails =
+          let two = behind_as (tests head c p q) is in
+          test_tree body l low apart limit left allows_loop made ranks complements variables vars few head c p q (sym is) (sorted_as (tests head c p q) is) (plain_as (tests head c p q) is)
+          (subst ActionFits (sym is) fit) (tree_at trees p) (tree_at trees q) two.0 two.1 both holds fails
+
+    -- the ranks of the trees behind are numbers of steps
+    pub assigned_ranks_behind : (x : ℕ) (e : Expression) (next : ℕ) → assigns x e next ≡ action_at body l → RanksCount (tree_at trees next)
+    assigned_ranks_behind x e next is = (behind_as (assigns x e next) is).ranks
+
+    pub passed_ranks_behind : (next : ℕ) → passes next ≡ action_at body l → RanksCount (tree_at trees next)
+    passed_ranks_behind next is = (behind_as (passes next) is).ranks
+
+    pub tested_ranks_behind : (head : Bool) (c : Expression) (p q : ℕ) → tests head c p q ≡ action_at body l → RanksCount (tree_at trees p) × RanksCount (tree_at trees q)
+    tested_ranks_behind head c p q is = let two = behind_as (tests head c p q) is in (two.0.ranks, two.1.ranks)
+
+    -- the variables of a tree made are those of the program, where the trees behind speak of these alone
+    sorted_for : (other : ℕ) → IsBody other body → (action : Action) → action ≡ action_at body l → IsSorted other action
+    sorted_for other sorted action is = subst (IsSorted other) (sym is) (labels_are_sorted other body sorted l low)
+
+    pub assigned_variables : (made : Plan AffineRank) (x : ℕ) (e : Expression) (next : ℕ) → assigns x e next ≡ action_at body l
+        → ((other : ℕ) → IsNumber other e → IsTreeOver other (tree_at trees next) → IsTreeOver other made) → (other : ℕ) → IsBody other body → IsTreeOver other made
+    assigned_variables made x e next is keeps other sorted =
+        keeps other (sorted_for other sorted (assigns x e next) is).1 ((behind_as (assigns x e next) is).variables other sorted)
+
+    pub passed_variables : (made : Plan AffineRank) (next : ℕ) → passes next ≡ action_at body l
+        → ((other : ℕ) → IsTreeOver other (tree_at trees next) → IsTreeOver other made) → (other : ℕ) → IsBody other body → IsTreeOver other made
+    passed_variables made next is keeps other sorted = keeps other ((behind_as (passes next) is).variables other sorted)
+
+    pub tested_variables : (made : Plan AffineRank) (head : Bool) (c : Expression) (p q : ℕ) → tests head c p q ≡ action_at body l
+        → ((other : ℕ) → IsTest other c → IsTreeOver other (tree_at trees p) → IsTreeOver other (tree_at trees q) → IsTreeOver other made)
+        → (other : ℕ) → IsBody other body → IsTreeOver other made
+    tested_variables made head c p q is keeps other sorted =
+        let two = behind_as (tests head c p q) is in
+        keeps other (sorted_for other sorted (tests head c p q) is) (two.0.variables other sorted) (two.1.variables other sorted)

@@ -1,0 +1,82 @@
+use Rattle.std.proofs.Common.{◌≡◌, true, false, Bool, List, [], sym, ap, subst, ◌∙◌}
+use Rattle.linear_cons.specs.declared.bounds.Bounds.{Bounds}
+use Rattle.linear_cons.specs.declared.row.Row.{Row}
+use Rattle.linear_forms.specs.Spreading.{spread_of}
+use Rattle.decision_tree.specs.Evaluation.{eval}
+use Rattle.decision_tree.specs.Plans.{Plan, plan_of}
+use Rattle.decision_tree.specs.declared.affine_rank.AffineRank.{AffineRank}
+use Rattle.step_meaning.specs.Syntax.{Expression, expression}
+use Rattle.unroll.specs.Building.{IsBefore, IsBeforeBoth}
+use Rattle.unroll.specs.Levels.{ComplementsFit, RanksCount}
+use Rattle.unroll.specs.Measures.{anywhere}
+use Rattle.unroll.specs.Shapes.{cut, tested_shape}
+use Rattle.unroll.proofs.Standing.{both_before, first_before, second_before, tested_count, trimmed_complements}
+use Rattle.count_down.specs.Trees.{IsTreeOver}
+use Rattle.unroll.proofs.Variables.{tested_over}
+use Rattle.unroll.proofs.moving.tested.Goals as goal
+
+rows_are : (e : Expression) (t : Bool) (bounds : Bounds) (rows items : List (List Row)) → rows ≡ items → items ≡ spread_of bounds e t → bounds ≡ anywhere
+    → rows ≡ spread_of anywhere e t
+rows_are e t bounds rows items read spread is = read ∙ spread ∙ ap (λ (b : Bounds). spread_of b e t) is
+
+made_is : (this that made : Plan AffineRank) (e : Expression) (holds fails : List (List Row)) → holds ≡ spread_of anywhere e true → fails ≡ spread_of anywhere e false
+    → made ≡ cut (tested_shape this that holds fails) → made ≡ cut (tested_shape this that (spread_of anywhere e true) (spread_of anywhere e false))
+made_is this that made e holds fails one two is =
+    is ∙ ap (λ (list : List (List Row)). cut (tested_shape this that list fails)) one
+    ∙ ap (λ (list : List (List Row)). cut (tested_shape this that (spread_of anywhere e true) list)) two
+
+pub returns-in-Ok-clause-both : goal.returns-in-Ok-clause-both
+returns-in-Ok-clause-both c s met also =
+    let this = plan_of c.args.yes.now in
+    let that = plan_of c.args.no.now in
+    let e = expression c.args.test.now in
+    let is = made_is this that (plan_of c.in-Ok.tree) e c.deref.result.now c.deref-2.result.now
+    (rows_are e true c.anywhere.result _ _ c.deref.ensures.value c.in_ok-holds.ensures c.anywhere.ensures)
+    (rows_are e false c.anywhere-2.result _ _ c.deref-2.ensures.value c.in_ok-fails.ensures c.anywhere-2.ensures) c.in-Ok.ensures.tree in
+    subst (λ (t : Plan AffineRank). IsBeforeBoth (eval this s) (eval that s) (eval t s)) (sym is)
+    (both_before this that (spread_of anywhere e true) (spread_of anywhere e false) s met also)
+
+pub returns-in-Ok-clause-holds : goal.returns-in-Ok-clause-holds
+returns-in-Ok-clause-holds c s met missed =
+    let this = plan_of c.args.yes.now in
+    let that = plan_of c.args.no.now in
+    let e = expression c.args.test.now in
+    let is = made_is this that (plan_of c.in-Ok.tree) e c.deref.result.now c.deref-2.result.now
+    (rows_are e true c.anywhere.result _ _ c.deref.ensures.value c.in_ok-holds.ensures c.anywhere.ensures)
+    (rows_are e false c.anywhere-2.result _ _ c.deref-2.ensures.value c.in_ok-fails.ensures c.anywhere-2.ensures) c.in-Ok.ensures.tree in
+    subst (λ (t : Plan AffineRank). IsBefore (eval this s) (eval t s)) (sym is)
+    (first_before this that (spread_of anywhere e true) (spread_of anywhere e false) s met missed)
+
+pub returns-in-Ok-clause-fails : goal.returns-in-Ok-clause-fails
+returns-in-Ok-clause-fails c s missed met =
+    let this = plan_of c.args.yes.now in
+    let that = plan_of c.args.no.now in
+    let e = expression c.args.test.now in
+    let is = made_is this that (plan_of c.in-Ok.tree) e c.deref.result.now c.deref-2.result.now
+    (rows_are e true c.anywhere.result _ _ c.deref.ensures.value c.in_ok-holds.ensures c.anywhere.ensures)
+    (rows_are e false c.anywhere-2.result _ _ c.deref-2.ensures.value c.in_ok-fails.ensures c.anywhere-2.ensures) c.in-Ok.ensures.tree in
+    subst (λ (t : Plan AffineRank). IsBefore (eval that s) (eval t s)) (sym is)
+    (second_before this that (spread_of anywhere e true) (spread_of anywhere e false) s missed met)
+
+pub returns-in-Ok-clause-ranks : goal.returns-in-Ok-clause-ranks
+returns-in-Ok-clause-ranks c first second =
+    let this = plan_of c.args.yes.now in
+    let that = plan_of c.args.no.now in
+    let is : plan_of c.in-Ok.tree ≡ cut (tested_shape this that c.deref.result.now c.deref-2.result.now) = c.in-Ok.ensures.tree in
+    subst RanksCount (sym is) (tested_count this that c.deref.result.now c.deref-2.result.now first second)
+
+pub returns-in-Ok-clause-complements : goal.returns-in-Ok-clause-complements
+returns-in-Ok-clause-complements c =
+    let shape = tested_shape (plan_of c.args.yes.now) (plan_of c.args.no.now) c.deref.result.now c.deref-2.result.now in
+    let is : plan_of c.in-Ok.tree ≡ cut shape = c.in-Ok.ensures.tree in
+    subst ComplementsFit (sym is) (trimmed_complements [] shape c.in-Ok.ensures.rows)
+
+pub returns-in-Ok-clause-variables : goal.returns-in-Ok-clause-variables
+returns-in-Ok-clause-variables c vars sorted first second =
+    let this = plan_of c.args.yes.now in
+    let that = plan_of c.args.no.now in
+    let e = expression c.args.test.now in
+    let is = made_is this that (plan_of c.in-Ok.tree) e c.deref.result.now c.deref-2.result.now
+    (rows_are e true c.anywhere.result _ _ c.deref.ensures.value c.in_ok-holds.ensures c.anywhere.ensures)
+    (rows_are e false c.anywhere-2.result _ _ c.deref-2.ensures.value c.in_ok-fails.ensures c.anywhere-2.ensures) c.in-Ok.ensures.tree in
+    subst (IsTreeOver vars) (sym is) (tested_over vars this that e sorted first second)

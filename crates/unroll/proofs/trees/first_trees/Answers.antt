@@ -1,0 +1,14 @@
+use Rattle.std.proofs.Common.{◌≡◌, length, sym, ap, subst, ◌∙◌}
+use Rattle.step_meaning.specs.Syntax.{statements}
+use Rattle.unroll.specs.Building.{AtAll, TellsAt, plans}
+use Rattle.unroll.proofs.Filling.{unclaimed_first}
+use Rattle.unroll.proofs.Putting.{written_back}
+use Rattle.unroll.proofs.trees.first_trees.Goals as goal
+
+pub returns-clause-tells : goal.returns-clause-tells
+returns-clause-tells c =
+    let body = statements c.args.graph.now.body in
+    let long : c.in_ok-trees.trees.len ≡ length c.fill.new.trees =
+    sym c.deref_mut.ensures.len ∙ ap length c.deref_mut.ensures.value ∙ c.in_ok-trees.ensures.count ∙ sym c.in_ok-fill.ensures.count in
+    subst (λ items. AtAll body (TellsAt 0 body (plans items))) (sym (written_back c.in_ok-trees.trees.len c.fill.new.trees _ long))
+    (c.in_ok-fill.ensures.tells 0 (rw c.deref_mut.ensures.value (unclaimed_first body (plans c.in_ok-trees.trees.items) c.in_ok-trees.ensures.end c.in_ok-trees.ensures.others)))

@@ -1,0 +1,134 @@
+use Rattle.std.proofs.Common.{◌≡◌, length, slice_set, sym, ap, subst, ◌∙◌, arith}
+use Rattle.linear_cons.specs.Functions.{value_at}
+use Rattle.linear_forms.specs.Linearising.{form_of}
+use Rattle.decision_tree.specs.Evaluation.{eval}
+use Rattle.decision_tree.specs.Plans.{plan_of}
+use Rattle.step_meaning.specs.Syntax.{expression, statements}
+use Rattle.unroll.specs.Building.{IsBefore, IsBeforeBoth, plans}
+use Rattle.unroll.specs.Levels.{RanksCount, tree_at}
+use Rattle.unroll.proofs.Putting.{plan_at}
+use Rattle.count_down.specs.Trees.{IsTreeOver}
+use Rattle.unroll.proofs.Treeing.{assigned_ranks_behind, assigned_tells, assigned_variables, is_assigned, is_passed, is_tested, never_ends, passed_ranks_behind, passed_tells, passed_variables, tested_ranks_behind, tested_tells, tested_variables}
+use Rattle.unroll.proofs.trees.tree.Goals as goal
+
+pub bounds-behind-next : goal.bounds-behind-next
+bounds-behind-next c =
+    let valid = c.args.graph.now.valid in
+    let known = is_assigned (statements c.args.graph.now.body) (length c.args.graph.now.names) valid.few valid.well_sorted c.requires.fitting.plain c.args.label c.requires.within _ _ _ c.in-Assign.ensures in
+    let inside = known.inside in
+    let count = c.requires.count in
+    omega (arith, inside, count)
+
+pub assigned-requires-clause-place : goal.assigned-requires-clause-place
+assigned-requires-clause-place c =
+    let valid = c.args.graph.now.valid in
+    (is_assigned (statements c.args.graph.now.body) (length c.args.graph.now.names) valid.few valid.well_sorted c.requires.fitting.plain c.args.label c.requires.within _ _ _ c.in-Assign.ensures).place
+
+pub assigned-requires-clause-affine : goal.assigned-requires-clause-affine
+assigned-requires-clause-affine c =
+    let valid = c.args.graph.now.valid in
+    (is_assigned (statements c.args.graph.now.body) (length c.args.graph.now.names) valid.few valid.well_sorted c.requires.fitting.plain c.args.label c.requires.within _ _ _ c.in-Assign.ensures).affine
+
+pub assigned-requires-clause-names : goal.assigned-requires-clause-names
+assigned-requires-clause-names c =
+    let valid = c.args.graph.now.valid in
+    (is_assigned (statements c.args.graph.now.body) (length c.args.graph.now.names) valid.few valid.well_sorted c.requires.fitting.plain c.args.label c.requires.within _ _ _ c.in-Assign.ensures).names
+
+pub bounds-behind-next-in-Pass : goal.bounds-behind-next-in-Pass
+bounds-behind-next-in-Pass c =
+    let valid = c.args.graph.now.valid in
+    let inside = is_passed (statements c.args.graph.now.body) (length c.args.graph.now.names) valid.few valid.well_sorted c.requires.fitting.plain c.args.label c.requires.within _ c.in-Pass.ensures in
+    let count = c.requires.count in
+    omega (arith, inside, count)
+
+pub bounds-behind-yes : goal.bounds-behind-yes
+bounds-behind-yes c =
+    let valid = c.args.graph.now.valid in
+    let known = is_tested (statements c.args.graph.now.body) (length c.args.graph.now.names) valid.few valid.well_sorted c.requires.fitting.plain c.args.label c.requires.within _ _ _ _ c.in-Test.ensures in
+    let inside = known.inside in
+    let count = c.requires.count in
+    omega (arith, inside, count)
+
+pub bounds-behind-no : goal.bounds-behind-no
+bounds-behind-no c =
+    let valid = c.args.graph.now.valid in
+    let known = is_tested (statements c.args.graph.now.body) (length c.args.graph.now.names) valid.few valid.well_sorted c.requires.fitting.plain c.args.label c.requires.within _ _ _ _ c.in-Test.ensures in
+    let inside = known.also in
+    let count = c.requires.count in
+    omega (arith, inside, count)
+
+pub tested-requires : goal.tested-requires
+tested-requires c =
+    let valid = c.args.graph.now.valid in
+    (is_tested (statements c.args.graph.now.body) (length c.args.graph.now.names) valid.few valid.well_sorted c.requires.fitting.plain c.args.label c.requires.within _ _ _ _ c.in-Test.ensures).names
+
+pub returns-in-End-clause-tells : goal.returns-in-End-clause-tells
+returns-in-End-clause-tells c limit left allows behind =
+    let valid = c.args.graph.now.valid in
+    absurd (never_ends (statements c.args.graph.now.body) (length c.args.graph.now.names) valid.few valid.well_sorted c.requires.fitting.plain c.args.label c.requires.within c.requires.some c.in-End.ensures)
+
+pub returns-in_ok-tree-in-Assign-clause-tells : goal.returns-in_ok-tree-in-Assign-clause-tells
+returns-in_ok-tree-in-Assign-clause-tells c limit left allows behind =
+    let valid = c.args.graph.now.valid in
+    let body = statements c.args.graph.now.body in
+    let vars = length c.args.graph.now.names in
+    let known = is_assigned body vars valid.few valid.well_sorted c.requires.fitting.plain c.args.label c.requires.within _ _ _ c.in-Assign.ensures in
+    let inside = known.inside in
+    let count = c.requires.count in
+    let at : plan_of c.index-behind-next.result ≡ tree_at (plans c.args.behind.now) c.in-Assign.next =
+    ap plan_of c.index-behind-next.is ∙ plan_at c.args.behind.now c.in-Assign.next c.index-behind-next.result (omega (arith, inside, count)) in
+    assigned_tells body vars valid.few valid.well_sorted c.requires.fitting.plain c.args.label c.requires.within c.requires.some (c.requires.fitting.fit c.args.label c.requires.within) (plans c.args.behind.now) limit left allows behind
+    (plan_of c.in_ok-tree-in-Assign.tree) (c.in_ok-tree-in-Assign.ensures.ranks (subst RanksCount (sym at)
+    (assigned_ranks_behind body vars valid.few valid.well_sorted c.requires.fitting.plain c.args.label c.requires.within c.requires.some (c.requires.fitting.fit c.args.label c.requires.within) (plans c.args.behind.now) limit left allows behind _ _ _ c.in-Assign.ensures)))
+    c.in_ok-tree-in-Assign.ensures.complements
+    (assigned_variables body vars valid.few valid.well_sorted c.requires.fitting.plain c.args.label c.requires.within c.requires.some (c.requires.fitting.fit c.args.label c.requires.within) (plans c.args.behind.now) limit left allows behind
+    (plan_of c.in_ok-tree-in-Assign.tree) _ _ _ c.in-Assign.ensures
+    (λ other sorted over. c.in_ok-tree-in-Assign.ensures.variables other sorted (subst (IsTreeOver other) (sym at) over)))
+    _ _ _ c.in-Assign.ensures
+    (λ s long. subst (λ p. IsBefore (eval p (slice_set s c.in-Assign.place (value_at (form_of (expression c.in-Assign.value.now)) s))) (eval (plan_of c.in_ok-tree-in-Assign.tree) s)) at (c.in_ok-tree-in-Assign.ensures.before s long))
+
+pub returns-in_ok-tree-in-Pass-clause-tells : goal.returns-in_ok-tree-in-Pass-clause-tells
+returns-in_ok-tree-in-Pass-clause-tells c limit left allows behind =
+    let valid = c.args.graph.now.valid in
+    let body = statements c.args.graph.now.body in
+    let vars = length c.args.graph.now.names in
+    let inside = is_passed body vars valid.few valid.well_sorted c.requires.fitting.plain c.args.label c.requires.within _ c.in-Pass.ensures in
+    let count = c.requires.count in
+    let at : plan_of c.index-behind-next-in-Pass.result ≡ tree_at (plans c.args.behind.now) c.in-Pass.next =
+    ap plan_of c.index-behind-next-in-Pass.is ∙ plan_at c.args.behind.now c.in-Pass.next c.index-behind-next-in-Pass.result (omega (arith, inside, count)) in
+    passed_tells body vars valid.few valid.well_sorted c.requires.fitting.plain c.args.label c.requires.within c.requires.some (c.requires.fitting.fit c.args.label c.requires.within) (plans c.args.behind.now) limit left allows behind
+    (plan_of c.in_ok-tree-in-Pass.tree) (c.in_ok-tree-in-Pass.ensures.ranks (subst RanksCount (sym at)
+    (passed_ranks_behind body vars valid.few valid.well_sorted c.requires.fitting.plain c.args.label c.requires.within c.requires.some (c.requires.fitting.fit c.args.label c.requires.within) (plans c.args.behind.now) limit left allows behind _ c.in-Pass.ensures)))
+    c.in_ok-tree-in-Pass.ensures.complements
+    (passed_variables body vars valid.few valid.well_sorted c.requires.fitting.plain c.args.label c.requires.within c.requires.some (c.requires.fitting.fit c.args.label c.requires.within) (plans c.args.behind.now) limit left allows behind
+    (plan_of c.in_ok-tree-in-Pass.tree) _ c.in-Pass.ensures
+    (λ other over. c.in_ok-tree-in-Pass.ensures.variables other (subst (IsTreeOver other) (sym at) over)))
+    _ c.in-Pass.ensures
+    (λ s. subst (λ p. IsBefore (eval p s) (eval (plan_of c.in_ok-tree-in-Pass.tree) s)) at (c.in_ok-tree-in-Pass.ensures.before s))
+
+pub returns-in_ok-tree-in-Test-clause-tells : goal.returns-in_ok-tree-in-Test-clause-tells
+returns-in_ok-tree-in-Test-clause-tells c limit left allows behind =
+    let valid = c.args.graph.now.valid in
+    let body = statements c.args.graph.now.body in
+    let vars = length c.args.graph.now.names in
+    let known = is_tested body vars valid.few valid.well_sorted c.requires.fitting.plain c.args.label c.requires.within _ _ _ _ c.in-Test.ensures in
+    let inside = known.inside in
+    let also = known.also in
+    let count = c.requires.count in
+    let then_at : plan_of c.index-behind-yes.result ≡ tree_at (plans c.args.behind.now) c.in-Test.yes =
+    ap plan_of c.index-behind-yes.is ∙ plan_at c.args.behind.now c.in-Test.yes c.index-behind-yes.result (omega (arith, inside, count)) in
+    let else_at : plan_of c.index-behind-no.result ≡ tree_at (plans c.args.behind.now) c.in-Test.no =
+    ap plan_of c.index-behind-no.is ∙ plan_at c.args.behind.now c.in-Test.no c.index-behind-no.result (omega (arith, also, count)) in
+    let two = tested_ranks_behind body vars valid.few valid.well_sorted c.requires.fitting.plain c.args.label c.requires.within c.requires.some (c.requires.fitting.fit c.args.label c.requires.within) (plans c.args.behind.now) limit left allows behind _ _ _ _ c.in-Test.ensures in
+    tested_tells body vars valid.few valid.well_sorted c.requires.fitting.plain c.args.label c.requires.within c.requires.some (c.requires.fitting.fit c.args.label c.requires.within) (plans c.args.behind.now) limit left allows behind
+    (plan_of c.in_ok-tree-in-Test.tree) (c.in_ok-tree-in-Test.ensures.ranks (subst RanksCount (sym then_at) two.0) (subst RanksCount (sym else_at) two.1))
+    c.in_ok-tree-in-Test.ensures.complements
+    (tested_variables body vars valid.few valid.well_sorted c.requires.fitting.plain c.args.label c.requires.within c.requires.some (c.requires.fitting.fit c.args.label c.requires.within) (plans c.args.behind.now) limit left allows behind
+    (plan_of c.in_ok-tree-in-Test.tree) _ _ _ _ c.in-Test.ensures
+    (λ other sorted first second. c.in_ok-tree-in-Test.ensures.variables other sorted (subst (IsTreeOver other) (sym then_at) first)
+    (subst (IsTreeOver other) (sym else_at) second)))
+    _ _ _ _ c.in-Test.ensures
+    (λ s met also. subst (λ p. IsBeforeBoth (eval p s) (eval (tree_at (plans c.args.behind.now) c.in-Test.no) s) (eval (plan_of c.in_ok-tree-in-Test.tree) s)) then_at
+    (subst (λ p. IsBeforeBoth (eval (plan_of c.index-behind-yes.result) s) (eval p s) (eval (plan_of c.in_ok-tree-in-Test.tree) s)) else_at (c.in_ok-tree-in-Test.ensures.both s met also)))
+    (λ s met missed. subst (λ p. IsBefore (eval p s) (eval (plan_of c.in_ok-tree-in-Test.tree) s)) then_at (c.in_ok-tree-in-Test.ensures.holds s met missed))
+    (λ s missed met. subst (λ p. IsBefore (eval p s) (eval (plan_of c.in_ok-tree-in-Test.tree) s)) else_at (c.in_ok-tree-in-Test.ensures.fails s missed met))

@@ -1,0 +1,51 @@
+-- What the trees of a level tell of the runs from a label.
+use Rattle.std.specs.Prelude.{◌≡◌, ℕ, ◌<◌, ◌≤◌, pos, ◌↔◌, List, length, slice_index_or, ⊤}
+use Rattle.linear_cons.specs.Functions.{NumbersFit, complement_of, constant_of}
+use Rattle.decision_tree.specs.Evaluation.{eval}
+use Rattle.decision_tree.specs.Plans.{Plan, bottom, branch, leaf}
+use Rattle.decision_tree.specs.declared.affine_rank.AffineRank.{AffineRank}
+use Rattle.decision_tree.specs.declared.reason.Why.{Why}
+use Rattle.step_meaning.specs.Outcome.{Store}
+use Rattle.step_meaning.specs.Run.{EndsInTests, Longest}
+use Rattle.step_meaning.specs.Syntax.{Statements}
+use Rattle.step_meaning.specs.Valid.{IsBody}
+use Rattle.count_down.specs.Trees.{IsTreeOver}
+use Rattle.control_flow.specs.Edges.{configuration}
+use Rattle.control_flow.specs.Labels.{all_labels}
+
+-- the rank that is the number everywhere
+abbrev pub counted : ℕ → AffineRank
+counted n = record { value = constant_of (pos n) }
+
+-- at the store stands a claim of the number of steps
+abbrev pub Claims : Plan AffineRank → Store → ℕ → Type 0
+Claims plan store n = (why : Why) × (eval plan store ≡ leaf why (counted n))
+
+-- the tree of the label
+abbrev pub tree_at : List (Plan AffineRank) → ℕ → Plan AffineRank
+tree_at trees label = slice_index_or trees label bottom
+
+-- each rank in the tree is a number of steps
+abbrev pub RanksCount : Plan AffineRank → Type 0
+RanksCount (branch row this that) = RanksCount this × RanksCount that
+RanksCount (leaf why rank) = (n : ℕ) × (rank ≡ counted n)
+RanksCount end = ⊤
+
+-- no number of a complement of the tree's rows is outside 128 bits
+abbrev pub ComplementsFit : Plan AffineRank → Type 0
+ComplementsFit (branch row this that) = NumbersFit (complement_of row.affine) × ComplementsFit this × ComplementsFit that
+ComplementsFit end = ⊤
+
+-- The trees tell exactly from where all runs end with so many tests of a loop, and how long the longest one is. A number of steps is claimed
+-- exactly where the longest run has so many and all runs end with at most so many tests; so it is where all runs end in any number of steps
+-- with at most so many tests. Each rank is a number of steps, the complements of the rows fit 128 bits, and no tree speaks of other variables
+-- than the program.
+pub record IsLevel (tests : ℕ) (body : Statements) (trees : List (Plan AffineRank)) : Type 0 where
+  pub labels : length trees ≡ length (all_labels body)
+  pub exact : (label : ℕ) → label < length (all_labels body) → (store : Store) → length store ≡ 16 → (n : ℕ)
+      → Claims (tree_at trees label) store n ↔ (EndsInTests tests n (configuration body label store) × Longest n (configuration body label store))
+  pub claimed : (label : ℕ) → label < length (all_labels body) → (store : Store) → length store ≡ 16 → (n : ℕ)
+      → EndsInTests tests n (configuration body label store) → (k : ℕ) × (k ≤ n) × Claims (tree_at trees label) store k
+  pub ranks : (label : ℕ) → label < length (all_labels body) → RanksCount (tree_at trees label)
+  pub complements : (label : ℕ) → label < length (all_labels body) → ComplementsFit (tree_at trees label)
+  pub variables : (label : ℕ) → label < length (all_labels body) → (vars : ℕ) → IsBody vars body → IsTreeOver vars (tree_at trees label)

@@ -1,0 +1,9 @@
+pub mod Plain
+pub mod Actions
+pub mod Measures
+pub mod Levels
+pub mod Shapes
+pub mod Building
+pub mod Refusals
+pub mod Sizing
+pub mod Stopping

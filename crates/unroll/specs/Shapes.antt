@@ -1,0 +1,36 @@
+-- The trees before a step, of affine ranks.
+use Rattle.std.specs.Prelude.{ℕ, Bool, List, []}
+use Rattle.linear_cons.specs.declared.affine.Affine.{Affine}
+use Rattle.linear_cons.specs.declared.row.Row.{Row}
+use Rattle.decision_tree.specs.Plans.{Plan}
+use Rattle.decision_tree.specs.contracts.affine_rank.AffineRankPartialEq.TheImpl as rank_eq
+use Rattle.decision_tree.specs.contracts.affine_rank.AffineRankRank.TheImpl as affine_rank
+use Rattle.decision_tree.specs.declared.affine_rank.AffineRank.{AffineRank}
+use Rattle.decision_tree.specs.declared.rank.Rank.{Ghosts as Ranks}
+use Rattle.tree_unify.specs.Shapes.{TrimFits, trimmed}
+use Rattle.backward_transfer.specs.Steps.{assigned, stepped}
+use Rattle.backward_transfer.specs.Tests.{tested}
+
+-- what affine functions are as ranks, and what `==` answers for them
+abbrev pub affine_ranks : Ranks AffineRank
+affine_ranks = affine_rank.ghosts
+
+abbrev pub same_rank : AffineRank → AffineRank → Bool
+same_rank = (rank_eq.ghosts).eq
+
+-- before an assignment, a step that changes nothing, and a test, as they are before they are trimmed
+abbrev pub assigned_shape : ℕ → Affine → Plan AffineRank → Plan AffineRank
+assigned_shape x by plan = assigned same_rank affine_ranks.substituted affine_ranks.one_more x by plan
+
+abbrev pub stepped_shape : Plan AffineRank → Plan AffineRank
+stepped_shape plan = stepped same_rank affine_ranks.one_more plan
+
+abbrev pub tested_shape : Plan AffineRank → Plan AffineRank → List (List Row) → List (List Row) → Plan AffineRank
+tested_shape this that holds fails = tested same_rank affine_ranks.where_greater affine_ranks.greater_fits affine_ranks.one_more this that holds fails
+
+-- trimmed, and where the complements that this forms fit
+abbrev pub cut : Plan AffineRank → Plan AffineRank
+cut plan = trimmed same_rank [] plan
+
+abbrev pub CutFits : Plan AffineRank → Type 0
+CutFits plan = TrimFits same_rank [] plan

@@ -1,0 +1,176 @@
+//! Levels made in turn.
+ghost use Rattle.std.specs.Prelude.{◌≡◌, ℕ, suc, ◌<◌, IfOk, IfErr, IfSome, IsSomeAnd, OnOk, length};
+ghost use Rattle.step_meaning.specs.Syntax.{statements};
+ghost use Rattle.control_flow.specs.Labels.{all_labels};
+ghost use Rattle.unroll.specs.Building.{AtAll, IsFitting, TellsAt, plans};
+ghost use Rattle.unroll.specs.Levels.{IsLevel};
+ghost use Rattle.unroll.specs.Plain.{IsPlain};
+ghost use Rattle.unroll.specs.Refusals.{IsRefusal};
+ghost use Rattle.unroll.specs.Sizing.{AreLeaves};
+ghost use Rattle.unroll.specs.Stopping.{IsCause, IsMade};
+
+use crate::fitting::check_labels;
+use crate::moving::Refusal;
+use crate::sizes::{first_sizes, greatest, leaves, next_sizes};
+use crate::trees::{first_trees, next_trees};
+use control_flow::Graph;
+use decision_tree::{AffineRank, Cause, Family, Tree, TreeList};
+use std::alloc::{AllocError, Global};
+
+/// The most nodes of a tree.
+const NODES: u128 = 65536;
+
+/// The last level that was made, and why no further one was.
+#[derive(Drop)]
+pub struct Unrolled {
+    /// A tree for each label, where a level was made.
+    pub family: Option<Family<AffineRank>>,
+    /// The level of the family, and 0 where there is none.
+    pub tests: u32,
+    /// `None` where the level that was asked for was made.
+    pub stopped: Option<Cause>,
+}
+
+/// A level: for each label the most nodes of its tree, and the tree.
+#[derive(Drop)]
+struct Level {
+    sizes: Vec<u128>,
+    trees: Vec<Tree<AffineRank>>,
+}
+
+/// The trees of the level for so many tests of a loop, or of the last level before it that was made: at each store the tree of a label makes
+/// a claim exactly where all runs from there end with at most as many tests of a loop as the level says, and the claim is the number of
+/// steps of the longest one. The levels are made in turn. `Nodes` stops them before one whose weight is above 65,536, or where a tree would
+/// have more nodes; `Wide` where a number of a function, of a rank or of a complement doesn't fit `i128`, and before level 0 where one of
+/// what the program assigns or compares doesn't. The program is plain. The only error is want of memory.
+pub fn unroll(alloc: Global, graph: &Graph, tests: u32) -> Result<Unrolled, AllocError>
+    requires { IsPlain (statements graph.now.body) }
+    ensures level { IfOk result (λ unrolled. IfSome unrolled.family (λ family. IsLevel unrolled.tests (statements graph.now.body) family.trees)) }
+    ensures made { IfOk result (λ unrolled. IsMade tests unrolled) }
+    ensures cause { IfOk result (λ unrolled. IfSome unrolled.stopped IsCause) }
+{
+    let leaves = leaves(alloc, graph)?;
+    match first(alloc, graph, &leaves) {
+        Ok(level) => climb(alloc, graph, &leaves, level, tests),
+        Err(refusal) => {
+            let cause = cause(refusal)?;
+            Ok(Unrolled {
+                family: None,
+                tests: 0,
+                stopped: Some(cause),
+            })
+        }
+    }
+}
+
+/// The level for so many tests, or the last one before it, from level 0 on.
+fn climb(
+    alloc: Global,
+    graph: &Graph,
+    leaves: &[u128],
+    first: Level,
+    tests: u32,
+) -> Result<Unrolled, AllocError>
+    requires fitting { IsFitting (statements graph.now.body) }
+    requires leaves { AreLeaves (statements graph.now.body) leaves.now }
+    requires sizes { length first.sizes.items ≡ length (all_labels (statements graph.now.body)) }
+    requires count { length first.trees.items ≡ length (all_labels (statements graph.now.body)) }
+    requires tells { AtAll (statements graph.now.body) (TellsAt 0 (statements graph.now.body) (plans first.trees.items)) }
+    ensures level { IfOk result (λ unrolled. IfSome unrolled.family (λ family. IsLevel unrolled.tests (statements graph.now.body) family.trees)) }
+    ensures made { IfOk result (λ unrolled. IsMade tests unrolled) }
+    ensures cause { IfOk result (λ unrolled. IfSome unrolled.stopped IsCause) }
+{
+    let mut level = first;
+    for made in 0..tests {
+        match next(alloc, graph, leaves, &level) {
+            Ok(more) => level = more,
+            Err(refusal) => {
+                let cause = cause(refusal)?;
+                return Ok(unrolled_to(level, made, Some(cause)));
+            }
+        }
+    }
+    Ok(unrolled_to(level, tests, None))
+}
+
+/// The level for so many tests, and why there is no further one.
+fn unrolled_to(level: Level, tests: u32, stopped: Option<Cause>) -> Unrolled
+    ensures family { IsSomeAnd result.family (λ family. family.trees ≡ plans level.trees.items) }
+    ensures tests { result.tests ≡ tests }
+    ensures stopped { result.stopped ≡ stopped }
+{
+    let Level { sizes: _, trees } = level;
+    Unrolled {
+        family: Some(Family {
+            part: 0,
+            trees: TreeList::of(trees),
+        }),
+        tests,
+        stopped,
+    }
+}
+
+/// What the refusal gave up for.
+fn cause(refusal: Refusal) -> Result<Cause, AllocError>
+    requires { IsRefusal refusal }
+    ensures { IfOk result IsCause }
+{
+    match refusal {
+        Refusal::Full { count } => Ok(Cause::Nodes {
+            count: count.min(u32::MAX as u64) as u32,
+        }),
+        Refusal::Wide(wide) => Ok(Cause::Wide(wide)),
+        Refusal::Memory(error) => Err(error),
+    }
+}
+
+/// Level 0.
+fn first(alloc: Global, graph: &Graph, leaves: &[u128]) -> Result<Level, Refusal>
+    requires plain { IsPlain (statements graph.now.body) }
+    requires leaves { AreLeaves (statements graph.now.body) leaves.now }
+    ensures tells { IfOk result (λ level. AtAll (statements graph.now.body) (TellsAt 0 (statements graph.now.body) (plans level.trees.items))) }
+    ensures sizes { IfOk result (λ level. length level.sizes.items ≡ length (all_labels (statements graph.now.body))) }
+    ensures count { IfOk result (λ level. length level.trees.items ≡ length (all_labels (statements graph.now.body))) }
+    ensures fitting { OnOk result (IsFitting (statements graph.now.body)) }
+    ensures refusal { IfErr result IsRefusal }
+{
+    let sizes = first_sizes(alloc, graph, leaves)?;
+    check_sizes(&sizes)?;
+    match check_labels(graph) {
+        Ok(()) => {}
+        Err(wide) => return Err(Refusal::Wide(wide)),
+    }
+    let trees = first_trees(alloc, graph)?;
+    Ok(Level { sizes, trees })
+}
+
+/// The level behind the last one.
+fn next(alloc: Global, graph: &Graph, leaves: &[u128], last: &Level) -> Result<Level, Refusal>
+    requires fitting { IsFitting (statements graph.now.body) }
+    requires leaves { AreLeaves (statements graph.now.body) leaves.now }
+    requires sizes { length last.now.sizes.items ≡ length (all_labels (statements graph.now.body)) }
+    requires count { length last.now.trees.items ≡ length (all_labels (statements graph.now.body)) }
+    ensures tells { (tests : ℕ) → AtAll (statements graph.now.body) (TellsAt tests (statements graph.now.body) (plans last.now.trees.items))
+        → IfOk result (λ level. AtAll (statements graph.now.body) (TellsAt (suc tests) (statements graph.now.body) (plans level.trees.items))) }
+    ensures sizes { IfOk result (λ level. length level.sizes.items ≡ length (all_labels (statements graph.now.body))) }
+    ensures count { IfOk result (λ level. length level.trees.items ≡ length (all_labels (statements graph.now.body))) }
+    ensures refusal { IfErr result IsRefusal }
+{
+    let sizes = next_sizes(alloc, graph, leaves, &last.sizes)?;
+    check_sizes(&sizes)?;
+    let trees = next_trees(alloc, graph, &last.trees)?;
+    Ok(Level { sizes, trees })
+}
+
+/// No size is above the most nodes.
+fn check_sizes(sizes: &[u128]) -> Result<(), Refusal>
+    ensures refusal { IfErr result IsRefusal }
+{
+    let most = greatest(sizes);
+    if most > NODES {
+        return Err(Refusal::Full {
+            count: most.min(u64::MAX as u128) as u64,
+        });
+    }
+    Ok(())
+}

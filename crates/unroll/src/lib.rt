@@ -1,0 +1,21 @@
+//! Exact levels: from which stores all runs end with at most so many tests of a loop, and how long the longest one is.
+//!
+//! It stands on `control_flow` for labels, on `decision_tree` for trees and on `backward_transfer` for the trees before a step. The front
+//! door: `unroll`, for programs of which `is_plain` is true; `specs/Levels` says what its trees tell. `weight` bounds the trees by the
+//! program alone. The `laws` say that there are such sizes.
+#![tactic(auto)]
+
+mod action;
+mod fitting;
+pub mod laws;
+mod levels;
+mod moving;
+mod plain;
+mod sizes;
+#[cfg(test)]
+mod tests;
+mod trees;
+
+pub use levels::{Unrolled, unroll};
+pub use plain::is_plain;
+pub use sizes::weight;

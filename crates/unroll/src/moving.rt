@@ -1,0 +1,142 @@
+//! The tree before a step, by the trees behind it.
+ghost use Rattle.std.specs.Prelude.{◌≡◌, ℕ, ◌<◌, true, false, IfErr, IfOk, length, slice_set};
+ghost use Rattle.linear_cons.specs.Functions.{value_at};
+ghost use Rattle.linear_forms.specs.Linearising.{form_of};
+ghost use Rattle.linear_forms.specs.Meeting.{MeetsOne};
+ghost use Rattle.linear_forms.specs.Spreading.{spread_of};
+ghost use Rattle.decision_tree.specs.Evaluation.{eval};
+ghost use Rattle.decision_tree.specs.Plans.{plan_of};
+ghost use Rattle.step_meaning.specs.AffineExpressions.{IsAffine};
+ghost use Rattle.step_meaning.specs.Naming.{NamesBelow};
+ghost use Rattle.step_meaning.specs.Outcome.{Store};
+ghost use Rattle.step_meaning.specs.Syntax.{expression};
+ghost use Rattle.step_meaning.specs.Valid.{IsNumber, IsTest};
+ghost use Rattle.count_down.specs.Trees.{IsTreeOver};
+ghost use Rattle.unroll.specs.Building.{IsBefore, IsBeforeBoth};
+ghost use Rattle.unroll.specs.Levels.{ComplementsFit, RanksCount};
+ghost use Rattle.unroll.specs.Measures.{anywhere};
+ghost use Rattle.unroll.specs.Refusals.{IsFault, IsRefusal};
+
+use crate::sizes::anywhere;
+use backward_transfer::{back_assign, back_skip, back_test};
+use decision_tree::{AffineRank, Tree};
+use linear_cons::{Affine, Wide};
+use linear_forms::{affine_of, spread};
+use std::alloc::{AllocError, Global};
+use step_meaning::Expr;
+use tree_unify::TreeFault;
+
+/// Why a tree isn't made.
+#[derive(Clone, Copy)]
+pub(crate) enum Refusal {
+    /// It would have more than 65,536 nodes; the count is above that.
+    Full { count: u64 },
+    /// A number lies outside `i128`.
+    Wide(Wide),
+    Memory(AllocError),
+}
+
+impl From<AllocError> for Refusal {
+    ghost use Rattle.std.specs.Prelude.{◌≡◌};
+    ghost use Rattle.unroll.specs.declared.moving.Refusal.TheVariants.{Memory};
+
+    ghost from_gives = { λ error refusal. refusal ≡ Memory error };
+
+    fn from(error: AllocError) -> Refusal {
+        Refusal::Memory(error)
+    }
+}
+
+/// The tree before the value is assigned to the variable at the place: a step more than where the store behind it stands.
+pub(crate) fn assigned(
+    alloc: Global,
+    place: u8,
+    value: &Expr,
+    behind: &Tree<AffineRank>,
+) -> Result<Tree<AffineRank>, Refusal>
+    requires place { place < 16 }
+    requires affine { IsAffine (expression value.now) }
+    requires names { NamesBelow 16 (expression value.now) }
+    ensures variables { (vars : ℕ) → IsNumber vars (expression value.now) → IsTreeOver vars (plan_of behind.now)
+        → IfOk result (λ tree. IsTreeOver vars (plan_of tree)) }
+    ensures before { IfOk result (λ tree. (s : Store) → length s ≡ 16
+        → IsBefore (eval (plan_of behind.now) (slice_set s place (value_at (form_of (expression value.now)) s))) (eval (plan_of tree) s)) }
+    ensures ranks { RanksCount (plan_of behind.now) → IfOk result (λ tree. RanksCount (plan_of tree)) }
+    ensures complements { IfOk result (λ tree. ComplementsFit (plan_of tree)) }
+    ensures refusal { IfErr result IsRefusal }
+{
+    let function = function(value)?;
+    match back_assign(alloc, behind, place, &function) {
+        Ok(tree) => Ok(tree),
+        Err(fault) => Err(refused(fault)),
+    }
+}
+
+/// The tree before a step that changes nothing: a step more.
+pub(crate) fn passed(alloc: Global, behind: &Tree<AffineRank>) -> Result<Tree<AffineRank>, Refusal>
+    ensures variables { (vars : ℕ) → IsTreeOver vars (plan_of behind.now) → IfOk result (λ tree. IsTreeOver vars (plan_of tree)) }
+    ensures before { IfOk result (λ tree. (s : Store) → IsBefore (eval (plan_of behind.now) s) (eval (plan_of tree) s)) }
+    ensures ranks { RanksCount (plan_of behind.now) → IfOk result (λ tree. RanksCount (plan_of tree)) }
+    ensures complements { IfOk result (λ tree. ComplementsFit (plan_of tree)) }
+    ensures refusal { IfErr result IsRefusal }
+{
+    match back_skip(alloc, behind) {
+        Ok(tree) => Ok(tree),
+        Err(fault) => Err(refused(fault)),
+    }
+}
+
+/// The tree before the test, with those behind its outcomes: a step more than behind the one that is possible, or than the greater where
+/// both are.
+pub(crate) fn tested(
+    alloc: Global,
+    test: &Expr,
+    yes: &Tree<AffineRank>,
+    no: &Tree<AffineRank>,
+) -> Result<Tree<AffineRank>, Refusal>
+    requires { NamesBelow 16 (expression test.now) }
+    ensures variables { (vars : ℕ) → IsTest vars (expression test.now) → IsTreeOver vars (plan_of yes.now) → IsTreeOver vars (plan_of no.now)
+        → IfOk result (λ tree. IsTreeOver vars (plan_of tree)) }
+    ensures both { IfOk result (λ tree. (s : Store) → MeetsOne s (spread_of anywhere (expression test.now) true)
+        → MeetsOne s (spread_of anywhere (expression test.now) false)
+        → IsBeforeBoth (eval (plan_of yes.now) s) (eval (plan_of no.now) s) (eval (plan_of tree) s)) }
+    ensures holds { IfOk result (λ tree. (s : Store) → MeetsOne s (spread_of anywhere (expression test.now) true)
+        → (MeetsOne s (spread_of anywhere (expression test.now) false) → ⊥) → IsBefore (eval (plan_of yes.now) s) (eval (plan_of tree) s)) }
+    ensures fails { IfOk result (λ tree. (s : Store) → (MeetsOne s (spread_of anywhere (expression test.now) true) → ⊥)
+        → MeetsOne s (spread_of anywhere (expression test.now) false) → IsBefore (eval (plan_of no.now) s) (eval (plan_of tree) s)) }
+    ensures ranks { RanksCount (plan_of yes.now) → RanksCount (plan_of no.now) → IfOk result (λ tree. RanksCount (plan_of tree)) }
+    ensures complements { IfOk result (λ tree. ComplementsFit (plan_of tree)) }
+    ensures refusal { IfErr result IsRefusal }
+{
+    let holds = spread(alloc, test, true, &anywhere())?;
+    let fails = spread(alloc, test, false, &anywhere())?;
+    match back_test(alloc, yes, no, &holds, &fails) {
+        Ok(tree) => Ok(tree),
+        Err(fault) => Err(refused(fault)),
+    }
+}
+
+/// The function that the value is.
+fn function(value: &Expr) -> Result<Affine, Refusal>
+    requires affine { IsAffine (expression value.now) }
+    requires names { NamesBelow 16 (expression value.now) }
+    ensures function { IfOk result (λ function. function ≡ form_of (expression value.now)) }
+    ensures refusal { IfErr result IsRefusal }
+{
+    match affine_of(value) {
+        Ok(function) => Ok(function),
+        Err(wide) => Err(Refusal::Wide(wide)),
+    }
+}
+
+/// What a fault refuses.
+fn refused(fault: TreeFault) -> Refusal
+    requires { IsFault fault }
+    ensures { IsRefusal result }
+{
+    match fault {
+        TreeFault::Full { count } => Refusal::Full { count },
+        TreeFault::Wide(wide) => Refusal::Wide(wide),
+        TreeFault::Memory(error) => Refusal::Memory(error),
+    }
+}

@@ -1,0 +1,109 @@
+//! Plain programs.
+ghost use Rattle.std.specs.Prelude.{◌↔◌, IsTrue};
+ghost use Rattle.step_meaning.specs.AffineExpressions.{IsAffine, IsAffineTest, KeepsAffine};
+ghost use Rattle.step_meaning.specs.Naming.{HasNoName};
+ghost use Rattle.step_meaning.specs.Syntax.{expression, statement, statements};
+ghost use Rattle.unroll.specs.Plain.{IsPlain, IsPlainStatement, IsPlainTest};
+
+use step_meaning::{Block, Expr, Op2, Program, StmtKind};
+
+/// True exactly where the program is plain: every number expression is affine, no range occurs, and `?` occurs only as the whole test of a
+/// statement.
+pub fn is_plain(program: &Program) -> bool
+    ensures { IsTrue result ↔ IsPlain (statements program.now.body) }
+{
+    are_plain(&program.body)
+}
+
+/// True exactly where each of the statements is plain.
+#[cycle(plain)]
+fn are_plain(block: &Block) -> bool
+    ensures { IsTrue result ↔ IsPlain (statements block.now) }
+{
+    let mut left = block;
+    while let Block::Then { first, rest } = left {
+        if !is_plain_statement(&first.kind) {
+            return false;
+        }
+        left = rest;
+    }
+    true
+}
+
+/// True exactly where the statement is plain.
+#[cycle(plain)]
+fn is_plain_statement(kind: &StmtKind) -> bool
+    ensures { IsTrue result ↔ IsPlainStatement (statement kind.now) }
+{
+    match kind {
+        StmtKind::Assign { var: _, value } => is_affine(value),
+        StmtKind::Skip | StmtKind::Return => true,
+        StmtKind::If { test, yes, no } => is_plain_test(test) && are_plain(yes) && are_plain(no),
+        StmtKind::While { test, body, step } => {
+            is_plain_test(test) && are_plain(body) && are_plain(step)
+        }
+        StmtKind::Do { body, test } => are_plain(body) && is_plain_test(test),
+    }
+}
+
+/// True exactly where the test is a whole `?`, or has none and compares affine expressions.
+fn is_plain_test(test: &Expr) -> bool
+    ensures { IsTrue result ↔ IsPlainTest (expression test.now) }
+{
+    match test {
+        Expr::Free => true,
+        _ => is_affine_test(test),
+    }
+}
+
+/// True exactly where the test has no `?` and compares affine expressions.
+fn is_affine_test(test: &Expr) -> bool
+    ensures { IsTrue result ↔ IsAffineTest (expression test.now) }
+{
+    match test {
+        Expr::True | Expr::False => true,
+        Expr::Not(operand) => is_affine_test(operand),
+        Expr::Pair { op, left, right } => match op {
+            Op2::And | Op2::Or => is_affine_test(left) && is_affine_test(right),
+            _ => is_affine(left) && is_affine(right),
+        },
+        _ => false,
+    }
+}
+
+/// True exactly where the expression is affine.
+fn is_affine(expr: &Expr) -> bool
+    ensures { IsTrue result ↔ IsAffine (expression expr.now) }
+{
+    match expr {
+        Expr::Number(_) | Expr::Name(_) => true,
+        Expr::Neg(operand) => is_affine(operand),
+        Expr::Pair { op, left, right } => {
+            is_affine(left) && is_affine(right) && keeps_affine(*op, left, right)
+        }
+        _ => false,
+    }
+}
+
+/// True exactly where the operator makes an affine expression of two.
+fn keeps_affine(op: Op2, left: &Expr, right: &Expr) -> bool
+    ensures { IsTrue result ↔ KeepsAffine op (expression left.now) (expression right.now) }
+{
+    match op {
+        Op2::Add | Op2::Sub => true,
+        Op2::Mul => has_no_name(left) || has_no_name(right),
+        _ => false,
+    }
+}
+
+/// True exactly where no variable is named.
+fn has_no_name(expr: &Expr) -> bool
+    ensures { IsTrue result ↔ HasNoName (expression expr.now) }
+{
+    match expr {
+        Expr::Name(_) => false,
+        Expr::Neg(operand) | Expr::Not(operand) => has_no_name(operand),
+        Expr::Pair { op: _, left, right } => has_no_name(left) && has_no_name(right),
+        _ => true,
+    }
+}

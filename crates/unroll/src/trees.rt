@@ -1,0 +1,196 @@
+//! The trees of a level.
+ghost use Rattle.std.specs.Prelude.{◌≡◌, ℕ, suc, ◌<◌, Some, IfOk, IfErr, OnOk, length};
+ghost use Rattle.decision_tree.specs.Plans.{bottom, leaf, plan_of};
+ghost use Rattle.decision_tree.specs.declared.reason.Why.TheVariants.{End};
+ghost use Rattle.step_meaning.specs.Syntax.{statements};
+ghost use Rattle.control_flow.specs.Edges.{is_head_by};
+ghost use Rattle.control_flow.specs.Labels.{action_at, all_labels};
+ghost use Rattle.unroll.specs.Building.{AtAll, AtBehind, AtFirst, AtNext, IsFitting, TellsAt, TellsTree, left_by, plans};
+ghost use Rattle.unroll.specs.Levels.{counted, tree_at};
+ghost use Rattle.unroll.specs.Refusals.{IsRefusal};
+
+use crate::action::{Action, done_at};
+use crate::moving::{Refusal, assigned, passed, tested};
+use control_flow::Graph;
+use decision_tree::{AffineRank, Tree, Why};
+use linear_cons::Affine;
+use std::alloc::{AllocError, Global};
+
+/// The trees of level 0: at the test of a loop nothing is claimed.
+pub(crate) fn first_trees(alloc: Global, graph: &Graph) -> Result<Vec<Tree<AffineRank>>, Refusal>
+    requires { IsFitting (statements graph.now.body) }
+    ensures tells { IfOk result (λ trees. AtAll (statements graph.now.body) (TellsAt 0 (statements graph.now.body) (plans trees.items))) }
+    ensures count { IfOk result (λ trees. length trees.items ≡ length (all_labels (statements graph.now.body))) }
+    ensures refusal { IfErr result IsRefusal }
+{
+    let mut trees = unclaimed(alloc, graph)?;
+    fill(alloc, graph, &mut trees)?;
+    Ok(trees)
+}
+
+/// The trees of a level behind the last one.
+pub(crate) fn next_trees(
+    alloc: Global,
+    graph: &Graph,
+    last: &[Tree<AffineRank>],
+) -> Result<Vec<Tree<AffineRank>>, Refusal>
+    requires fitting { IsFitting (statements graph.now.body) }
+    requires count { length last.now ≡ length (all_labels (statements graph.now.body)) }
+    ensures tells { (tests : ℕ) → AtAll (statements graph.now.body) (TellsAt tests (statements graph.now.body) (plans last.now))
+        → IfOk result (λ trees. AtAll (statements graph.now.body) (TellsAt (suc tests) (statements graph.now.body) (plans trees.items))) }
+    ensures count { IfOk result (λ trees. length trees.items ≡ length (all_labels (statements graph.now.body))) }
+    ensures refusal { IfErr result IsRefusal }
+{
+    let mut trees = unclaimed(alloc, graph)?;
+    fill_heads(alloc, graph, last, &mut trees)?;
+    fill(alloc, graph, &mut trees)?;
+    Ok(trees)
+}
+
+/// The tree of label 0, and at each other label one that claims nothing.
+fn unclaimed(alloc: Global, graph: &Graph) -> Result<Vec<Tree<AffineRank>>, AllocError>
+    ensures end { IfOk result (λ trees. tree_at (plans trees.items) 0 ≡ leaf End (counted 0)) }
+    ensures others { IfOk result (λ trees. (label : ℕ) → 0 < label → tree_at (plans trees.items) label ≡ bottom) }
+    ensures count { IfOk result (λ trees. length trees.items ≡ length (all_labels (statements graph.now.body))) }
+{
+    let mut trees = Vec::with_capacity(alloc, graph.labels() as usize)?;
+    trees.push(ended())?;
+    for _ in 1..graph.labels() {
+        trees.push(Tree::Bottom)?;
+    }
+    Ok(trees)
+}
+
+/// Puts in the trees at the labels of loops' tests, by those of the last level.
+fn fill_heads(
+    alloc: Global,
+    graph: &Graph,
+    last: &[Tree<AffineRank>],
+    trees: &mut [Tree<AffineRank>],
+) -> Result<(), Refusal>
+    requires fitting { IsFitting (statements graph.now.body) }
+    requires last_count { length last.now ≡ length (all_labels (statements graph.now.body)) }
+    requires count { length trees.old ≡ length (all_labels (statements graph.now.body)) }
+    ensures tells { (tests : ℕ) → AtAll (statements graph.now.body) (TellsAt tests (statements graph.now.body) (plans last.now))
+        → AtFirst (statements graph.now.body) 1 (TellsAt (suc tests) (statements graph.now.body) (plans trees.old))
+        → OnOk result (AtFirst (statements graph.now.body) (length (all_labels (statements graph.now.body))) (TellsAt (suc tests) (statements graph.now.body) (plans trees.new))) }
+    ensures count { OnOk result (length trees.new ≡ length (all_labels (statements graph.now.body))) }
+    ensures refusal { IfErr result IsRefusal }
+{
+    for label in 1..graph.labels() {
+        fill_head(alloc, graph, label, last, trees)?;
+    }
+    Ok(())
+}
+
+/// Puts in the tree at the label, where it is that of a loop's test.
+fn fill_head(
+    alloc: Global,
+    graph: &Graph,
+    label: u32,
+    last: &[Tree<AffineRank>],
+    trees: &mut [Tree<AffineRank>],
+) -> Result<(), Refusal>
+    requires fitting { IsFitting (statements graph.now.body) }
+    requires some { 0 < label }
+    requires within { label < length (all_labels (statements graph.now.body)) }
+    requires last_count { length last.now ≡ length (all_labels (statements graph.now.body)) }
+    requires count { length trees.old ≡ length (all_labels (statements graph.now.body)) }
+    ensures tells { (tests : ℕ) → AtAll (statements graph.now.body) (TellsAt tests (statements graph.now.body) (plans last.now))
+        → AtFirst (statements graph.now.body) label (TellsAt (suc tests) (statements graph.now.body) (plans trees.old))
+        → OnOk result (AtFirst (statements graph.now.body) (suc label) (TellsAt (suc tests) (statements graph.now.body) (plans trees.new))) }
+    ensures count { OnOk result (length trees.new ≡ length (all_labels (statements graph.now.body))) }
+    ensures refusal { IfErr result IsRefusal }
+{
+    if !graph.is_head(label) {
+        return Ok(());
+    }
+    let tree = tree(alloc, graph, label, last)?;
+    trees[label as usize] = tree;
+    Ok(())
+}
+
+/// Puts in the trees at the labels but label 0 and those of loops' tests, from the last on.
+fn fill(alloc: Global, graph: &Graph, trees: &mut [Tree<AffineRank>]) -> Result<(), Refusal>
+    requires fitting { IsFitting (statements graph.now.body) }
+    requires count { length trees.old ≡ length (all_labels (statements graph.now.body)) }
+    ensures tells { (tests : ℕ)
+        → AtFirst (statements graph.now.body) (length (all_labels (statements graph.now.body))) (TellsAt tests (statements graph.now.body) (plans trees.old))
+        → OnOk result (AtAll (statements graph.now.body) (TellsAt tests (statements graph.now.body) (plans trees.new))) }
+    ensures count { OnOk result (length trees.new ≡ length (all_labels (statements graph.now.body))) }
+    ensures refusal { IfErr result IsRefusal }
+{
+    for label in (1..graph.labels()).rev() {
+        fill_one(alloc, graph, label, trees)?;
+    }
+    Ok(())
+}
+
+/// Puts in the tree at the label, unless it is that of a loop's test.
+fn fill_one(
+    alloc: Global,
+    graph: &Graph,
+    label: u32,
+    trees: &mut [Tree<AffineRank>],
+) -> Result<(), Refusal>
+    requires fitting { IsFitting (statements graph.now.body) }
+    requires some { 0 < label }
+    requires within { label < length (all_labels (statements graph.now.body)) }
+    requires count { length trees.old ≡ length (all_labels (statements graph.now.body)) }
+    ensures tells { (tests : ℕ) → AtBehind (statements graph.now.body) (suc label) (TellsAt tests (statements graph.now.body) (plans trees.old))
+        → OnOk result (AtBehind (statements graph.now.body) label (TellsAt tests (statements graph.now.body) (plans trees.new))) }
+    ensures count { OnOk result (length trees.new ≡ length (all_labels (statements graph.now.body))) }
+    ensures refusal { IfErr result IsRefusal }
+{
+    if graph.is_head(label) {
+        return Ok(());
+    }
+    let tree = tree(alloc, graph, label, trees)?;
+    trees[label as usize] = tree;
+    Ok(())
+}
+
+/// The tree at the label by those behind it.
+fn tree(
+    alloc: Global,
+    graph: &Graph,
+    label: u32,
+    behind: &[Tree<AffineRank>],
+) -> Result<Tree<AffineRank>, Refusal>
+    requires fitting { IsFitting (statements graph.now.body) }
+    requires some { 0 < label }
+    requires within { label < length (all_labels (statements graph.now.body)) }
+    requires count { length behind.now ≡ length (all_labels (statements graph.now.body)) }
+    ensures tells { (tests left : ℕ) → left_by (is_head_by (action_at (statements graph.now.body) label)) tests ≡ Some left
+        → AtNext (action_at (statements graph.now.body) label) (TellsAt left (statements graph.now.body) (plans behind.now))
+        → IfOk result (λ tree. TellsTree tests (statements graph.now.body) label (plan_of tree)) }
+    ensures refusal { IfErr result IsRefusal }
+{
+    match done_at(graph, label) {
+        Action::End => Ok(ended()),
+        Action::Assign { place, value, next } => {
+            let tree = assigned(alloc, place, value, &behind[next as usize])?;
+            Ok(tree)
+        }
+        Action::Pass { next } => {
+            let tree = passed(alloc, &behind[next as usize])?;
+            Ok(tree)
+        }
+        Action::Test { test, yes, no, .. } => {
+            let tree = tested(alloc, test, &behind[yes as usize], &behind[no as usize])?;
+            Ok(tree)
+        }
+    }
+}
+
+/// The tree of label 0.
+fn ended() -> Tree<AffineRank>
+    ensures { plan_of result ≡ leaf End (counted 0) }
+{
+    Tree::Leaf {
+        why: Why::End,
+        rank: AffineRank {
+            value: Affine::constant(0),
+        },
+    }
+}
