@@ -3,14 +3,14 @@
 
 - Each crate of crates.txt has one row in docs/ARCHITECTURE.md, which names exactly the crates of the repository that it stands on.
 - Each word in backquotes that looks like a name of the code occurs in the code.
-- Each program under examples/ stands in docs/EXAMPLES.md with its report, as the files have them.
+- Each program under examples/ stands in docs/EXAMPLES.md with its report, as the files have them, and so does each that README.md shows.
 """
 import re
 import sys
 from pathlib import Path
 
 TOP = Path(__file__).resolve().parent.parent
-PAGES = ["README.md"] + [f"docs/{name}.md" for name in ("ARCHITECTURE", "DECISIONS", "EXAMPLES", "GLOSSARY", "LANGUAGE", "PROOFS", "REPORT", "WORKING")]
+PAGES = ["README.md"] + [f"docs/{name}.md" for name in ("ARCHITECTURE", "DECISIONS", "DOMAINS", "EXAMPLES", "GLOSSARY", "LANGUAGE", "PROOFS", "REPORT", "WORKING")]
 # Words of the toolchain and of the command line, which the code doesn't spell.
 ELSEWHERE = {"Answers", "Invariants", "IfErr", "IfOk", "IfSome", "MatchOption", "OnErr", "OnOk", "abbrev", "always", "certificate", "const", "continue", "enum",
              "extern", "function", "indexmap", "main", "noexec", "num_traits", "result", "start_io", "thiserror", "typedef", "unfoldable", "verdict"}
@@ -76,8 +76,18 @@ def missing_examples():
             yield f"docs/EXAMPLES.md doesn't show {program.name} with its report"
 
 
+def stale_examples():
+    """Programs and reports that README.md shows otherwise than the files have them."""
+    page = (TOP / "README.md").read_text()
+    for name in re.findall(r"^\$ cat examples/(\w+)\.c$", page, re.MULTILINE):
+        program = TOP / "examples" / f"{name}.c"
+        report = program.with_suffix(".report")
+        if f"$ cat examples/{name}.c\n{program.read_text()}$ ./function < examples/{name}.c\n{report.read_text()}" not in page:
+            yield f"README.md doesn't show {name}.c with its report"
+
+
 def main():
-    faults = [*wrong_rows(), *unknown_names(), *missing_examples()]
+    faults = [*wrong_rows(), *unknown_names(), *missing_examples(), *stale_examples()]
     for fault in faults:
         print(fault)
     return 1 if faults else 0

@@ -1,4 +1,4 @@
-/* Nothing is found here yet, though it ends from each input that is at least 0. */
+/* It ends from each input that is at least 0, and of the others nothing is said (after Urban, 2013). */
 int main() {
   int x;
   while (x != 0)

@@ -1,3 +1,6 @@
 pub mod Parts
 pub mod Bounds
 pub mod Checked
+pub mod Fitting
+pub mod Asked
+pub mod Subjects

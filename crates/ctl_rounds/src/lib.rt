@@ -1,10 +1,17 @@
-//! The analysis: for each label of a program a tree that bounds the runs from there.
+//! The analysis: for each label of a program trees that bound the runs from there.
 //!
-//! So far it tries one family, the candidate of a countdown program, and answers what the check leaves of it. It stands on `count_down`
-//! for candidates, on `tree_check` for the check, and on the laws of `tree_support`. The front door: `analyse`.
+//! A countdown program has a candidate; of any other program sweeps propose a family, and then advisers do. Whoever proposes it, what is
+//! answered is what the check leaves of it. It stands on `count_down`, `backward_sweeps`, `loop_facts` and `advice` for proposals, on
+//! `tree_check` for the check, and on the laws of `tree_support`. The front door: `analyse`, which answers a `Certificate`.
 #![tactic(auto)]
 
 mod analysis;
+mod certificate;
+mod checking;
+mod cover;
+mod fitting;
 mod parts;
+mod rounds;
 
 pub use analysis::analyse;
+pub use certificate::Certificate;

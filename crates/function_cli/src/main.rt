@@ -1,6 +1,9 @@
 //! The command: `function_top::run` over the words of the command line, standard input and standard output.
 #![tactic(auto)]
 
+ghost use Rattle.std.specs.Prelude.{◌≤◌, ◌^◌};
+
+use advice::{Adviser, GuardAdviser, RangeAdviser};
 use function_top::{Status, run};
 use outside::{StreamSink, StreamSource};
 use std::alloc::AllocError;
@@ -35,13 +38,34 @@ fn words(rt: &HostRuntime) -> Result<Vec<String>, AllocError> {
 }
 
 fn status_of(rt: &HostRuntime, words: &[String]) -> Status {
-    let mut source = StreamSource::new(rt.stdin());
-    let mut sink = StreamSink::new(rt.stdout());
-    match words.iter().map(|word| word.as_str()).collect(rt.alloc()) {
-        Ok(words) => {
-            let words: Vec<&str> = words;
-            run(rt.alloc(), &words, &mut source, &mut sink)
-        }
+    match status_or_no_memory(rt, words) {
+        Ok(status) => status,
         Err(_) => Status::NoMemory,
     }
+}
+
+// How the run ends, with an adviser on rows of loops' tests and one on ranges of variables; the error is want of memory before it.
+fn status_or_no_memory(rt: &HostRuntime, words: &[String]) -> Result<Status, AllocError> {
+    let words: Vec<&str> = words.iter().map(|word| word.as_str()).collect(rt.alloc())?;
+    let guards = Box::new(rt.alloc(), GuardAdviser::new())?;
+    let ranges = Box::new(rt.alloc(), RangeAdviser::new())?;
+    run_with(rt, &words, guards, ranges)
+}
+
+// The same with two advisers that were asked little.
+fn run_with(
+    rt: &HostRuntime,
+    words: &[&str],
+    first: Box<dyn Adviser>,
+    second: Box<dyn Adviser>,
+) -> Result<Status, AllocError>
+    requires first { asked_of first ≤ 2 ^ 32 }
+    requires second { asked_of second ≤ 2 ^ 32 }
+{
+    let mut source = StreamSource::new(rt.stdin());
+    let mut sink = StreamSink::new(rt.stdout());
+    let mut advisers: Vec<Box<dyn Adviser>> = Vec::with_capacity(rt.alloc(), 2)?;
+    advisers.push(first)?;
+    advisers.push(second)?;
+    Ok(run(rt.alloc(), words, &mut source, &mut sink, &mut advisers))
 }

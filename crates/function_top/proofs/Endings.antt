@@ -29,12 +29,18 @@ other_last line p s n (inr (inl ends)) = s (at_end 0 115 line (codes " steps") e
 other_last line p s n (inr (inr (inl ends))) = s (at_end 0 115 line (codes ": holds") ends (λ rest. refl))
 other_last line p s n (inr (inr (inr ends))) = n (at_end 0 110 line (codes ": unknown") ends (λ rest. refl))
 
--- before it stands `e`, `p`, `d` or `w`, so no `t`
-pub t_before_last : (line : List ℕ) → from_end 1 line ≡ 116 → EndsAsLine line → ⊥
-t_before_last line is (inl ends) = absurd (let e = at_end 1 101 line (codes " step") ends (λ rest. refl) in omega arith)
-t_before_last line is (inr (inl ends)) = absurd (let e = at_end 1 112 line (codes " steps") ends (λ rest. refl) in omega arith)
-t_before_last line is (inr (inr (inl ends))) = absurd (let e = at_end 1 100 line (codes ": holds") ends (λ rest. refl) in omega arith)
-t_before_last line is (inr (inr (inr ends))) = absurd (let e = at_end 1 119 line (codes ": unknown") ends (λ rest. refl) in omega arith)
+-- before an `s` stands `p` or `d`
+pub other_before_s : (line : List ℕ) → from_end 0 line ≡ 115 → from_end 1 line ≢ 112 → from_end 1 line ≢ 100 → EndsAsLine line → ⊥
+other_before_s line s p d (inl ends) = absurd (let e = at_end 0 112 line (codes " step") ends (λ rest. refl) in omega arith)
+other_before_s line s p d (inr (inl ends)) = p (at_end 1 112 line (codes " steps") ends (λ rest. refl))
+other_before_s line s p d (inr (inr (inl ends))) = d (at_end 1 100 line (codes ": holds") ends (λ rest. refl))
+other_before_s line s p d (inr (inr (inr ends))) = absurd (let e = at_end 0 110 line (codes ": unknown") ends (λ rest. refl) in omega arith)
+
+-- a line that ends in a colon
+pub colon_last : (front : List ℕ) → EndsAsLine (front ++ 58 ∷ []) → ⊥
+colon_last front =
+    let last : from_end 0 (front ++ 58 ∷ []) ≡ 58 = ap (λ t. get_or t 0 0) (backwards_append front (58 ∷ [])) in
+    other_last (front ++ 58 ∷ []) (λ e. omega arith) (λ e. omega arith) (λ e. omega arith)
 
 last_is_digit : (digits rest : List ℕ) → 0 < length digits → AllDigits 10 digits → digit_value (get_or (backwards digits ++ rest) 0 0) < 10
 last_is_digit [] rest some all = absurd (omega arith)

@@ -1,15 +1,17 @@
 -- Each line that the command writes has one of the known forms.
-use Rattle.std.proofs.Common.{◌≡◌, ℕ, inl, inr, List, [], ◌∷◌, Option, Some, All, refl, subst}
+use Rattle.std.proofs.Common.{◌≡◌, ℕ, inl, inr, List, [], ◌∷◌, Option, Some, All, refl}
 use Rattle.std.proofs.lemmas.List.Elements.{All-cons, All-nil}
 use Rattle.step_meaning.specs.Syntax.{Statements}
 use Rattle.source_parse.specs.Derives.{IsTextOf}
+use Rattle.linear_solve.proofs.Lists.{all_of}
 use Rattle.line_text.specs.LineText.{functions_of}
 use Rattle.report_text.specs.declared.line.Line.{Line}
 use Rattle.report_text.specs.declared.report.Report.{Report}
-use Rattle.report_text.specs.Leaves.{claiming, claiming_nothing}
-use Rattle.report_text.specs.Printed.{IsReportText}
+use Rattle.report_text.specs.declared.report.Header.{Header}
+use Rattle.report_text.specs.Printed.{IsReportText, exact_part}
 use Rattle.function_top.specs.Analysis.{IsReportOf}
-use Rattle.function_top.specs.Form.{IsKnown, proved_head, unknown_head, all_verdict, some_verdict, words, program}
+use Rattle.function_top.specs.declared.order.Order.{Order}
+use Rattle.function_top.specs.Form.{IsKnown, exact_head, proved_head, unknown_head, all_verdict, some_verdict, words, program}
 use Rattle.function_top.specs.Refusals.{fault_line, fault_text, usage_line, usage_text}
 use Rattle.function_top.proofs.Truth.{KnownLines, fault_lacks, usage_lacks}
 use Rattle.function_top.proofs.Written.{Bytes, EachWhole, Frames, Prints, one_good, report_holds}
@@ -23,8 +25,12 @@ module _ (left : Option Bytes) where
       one_good (IsKnown left) (fault_line number place) (fault_text number place) (fault_lacks number place)
       (inr (inr (program number place))) refl
 
+  header_known : (header : Header) → All (IsKnown left) (exact_part header [])
+  header_known header = all_of (IsKnown left) (exact_part header []) (λ line member. inr (inl (exact_head header line member)))
+
   frames : Frames (IsKnown left)
   frames = record {
+    exact = header_known;
     proved = inr (inl proved_head);
     unknown = inr (inl unknown_head);
     all_inputs = inr (inl all_verdict);
@@ -41,8 +47,8 @@ module _ (left : Option Bytes) where
     all_spoken [] = All-nil (Prints (IsKnown left) frames names known.newline)
     all_spoken (line ∷ more) = All-cons (Prints (IsKnown left) frames names known.newline) line more (spoken line) (all_spoken more)
 
-    pub report_known : (report : Report) (body : Statements) (text : Bytes) → IsReportOf names body report → IsReportText names report text
-        → EachWhole (IsKnown left) text
-    report_known report body text due printed =
-        report_holds (IsKnown left) frames names known.newline (claiming due.lines) (claiming_nothing due.lines) text
-        (all_spoken (claiming due.lines)) (all_spoken (claiming_nothing due.lines)) (subst (λ r. IsReportText names r text) due.sections printed)
+    pub report_known : (order : Order) (report : Report) (body : Statements) (text : Bytes) → IsReportOf order names body report
+        → IsReportText names report text → EachWhole (IsKnown left) text
+    report_known order report body text due printed =
+        report_holds (IsKnown left) frames names known.newline report text due.unexplained (all_spoken report.exact) (all_spoken report.proved)
+        (all_spoken report.unknown) printed

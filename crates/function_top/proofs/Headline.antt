@@ -24,6 +24,7 @@ use Rattle.report_text.specs.declared.line.Top.TheVariants.{Bound}
 use Rattle.report_text.specs.declared.report.Report.{Report}
 use Rattle.report_text.specs.Leaves.{AreLines, claiming_nothing, is_unknown, leaves_below, none, skipped, stands}
 use Rattle.report_text.specs.Printed.{IsReportText}
+use Rattle.function_top.specs.declared.order.Order.{Order}
 use Rattle.function_top.specs.declared.status.Status.{Status}
 use Rattle.function_top.specs.declared.status.Status.TheVariants.{AllInputs, SomeInputs, Words, Program, Formula, ReadFault, WriteFault, NoMemory}
 use Rattle.function_top.specs.Analysis.{IsReportOf}
@@ -31,6 +32,7 @@ use Rattle.function_top.specs.Answer.{Answers, CoversCountdowns, IsComplete, aft
 use Rattle.function_top.specs.Call.{Call}
 use Rattle.function_top.specs.Due.{IsDueOn, IsPastLimits, IsReportOn, IsWithinLimits}
 use Rattle.function_top.specs.Form.{IsKnown}
+use Rattle.function_top.specs.Order.{Ask}
 use Rattle.function_top.specs.Refusals.{usage_text}
 use Rattle.function_top.specs.Text.{IsRead}
 use Rattle.function_top.proofs.Formed.{fault_known, report_known}
@@ -64,52 +66,52 @@ known_texts unique spelled distinct ending newline one = record {
 
 -- ---- what is due is true, and of a known form
 
-report_on : KnownTexts → (text : Bytes) (names : List Bytes) (body : Statements) (report : Report) (bytes : Bytes) → IsTextOf text names body
-    → IsReportOn text report bytes → EachWhole (SaysTrue names body) bytes
-report_on known text names body report bytes h due =
+report_on : KnownTexts → (order : Order) (text : Bytes) (names : List Bytes) (body : Statements) (report : Report) (bytes : Bytes) → IsTextOf text names body
+    → IsReportOn order text report bytes → EachWhole (SaysTrue names body) bytes
+report_on known order text names body report bytes h due =
     let same = known.unique text due.names names due.body body due.program h in
-    report_true names body known.ending (known.lines names (program_names known.spelled known.distinct text names body h)) report bytes
-    (subst (λ ns. IsReportOf ns body report) same.0 (subst (λ bs. IsReportOf due.names bs report) same.1 due.due))
+    report_true names body known.ending (known.lines names (program_names known.spelled known.distinct text names body h)) order report bytes
+    (subst (λ ns. IsReportOf order ns body report) same.0 (subst (λ bs. IsReportOf order due.names bs report) same.1 due.due))
     (subst (λ ns. IsReportText ns report bytes) same.0 due.printed)
 
-pub due_true : KnownTexts → (text : Bytes) (names : List Bytes) (body : Statements) (status : Status) (bytes : Bytes) → IsTextOf text names body
-    → IsDueOn text status bytes → EachWhole (SaysTrue names body) bytes
-due_true known text names body AllInputs bytes h due = report_on known text names body due.0 bytes h due.1
-due_true known text names body SomeInputs bytes h due = report_on known text names body due.0 bytes h due.1
-due_true known text names body Program bytes h (inl long) = subst (EachWhole (SaysTrue names body)) (sym long.line_is) (fault_true names body known.ending 14 65536)
-due_true known text names body Program bytes h (inr (inl other)) = absurd (other.none names body h)
-due_true known text names body Program bytes h (inr (inr past)) =
+pub due_true : KnownTexts → (order : Order) (text : Bytes) (names : List Bytes) (body : Statements) (status : Status) (bytes : Bytes) → IsTextOf text names body
+    → IsDueOn order text status bytes → EachWhole (SaysTrue names body) bytes
+due_true known order text names body AllInputs bytes h due = report_on known order text names body due.0 bytes h due.1
+due_true known order text names body SomeInputs bytes h due = report_on known order text names body due.0 bytes h due.1
+due_true known order text names body Program bytes h (inl long) = subst (EachWhole (SaysTrue names body)) (sym long.line_is) (fault_true names body known.ending 14 65536)
+due_true known order text names body Program bytes h (inr (inl other)) = absurd (other.none names body h)
+due_true known order text names body Program bytes h (inr (inr past)) =
     subst (EachWhole (SaysTrue names body)) (sym past.line_is) (fault_true names body known.ending past.number past.place)
-due_true known text names body Words bytes h due = absurd due
-due_true known text names body Formula bytes h due = absurd due
-due_true known text names body ReadFault bytes h due = absurd due
-due_true known text names body WriteFault bytes h due = absurd due
-due_true known text names body NoMemory bytes h due = absurd due
+due_true known order text names body Words bytes h due = absurd due
+due_true known order text names body Formula bytes h due = absurd due
+due_true known order text names body ReadFault bytes h due = absurd due
+due_true known order text names body WriteFault bytes h due = absurd due
+due_true known order text names body NoMemory bytes h due = absurd due
 
 -- the text that was read is the one that was told
 pub told_read : (left : Option Bytes) (text told : Bytes) → IsRead left text → left ≡ Some told → told ≡ text
 told_read left text told read is = subst (λ l. IsRead l text) is read
 
-known_report : KnownTexts → (left : Option Bytes) (text : Bytes) → IsRead left text → (report : Report) (bytes : Bytes)
-    → IsReportOn text report bytes → EachWhole (IsKnown left) bytes
-known_report known left text read report bytes due =
+known_report : KnownTexts → (order : Order) (left : Option Bytes) (text : Bytes) → IsRead left text → (report : Report) (bytes : Bytes)
+    → IsReportOn order text report bytes → EachWhole (IsKnown left) bytes
+known_report known order left text read report bytes due =
     report_known left due.names (known.lines due.names (program_names known.spelled known.distinct text due.names due.body due.program))
     (λ told declared other is own. (known.unique text due.names declared due.body other due.program
     (subst (λ t. IsTextOf t declared other) (told_read left text told read is) own)).0)
-    report due.body bytes due.due due.printed
+    order report due.body bytes due.due due.printed
 
-pub due_known : KnownTexts → (left : Option Bytes) (text : Bytes) → IsRead left text → (status : Status) (bytes : Bytes)
-    → IsDueOn text status bytes → EachWhole (IsKnown left) bytes
-due_known known left text read AllInputs bytes due = known_report known left text read due.0 bytes due.1
-due_known known left text read SomeInputs bytes due = known_report known left text read due.0 bytes due.1
-due_known known left text read Program bytes (inl long) = subst (EachWhole (IsKnown left)) (sym long.line_is) (fault_known left 14 65536)
-due_known known left text read Program bytes (inr (inl other)) = subst (EachWhole (IsKnown left)) (sym other.line_is) (fault_known left other.number other.place)
-due_known known left text read Program bytes (inr (inr past)) = subst (EachWhole (IsKnown left)) (sym past.line_is) (fault_known left past.number past.place)
-due_known known left text read Words bytes due = absurd due
-due_known known left text read Formula bytes due = absurd due
-due_known known left text read ReadFault bytes due = absurd due
-due_known known left text read WriteFault bytes due = absurd due
-due_known known left text read NoMemory bytes due = absurd due
+pub due_known : KnownTexts → (order : Order) (left : Option Bytes) (text : Bytes) → IsRead left text → (status : Status) (bytes : Bytes)
+    → IsDueOn order text status bytes → EachWhole (IsKnown left) bytes
+due_known known order left text read AllInputs bytes due = known_report known order left text read due.0 bytes due.1
+due_known known order left text read SomeInputs bytes due = known_report known order left text read due.0 bytes due.1
+due_known known order left text read Program bytes (inl long) = subst (EachWhole (IsKnown left)) (sym long.line_is) (fault_known left 14 65536)
+due_known known order left text read Program bytes (inr (inl other)) = subst (EachWhole (IsKnown left)) (sym other.line_is) (fault_known left other.number other.place)
+due_known known order left text read Program bytes (inr (inr past)) = subst (EachWhole (IsKnown left)) (sym past.line_is) (fault_known left past.number past.place)
+due_known known order left text read Words bytes due = absurd due
+due_known known order left text read Formula bytes due = absurd due
+due_known known order left text read ReadFault bytes due = absurd due
+due_known known order left text read WriteFault bytes due = absurd due
+due_known known order left text read NoMemory bytes due = absurd due
 
 -- ---- what was written
 
@@ -160,72 +162,72 @@ keeps_itself (Some bytes) = refl
 -- ---- what the status says
 
 -- the status says what became of what was due
-pub settled_answers : (call : Call) (status result : Status) (text bytes : Bytes) → IsRead call.left text
-    → call.read_faults_after ≡ call.read_faults → IsDueOn text status bytes
-    → Settles status result bytes call.taken call.taken_after call.write_faults call.write_faults_after → Answers result call
-settled_answers call AllInputs result text bytes read faultless due (inl h) =
-    rw h.0 (bytes, record { text = text; read = read; faultless = faultless; due = due }, h.1)
-settled_answers call AllInputs result text bytes read faultless due (inr h) =
-    rw h.0 (bytes, inl (record { text = text; read = read; faultless = faultless; due = due }), h.1, h.2)
-settled_answers call SomeInputs result text bytes read faultless due (inl h) =
-    rw h.0 (bytes, record { text = text; read = read; faultless = faultless; due = due }, h.1)
-settled_answers call SomeInputs result text bytes read faultless due (inr h) =
-    rw h.0 (bytes, inr (record { text = text; read = read; faultless = faultless; due = due }), h.1, h.2)
-settled_answers call Program result text bytes read faultless due (inl h) =
-    rw h.0 (bytes, record { text = text; read = read; faultless = faultless; due = due }, inl h.1)
-settled_answers call Program result text bytes read faultless due (inr h) =
-    rw h.0 (bytes, record { text = text; read = read; faultless = faultless; due = due }, inr (h.1, h.2))
-settled_answers call Words result text bytes read faultless due settled = absurd due
-settled_answers call Formula result text bytes read faultless due settled = absurd due
-settled_answers call ReadFault result text bytes read faultless due settled = absurd due
-settled_answers call WriteFault result text bytes read faultless due settled = absurd due
-settled_answers call NoMemory result text bytes read faultless due settled = absurd due
+pub settled_answers : (words : List Bytes) (order : Order) → Ask words order → (call : Call) (status result : Status) (text bytes : Bytes)
+    → IsRead call.left text → call.read_faults_after ≡ call.read_faults → IsDueOn order text status bytes
+    → Settles status result bytes call.taken call.taken_after call.write_faults call.write_faults_after → Answers words result call
+settled_answers words order asked call AllInputs result text bytes read faultless due (inl h) =
+    rw h.0 (bytes, record { order = order; asked = asked; text = text; read = read; faultless = faultless; due = due }, h.1)
+settled_answers words order asked call AllInputs result text bytes read faultless due (inr h) =
+    rw h.0 (bytes, inl (record { order = order; asked = asked; text = text; read = read; faultless = faultless; due = due }), h.1, h.2)
+settled_answers words order asked call SomeInputs result text bytes read faultless due (inl h) =
+    rw h.0 (bytes, record { order = order; asked = asked; text = text; read = read; faultless = faultless; due = due }, h.1)
+settled_answers words order asked call SomeInputs result text bytes read faultless due (inr h) =
+    rw h.0 (bytes, inr (record { order = order; asked = asked; text = text; read = read; faultless = faultless; due = due }), h.1, h.2)
+settled_answers words order asked call Program result text bytes read faultless due (inl h) =
+    rw h.0 (bytes, record { order = order; asked = asked; text = text; read = read; faultless = faultless; due = due }, inl h.1)
+settled_answers words order asked call Program result text bytes read faultless due (inr h) =
+    rw h.0 (bytes, record { order = order; asked = asked; text = text; read = read; faultless = faultless; due = due }, inr (h.1, h.2))
+settled_answers words order asked call Words result text bytes read faultless due settled = absurd due
+settled_answers words order asked call Formula result text bytes read faultless due settled = absurd due
+settled_answers words order asked call ReadFault result text bytes read faultless due settled = absurd due
+settled_answers words order asked call WriteFault result text bytes read faultless due settled = absurd due
+settled_answers words order asked call NoMemory result text bytes read faultless due settled = absurd due
 
 -- words that are refused got the usage line
-pub refused_answers : (call : Call) (result : Status)
-    → Settles Words result usage_text call.taken call.taken_after call.write_faults call.write_faults_after → (result ≡ Words) × Answers result call
-refused_answers call result (inl h) = (h.0, rw h.0 (inl h.1))
-refused_answers call result (inr h) = (h.0, rw h.0 (inr (h.1, h.2)))
+pub refused_answers : (words : List Bytes) (call : Call) (result : Status)
+    → Settles Words result usage_text call.taken call.taken_after call.write_faults call.write_faults_after → (result ≡ Words) × Answers words result call
+refused_answers words call result (inl h) = (h.0, rw h.0 (inl h.1))
+refused_answers words call result (inr h) = (h.0, rw h.0 (inr (h.1, h.2)))
 
 -- what is due on a text comes with another status than refused words
-due_accepts : (status result : Status) (text bytes : Bytes) → IsDueOn text status bytes → (result ≡ status) ⊎ (result ≡ after_failing status) → result ≢ Words
-due_accepts AllInputs result text bytes due (inl is) e = let clash : AllInputs ≡ Words = sym is ∙ e in absurd (cc)
-due_accepts AllInputs result text bytes due (inr is) e = let clash : WriteFault ≡ Words = sym is ∙ e in absurd (cc)
-due_accepts SomeInputs result text bytes due (inl is) e = let clash : SomeInputs ≡ Words = sym is ∙ e in absurd (cc)
-due_accepts SomeInputs result text bytes due (inr is) e = let clash : WriteFault ≡ Words = sym is ∙ e in absurd (cc)
-due_accepts Program result text bytes due (inl is) e = let clash : Program ≡ Words = sym is ∙ e in absurd (cc)
-due_accepts Program result text bytes due (inr is) e = let clash : Program ≡ Words = sym is ∙ e in absurd (cc)
-due_accepts Words result text bytes due is e = due
-due_accepts Formula result text bytes due is e = due
-due_accepts ReadFault result text bytes due is e = due
-due_accepts WriteFault result text bytes due is e = due
-due_accepts NoMemory result text bytes due is e = due
+due_accepts : (order : Order) (status result : Status) (text bytes : Bytes) → IsDueOn order text status bytes → (result ≡ status) ⊎ (result ≡ after_failing status) → result ≢ Words
+due_accepts order AllInputs result text bytes due (inl is) e = let clash : AllInputs ≡ Words = sym is ∙ e in absurd (cc)
+due_accepts order AllInputs result text bytes due (inr is) e = let clash : WriteFault ≡ Words = sym is ∙ e in absurd (cc)
+due_accepts order SomeInputs result text bytes due (inl is) e = let clash : SomeInputs ≡ Words = sym is ∙ e in absurd (cc)
+due_accepts order SomeInputs result text bytes due (inr is) e = let clash : WriteFault ≡ Words = sym is ∙ e in absurd (cc)
+due_accepts order Program result text bytes due (inl is) e = let clash : Program ≡ Words = sym is ∙ e in absurd (cc)
+due_accepts order Program result text bytes due (inr is) e = let clash : Program ≡ Words = sym is ∙ e in absurd (cc)
+due_accepts order Words result text bytes due is e = due
+due_accepts order Formula result text bytes due is e = due
+due_accepts order ReadFault result text bytes due is e = due
+due_accepts order WriteFault result text bytes due is e = due
+due_accepts order NoMemory result text bytes due is e = due
 
-pub settled_accepts : (status result : Status) (text bytes : Bytes) (taken taken' : Option Bytes) (writes writes' : ℕ) → IsDueOn text status bytes
+pub settled_accepts : (order : Order) (status result : Status) (text bytes : Bytes) (taken taken' : Option Bytes) (writes writes' : ℕ) → IsDueOn order text status bytes
     → Settles status result bytes taken taken' writes writes' → result ≢ Words
-settled_accepts status result text bytes taken taken' writes writes' due (inl h) = due_accepts status result text bytes due (inl h.0)
-settled_accepts status result text bytes taken taken' writes writes' due (inr h) = due_accepts status result text bytes due (inr h.0)
+settled_accepts order status result text bytes taken taken' writes writes' due (inl h) = due_accepts order status result text bytes due (inl h.0)
+settled_accepts order status result text bytes taken taken' writes writes' due (inr h) = due_accepts order status result text bytes due (inr h.0)
 
 -- no other status is left for the text of a program within the limits
-not_refused : (left : Option Bytes) (told text : Bytes) (names : List Bytes) (body : Statements) (bytes : Bytes) → left ≡ Some told → IsRead left text
-    → IsTextOf told names body → IsWithinLimits told → IsDueOn text Program bytes → ⊥
-not_refused left told text names body bytes is read h limits (inl long) =
+not_refused : (order : Order) (left : Option Bytes) (told text : Bytes) (names : List Bytes) (body : Statements) (bytes : Bytes) → left ≡ Some told → IsRead left text
+    → IsTextOf told names body → IsWithinLimits told → IsDueOn order text Program bytes → ⊥
+not_refused order left told text names body bytes is read h limits (inl long) =
     let same = told_read left text told read is in
     let fits : length text ≤ 65536 = subst (λ t. length t ≤ 65536) same limits.short in
     let over = long.long in
     omega (arith, fits, over)
-not_refused left told text names body bytes is read h limits (inr (inl other)) =
+not_refused order left told text names body bytes is read h limits (inr (inl other)) =
     other.none names body (subst (λ t. IsTextOf t names body) (told_read left text told read is) h)
-not_refused left told text names body bytes is read h limits (inr (inr past)) =
+not_refused order left told text names body bytes is read h limits (inr (inr past)) =
     limits.graph bytes (subst (λ t. IsPastLimits t bytes) (sym (told_read left text told read is)) past)
 
-pub complete : {W : Type 0} (words : List W) (status : Status) (call : Call) → status ≢ Words → Answers status call → IsComplete words status call
+pub complete : (words : List Bytes) (status : Status) (call : Call) → status ≢ Words → Answers words status call → IsComplete words status call
 complete words AllInputs call accepted h order text names body asked is program limits reads writes = inl refl
 complete words SomeInputs call accepted h order text names body asked is program limits reads writes = inr (inl refl)
 complete words NoMemory call accepted h order text names body asked is program limits reads writes = inr (inr refl)
 complete words Words call accepted h order text names body asked is program limits reads writes = absurd (accepted refl)
 complete words Program call accepted h order text names body asked is program limits reads writes =
-    absurd (not_refused call.left text h.1.text names body h.0 is h.1.read program limits h.1.due)
+    absurd (not_refused h.1.order call.left text h.1.text names body h.0 is h.1.read program limits h.1.due)
 complete words Formula call accepted h order text names body asked is program limits reads writes = absurd h
 complete words ReadFault call accepted h order text names body asked is program limits reads writes = absurd (reads h.0)
 complete words WriteFault call accepted h order text names body asked is program limits reads writes = absurd (writes h.3)
@@ -252,21 +254,21 @@ none_unknown (stands {path} {claim} {line} {leaves} {lines} is more) all =
     let claims : is_unknown line.claim ≡ false = ap is_unknown is.claims ∙ All-head Claims (path, claim) leaves all in
     rw claims (none_unknown more (All-tail Claims (path, claim) leaves all))
 
-covered : (names : List Bytes) (body : Statements) (report : Report) → IsReportOf names body report → IsCountdown body → report.unknown ≡ []
-covered names body report due counts =
-    ap (λ (r : Report). r.unknown) due.sections ∙ none_unknown due.lines_of (all_claim [] due.tree (due.countdown counts))
+covered : (order : Order) (names : List Bytes) (body : Statements) (report : Report) → IsReportOf order names body report → IsCountdown body → report.unknown ≡ []
+covered order names body report due counts =
+    due.unknown ∙ none_unknown due.lines_of (all_claim [] due.tree (due.countdown counts))
 
-pub covers_countdowns : KnownTexts → (status : Status) (call : Call) → Answers status call → CoversCountdowns status call
-covers_countdowns known SomeInputs call h told names body is program counts same =
+pub covers_countdowns : KnownTexts → (words : List Bytes) (status : Status) (call : Call) → Answers words status call → CoversCountdowns status call
+covers_countdowns known words SomeInputs call h told names body is program counts same =
     let due = h.1.due in
     let own = known.unique h.1.text names due.1.names body due.1.body
     (subst (λ t. IsTextOf t names body) (told_read call.left h.1.text told h.1.read is) program) due.1.program
     in
-    due.2 (covered due.1.names due.1.body due.0 due.1.due (subst IsCountdown own.1 counts))
-covers_countdowns known AllInputs call h told names body is program counts same = cc
-covers_countdowns known Words call h told names body is program counts same = cc
-covers_countdowns known Program call h told names body is program counts same = cc
-covers_countdowns known Formula call h told names body is program counts same = cc
-covers_countdowns known ReadFault call h told names body is program counts same = cc
-covers_countdowns known WriteFault call h told names body is program counts same = cc
-covers_countdowns known NoMemory call h told names body is program counts same = cc
+    due.2 (covered h.1.order due.1.names due.1.body due.0 due.1.due (subst IsCountdown own.1 counts))
+covers_countdowns known words AllInputs call h told names body is program counts same = cc
+covers_countdowns known words Words call h told names body is program counts same = cc
+covers_countdowns known words Program call h told names body is program counts same = cc
+covers_countdowns known words Formula call h told names body is program counts same = cc
+covers_countdowns known words ReadFault call h told names body is program counts same = cc
+covers_countdowns known words WriteFault call h told names body is program counts same = cc
+covers_countdowns known words NoMemory call h told names body is program counts same = cc

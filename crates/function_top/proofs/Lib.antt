@@ -1,5 +1,7 @@
 pub mod Endings
 pub mod Written
+pub mod OnlyMet
+pub mod ExactLines
 pub mod Truth
 pub mod Formed
 pub mod Named
@@ -8,4 +10,5 @@ pub mod Headline
 pub mod Running
 pub mod Reported
 pub mod Once
+pub mod Choices
 mod Refusing

@@ -14,12 +14,14 @@ use Rattle.decision_tree.specs.declared.affine_rank.AffineRank.{AffineRank}
 use Rattle.decision_tree.specs.Plans.{Plan, bottom, branch, leaf, top}
 use Rattle.count_down.specs.Trees as trees
 use Rattle.line_text.specs.declared.claim.Claim.{Claim}
-use Rattle.line_text.specs.declared.claim.Claim.TheVariants.{Unknown, Within}
+use Rattle.decision_tree.specs.declared.reason.Why.{Why}
+use Rattle.line_text.specs.declared.claim.Claim.TheVariants.{Unknown}
 use Rattle.line_text.specs.Names.{IsOver}
 use Rattle.line_text.specs.Spells.{IsClaimOver}
 use Rattle.report_text.specs.declared.line.Line.{Line}
-use Rattle.report_text.specs.declared.line.Top.TheVariants.{Bound}
-use Rattle.report_text.specs.Leaves.{AreLines, AreLinesOf, IsLineOf, leaves_below, none, skipped, stands}
+use Rattle.report_text.specs.declared.line.Top.{Top}
+use Rattle.report_text.specs.declared.line.Top.TheVariants.{Bound, Exact, Plain}
+use Rattle.report_text.specs.Leaves.{AreLines, AreLinesOf, IsLineOf, claim_of, leaves_below, none, skipped, stands}
 use Rattle.report_text.specs.Printed.{IsLineOver}
 use Rattle.function_top.specs.Analysis.{IsTreeOver}
 
@@ -47,15 +49,20 @@ module _ (names : List (List ℕ)) where
   one_over : (path : List Affine) (claim : Claim) → All (IsOver names) path → IsClaimOver names claim → All IsLeafOver ((path, claim) ∷ [])
   one_over path claim over claims = All-cons IsLeafOver (path, claim) [] (record { path = over; claim = claims }) (All-nil IsLeafOver)
 
-  leaves_over : (above : List Affine) (tree : Plan AffineRank) → All (IsOver names) above → IsTreeOver names tree
-      → All IsLeafOver (leaves_below Bound above tree)
-  leaves_over above bottom over tree = one_over above Unknown over tt
-  leaves_over above (top cause) over tree = one_over above Unknown over tt
-  leaves_over above (leaf why rank) over tree = one_over above (Within rank.value) over tree
-  leaves_over above (branch row this that) over tree =
-      All-append IsLeafOver (leaves_below Bound (above ++ row.affine ∷ []) this) (leaves_below Bound (above ++ complement_of row.affine ∷ []) that)
-      (leaves_over (above ++ row.affine ∷ []) this (All-push (IsOver names) above row.affine over tree.0) tree.1)
-      (leaves_over (above ++ complement_of row.affine ∷ []) that
+  claim_over : (claims : Top) (why : Why) (rank : AffineRank) → IsOver names rank.value → IsClaimOver names (claim_of claims rank)
+  claim_over Exact why rank over = tt
+  claim_over Bound why rank over = over
+  claim_over Plain why rank over = tt
+
+  leaves_over : (claims : Top) (above : List Affine) (tree : Plan AffineRank) → All (IsOver names) above → IsTreeOver names tree
+      → All IsLeafOver (leaves_below claims above tree)
+  leaves_over claims above bottom over tree = one_over above Unknown over tt
+  leaves_over claims above (top cause) over tree = one_over above Unknown over tt
+  leaves_over claims above (leaf why rank) over tree = one_over above (claim_of claims rank) over (claim_over claims why rank tree)
+  leaves_over claims above (branch row this that) over tree =
+      All-append IsLeafOver (leaves_below claims (above ++ row.affine ∷ []) this) (leaves_below claims (above ++ complement_of row.affine ∷ []) that)
+      (leaves_over claims (above ++ row.affine ∷ []) this (All-push (IsOver names) above row.affine over tree.0) tree.1)
+      (leaves_over claims (above ++ complement_of row.affine ∷ []) that
       (All-push (IsOver names) above (complement_of row.affine) over (complement_over row.affine tree.0)) tree.2)
 
   line_over : (path : List Affine) (claim : Claim) (line : Line) → IsLineOf path claim line → IsLeafOver (path, claim) → IsLineOver names line
@@ -81,5 +88,6 @@ module _ (names : List (List ℕ)) where
   tree_over few (branch row this that) is =
       (record { few = few; places = is.0.places; past = is.0.past }, tree_over few this is.1, tree_over few that is.2)
 
-  pub tree_lines_over : (tree : Plan AffineRank) (lines : List Line) → IsTreeOver names tree → AreLinesOf Bound tree lines → All (IsLineOver names) lines
-  tree_lines_over tree lines over are = lines_over are (leaves_over [] tree (All-nil (IsOver names)) over)
+  pub tree_lines_over : (claims : Top) (tree : Plan AffineRank) (lines : List Line) → IsTreeOver names tree → AreLinesOf claims tree lines
+      → All (IsLineOver names) lines
+  tree_lines_over claims tree lines over are = lines_over are (leaves_over claims [] tree (All-nil (IsOver names)) over)

@@ -1,5 +1,5 @@
 -- What the command writes is true, line by line.
-use Rattle.std.proofs.Common.{◌≡◌, ℕ, pos, ◌≤ℤ◌, inl, inr, not, List, [], ◌∷◌, ◌++◌, length, All, Contains, codes, refl, sym, subst, arith, append_assoc}
+use Rattle.std.proofs.Common.{◌≡◌, ℕ, pos, ◌≤ℤ◌, not, List, [], ◌∷◌, ◌++◌, length, All, Contains, codes, refl, sym, ap, ◌∙◌, subst, arith, append_assoc}
 use Rattle.std.specs.Prelude.{IsPermutation}
 use Rattle.std.proofs.lemmas.List.Elements.{All-cons, All-filter, All-nil}
 use Rattle.std.proofs.lemmas.List.Sorted.{All-permutation, IsPermutation-sym}
@@ -20,17 +20,27 @@ use Rattle.line_text.specs.Numeral.{numeral}
 use Rattle.line_text.specs.Spells.{EndsAsLine, MeetsCondition, Spells}
 use Rattle.line_text.proofs.Words.{numeral_is_numeral}
 use Rattle.report_text.specs.declared.line.Line.{Line}
-use Rattle.report_text.specs.declared.line.Top.TheVariants.{Bound}
+use Rattle.report_text.specs.declared.line.Top.{Top}
+use Rattle.report_text.specs.declared.line.Top.TheVariants.{Bound, Exact}
+use Rattle.report_text.specs.declared.report.Header.{Header}
+use Rattle.report_text.specs.declared.report.Header.TheVariants.{Absent, Partial, Stopped, Whole}
+use Rattle.report_text.specs.declared.report.Stop.{Stop}
+use Rattle.report_text.specs.declared.report.Stop.TheVariants.{NotPlain, TooManyNodes, WideNumbers}
 use Rattle.report_text.specs.declared.report.Report.{Report}
-use Rattle.report_text.specs.Leaves.{AreLinesOf, NoneOf, OneOf, claim_at, claiming, claiming_nothing, is_unknown}
-use Rattle.report_text.specs.Printed.{IsReportText}
+use Rattle.report_text.specs.Leaves.{AreLinesOf, claim_at, is_unknown}
+use Rattle.report_text.specs.Printed.{IsReportText, cause_text, exact_part}
 use Rattle.report_text.proofs.Standing.{one_line_met}
 use Rattle.ctl_rounds.specs.Bounds.{BoundsInputs}
+use Rattle.function_top.specs.declared.order.Order.{Order}
 use Rattle.function_top.specs.Analysis.{IsReportOf}
+use Rattle.function_top.specs.Exact.{IsExact, IsExactLevel}
 use Rattle.function_top.specs.Refusals.{fault_line, fault_text, usage_line, usage_text}
 use Rattle.function_top.specs.TrueLine.{IsTrueAt, TrueLine}
-use Rattle.function_top.proofs.Endings.{digit_last, other_last, t_before_last}
-use Rattle.function_top.proofs.Written.{Bytes, EachWhole, Frames, Lacks, Prints, both_lack, digits_lack, one_good, report_holds, tested}
+use Rattle.unroll.specs.Levels.{RanksCount}
+use Rattle.function_top.proofs.Endings.{colon_last, digit_last, other_before_s, other_last}
+use Rattle.function_top.proofs.ExactLines.{ranks_at}
+use Rattle.function_top.proofs.OnlyMet.{met_is_one}
+use Rattle.function_top.proofs.Written.{Bytes, EachWhole, Frames, Lacks, Prints, both_lack, digits_lack, one_good, partial_line, report_holds, stopped_line, tested, whole_line}
 
 -- what is known of the lines over the names
 pub record KnownLines (names : List Bytes) : Type 0 where
@@ -62,17 +72,6 @@ fault_lacks number place =
 abbrev pub SaysTrue : List Bytes → Statements → Bytes → Type 0
 SaysTrue names body line = (condition : List Affine) (claim : Claim) → Spells names line condition claim → TrueLine names body condition claim
 
--- what is met of a list of which exactly one is met is that one
-module _ {X : Type 0} (Met Is : X → Type 0) where
-  unmet : (xs : List X) → NoneOf Met xs → All (λ x. Met x → Is x) xs
-  unmet [] none = All-nil (λ x. Met x → Is x)
-  unmet (x ∷ xs) none = All-cons (λ x. Met x → Is x) x xs (λ met. absurd (none.0 met)) (unmet xs none.1)
-
-  met_is_one : (xs : List X) → OneOf Met Is xs → All (λ x. Met x → Is x) xs
-  met_is_one [] one = absurd one
-  met_is_one (x ∷ xs) (inl here) = All-cons (λ x. Met x → Is x) x xs (λ met. here.1) (unmet xs here.2)
-  met_is_one (x ∷ xs) (inr later) = All-cons (λ x. Met x → Is x) x xs (λ met. absurd (later.0 met)) (met_is_one xs later.1)
-
 module _ (names : List Bytes) (body : Statements) (ending : EndAsLines) where
   -- a line that ends otherwise says nothing
   silent : (line : Bytes) → (EndsAsLine line → ⊥) → SaysTrue names body line
@@ -91,29 +90,73 @@ module _ (names : List Bytes) (body : Statements) (ending : EndAsLines) where
       (subst (λ line. EndsAsLine line → ⊥) (sym (fault_is number place)) (digit_last (fault_front number) (numeral place) digits.0 digits.1)))
       refl
 
+  stop_silent : (cause : Stop) → SaysTrue names body (stopped_line cause)
+  stop_silent WideNumbers =
+      silent (codes "exact: wide numbers") (other_before_s (codes "exact: wide numbers") refl (λ e. omega arith) (λ e. omega arith))
+  stop_silent TooManyNodes =
+      silent (codes "exact: too many nodes") (other_before_s (codes "exact: too many nodes") refl (λ e. omega arith) (λ e. omega arith))
+  stop_silent NotPlain =
+      silent (codes "exact: not a plain program")
+      (other_last (codes "exact: not a plain program") (λ e. omega arith) (λ e. omega arith) (λ e. omega arith))
+
+  -- a header says nothing
+  colon_silent : (front line : Bytes) → line ≡ front ++ 58 ∷ [] → SaysTrue names body line
+  colon_silent front line is = silent line (subst (λ l. EndsAsLine l → ⊥) (sym is) (colon_last front))
+
+  headers_silent : (header : Header) → All (SaysTrue names body) (exact_part header [])
+  headers_silent Absent = All-nil (SaysTrue names body)
+  headers_silent (Whole tests) =
+      All-cons (SaysTrue names body) (whole_line tests) []
+      (colon_silent (codes "exact, " ++ (numeral tests ++ codes " tests")) (whole_line tests) (simp append_assoc)) (All-nil (SaysTrue names body))
+  headers_silent (Partial tests cause) =
+      All-cons (SaysTrue names body) (partial_line tests cause) []
+      (colon_silent (codes "exact, " ++ (numeral tests ++ (codes " tests, then " ++ cause_text cause))) (partial_line tests cause) (simp append_assoc))
+      (All-nil (SaysTrue names body))
+  headers_silent (Stopped cause) = All-cons (SaysTrue names body) (stopped_line cause) [] (stop_silent cause) (All-nil (SaysTrue names body))
+
   frames : Frames (SaysTrue names body)
   frames = record {
+    exact = λ header. headers_silent header;
     proved = silent (codes "proved:") (other_last (codes "proved:") (λ e. omega arith) (λ e. omega arith) (λ e. omega arith));
     unknown = silent (codes "unknown:") (other_last (codes "unknown:") (λ e. omega arith) (λ e. omega arith) (λ e. omega arith));
-    all_inputs = silent (codes "verdict: all inputs") (t_before_last (codes "verdict: all inputs") refl);
-    some_inputs = silent (codes "verdict: some inputs") (t_before_last (codes "verdict: some inputs") refl);
+    all_inputs = silent (codes "verdict: all inputs") (other_before_s (codes "verdict: all inputs") refl (λ e. omega arith) (λ e. omega arith));
+    some_inputs = silent (codes "verdict: some inputs") (other_before_s (codes "verdict: some inputs") refl (λ e. omega arith) (λ e. omega arith));
   }
 
-  -- what a leaf claims is true of each input that stands there
-  leaf_true : (tree end : Plan AffineRank) (input : Store) → BoundsInputs (length names) body tree → IsInput (length names) input → eval tree input ≡ end
+  -- what the leaf claims where an input stands is true of it
+  abbrev IsTrueTree : Top → Plan AffineRank → Type 0
+  IsTrueTree claims tree = (input : Store) → IsInput (length names) input → IsTrueAt (claim_at claims (eval tree input)) input (start body input)
+
+  bound_true : (tree end : Plan AffineRank) (input : Store) → BoundsInputs (length names) body tree → IsInput (length names) input → eval tree input ≡ end
       → IsTrueAt (claim_at Bound end) input (start body input)
-  leaf_true tree bottom input bounds is_input is = tt
-  leaf_true tree (top cause) input bounds is_input is = tt
-  leaf_true tree (leaf why rank) input bounds is_input is = bounds input why rank is_input is
-  leaf_true tree (branch row this that) input bounds is_input is = tt
+  bound_true tree bottom input bounds is_input is = tt
+  bound_true tree (top cause) input bounds is_input is = tt
+  bound_true tree (leaf why rank) input bounds is_input is = bounds input why rank is_input is
+  bound_true tree (branch row this that) input bounds is_input is = tt
+
+  bounds_true : (tree : Plan AffineRank) → BoundsInputs (length names) body tree → IsTrueTree Bound tree
+  bounds_true tree bounds input is_input = bound_true tree (eval tree input) input bounds is_input refl
+
+  counted_true : (tests : ℕ) (lines : List Line) (level : IsExactLevel names body tests lines) (input : Store) → IsInput (length names) input
+      → (end : Plan AffineRank) → RanksCount end → eval level.tree input ≡ end → IsTrueAt (claim_at Exact end) input (start body input)
+  counted_true tests lines level input is_input bottom counts is = tt
+  counted_true tests lines level input is_input (top cause) counts is = tt
+  counted_true tests lines level input is_input (leaf why rank) counts is =
+      let claimed = (level.exact input is_input counts.0).0 (why, is ∙ ap (leaf why) counts.1) in
+      subst (λ (r : AffineRank). IsTrueAt (claim_at Exact (leaf why r)) input (start body input)) (sym counts.1) claimed.longest
+  counted_true tests lines level input is_input (branch row this that) counts is = tt
+
+  exact_true : (tests : ℕ) (lines : List Line) (level : IsExactLevel names body tests lines) → IsTrueTree Exact level.tree
+  exact_true tests lines level input is_input =
+      counted_true tests lines level input is_input (eval level.tree input) (ranks_at level.tree input level.ranks) refl
 
   -- the claim of a line that an input meets is that of the leaf where the input stands
-  claim_is : (tree : Plan AffineRank) (lines : List Line) (line : Line) (input : Store) → AreLinesOf Bound tree lines → Contains lines line
-      → MeetsAll input line.rows → line.claim ≡ claim_at Bound (eval tree input)
-  claim_is tree lines line input are member met =
-      let Is : Line → Type 0 = λ (line : Line). line.claim ≡ claim_at Bound (eval tree input) in
+  claim_is : (claims : Top) (tree : Plan AffineRank) (lines : List Line) (line : Line) (input : Store) → AreLinesOf claims tree lines
+      → Contains lines line → MeetsAll input line.rows → line.claim ≡ claim_at claims (eval tree input)
+  claim_is claims tree lines line input are member met =
+      let Is : Line → Type 0 = λ (line : Line). line.claim ≡ claim_at claims (eval tree input) in
       member_of (λ (line : Line). MeetsAll input line.rows → Is line) lines line
-      (met_is_one (λ (line : Line). MeetsAll input line.rows) Is lines (one_line_met Bound input tree lines are)) member met
+      (met_is_one (λ (line : Line). MeetsAll input line.rows) Is lines (one_line_met claims input tree lines are)) member met
 
   condition_met : (rows sorted : List Row) (input : Store) → IsPermutation rows sorted → MeetsCondition input (functions_of sorted) → MeetsAll input rows
   condition_met rows sorted input same met =
@@ -122,25 +165,42 @@ module _ (names : List Bytes) (body : Statements) (ending : EndAsLines) where
       (λ row member. member_of (λ a. pos 0 ≤ℤ value_at a input) (functions_of sorted) row.affine met (in_map (λ (row : Row). row.affine) sorted row member)))
 
   module _ (known : KnownLines names) where
-    -- a line of a tree that bounds the runs is true
-    line_true : (tree : Plan AffineRank) (lines : List Line) → BoundsInputs (length names) body tree → AreLinesOf Bound tree lines → (line : Line)
+    -- a line of a tree whose claims are true is true
+    line_true : (claims : Top) (tree : Plan AffineRank) (lines : List Line) → IsTrueTree claims tree → AreLinesOf claims tree lines → (line : Line)
         → Contains lines line → Prints (SaysTrue names body) frames names known.newline line
-    line_true tree lines bounds are line member text is condition claim s =
+    line_true claims tree lines truth are line member text is condition claim s =
         let same = known.one text (functions_of is.condition) condition line.claim claim is.spells s in
         subst (λ k. TrueLine names body k claim) same.0
         (subst (λ k. TrueLine names body (functions_of is.condition) k) same.1
         (record {
           holds = λ input is_input met.
               subst (λ k. IsTrueAt k input (start body input))
-              (sym (claim_is tree lines line input are member (condition_met line.rows is.condition input is.same met)))
-              (leaf_true tree (eval tree input) input bounds is_input refl);
+              (sym (claim_is claims tree lines line input are member (condition_met line.rows is.condition input is.same met)))
+              (truth input is_input);
         }))
 
-    pub report_true : (report : Report) (text : Bytes) → IsReportOf names body report → IsReportText names report text → EachWhole (SaysTrue names body) text
-    report_true report text due printed =
-        let P = Prints (SaysTrue names body) frames names known.newline in
-        let all = all_of P due.lines (line_true due.tree due.lines due.bounds due.lines_of) in
-        report_holds (SaysTrue names body) frames names known.newline (claiming due.lines) (claiming_nothing due.lines) text
-        (All-filter (λ line. not (is_unknown line.claim)) P due.lines all)
-        (All-filter (λ line. is_unknown line.claim) P due.lines all)
-        (subst (λ r. IsReportText names r text) due.sections printed)
+    -- of each line of a report
+    abbrev Printed : Line → Type 0
+    Printed line = Prints (SaysTrue names body) frames names known.newline line
+
+    level_true : (tests : ℕ) (lines : List Line) → IsExactLevel names body tests lines → All Printed lines
+    level_true tests lines level =
+        subst (All Printed) (sym level.claims)
+        (All-filter (λ line. not (is_unknown line.claim)) Printed level.all
+        (all_of Printed level.all (line_true Exact level.tree level.all (exact_true tests lines level) level.lines_of)))
+
+    exact_lines_true : (delay : ℕ) (header : Header) (lines : List Line) → IsExact names body delay header lines → All Printed lines
+    exact_lines_true delay (Whole tests) lines is = level_true tests lines is.2
+    exact_lines_true delay (Partial tests cause) lines is = level_true tests lines is.3
+    exact_lines_true delay (Stopped cause) lines is = subst (All Printed) (sym is.1) (All-nil Printed)
+    exact_lines_true delay Absent lines is = absurd is
+
+    pub report_true : (order : Order) (report : Report) (text : Bytes) → IsReportOf order names body report → IsReportText names report text
+        → EachWhole (SaysTrue names body) text
+    report_true order report text due printed =
+        let all = all_of Printed due.lines (line_true Bound due.tree due.lines (bounds_true due.tree due.bounds) due.lines_of) in
+        report_holds (SaysTrue names body) frames names known.newline report text due.unexplained
+        (exact_lines_true order.delay report.header report.exact due.exact)
+        (subst (All Printed) (sym due.proved) (All-filter (λ line. not (is_unknown line.claim)) Printed due.lines all))
+        (subst (All Printed) (sym due.unknown) (All-filter (λ line. is_unknown line.claim) Printed due.lines all))
+        printed

@@ -12,11 +12,16 @@ use Rattle.line_text.specs.declared.claim.Claim.{Claim}
 use Rattle.line_text.specs.LineText.{functions_of}
 use Rattle.line_text.specs.Spells.{Spells}
 use Rattle.report_text.specs.declared.line.Line.{Line}
-use Rattle.report_text.specs.declared.report.Header.TheVariants.{Absent}
-use Rattle.report_text.specs.Printed.{AreTextsOf, IsReportText, IsTextOf, ended_lines, report_lines, verdict_line}
+use Rattle.line_text.specs.Numeral.{numeral}
+use Rattle.line_text.proofs.Words.{numeral_is_numeral}
+use Rattle.report_text.specs.declared.report.Header.{Header}
+use Rattle.report_text.specs.declared.report.Header.TheVariants.{Absent, Partial, Stopped, Whole}
+use Rattle.report_text.specs.declared.report.Report.{Report}
+use Rattle.report_text.specs.declared.report.Stop.{Stop}
+use Rattle.report_text.specs.declared.report.Stop.TheVariants.{NotPlain, TooManyNodes, WideNumbers}
+use Rattle.report_text.specs.Printed.{AreExactTexts, AreTextsOf, IsReportText, IsTextOf, cause_text, ended_lines, exact_part, report_lines, verdict_line}
 use Rattle.report_text.specs.Sections.{IsWholeLine, lines_after, whole_lines}
 use Rattle.report_text.proofs.Cutting.{whole_lines_are}
-use Rattle.function_top.specs.Analysis.{plain_report}
 
 abbrev pub Bytes : Type 0
 Bytes = List ℕ
@@ -75,6 +80,40 @@ digits_lack (digit ∷ more) h =
 pub both_lack : (xs ys : Bytes) → Lacks xs → Lacks ys → Lacks (xs ++ ys)
 both_lack = All-append (λ byte. byte ≢ 10)
 
+-- ---- headers
+
+abbrev pub whole_line : ℕ → Bytes
+whole_line tests = codes "exact, " ++ (numeral tests ++ codes " tests:")
+
+abbrev pub partial_line : ℕ → Stop → Bytes
+partial_line tests cause = codes "exact, " ++ (numeral tests ++ (codes " tests, then " ++ (cause_text cause ++ codes ":")))
+
+abbrev pub stopped_line : Stop → Bytes
+stopped_line cause = codes "exact: " ++ cause_text cause
+
+numeral_lacks : (n : ℕ) → Lacks (numeral n)
+numeral_lacks n = digits_lack (numeral n) (numeral_is_numeral n).1
+
+cause_lacks : (cause : Stop) → Lacks (cause_text cause)
+cause_lacks WideNumbers = tested (codes "wide numbers") refl
+cause_lacks TooManyNodes = tested (codes "too many nodes") refl
+cause_lacks NotPlain = tested (codes "not a plain program") refl
+
+whole_lacks : (tests : ℕ) → Lacks (whole_line tests)
+whole_lacks tests =
+    both_lack (codes "exact, ") (numeral tests ++ codes " tests:") (tested (codes "exact, ") refl)
+    (both_lack (numeral tests) (codes " tests:") (numeral_lacks tests) (tested (codes " tests:") refl))
+
+partial_lacks : (tests : ℕ) (cause : Stop) → Lacks (partial_line tests cause)
+partial_lacks tests cause =
+    both_lack (codes "exact, ") (numeral tests ++ (codes " tests, then " ++ (cause_text cause ++ codes ":"))) (tested (codes "exact, ") refl)
+    (both_lack (numeral tests) (codes " tests, then " ++ (cause_text cause ++ codes ":")) (numeral_lacks tests)
+    (both_lack (codes " tests, then ") (cause_text cause ++ codes ":") (tested (codes " tests, then ") refl)
+    (both_lack (cause_text cause) (codes ":") (cause_lacks cause) (tested (codes ":") refl))))
+
+stopped_lacks : (cause : Stop) → Lacks (stopped_line cause)
+stopped_lacks cause = both_lack (codes "exact: ") (cause_text cause) (tested (codes "exact: ") refl) (cause_lacks cause)
+
 -- ---- what holds of each line
 
 module _ (P : Bytes → Type 0) where
@@ -103,8 +142,9 @@ module _ (P : Bytes → Type 0) where
   pub of_nothing : EachWhole []
   of_nothing line whole = absurd (none_in_none line whole)
 
-  -- of the lines that frame a report without an exact part and an explanation
+  -- of the lines that frame a report without an explanation
   pub record Frames : Type 0 where
+    pub exact : (header : Header) → All P (exact_part header [])
     pub proved : P (codes "proved:")
     pub unknown : P (codes "unknown:")
     pub all_inputs : P (codes "verdict: all inputs")
@@ -123,14 +163,16 @@ module _ (P : Bytes → Type 0) where
     good_verdict [] = good_frame (codes "verdict: all inputs") refl frames.all_inputs
     good_verdict (line ∷ more) = good_frame (codes "verdict: some inputs") refl frames.some_inputs
 
-    good_lines : (proved unknown : List Bytes) → All IsGood proved → All IsGood unknown → All IsGood (report_lines Absent [] proved unknown None)
-    good_lines proved unknown first second =
+    good_lines : (header : Header) (exact proved unknown : List Bytes) → All IsGood (exact_part header exact) → All IsGood proved → All IsGood unknown
+        → All IsGood (report_lines header exact proved unknown None)
+    good_lines header exact proved unknown front first second =
         let last = All-cons IsGood (verdict_line unknown) [] (good_verdict unknown) (All-nil IsGood) in
         let behind = All-append IsGood unknown (verdict_line unknown ∷ []) second last in
-        All-cons IsGood (codes "proved:") (proved ++ (codes "unknown:" ∷ (unknown ++ (verdict_line unknown ∷ []))))
+        All-append IsGood (exact_part header exact) (codes "proved:" ∷ (proved ++ (codes "unknown:" ∷ (unknown ++ (verdict_line unknown ∷ []))))) front
+        (All-cons IsGood (codes "proved:") (proved ++ (codes "unknown:" ∷ (unknown ++ (verdict_line unknown ∷ []))))
         (good_frame (codes "proved:") refl frames.proved)
         (All-append IsGood proved (codes "unknown:" ∷ (unknown ++ (verdict_line unknown ∷ []))) first
-        (All-cons IsGood (codes "unknown:") (unknown ++ (verdict_line unknown ∷ [])) (good_frame (codes "unknown:") refl frames.unknown) behind))
+        (All-cons IsGood (codes "unknown:") (unknown ++ (verdict_line unknown ∷ [])) (good_frame (codes "unknown:") refl frames.unknown) behind)))
 
     good_zipped : (lines : List Line) (texts : List Bytes) → All Prints lines → AllZip (λ line text. IsTextOf names line text) lines texts
         → All IsGood texts
@@ -148,10 +190,25 @@ module _ (P : Bytes → Type 0) where
     good_texts : (lines : List Line) (texts : List Bytes) → All Prints lines → AreTextsOf names lines texts → All IsGood texts
     good_texts lines texts h are = All-permutation IsGood are.unsorted texts are.same (good_zipped lines are.unsorted h are.each)
 
-    pub report_holds : (proved unknown : List Line) (text : Bytes) → All Prints proved → All Prints unknown
-        → IsReportText names (plain_report proved unknown) text → EachWhole text
-    report_holds proved unknown text first second printed =
-        each_good (report_lines Absent [] printed.proved printed.unknown None) text
-        (good_lines printed.proved printed.unknown (good_texts proved printed.proved first printed.proved_are)
-        (good_texts unknown printed.unknown second printed.unknown_are))
-        printed.is
+    -- the header, and the exact lines below it
+    good_header : (line : Bytes) → Lacks line → P line → (texts : List Bytes) → All IsGood texts → All IsGood (line ∷ texts)
+    good_header line lacks holds texts all = All-cons IsGood line texts (record { lacking = lacks; holds = holds }) all
+
+    good_exact : (header : Header) (lines : List Line) (texts : List Bytes) → All Prints lines → AreExactTexts names header lines texts
+        → All IsGood (exact_part header texts)
+    good_exact Absent lines texts all are = All-nil IsGood
+    good_exact (Whole tests) lines texts all are =
+        good_header (whole_line tests) (whole_lacks tests) (All-head P (whole_line tests) [] (frames.exact (Whole tests))) texts (good_texts lines texts all are)
+    good_exact (Partial tests cause) lines texts all are =
+        good_header (partial_line tests cause) (partial_lacks tests cause) (All-head P (partial_line tests cause) [] (frames.exact (Partial tests cause)))
+        texts (good_texts lines texts all are)
+    good_exact (Stopped cause) lines texts all are =
+        good_header (stopped_line cause) (stopped_lacks cause) (All-head P (stopped_line cause) [] (frames.exact (Stopped cause))) [] (All-nil IsGood)
+
+    pub report_holds : (report : Report) (text : Bytes) → report.explain ≡ None → All Prints report.exact → All Prints report.proved
+        → All Prints report.unknown → IsReportText names report text → EachWhole text
+    report_holds report text unexplained exact proved unknown printed =
+        each_good (report_lines report.header printed.exact printed.proved printed.unknown None) text
+        (good_lines report.header printed.exact printed.proved printed.unknown (good_exact report.header report.exact printed.exact exact printed.exact_are)
+        (good_texts report.proved printed.proved proved printed.proved_are) (good_texts report.unknown printed.unknown unknown printed.unknown_are))
+        (subst (λ explain. text ≡ ended_lines (report_lines report.header printed.exact printed.proved printed.unknown explain)) unexplained printed.is)

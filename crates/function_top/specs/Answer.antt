@@ -12,7 +12,8 @@ use Rattle.function_top.specs.Call.{Call}
 use Rattle.function_top.specs.Due.{IsDueOn, IsWithinLimits}
 use Rattle.function_top.specs.Form.{Form}
 use Rattle.function_top.specs.Headline.{Headline}
-use Rattle.function_top.specs.Order.{Order, Ask}
+use Rattle.function_top.specs.declared.order.Order.{Order}
+use Rattle.function_top.specs.Order.{Ask}
 use Rattle.function_top.specs.Refusals.{usage_text}
 use Rattle.function_top.specs.Text.{IsRead}
 
@@ -27,12 +28,14 @@ after_failing ReadFault = ReadFault
 after_failing WriteFault = WriteFault
 after_failing NoMemory = NoMemory
 
--- the bytes are those that are due, with this status, on the text that was read without a fault
-pub record WasDue (call : Call) (status : Status) (bytes : List ℕ) : Type 0 where
+-- the bytes are those that are due, with this status, by what the words ask for on the text that was read without a fault
+pub record WasDue (words : List (List ℕ)) (call : Call) (status : Status) (bytes : List ℕ) : Type 0 where
+  pub order : Order
+  pub asked : Ask words order
   pub text : List ℕ
   pub read : IsRead call.left text
   pub faultless : call.read_faults_after ≡ call.read_faults
-  pub due : IsDueOn text status bytes
+  pub due : IsDueOn order text status bytes
 
 -- the bytes were written whole; or a write failed, and a front of them was written
 abbrev pub Writes : Call → List ℕ → Type 0
@@ -41,20 +44,20 @@ Writes call bytes = WritesOrFails call.taken call.taken_after call.write_faults 
 -- What a call of this status did. A report was written whole, with the status that goes with it; where a write failed, a front of it.
 -- Words or a text that are refused got their line, or a front of it where a write failed. Behind a failed read, and where memory ran out,
 -- nothing was written.
-abbrev pub Answers : Status → Call → Type 0
-Answers AllInputs call = (bytes : List ℕ) × WasDue call AllInputs bytes × Appends call.taken call.taken_after bytes
-Answers SomeInputs call = (bytes : List ℕ) × WasDue call SomeInputs bytes × Appends call.taken call.taken_after bytes
-Answers Words call = Writes call usage_text
-Answers Program call = (bytes : List ℕ) × WasDue call Program bytes × Writes call bytes
-Answers Formula call = ⊥
-Answers ReadFault call = Rose call.read_faults call.read_faults_after × Keeps call.taken call.taken_after
-Answers WriteFault call =
-    (bytes : List ℕ) × (WasDue call AllInputs bytes ⊎ WasDue call SomeInputs bytes)
+abbrev pub Answers : List (List ℕ) → Status → Call → Type 0
+Answers words AllInputs call = (bytes : List ℕ) × WasDue words call AllInputs bytes × Appends call.taken call.taken_after bytes
+Answers words SomeInputs call = (bytes : List ℕ) × WasDue words call SomeInputs bytes × Appends call.taken call.taken_after bytes
+Answers words Words call = Writes call usage_text
+Answers words Program call = (bytes : List ℕ) × WasDue words call Program bytes × Writes call bytes
+Answers words Formula call = ⊥
+Answers words ReadFault call = Rose call.read_faults call.read_faults_after × Keeps call.taken call.taken_after
+Answers words WriteFault call =
+    (bytes : List ℕ) × (WasDue words call AllInputs bytes ⊎ WasDue words call SomeInputs bytes)
     × AppendsFront call.taken call.taken_after bytes × Rose call.write_faults call.write_faults_after
-Answers NoMemory call = (call.read_faults_after ≡ call.read_faults) × Keeps call.taken call.taken_after
+Answers words NoMemory call = (call.read_faults_after ≡ call.read_faults) × Keeps call.taken call.taken_after
 
 -- An accepted order and the text of a program within the limits get their report, where no count of faults rose and memory didn't run out.
-abbrev pub IsComplete : {W : Type 0} → List W → Status → Call → Type 0
+abbrev pub IsComplete : List (List ℕ) → Status → Call → Type 0
 IsComplete words status call =
     (order : Order) (text : List ℕ) (names : List (List ℕ)) (body : Statements) → Ask words order → call.left ≡ Some text
     → IsTextOf text names body → IsWithinLimits text
@@ -68,10 +71,10 @@ CoversCountdowns status call =
     → status ≢ SomeInputs
 
 -- All that is said of a call of the command with these words that ended with this status.
-pub record IsRun {W : Type 0} (words : List W) (status : Status) (call : Call) : Type 0 where
+pub record IsRun (words : List (List ℕ)) (status : Status) (call : Call) : Type 0 where
   pub headline : Headline call
   pub form : Form call
-  pub answers : Answers status call
+  pub answers : Answers words status call
   pub refuses : (status ≡ Words) ↔ (¬ ((order : Order) × Ask words order))
   pub complete : IsComplete words status call
   pub countdowns : CoversCountdowns status call

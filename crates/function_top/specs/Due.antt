@@ -12,18 +12,19 @@ use Rattle.control_flow.specs.Faults.{IsFlowFault}
 use Rattle.report_text.specs.declared.line.Line.{Line}
 use Rattle.report_text.specs.declared.report.Report.{Report}
 use Rattle.report_text.specs.Printed.{IsReportText}
+use Rattle.function_top.specs.declared.order.Order.{Order}
 use Rattle.function_top.specs.declared.status.Status.{Status}
 use Rattle.function_top.specs.declared.status.Status.TheVariants.{AllInputs, SomeInputs, Words, Program, Formula, ReadFault, WriteFault, NoMemory}
 use Rattle.function_top.specs.Analysis.{IsReportOf}
 use Rattle.function_top.specs.Refusals.{fault_text}
 
--- the text, of at most 65,536 bytes, is a program, and these bytes are the report that is due on it
-pub record IsReportOn (text : List ℕ) (report : Report) (bytes : List ℕ) : Type 0 where
+-- the text, of at most 65,536 bytes, is a program, and these bytes are the report that is due on it by the order
+pub record IsReportOn (order : Order) (text : List ℕ) (report : Report) (bytes : List ℕ) : Type 0 where
   pub short : length text ≤ 65536
   pub names : List (List ℕ)
   pub body : Statements
   pub program : IsTextOf text names body
-  pub due : IsReportOf names body report
+  pub due : IsReportOf order names body report
   pub printed : IsReportText names report bytes
 
 -- the text is too long, and this is the line that says so
@@ -73,22 +74,22 @@ IsVerdict ReadFault unknown = ⊥
 IsVerdict WriteFault unknown = ⊥
 IsVerdict NoMemory unknown = ⊥
 
--- These bytes are due on the text, and with them comes the status: a report that covers all inputs, one that doesn't, or the line of a text
+-- These bytes are due on the text by the order, and with them comes the status: a report that covers all inputs, one that doesn't, or the line of a text
 -- that is refused.
-abbrev pub IsDueOn : List ℕ → Status → List ℕ → Type 0
-IsDueOn text AllInputs bytes = (report : Report) × IsReportOn text report bytes × (report.unknown ≡ [])
-IsDueOn text SomeInputs bytes = (report : Report) × IsReportOn text report bytes × (report.unknown ≢ [])
-IsDueOn text Program bytes = IsTooLong text bytes ⊎ IsNoProgram text bytes ⊎ IsPastLimits text bytes
-IsDueOn text Words bytes = ⊥
-IsDueOn text Formula bytes = ⊥
-IsDueOn text ReadFault bytes = ⊥
-IsDueOn text WriteFault bytes = ⊥
-IsDueOn text NoMemory bytes = ⊥
+abbrev pub IsDueOn : Order → List ℕ → Status → List ℕ → Type 0
+IsDueOn order text AllInputs bytes = (report : Report) × IsReportOn order text report bytes × (report.unknown ≡ [])
+IsDueOn order text SomeInputs bytes = (report : Report) × IsReportOn order text report bytes × (report.unknown ≢ [])
+IsDueOn order text Program bytes = IsTooLong text bytes ⊎ IsNoProgram text bytes ⊎ IsPastLimits text bytes
+IsDueOn order text Words bytes = ⊥
+IsDueOn order text Formula bytes = ⊥
+IsDueOn order text ReadFault bytes = ⊥
+IsDueOn order text WriteFault bytes = ⊥
+IsDueOn order text NoMemory bytes = ⊥
 
 -- so they are on each text of at most 65,536 bytes that is the program
-abbrev pub IsDueOnProgram : Parsed → Status → List ℕ → Type 0
-IsDueOnProgram program status bytes =
-    (text : List ℕ) → length text ≤ 65536 → Derives text program → HasPlaces text (places program.body) → IsDueOn text status bytes
+abbrev pub IsDueOnProgram : Order → Parsed → Status → List ℕ → Type 0
+IsDueOnProgram order program status bytes =
+    (text : List ℕ) → length text ≤ 65536 → Derives text program → HasPlaces text (places program.body) → IsDueOn order text status bytes
 
 -- The text is of at most 65,536 bytes, and past no limit of its graph.
 pub record IsWithinLimits (text : List ℕ) : Type 0 where

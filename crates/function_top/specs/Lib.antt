@@ -1,9 +1,11 @@
 pub mod Order
+pub mod Choosing
 pub mod Call
 pub mod Text
 pub mod TrueLine
 pub mod Headline
 pub mod Refusals
+pub mod Exact
 pub mod Analysis
 pub mod Due
 pub mod Form

@@ -1,49 +1,70 @@
 //! From a source to what is to be written.
 
-ghost use Rattle.std.specs.Prelude.{◌≡◌, ◌≤◌, ◌<◌, ◌+◌, ℕ, List, [], IfOk, OnErr, MatchOption, length};
+ghost use Rattle.std.specs.Prelude.{◌≡◌, ◌≤◌, ◌<◌, ◌+◌, ◌^◌, ℕ, List, All, IfOk, OnErr, MatchOption, length};
 ghost use Rattle.outside.specs.Faults.{Rose};
 ghost use Rattle.outside.specs.Source.{ConsumesUpTo};
 ghost use Rattle.step_meaning.specs.Syntax.{statements};
+ghost use Rattle.ctl_rounds.specs.Asked.{RoseBy};
+ghost use Rattle.function_top.specs.declared.order.Order.{Order};
 ghost use Rattle.function_top.specs.Due.{IsDueOn, IsDueOnProgram};
 ghost use Rattle.function_top.specs.Refusals.{fault_text};
 ghost use Rattle.function_top.specs.Text.{IsRead};
 
 use crate::due::Due;
+use crate::exact::exact;
+use crate::order::{Domain, Order};
 use crate::report::{fault as fault_line, report};
 use crate::status::Status;
-use control_flow::laws::edges_lead_to_labels;
+use advice::Adviser;
 use control_flow::{FlowFault, Graph};
 use ctl_rounds::analyse;
 use forward_inv::{Inv, invariants};
 use interval_dom::Boxes;
+use num_domain::NumDomain;
+use octagon_dom::Octagon;
 use outside::{ReadEnd, Source, read_program};
+use poly_dom::Poly;
 use source_parse::{a_program_has_no_fault, parse};
 use std::alloc::{AllocError, Global};
 use step_meaning::Program;
 
 /// Reads the source, and answers what is to be written for it, or `None` where a read failed. The only error is want of memory.
-pub fn answer<S: Source>(alloc: Global, source: &mut S) -> Result<Option<Due>, AllocError>
+pub fn answer<S: Source>(
+    alloc: Global,
+    order: &Order,
+    source: &mut S,
+    advisers: &mut Vec<Box<dyn Adviser>>,
+) -> Result<Option<Due>, AllocError>
+    requires patient { All (λ adviser. asked_of adviser ≤ 2 ^ 32) advisers.old.items }
     ensures due { IfOk result (λ outcome. MatchOption outcome (Rose (S.faults source.old) (S.faults source.new))
-        (λ due. (text : List ℕ) × IsRead (S.left source.old) text × (S.faults source.new ≡ S.faults source.old) × IsDueOn text due.status due.bytes.items)) }
+        (λ due. (text : List ℕ) × IsRead (S.left source.old) text × (S.faults source.new ≡ S.faults source.old) × IsDueOn order.now text due.status due.bytes.items)) }
     ensures stops { ConsumesUpTo (65536 + 1) (S.left source.old) (S.left source.new) }
     ensures never_falls { S.faults source.old ≤ S.faults source.new }
     ensures stays { OnErr result (S.faults source.new ≡ S.faults source.old) }
+    ensures asked { (times : ℕ) × (times ≤ 8) × RoseBy (λ adviser. asked_of adviser) times advisers.old.items advisers.new.items }
 {
     match read_program(alloc, source)? {
-        ReadEnd::Text(text) => Ok(Some(answer_to(alloc, &text)?)),
+        ReadEnd::Text(text) => Ok(Some(answer_to(alloc, order, &text, advisers)?)),
         ReadEnd::TooLong => Ok(Some(too_long(alloc)?)),
         ReadEnd::Failed => Ok(None),
     }
 }
 
 // What is to be written for a text.
-fn answer_to(alloc: Global, text: &[u8]) -> Result<Due, AllocError>
-    requires { length text.now ≤ 65536 }
-    ensures { IfOk result (λ due. IsDueOn text.now due.status due.bytes.items) }
+fn answer_to(
+    alloc: Global,
+    order: &Order,
+    text: &[u8],
+    advisers: &mut Vec<Box<dyn Adviser>>,
+) -> Result<Due, AllocError>
+    requires size { length text.now ≤ 65536 }
+    requires patient { All (λ adviser. asked_of adviser ≤ 2 ^ 32) advisers.old.items }
+    ensures due { IfOk result (λ due. IsDueOn order.now text.now due.status due.bytes.items) }
+    ensures asked { (times : ℕ) × (times ≤ 8) × RoseBy (λ adviser. asked_of adviser) times advisers.old.items advisers.new.items }
 {
     a_program_has_no_fault();
     match parse(alloc, text) {
-        Ok(program) => Ok(answer_on(alloc, &program)?),
+        Ok(program) => Ok(answer_on(alloc, order, &program, advisers)?),
         Err(fault) => match fault.numbered() {
             Some((number, place)) => Ok(refused(alloc, number, place)?),
             None => Err(AllocError),
@@ -52,33 +73,68 @@ fn answer_to(alloc: Global, text: &[u8]) -> Result<Due, AllocError>
 }
 
 // What is to be written for a program.
-fn answer_on(alloc: Global, program: &Program) -> Result<Due, AllocError>
-    ensures { IfOk result (λ due. IsDueOnProgram program.now due.status due.bytes.items) }
+fn answer_on(
+    alloc: Global,
+    order: &Order,
+    program: &Program,
+    advisers: &mut Vec<Box<dyn Adviser>>,
+) -> Result<Due, AllocError>
+    requires patient { All (λ adviser. asked_of adviser ≤ 2 ^ 32) advisers.old.items }
+    ensures due { IfOk result (λ due. IsDueOnProgram order.now program.now due.status due.bytes.items) }
+    ensures asked { (times : ℕ) × (times ≤ 8) × RoseBy (λ adviser. asked_of adviser) times advisers.old.items advisers.new.items }
 {
     match Graph::of(alloc, program) {
-        Ok(graph) => Ok(analysed(alloc, &graph, program)?),
+        Ok(graph) => Ok(reported(alloc, order, &graph, program, advisers)?),
         Err(FlowFault::Labels { at, count: _ }) => Ok(refused(alloc, 12, at)?),
         Err(FlowFault::Conjunctions { at, count: _ }) => Ok(refused(alloc, 13, at)?),
         Err(FlowFault::Memory(error)) => Err(error),
     }
 }
 
-// The report on a program with its graph.
-fn analysed(alloc: Global, graph: &Graph, program: &Program) -> Result<Due, AllocError>
+// The report on a program with its graph, over the sets that the order names.
+fn reported(
+    alloc: Global,
+    order: &Order,
+    graph: &Graph,
+    program: &Program,
+    advisers: &mut Vec<Box<dyn Adviser>>,
+) -> Result<Due, AllocError>
     requires names { graph.now.names ≡ program.now.names }
     requires body { statements graph.now.body ≡ statements program.now.body }
-    ensures { IfOk result (λ due. IsDueOnProgram program.now due.status due.bytes.items) }
+    requires patient { All (λ adviser. asked_of adviser ≤ 2 ^ 32) advisers.old.items }
+    ensures due { IfOk result (λ due. IsDueOnProgram order.now program.now due.status due.bytes.items) }
+    ensures asked { (times : ℕ) × (times ≤ 8) × RoseBy (λ adviser. asked_of adviser) times advisers.old.items advisers.new.items }
 {
-    edges_lead_to_labels();
-    let inv: Inv<Boxes> = invariants(alloc, graph)?;
-    let family = analyse(alloc, graph, program, &inv)?;
-    let tree = &family.trees.items()[graph.entry() as usize];
-    Ok(report(alloc, tree, &program.names)?)
+    match order.domain {
+        Domain::Boxes => analysed::<Boxes>(alloc, order, graph, program, advisers),
+        Domain::Octagons => analysed::<Octagon>(alloc, order, graph, program, advisers),
+        Domain::Polyhedra => analysed::<Poly>(alloc, order, graph, program, advisers),
+    }
+}
+
+// The same over one kind of sets.
+fn analysed<D: NumDomain>(
+    alloc: Global,
+    order: &Order,
+    graph: &Graph,
+    program: &Program,
+    advisers: &mut Vec<Box<dyn Adviser>>,
+) -> Result<Due, AllocError>
+    requires names { graph.now.names ≡ program.now.names }
+    requires body { statements graph.now.body ≡ statements program.now.body }
+    requires patient { All (λ adviser. asked_of adviser ≤ 2 ^ 32) advisers.old.items }
+    ensures due { IfOk result (λ due. IsDueOnProgram order.now program.now due.status due.bytes.items) }
+    ensures asked { (times : ℕ) × (times ≤ 8) × RoseBy (λ adviser. asked_of adviser) times advisers.old.items advisers.new.items }
+{
+    let exact = exact(alloc, order.delay, graph, program)?;
+    let inv: Inv<D> = invariants(alloc, graph)?;
+    let certificate = analyse(alloc, graph, program, &inv, advisers, order.delay)?;
+    Ok(report(alloc, exact, &certificate.cover, &program.names)?)
 }
 
 // The line of a text of more than 65,536 bytes.
 fn too_long(alloc: Global) -> Result<Due, AllocError>
-    ensures { IfOk result (λ due. (text : List ℕ) → 65536 < length text → IsDueOn text due.status due.bytes.items) }
+    ensures { IfOk result (λ due. (order : Order) (text : List ℕ) → 65536 < length text → IsDueOn order text due.status due.bytes.items) }
 {
     refused(alloc, 14, 65_536)
 }

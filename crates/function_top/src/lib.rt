@@ -3,6 +3,7 @@
 
 mod answer;
 mod due;
+mod exact;
 mod laws;
 mod order;
 mod report;
@@ -11,6 +12,6 @@ mod status;
 mod tests;
 mod top;
 
-pub use laws::each_input_meets_one_line;
+pub use laws::{each_input_meets_one_line, exact_lines_are_met_by_exact_runs};
 pub use status::Status;
 pub use top::run;

@@ -1,20 +1,21 @@
 //! The texts that the command writes.
 
-ghost use Rattle.std.specs.Prelude.{◌≡◌, [], IfOk, List, All};
+ghost use Rattle.std.specs.Prelude.{◌≡◌, IfOk, List, All};
 ghost use Rattle.decision_tree.specs.Plans.{plan_of};
 ghost use Rattle.report_text.specs.declared.line.Line.{Line};
 ghost use Rattle.report_text.specs.declared.line.Top.TheVariants as top;
 ghost use Rattle.report_text.specs.Leaves.{AreLinesOf, ComplementsFit, claiming, claiming_nothing};
 ghost use Rattle.report_text.specs.Printed.{IsLineOver, IsReportText};
-ghost use Rattle.function_top.specs.Analysis.{IsTreeOver, plain_report};
+ghost use Rattle.function_top.specs.Analysis.{IsTreeOver, report_of};
 ghost use Rattle.function_top.specs.Due.{IsVerdict};
 ghost use Rattle.function_top.specs.Refusals.{fault_text, usage_text};
 
 use crate::due::Due;
+use crate::exact::ExactPart;
 use crate::status::Status;
 use decision_tree::{AffineRank, Tree};
 use line_text::push_numeral;
-use report_text::{Header, Lines, Report, Top, lines, print};
+use report_text::{Lines, Report, Top, lines, print};
 use std::alloc::{AllocError, Global};
 use step_meaning::Names;
 
@@ -25,17 +26,31 @@ pub fn usage() -> &'static [u8]
     b"usage: function [--ctl TEXT] [--domain boxes|octagons|polyhedra] [--delay N] [--at TEXT] [--explain] [--demo N]\n"
 }
 
-/// The report by the tree at the entry of a program, and its status. The only error is want of memory.
-pub fn report(alloc: Global, tree: &Tree<AffineRank>, names: &Names) -> Result<Due, AllocError>
+/// The report by its exact part and by the tree at the entry of a program, and its status. The only error is want of memory.
+pub fn report(
+    alloc: Global,
+    exact: ExactPart,
+    tree: &Tree<AffineRank>,
+    names: &Names,
+) -> Result<Due, AllocError>
+    requires exact { All (IsLineOver names.now) exact.lines }
     requires fits { ComplementsFit (plan_of tree.now) }
     requires over { IsTreeOver names.now (plan_of tree.now) }
     ensures { IfOk result (λ due. (lines : List Line) × AreLinesOf top.Bound (plan_of tree.now) lines
-        × IsReportText names.now (plain_report (claiming lines) (claiming_nothing lines)) due.bytes.items
+        × IsReportText names.now (report_of exact.header exact.lines (claiming lines) (claiming_nothing lines)) due.bytes.items
         × IsVerdict due.status (claiming_nothing lines)) }
 {
     let (proved, unknown) = lines(alloc, tree, Top::Bound)?.parted(alloc)?;
     let status = verdict(&unknown);
-    let bytes = plain(alloc, proved, unknown, names)?;
+    let ExactPart { header, lines } = exact;
+    let report = Report {
+        header,
+        exact: lines,
+        proved,
+        unknown,
+        explain: None,
+    };
+    let bytes = print(alloc, &report, names)?;
     Ok(Due { bytes, status })
 }
 
@@ -48,29 +63,6 @@ fn verdict(unknown: &Lines) -> Status
     } else {
         Status::SomeInputs
     }
-}
-
-// No lines.
-fn none(alloc: Global) -> Lines
-    ensures { result ≡ [] }
-{
-    Lines::of(Vec::new(alloc))
-}
-
-// The text of a report without an exact part and an explanation.
-fn plain(alloc: Global, proved: Lines, unknown: Lines, names: &Names) -> Result<Vec<u8>, AllocError>
-    requires proved { All (IsLineOver names.now) proved }
-    requires unknown { All (IsLineOver names.now) unknown }
-    ensures { IfOk result (λ text. IsReportText names.now (plain_report proved unknown) text.items) }
-{
-    let report = Report {
-        header: Header::Absent,
-        exact: none(alloc),
-        proved,
-        unknown,
-        explain: None,
-    };
-    print(alloc, &report, names)
 }
 
 /// The line of a program's fault, by its number and its place. The only error is want of memory.

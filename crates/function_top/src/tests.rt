@@ -1,19 +1,26 @@
 //! Rows on `run`: texts with the bytes and the status that they give, and sources and sinks that fail.
 
-ghost use Rattle.std.specs.Prelude.{None};
+ghost use Rattle.std.specs.Prelude.{◌≤◌, ◌^◌, None};
 
 use crate::{Status, run};
+use advice::{Adviser, GuardAdviser, RangeAdviser};
 use outside::{Got, MemorySink, MemorySource, Source};
 use std::alloc::{AllocError, Global};
 use std::test::Fail;
 
 const EMPTY: &[u8] = b"int main() { }";
 
-const EMPTY_REPORT: &[u8] = b"proved:\nalways: within 0 steps\nunknown:\nverdict: all inputs\n";
+const EMPTY_REPORT: &[u8] =
+    b"exact, 2 tests:\nalways: exactly 0 steps\nproved:\nalways: within 0 steps\nunknown:\nverdict: all inputs\n";
 
-const ONE_STEP: &[u8] = b"proved:\nalways: within 1 step\nunknown:\nverdict: all inputs\n";
+const ONE_STEP: &[u8] =
+    b"exact, 2 tests:\nalways: exactly 1 step\nproved:\nalways: within 1 step\nunknown:\nverdict: all inputs\n";
 
-const NOTHING_KNOWN: &[u8] = b"proved:\nunknown:\nalways: unknown\nverdict: some inputs\n";
+const NOTHING_KNOWN: &[u8] =
+    b"exact: not a plain program\nproved:\nunknown:\nalways: unknown\nverdict: some inputs\n";
+
+const AT_ONCE_OR_UNKNOWN: &[u8] =
+    b"exact, 2 tests:\n-x >= 0: exactly 1 step\nproved:\n-x >= 0: within 1 step\nunknown:\nx - 1 >= 0: unknown\nverdict: some inputs\n";
 
 // A loop whose test comes down to `x - 1 >= 0`, counted down under noise in `y`.
 const NOISE: &[u8] = b"extern int __VERIFIER_nondet_int(void);
@@ -33,8 +40,27 @@ fn outcome<S: Source>(
     words: &[&str],
     source: &mut S,
 ) -> Result<(Status, Vec<u8>), AllocError> {
+    let guards = Box::new(alloc, GuardAdviser::new())?;
+    let ranges = Box::new(alloc, RangeAdviser::new())?;
+    outcome_with(alloc, words, source, guards, ranges)
+}
+
+// The same with two advisers that were asked little.
+fn outcome_with<S: Source>(
+    alloc: Global,
+    words: &[&str],
+    source: &mut S,
+    first: Box<dyn Adviser>,
+    second: Box<dyn Adviser>,
+) -> Result<(Status, Vec<u8>), AllocError>
+    requires first { asked_of first ≤ 2 ^ 32 }
+    requires second { asked_of second ≤ 2 ^ 32 }
+{
     let mut sink = MemorySink::new(alloc, 1000, Vec::new(alloc))?;
-    let status = run(alloc, words, source, &mut sink);
+    let mut advisers: Vec<Box<dyn Adviser>> = Vec::with_capacity(alloc, 2)?;
+    advisers.push(first)?;
+    advisers.push(second)?;
+    let status = run(alloc, words, source, &mut sink, &mut advisers);
     Ok((status, sink.taken().to_vec(alloc)?))
 }
 
@@ -59,7 +85,7 @@ fn texts_give_their_reports(rt: HostRuntime) -> Result<(), Fail> {
     use Status::{AllInputs, SomeInputs};
 
     let alloc = rt.alloc();
-    let rows: [(&[u8], Status, &[u8]); 17] = [
+    let rows: [(&[u8], Status, &[u8]); 12] = [
         (EMPTY, AllInputs, EMPTY_REPORT),
         (b"int main() { int x; x = 7; }", AllInputs, ONE_STEP),
         (
@@ -71,75 +97,142 @@ fn texts_give_their_reports(rt: HostRuntime) -> Result<(), Fail> {
         (
             b"int main() { int x; if (x > 0) x = 1; }",
             AllInputs,
-            b"proved:\nalways: within 2 steps\nunknown:\nverdict: all inputs\n",
+            b"exact, 2 tests:\n-x >= 0: exactly 1 step\nx - 1 >= 0: exactly 2 steps\n\
+              proved:\nalways: within 2 steps\nunknown:\nverdict: all inputs\n",
         ),
         (
             b"int main() { if (?) if (?) ; else { ; ; } }",
             AllInputs,
-            b"proved:\nalways: within 4 steps\nunknown:\nverdict: all inputs\n",
+            b"exact, 2 tests:\nalways: exactly 4 steps\nproved:\nalways: within 4 steps\nunknown:\nverdict: all inputs\n",
         ),
         (
             b"int main() { int x; if (x == 0) return 1; x += 2; ; }",
             AllInputs,
-            b"proved:\nalways: within 3 steps\nunknown:\nverdict: all inputs\n",
+            b"exact, 2 tests:\n-x - 1 >= 0: exactly 3 steps\n-x >= 0 and x >= 0: exactly 2 steps\n\
+              x - 1 >= 0: exactly 3 steps\nproved:\nalways: within 3 steps\nunknown:\nverdict: all inputs\n",
         ),
         // Numbers past 128 bits matter only where they are compared.
         (
             b"int main() { int x, y; x = 4611686018427387904*x + y; x = 4611686018427387904*x + y; \
               x = 4611686018427387904*x + y; if (x > 0) y = 1; else { y = 2; y = 3; } }",
             AllInputs,
-            b"proved:\nalways: within 6 steps\nunknown:\nverdict: all inputs\n",
+            b"exact: wide numbers\nproved:\nalways: within 6 steps\nunknown:\nverdict: all inputs\n",
         ),
         // A test and a step a turn, and the last test.
         (
             b"int main() { int x; while (x > 0) x = x - 1; }",
             AllInputs,
-            b"proved:\n-x >= 0: within 1 step\nx - 1 >= 0: within 2*x + 1 steps\nunknown:\nverdict: all inputs\n",
+            b"exact, 2 tests:\n-x + 1 >= 0 and x - 1 >= 0: exactly 3 steps\n-x >= 0: exactly 1 step\n\
+              proved:\n-x >= 0: within 1 step\nx - 1 >= 0: within 2*x + 1 steps\nunknown:\nverdict: all inputs\n",
         ),
         (
             b"int main() { int x; while (x > 0) { if (?) x = x - 1; else x = x - 2; } }",
             AllInputs,
-            b"proved:\n-x >= 0: within 1 step\nx - 1 >= 0: within 3*x + 1 steps\nunknown:\nverdict: all inputs\n",
+            b"exact, 1 tests, then too many nodes:\n-x >= 0: exactly 1 step\n\
+              proved:\n-x >= 0: within 1 step\nx - 1 >= 0: within 3*x + 1 steps\nunknown:\nverdict: all inputs\n",
         ),
+        // The choice between two ways to the test of the loop multiplies their trees.
         (
             NOISE,
             AllInputs,
-            b"proved:\n-x >= 0: within 2 steps\nx - 1 >= 0: within 4*x + 2 steps\nunknown:\nverdict: all inputs\n",
+            b"exact, 0 tests, then too many nodes:\nproved:\n-x >= 0: within 2 steps\nx - 1 >= 0: within 4*x + 2 steps\nunknown:\nverdict: all inputs\n",
         ),
         // Nine turns of three steps behind one, and the last test.
         (
             b"int main() { for (int i = 0; i < 9; i++) ; }",
             AllInputs,
-            b"proved:\nalways: within 29 steps\nunknown:\nverdict: all inputs\n",
+            b"exact, 2 tests:\nproved:\nalways: within 29 steps\nunknown:\nverdict: all inputs\n",
         ),
-        // Loops that don't count down in this way.
-        (
-            b"int main() { int x; while (x > 0) x = x + 1; }",
-            SomeInputs,
-            NOTHING_KNOWN,
-        ),
-        (
-            b"int main() { int x; while (x != 0) x = x - 1; }",
-            SomeInputs,
-            NOTHING_KNOWN,
-        ),
-        (
-            b"int main() { int x; while (x > 0) { x = x - 1; if (?) return; } }",
-            SomeInputs,
-            NOTHING_KNOWN,
-        ),
-        (
-            b"int main() { int x; do x = x - 1; while (x > 0); }",
-            SomeInputs,
-            NOTHING_KNOWN,
-        ),
-        (b"int main() { while (?) ; }", SomeInputs, NOTHING_KNOWN),
     ];
     for (text, status, bytes) in rows {
         let mut source = MemorySource::new(text.to_vec(alloc)?, Vec::new(alloc));
         let (found, written) = outcome(alloc, &["function"], &mut source)?;
         assert_eq!(rt; found, status);
         assert_eq!(rt; written.as_slice(), bytes);
+    }
+    Ok(())
+}
+
+#[test]
+fn loops_that_count_in_other_ways_give_their_reports(rt: HostRuntime) -> Result<(), Fail> {
+    use Status::{AllInputs, SomeInputs};
+
+    let alloc = rt.alloc();
+    let rows: [(&[u8], Status, &[u8]); 10] = [
+        (
+            b"int main() { int x; while (x > 0) x = x + 1; }",
+            SomeInputs,
+            AT_ONCE_OR_UNKNOWN,
+        ),
+        (
+            b"int main() { while (?) ; }",
+            SomeInputs,
+            b"exact, 2 tests:\nproved:\nunknown:\nalways: unknown\nverdict: some inputs\n",
+        ),
+        (
+            b"int main() { int x; x = ?; while (x > 0) x = x - 1; }",
+            SomeInputs,
+            NOTHING_KNOWN,
+        ),
+        // Both ends of the range are met by every turn.
+        (
+            b"int main() { int x; x = [1, 10]; while (x > 0) x = x - 1; }",
+            AllInputs,
+            b"exact: not a plain program\nproved:\nalways: within 22 steps\nunknown:\nverdict: all inputs\n",
+        ),
+        (
+            b"int main() { int x; while (x != 0) x = x - 1; }",
+            SomeInputs,
+            b"exact, 2 tests:\n-x + 1 >= 0 and x - 1 >= 0: exactly 3 steps\n-x >= 0 and x >= 0: exactly 1 step\n\
+              proved:\n-x + 1 >= 0 and x - 1 >= 0: within 3 steps\n-x >= 0 and x >= 0: within 1 step\n\
+              x - 2 >= 0: within 2*x + 1 steps\nunknown:\n-x - 1 >= 0: unknown\nverdict: some inputs\n",
+        ),
+        // The step is known to fall only where `y` does.
+        (
+            b"int main() { int x, y; while (x > 0) x = x + y; }",
+            SomeInputs,
+            b"exact, 2 tests:\n-x - y >= 0 and x - 1 >= 0: exactly 3 steps\n-x >= 0: exactly 1 step\n\
+              proved:\n-x - y >= 0 and x - 1 >= 0: within 3 steps\n-x >= 0: within 1 step\n\
+              -y - 1 >= 0 and x + y - 1 >= 0 and x - 1 >= 0: within 2*x + 1 steps\nunknown:\n\
+              x + y - 1 >= 0 and x - 1 >= 0 and y >= 0: unknown\nverdict: some inputs\n",
+        ),
+        // One loop behind another.
+        (
+            b"int main() { int x, y; while (x > 0) x = x - 1; while (y > 0) y = y - 1; }",
+            AllInputs,
+            b"exact, 2 tests:\n-x >= 0 and -y >= 0: exactly 2 steps\n\
+              proved:\n-x + 1 >= 0 and -y >= 0 and x - 1 >= 0: within 4 steps\n\
+              -x + 1 >= 0 and x - 1 >= 0 and y - 1 >= 0: within 2*y + 4 steps\n\
+              -x >= 0 and -y + 1 >= 0 and y - 1 >= 0: within 4 steps\n-x >= 0 and -y >= 0: within 2 steps\n\
+              -x >= 0 and y - 2 >= 0: within 2*y + 2 steps\n-y >= 0 and x - 2 >= 0: within 2*x + 2 steps\n\
+              x - 2 >= 0 and y - 1 >= 0: within 2*x + 2*y + 2 steps\nunknown:\nverdict: all inputs\n",
+        ),
+        (
+            b"int main() { int x; do x = x - 1; while (x > 0); }",
+            AllInputs,
+            b"exact, 2 tests:\n-x + 1 >= 0: exactly 2 steps\n-x + 2 >= 0 and x - 2 >= 0: exactly 4 steps\n\
+              proved:\n-x + 1 >= 0: within 2 steps\n-x + 2 >= 0 and x - 2 >= 0: within 4 steps\n\
+              x - 3 >= 0: within 2*x steps\nunknown:\nverdict: all inputs\n",
+        ),
+        (
+            b"int main() { int x, n; while (x < n) x = x + 2; }",
+            AllInputs,
+            b"exact, 2 tests:\n-x + n - 1 >= 0 and x - n + 2 >= 0: exactly 3 steps\nx - n >= 0: exactly 1 step\n\
+              proved:\n-x + n - 1 >= 0: within -2*x + 2*n + 1 steps\nx - n >= 0: within 1 step\nunknown:\nverdict: all inputs\n",
+        ),
+        (
+            b"int main() { int x; while (x > 0) { x = x - 1; if (?) return; } }",
+            AllInputs,
+            b"exact, 2 tests:\n-x + 1 >= 0 and x - 1 >= 0: exactly 4 steps\n-x >= 0: exactly 1 step\n\
+              proved:\n-x + 1 >= 0 and x - 1 >= 0: within 4 steps\n-x >= 0: within 1 step\n\
+              x - 2 >= 0: within 3*x + 1 steps\nunknown:\nverdict: all inputs\n",
+        ),
+    ];
+    for (text, status, bytes) in rows {
+        let mut source = MemorySource::new(text.to_vec(alloc)?, Vec::new(alloc));
+        let (found, written) = outcome(alloc, &["function"], &mut source)?;
+        assert_eq!(rt; written.as_slice(), bytes);
+        assert_eq!(rt; found, status);
     }
     Ok(())
 }
@@ -207,7 +300,7 @@ fn long_texts_and_deep_ones_are_read_up_to_the_limits(rt: HostRuntime) -> Result
             1_023,
             b"}",
             AllInputs,
-            b"proved:\nalways: within 1023 steps\nunknown:\nverdict: all inputs\n",
+            b"exact, 2 tests:\nalways: exactly 1023 steps\nproved:\nalways: within 1023 steps\nunknown:\nverdict: all inputs\n",
         ),
         (
             b"int main() {",
@@ -223,7 +316,7 @@ fn long_texts_and_deep_ones_are_read_up_to_the_limits(rt: HostRuntime) -> Result
             62,
             b"; }",
             AllInputs,
-            b"proved:\nalways: within 63 steps\nunknown:\nverdict: all inputs\n",
+            b"exact: too many nodes\nproved:\nalways: within 63 steps\nunknown:\nverdict: all inputs\n",
         ),
         (
             b"int main() { ",
@@ -334,10 +427,11 @@ fn sources_may_drip_fail_or_never_end(rt: HostRuntime) -> Result<(), Fail> {
 #[test]
 fn a_sink_takes_what_it_has_room_for(rt: HostRuntime) -> Result<(), Fail> {
     let alloc = rt.alloc();
-    for room in 0u32..=60 {
+    for room in 0u32..=100 {
         let mut source = MemorySource::new(EMPTY.to_vec(alloc)?, Vec::new(alloc));
         let mut sink = MemorySink::new(alloc, room, Vec::new(alloc))?;
-        let status = run(alloc, &["function"], &mut source, &mut sink);
+        let mut nobody: Vec<Box<dyn Adviser>> = Vec::new(alloc);
+        let status = run(alloc, &["function"], &mut source, &mut sink, &mut nobody);
         let whole = sink.taken().len() == EMPTY_REPORT.len();
         assert_eq!(rt; status == Status::AllInputs, whole, "with room for {room}");
         assert_eq!(rt;
@@ -352,14 +446,90 @@ fn a_sink_takes_what_it_has_room_for(rt: HostRuntime) -> Result<(), Fail> {
 }
 
 #[test]
-fn more_than_one_word_is_refused(rt: HostRuntime) -> Result<(), Fail> {
+fn words_are_options_with_their_values(rt: HostRuntime) -> Result<(), Fail> {
+    use Status::{AllInputs, Words};
+
     let alloc = rt.alloc();
-    let mut source = MemorySource::new(EMPTY.to_vec(alloc)?, Vec::new(alloc));
-    let (status, written) = outcome(alloc, &["function", "--help"], &mut source)?;
-    assert_eq!(rt; status, Status::Words);
-    assert!(rt; written.starts_with(b"usage: function [--ctl TEXT]"));
-    assert!(rt; written.ends_with(b"[--demo N]\n"));
-    let (status, _) = outcome(alloc, &[], &mut source)?;
-    assert_eq!(rt; status, Status::AllInputs);
+    let rows: [(&[&str], Status); 17] = [
+        (&[], AllInputs),
+        (&["function"], AllInputs),
+        (&["function", "--delay", "0"], AllInputs),
+        (
+            &["function", "--delay", "8", "--domain", "boxes"],
+            AllInputs,
+        ),
+        (
+            &["function", "--domain", "octagons", "--delay", "1"],
+            AllInputs,
+        ),
+        (&["function", "--help"], Words),
+        (&["function", "0"], Words),
+        (&["function", "", "0"], Words),
+        (&["function", "--delay"], Words),
+        (&["function", "--delay", "9"], Words),
+        (&["function", "--delay", "02"], Words),
+        (&["function", "--delay", "-1"], Words),
+        (&["function", "--delay", ""], Words),
+        (&["function", "--delay", "2", "--delay", "2"], Words),
+        (&["function", "--domain", "discs"], Words),
+        (&["function", "--domain", "--delay", "2"], Words),
+        (&["function", "--domain=boxes"], Words),
+    ];
+    for (words, status) in rows {
+        let mut source = MemorySource::new(EMPTY.to_vec(alloc)?, Vec::new(alloc));
+        let (found, written) = outcome(alloc, words, &mut source)?;
+        assert_eq!(rt; found, status, "{words:?}");
+        if status == Words {
+            assert!(rt; written.starts_with(b"usage: function [--ctl TEXT]"));
+            assert!(rt; written.ends_with(b"[--demo N]\n"));
+        }
+    }
+    Ok(())
+}
+
+#[test]
+fn options_decide_how_much_is_found(rt: HostRuntime) -> Result<(), Fail> {
+    let alloc = rt.alloc();
+    let apart =
+        b"int main() { int x, y; y = ?; x = ?; if (x >= y) if (y >= 3) if (x < 3) while (?) ; }";
+    let counting = b"int main() { int x; while (x > 0) x = x - 1; }";
+    // Three variables: only polyhedra keep a row of them.
+    let summed =
+        b"int main() { int x, y, z; x = ?; y = ?; z = ?; if (x + y > z) if (z > 2*x) if (x > y) while (?) ; }";
+    let rows: [(&[u8], [&str; 3], &[u8]); 7] = [
+        (apart, ["function", "--domain", "boxes"], NOTHING_KNOWN),
+        (
+            apart,
+            ["function", "--domain", "polyhedra"],
+            b"exact: not a plain program\nproved:\nalways: within 5 steps\nunknown:\nverdict: all inputs\n",
+        ),
+        (summed, ["function", "--domain", "octagons"], NOTHING_KNOWN),
+        (
+            summed,
+            ["function", "--domain", "polyhedra"],
+            b"exact: not a plain program\nproved:\nalways: within 6 steps\nunknown:\nverdict: all inputs\n",
+        ),
+        (
+            apart,
+            ["function", "--domain", "octagons"],
+            b"exact: not a plain program\nproved:\nalways: within 5 steps\nunknown:\nverdict: all inputs\n",
+        ),
+        (
+            counting,
+            ["function", "--delay", "0"],
+            b"exact, 0 tests:\nproved:\n-x >= 0: within 1 step\nx - 1 >= 0: within 2*x + 1 steps\nunknown:\nverdict: all inputs\n",
+        ),
+        (
+            counting,
+            ["function", "--delay", "3"],
+            b"exact, 3 tests:\n-x + 1 >= 0 and x - 1 >= 0: exactly 3 steps\n-x + 2 >= 0 and x - 2 >= 0: exactly 5 steps\n\
+              -x >= 0: exactly 1 step\nproved:\n-x >= 0: within 1 step\nx - 1 >= 0: within 2*x + 1 steps\nunknown:\nverdict: all inputs\n",
+        ),
+    ];
+    for (text, words, report) in rows {
+        let mut source = MemorySource::new(text.to_vec(alloc)?, Vec::new(alloc));
+        let (_, written) = outcome(alloc, &words, &mut source)?;
+        assert_eq!(rt; written.as_slice(), report);
+    }
     Ok(())
 }

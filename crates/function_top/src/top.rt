@@ -1,16 +1,18 @@
 //! The top call.
 
-ghost use Rattle.std.specs.Prelude.{◌≡◌, ◌≤◌, ◌<◌, ◌+◌, ◌⊎◌};
+ghost use Rattle.std.specs.Prelude.{◌≡◌, ◌≤◌, ◌<◌, ◌+◌, ◌⊎◌, ◌^◌, ℕ, All, map};
 ghost use Rattle.std.specs.Io.KnownBytes.{Appends};
 ghost use Rattle.outside.specs.Faults.{Rose};
 ghost use Rattle.outside.specs.Sink.{AppendsFront};
 ghost use Rattle.outside.specs.Source.{ConsumesUpTo};
+ghost use Rattle.ctl_rounds.specs.Asked.{RoseBy};
 ghost use Rattle.function_top.specs.Answer.{IsRun, after_failing};
 
 use crate::answer::answer;
-use crate::order::accepts;
+use crate::order::order_of;
 use crate::report::usage;
 use crate::status::Status;
+use advice::Adviser;
 use line_text::laws::{a_line_spells_at_most_one_claim, lines_have_their_own_form};
 use outside::{Sink, Source, write_all};
 use source_parse::{a_text_is_one_program, names_are_distinct, names_are_spelled_as_names};
@@ -18,16 +20,22 @@ use std::alloc::Global;
 
 /// Does all that the program does: reads a program from the source, and writes the report on it to the sink.
 ///
-/// `words` are the words of the command line, the program's name first; so far no other word is accepted. The order is: words, reading,
-/// program, writing, and the first refusal ends the run. The whole output is built before its first byte is written. After a refusal
-/// nothing was written but its line, or a front of that where the sink failed.
+/// `words` are the words of the command line, the program's name first; behind it may stand `--domain` with `boxes`, `octagons` or
+/// `polyhedra`, and `--delay` with a digit up to 8, each at most once and in any order. The order is: words, reading, program, writing, and
+/// the first refusal ends the run. The whole output is built before its first byte is written. After a refusal nothing was written but its
+/// line, or a front of that where the sink failed.
+///
+/// `advisers` are shown facts about loops, and may hint at what bounds one, at most eight times each. Nothing is assumed of what they hint;
+/// each was asked at most 2^32 times before.
 pub fn run<S: Source, K: Sink>(
     alloc: Global,
     words: &[&str],
     source: &mut S,
     sink: &mut K,
+    advisers: &mut Vec<Box<dyn Adviser>>,
 ) -> Status
-    ensures run { IsRun words.now result record {
+    requires patient { All (λ adviser. asked_of adviser ≤ 2 ^ 32) advisers.old.items }
+    ensures run { IsRun (map (λ word. word.now) words.now) result record {
       left = S.left source.old;
       taken = K.taken sink.old;
       taken_after = K.taken sink.new;
@@ -40,16 +48,17 @@ pub fn run<S: Source, K: Sink>(
     ensures stops { ConsumesUpTo (65536 + 1) (S.left source.old) (S.left source.new) }
     ensures reads_never_fall { S.faults source.old ≤ S.faults source.new }
     ensures writes_never_fall { K.faults sink.old ≤ K.faults sink.new }
+    ensures asked { (times : ℕ) × (times ≤ 8) × RoseBy (λ adviser. asked_of adviser) times advisers.old.items advisers.new.items }
 {
     a_text_is_one_program();
     names_are_spelled_as_names();
     names_are_distinct();
     lines_have_their_own_form();
     a_line_spells_at_most_one_claim();
-    if !accepts(words) {
+    let Some(order) = order_of(words) else {
         return settle(sink, usage(), Status::Words);
-    }
-    match answer(alloc, source) {
+    };
+    match answer(alloc, &order, source, advisers) {
         Ok(Some(due)) => settle(sink, &due.bytes, due.status),
         Ok(None) => Status::ReadFault,
         Err(_) => Status::NoMemory,

@@ -1,9 +1,10 @@
-use Rattle.std.proofs.Common.{ap, inr}
+use Rattle.std.proofs.Common.{ap, inr, arith}
+use Rattle.ctl_rounds.proofs.Asking.{unasked}
 use Rattle.function_top.specs.Due.{flow_numbered}
 use Rattle.function_top.proofs.answer.answer_on.Goals as goal
 
-pub returns-in_ok-refused-in-Err-Labels : goal.returns-in_ok-refused-in-Err-Labels
-returns-in_ok-refused-in-Err-Labels c = λ text short derived stand.
+pub returns-in_ok-refused-in-Err-Labels-clause-due : goal.returns-in_ok-refused-in-Err-Labels-clause-due
+returns-in_ok-refused-in-Err-Labels-clause-due g c = λ text short derived stand.
     rw c.in_ok-refused-in-Err-Labels.ensures.status (inr (inr record {
       short = short;
       program = c.args.program.now;
@@ -17,8 +18,8 @@ returns-in_ok-refused-in-Err-Labels c = λ text short derived stand.
       line_is = c.in_ok-refused-in-Err-Labels.ensures.line;
     }))
 
-pub returns-in_ok-refused-in-Err-Conjunctions : goal.returns-in_ok-refused-in-Err-Conjunctions
-returns-in_ok-refused-in-Err-Conjunctions c = λ text short derived stand.
+pub returns-in_ok-refused-in-Err-Conjunctions-clause-due : goal.returns-in_ok-refused-in-Err-Conjunctions-clause-due
+returns-in_ok-refused-in-Err-Conjunctions-clause-due g c = λ text short derived stand.
     rw c.in_ok-refused-in-Err-Conjunctions.ensures.status (inr (inr record {
       short = short;
       program = c.args.program.now;
@@ -31,3 +32,18 @@ returns-in_ok-refused-in-Err-Conjunctions c = λ text short derived stand.
       number_of = ap flow_numbered c.in-Err-Conjunctions.field-0-is;
       line_is = c.in_ok-refused-in-Err-Conjunctions.ensures.line;
     }))
+
+pub returns-in_ok-refused-in-Err-Labels-clause-asked : goal.returns-in_ok-refused-in-Err-Labels-clause-asked
+returns-in_ok-refused-in-Err-Labels-clause-asked g c = (0, omega (arith), unasked (λ a. (goal.Adviser-dyn g (a.vtable, a.value)).asked_of a.value) c.args.advisers.now.items)
+
+pub returns-in_ok-refused-in-Err-Conjunctions-clause-asked : goal.returns-in_ok-refused-in-Err-Conjunctions-clause-asked
+returns-in_ok-refused-in-Err-Conjunctions-clause-asked g c = (0, omega (arith), unasked (λ a. (goal.Adviser-dyn g (a.vtable, a.value)).asked_of a.value) c.args.advisers.now.items)
+
+pub returns-in_err-refused-in-Err-Labels-clause-asked : goal.returns-in_err-refused-in-Err-Labels-clause-asked
+returns-in_err-refused-in-Err-Labels-clause-asked g c = (0, omega (arith), unasked (λ a. (goal.Adviser-dyn g (a.vtable, a.value)).asked_of a.value) c.args.advisers.now.items)
+
+pub returns-in_err-refused-in-Err-Conjunctions-clause-asked : goal.returns-in_err-refused-in-Err-Conjunctions-clause-asked
+returns-in_err-refused-in-Err-Conjunctions-clause-asked g c = (0, omega (arith), unasked (λ a. (goal.Adviser-dyn g (a.vtable, a.value)).asked_of a.value) c.args.advisers.now.items)
+
+pub returns-in-Err-Memory-clause-asked : goal.returns-in-Err-Memory-clause-asked
+returns-in-Err-Memory-clause-asked g c = (0, omega (arith), unasked (λ a. (goal.Adviser-dyn g (a.vtable, a.value)).asked_of a.value) c.args.advisers.now.items)

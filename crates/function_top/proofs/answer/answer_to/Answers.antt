@@ -1,13 +1,14 @@
-use Rattle.std.proofs.Common.{◌≡◌, Some, inl, inr, sym, ◌∙◌}
+use Rattle.std.proofs.Common.{◌≡◌, Some, inl, inr, sym, ◌∙◌, arith}
 use Rattle.source_parse.specs.Faults.{numbered}
+use Rattle.ctl_rounds.proofs.Asking.{unasked}
 use Rattle.function_top.proofs.Refusing.{refused}
 use Rattle.function_top.proofs.answer.answer_to.Goals as goal
 
-pub returns-in_ok-refused-in-Some : goal.returns-in_ok-refused-in-Some
-returns-in_ok-refused-in-Some c =
+pub returns-in_ok-refused-in-Some-clause-due : goal.returns-in_ok-refused-in-Some-clause-due
+returns-in_ok-refused-in-Some-clause-due g c =
     let told : numbered c.in-Err.fault ≡ Some (c.in-Some.number, c.in-Some.place) = sym c.numbered.ensures ∙ c.in-Some.is in
     rw (c.in_ok-refused-in-Some.ensures.status) (inr (inl record {
-      short = c.requires;
+      short = c.requires.size;
       none = refused c.args.text.now c.in-Err.fault _ c.a_program_has_no_fault.ensures c.in-Err.ensures.fault told;
       fault = c.in-Err.fault;
       number = c.in-Some.number;
@@ -16,3 +17,12 @@ returns-in_ok-refused-in-Some c =
       number_of = told;
       line_is = c.in_ok-refused-in-Some.ensures.line;
     }))
+
+pub returns-in_ok-refused-in-Some-clause-asked : goal.returns-in_ok-refused-in-Some-clause-asked
+returns-in_ok-refused-in-Some-clause-asked g c = (0, omega (arith), unasked (λ a. (goal.Adviser-dyn g (a.vtable, a.value)).asked_of a.value) c.args.advisers.now.items)
+
+pub returns-in_err-refused-in-Some-clause-asked : goal.returns-in_err-refused-in-Some-clause-asked
+returns-in_err-refused-in-Some-clause-asked g c = (0, omega (arith), unasked (λ a. (goal.Adviser-dyn g (a.vtable, a.value)).asked_of a.value) c.args.advisers.now.items)
+
+pub returns-in-None-clause-asked : goal.returns-in-None-clause-asked
+returns-in-None-clause-asked g c = (0, omega (arith), unasked (λ a. (goal.Adviser-dyn g (a.vtable, a.value)).asked_of a.value) c.args.advisers.now.items)

@@ -2,23 +2,21 @@ use Rattle.std.proofs.Common.{not, All, sym, subst}
 use Rattle.std.proofs.lemmas.List.Elements.{All-filter}
 use Rattle.decision_tree.specs.Plans.{plan_of}
 use Rattle.report_text.specs.declared.line.Line.{Line}
+use Rattle.report_text.specs.declared.line.Top.TheVariants.{Bound}
 use Rattle.report_text.specs.Leaves.{is_unknown}
 use Rattle.report_text.specs.Printed.{IsLineOver}
 use Rattle.function_top.proofs.Over.{tree_lines_over}
 use Rattle.function_top.proofs.report.report.Goals as goal
 
-pub plain-requires-clause-proved : goal.plain-requires-clause-proved
-plain-requires-clause-proved c =
+pub print-requires : goal.print-requires
+print-requires c =
     let names = c.args.names.now in
     let lines = c.in_ok-lines.field-0 in
-    subst (All (IsLineOver names)) (sym c.in_ok-proved.ensures.claiming)
-    (All-filter (λ (line : Line). not (is_unknown line.claim)) (IsLineOver names) lines
-    (tree_lines_over names (plan_of c.args.tree.now) lines c.requires.over c.in_ok-lines.ensures))
-
-pub plain-requires-clause-unknown : goal.plain-requires-clause-unknown
-plain-requires-clause-unknown c =
-    let names = c.args.names.now in
-    let lines = c.in_ok-lines.field-0 in
-    subst (All (IsLineOver names)) (sym c.in_ok-proved.ensures.nothing)
-    (All-filter (λ (line : Line). is_unknown line.claim) (IsLineOver names) lines
-    (tree_lines_over names (plan_of c.args.tree.now) lines c.requires.over c.in_ok-lines.ensures))
+    let all = tree_lines_over names Bound (plan_of c.args.tree.now) lines c.requires.over c.in_ok-lines.ensures in
+    record {
+      exact = c.requires.exact;
+      proved = subst (All (IsLineOver names)) (sym c.in_ok-proved.ensures.claiming)
+          (All-filter (λ (line : Line). not (is_unknown line.claim)) (IsLineOver names) lines all);
+      unknown = subst (All (IsLineOver names)) (sym c.in_ok-proved.ensures.nothing)
+          (All-filter (λ (line : Line). is_unknown line.claim) (IsLineOver names) lines all);
+    }

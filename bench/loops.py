@@ -1,0 +1,60 @@
+#!/usr/bin/env python3
+"""Prints, for four kinds of programs that grow and whose loops are left to sweeps and hints, the time of the built command divided by that for the
+smallest of the kind.
+
+Each ratio is one of medians over several runs, less the time for an empty program. Nothing is asserted: machines differ and are shared.
+"""
+import sys
+import tempfile
+
+from timing import built, median_seconds
+
+RUNS = 5
+
+
+def straight(count):
+    """A loop whose body is so many assignments."""
+    body = "".join(f"a = a + {number}; " for number in range(1, count + 1))
+    return "int main() { int a, x; while (x != 0) { " + body + "x = x - 1; } }"
+
+
+def choices(count):
+    """A loop whose body makes so many choices."""
+    return "int main() { int x, y; while (x != 0) { " + "if (?) y = y + 1; " * count + "x = x - 1; } }"
+
+
+def one_after_another(count):
+    """So many loops in a row."""
+    return "int main() { int i; " + "for (i = 0; i < 10; i++) ; " * count + "}"
+
+
+def nested(count):
+    """So many loops in each other."""
+    names = [f"x{depth}" for depth in range(count)]
+    front = "".join(f"{name} = 10; while ({name} > 0) {{ {name} = {name} - 1; " for name in names)
+    return f"int main() {{ int {', '.join(names)}; " + front + "} " * count + "}"
+
+
+KINDS = [(straight, (100, 300, 1000)), (choices, (2, 4, 6, 8)), (one_after_another, (1, 5, 20)), (nested, (1, 2, 3))]
+
+
+def seconds(binary, text):
+    with tempfile.NamedTemporaryFile("w", suffix=".c") as file:
+        file.write(text)
+        file.flush()
+        return median_seconds([binary], file.name, RUNS)
+
+
+def main():
+    binary = built()
+    empty = seconds(binary, "int main() { }")
+    print("kind               size  time / that of the first")
+    for program, sizes in KINDS:
+        base = seconds(binary, program(sizes[0])) - empty
+        for size in sizes:
+            print(f"{program.__name__:17}  {size:4}  {(seconds(binary, program(size)) - empty) / base:8.1f}", flush=True)
+    return 0
+
+
+if __name__ == "__main__":
+    sys.exit(main())

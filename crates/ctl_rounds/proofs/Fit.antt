@@ -1,0 +1,35 @@
+-- Trees that may be checked and printed, in lists.
+use Rattle.std.proofs.Common.{◌≡◌, ⊎_elim, ℕ, ◌<◌, List, All, length, map, get_or, sym, subst, ap, ◌∙◌, arith}
+use Rattle.std.proofs.lemmas.Bool.{cases_lt}
+use Rattle.std.proofs.lemmas.List.{get_or-map, get_or_past}
+use Rattle.std.proofs.lemmas.List.Elements.{All-from_get_or, All-get_or}
+use Rattle.linear_cons.specs.declared.affine.Affine.{Affine}
+use Rattle.count_down.specs.Trees as trees
+use Rattle.decision_tree.specs.declared.affine_rank.AffineRank.{AffineRank}
+use Rattle.decision_tree.specs.declared.tree.Tree.{Tree}
+use Rattle.decision_tree.specs.Plans.{Plan, bottom, plan_of}
+use Rattle.line_text.specs.Names.{IsOver}
+use Rattle.tree_support.specs.Setting.{trees_in}
+use Rattle.ctl_rounds.specs.Fitting.{IsFit}
+
+-- a function over names is one over so many places
+pub number_over : (names : List (List ℕ)) (a : Affine) → IsOver names a → trees.IsOver (length names) a
+number_over names a over = record { places = over.places; past = over.past }
+
+bottom_fit : (vars : ℕ) → IsFit vars bottom
+bottom_fit vars = record { over = tt; complements = tt; leaves = omega (arith) }
+
+-- each tree of a list is fit where all are, past its end too, and the other way round
+pub fit_at : (vars : ℕ) (plans : List (Plan AffineRank)) → All (IsFit vars) plans → (label : ℕ) → IsFit vars (trees_in plans label)
+fit_at vars plans all label = ⊎_elim
+    (λ low. All-get_or (IsFit vars) plans label bottom low all)
+    (λ past. subst (IsFit vars) (sym (get_or_past plans label bottom past)) (bottom_fit vars))
+    (cases_lt label (length plans))
+
+pub all_fit : (vars : ℕ) (plans : List (Plan AffineRank)) → ((label : ℕ) → IsFit vars (trees_in plans label)) → All (IsFit vars) plans
+all_fit vars plans each = All-from_get_or (IsFit vars) plans bottom (λ label low. each label)
+
+-- the plan of a tree of a list is at its index among the plans
+pub plan_at : (list : List (Tree AffineRank)) (i : ℕ) (tree : Tree AffineRank) → i < length list → tree ≡ get_or list i tree
+    → trees_in (map plan_of list) i ≡ plan_of tree
+plan_at list i tree low is = get_or-map plan_of list i tree bottom low ∙ ap plan_of (sym is)

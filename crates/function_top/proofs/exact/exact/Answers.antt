@@ -1,0 +1,97 @@
+use Rattle.std.proofs.Common.{◌≡◌, ◌<◌, inl, inr, Some, None, IsTrue, refl, sym, ap, ◌∙◌, subst}
+use Rattle.std.specs.Prelude.{IsSome}
+use Rattle.step_meaning.specs.Syntax.{statements}
+use Rattle.control_flow.specs.Labels.{entry_of}
+use Rattle.control_flow.proofs.LabelLaws.{entry_is_a_label}
+use Rattle.decision_tree.specs.Plans.{plan_of}
+use Rattle.decision_tree.specs.declared.affine_rank.AffineRank.{AffineRank}
+use Rattle.decision_tree.specs.declared.family.Family.{Family}
+use Rattle.unroll.specs.Levels.{IsLevel, RanksCount, tree_at}
+use Rattle.unroll.specs.Levels as levels
+use Rattle.unroll.specs.Stopping.{IsMade}
+use Rattle.function_top.specs.Exact.{IsExact, header_of}
+use Rattle.function_top.proofs.ExactLines.{complements_fit, entry_inside, entry_tree, exact_by, exact_level, level_over, some_at}
+use Rattle.function_top.proofs.exact.exact.Goals as goal
+
+pub bounds-items-entry : goal.bounds-items-entry
+bounds-items-entry c =
+    let body = statements c.args.program.now.body in
+    let trees = c.in-Some.family.trees in
+    let tests = c.in_ok-unrolled.unrolled.tests in
+    let found : IsLevel tests (statements c.args.graph.now.body) trees =
+    some_at (λ (family : Family AffineRank). IsLevel tests (statements c.args.graph.now.body) family.trees) c.in_ok-unrolled.unrolled.family c.in-Some.family
+    c.in_ok-unrolled.ensures.level c.in-Some.is in
+    let level : IsLevel tests body trees = subst (λ b. IsLevel tests b trees) c.requires.body found in
+    let entry : c.entry.result ≡ entry_of body = c.entry.ensures ∙ ap entry_of c.requires.body in
+    entry_inside tests body c.items.result.now trees c.items.ensures level c.entry.result entry
+
+pub claims-requires-clause-fits : goal.claims-requires-clause-fits
+claims-requires-clause-fits c =
+    let body = statements c.args.program.now.body in
+    let trees = c.in-Some.family.trees in
+    let tests = c.in_ok-unrolled.unrolled.tests in
+    let found : IsLevel tests (statements c.args.graph.now.body) trees =
+    some_at (λ (family : Family AffineRank). IsLevel tests (statements c.args.graph.now.body) family.trees) c.in_ok-unrolled.unrolled.family c.in-Some.family
+    c.in_ok-unrolled.ensures.level c.in-Some.is in
+    let level : IsLevel tests body trees = subst (λ b. IsLevel tests b trees) c.requires.body found in
+    let entry : c.entry.result ≡ entry_of body = c.entry.ensures ∙ ap entry_of c.requires.body in
+    let tree = c.index-items-entry.result in
+    let at : plan_of tree ≡ tree_at trees (entry_of body) = entry_tree tests body c.items.result.now trees c.items.ensures level c.entry.result entry tree c.index-items-entry.is in
+    complements_fit (plan_of tree) (subst levels.ComplementsFit (sym at) (level.complements (entry_of body) (entry_is_a_label body)))
+
+pub claims-requires-clause-ranks : goal.claims-requires-clause-ranks
+claims-requires-clause-ranks c =
+    let body = statements c.args.program.now.body in
+    let trees = c.in-Some.family.trees in
+    let tests = c.in_ok-unrolled.unrolled.tests in
+    let found : IsLevel tests (statements c.args.graph.now.body) trees =
+    some_at (λ (family : Family AffineRank). IsLevel tests (statements c.args.graph.now.body) family.trees) c.in_ok-unrolled.unrolled.family c.in-Some.family
+    c.in_ok-unrolled.ensures.level c.in-Some.is in
+    let level : IsLevel tests body trees = subst (λ b. IsLevel tests b trees) c.requires.body found in
+    let entry : c.entry.result ≡ entry_of body = c.entry.ensures ∙ ap entry_of c.requires.body in
+    let tree = c.index-items-entry.result in
+    let at : plan_of tree ≡ tree_at trees (entry_of body) = entry_tree tests body c.items.result.now trees c.items.ensures level c.entry.result entry tree c.index-items-entry.is in
+    subst RanksCount (sym at) (level.ranks (entry_of body) (entry_is_a_label body))
+
+pub returns-clause-exact : goal.returns-clause-exact
+returns-clause-exact c =
+    let body = statements c.args.program.now.body in
+    let trees = c.in-Some.family.trees in
+    let tests = c.in_ok-unrolled.unrolled.tests in
+    let found : IsLevel tests (statements c.args.graph.now.body) trees =
+    some_at (λ (family : Family AffineRank). IsLevel tests (statements c.args.graph.now.body) family.trees) c.in_ok-unrolled.unrolled.family c.in-Some.family
+    c.in_ok-unrolled.ensures.level c.in-Some.is in
+    let level : IsLevel tests body trees = subst (λ b. IsLevel tests b trees) c.requires.body found in
+    let entry : c.entry.result ≡ entry_of body = c.entry.ensures ∙ ap entry_of c.requires.body in
+    let tree = c.index-items-entry.result in
+    let at : plan_of tree ≡ tree_at trees (entry_of body) = entry_tree tests body c.items.result.now trees c.items.ensures level c.entry.result entry tree c.index-items-entry.is in
+    let names = c.args.program.now.names in
+    let delay = c.args.delay in
+    let lines = c.in_ok-lines.lines in
+    let stopped = c.in_ok-unrolled.unrolled.stopped in
+    let made : IsMade delay c.in_ok-unrolled.unrolled = c.in_ok-unrolled.ensures.made in
+    let plain = c.is_plain.ensures.0 (subst IsTrue (sym c.if-not-is_plain.false) refl) in
+    let told = c.in_ok-lines.ensures in
+    let known = exact_level names body tests trees level (plan_of tree) told.0 lines at told.1 told.2 in
+    let short : IsSome stopped → tests < delay = λ some. elim (made.short some) [
+      | inl none ↦ absurd (let clash : None ≡ Some c.in-Some.family = sym none.0 ∙ c.in-Some.is in cc)
+      | inr less ↦ less.1
+    ] in
+    subst (λ header. IsExact names body delay header lines) (sym (c.header_of.ensures ∙ ap (header_of tests) c.stop_of-stop.ensures))
+    (exact_by names body delay tests lines plain known stopped (λ whole. (made.whole whole).1) short)
+
+pub returns-clause-over : goal.returns-clause-over
+returns-clause-over c =
+    let body = statements c.args.program.now.body in
+    let trees = c.in-Some.family.trees in
+    let tests = c.in_ok-unrolled.unrolled.tests in
+    let found : IsLevel tests (statements c.args.graph.now.body) trees =
+    some_at (λ (family : Family AffineRank). IsLevel tests (statements c.args.graph.now.body) family.trees) c.in_ok-unrolled.unrolled.family c.in-Some.family
+    c.in_ok-unrolled.ensures.level c.in-Some.is in
+    let level : IsLevel tests body trees = subst (λ b. IsLevel tests b trees) c.requires.body found in
+    let entry : c.entry.result ≡ entry_of body = c.entry.ensures ∙ ap entry_of c.requires.body in
+    let tree = c.index-items-entry.result in
+    let at : plan_of tree ≡ tree_at trees (entry_of body) = entry_tree tests body c.items.result.now trees c.items.ensures level c.entry.result entry tree c.index-items-entry.is in
+    let valid = c.args.program.now.valid in
+    let told = c.in_ok-lines.ensures in
+    level_over c.args.program.now.names body valid.few valid.well_sorted tests trees level (plan_of tree) told.0 c.in_ok-lines.lines at told.1 told.2
