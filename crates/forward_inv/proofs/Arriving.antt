@@ -12,7 +12,7 @@ use Rattle.linear_cons.specs.Rows.{Meets}
 use Rattle.linear_forms.specs.Meeting.{MeetsOne}
 use Rattle.linear_forms.specs.Spreading.{spread_of}
 use Rattle.linear_forms.proofs.Naming.{test_names}
-use Rattle.num_domain.specs.Domain.{AllMeet, IsPlain, IsStore, KeepsMeeting}
+use Rattle.num_domain.specs.Domain.{AllMeet, IsPlain, KeepsMeeting}
 use Rattle.control_flow.specs.declared.edge.Edge.{Edge}
 use Rattle.control_flow.specs.declared.edge.EdgeKind.{EdgeKind}
 use Rattle.control_flow.specs.declared.edge.EdgeKind.TheVariants.{Test}
@@ -23,7 +23,7 @@ use Rattle.control_flow.proofs.LabelLaws.{labels_are_sorted}
 use Rattle.forward_inv.specs.Behind.{IsBehind, IsEdgeOf, IsMetOnArrival, IsOnlyEdge, MeetsBehind}
 use Rattle.forward_inv.specs.Invariants.{AreInvariants}
 use Rattle.forward_inv.specs.States.{IsReachedState, entered, followed}
-use Rattle.forward_inv.proofs.Reached.{Follows, reached_label, reached_places}
+use Rattle.forward_inv.proofs.Reached.{reached_label, reached_places}
 use Rattle.forward_inv.proofs.Spared.{test_spared}
 
 -- some edge of the list, and what is said of it

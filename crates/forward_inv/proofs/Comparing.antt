@@ -1,12 +1,11 @@
 -- A comparison of affine expressions is that of their functions, whatever the bounds are.
-use Rattle.std.proofs.Common.{◌≡◌, Bool, true, false, List, refl, ap, ◌∙◌}
+use Rattle.std.proofs.Common.{◌≡◌, Bool, refl, ap, ◌∙◌}
 use Rattle.step_meaning.specs.declared.expression.Op2.{Op2}
 use Rattle.step_meaning.specs.declared.expression.Op2.TheVariants.{Add, Sub, Mul, Less, LessEqual, Greater, GreaterEqual, Equal, NotEqual, And, Or}
 use Rattle.step_meaning.specs.AffineExpressions.{ComparisonFits, IsAffine}
 use Rattle.step_meaning.specs.Syntax.{Expression, pair}
 use Rattle.linear_cons.specs.declared.bounds.Bounds.{Bounds}
 use Rattle.linear_cons.specs.declared.bounds.Linear.{Linear}
-use Rattle.linear_cons.specs.declared.row.Row.{Row}
 use Rattle.linear_cons.specs.Ends.{exactly}
 use Rattle.linear_forms.specs.Linearising.{form_of, linear_of}
 use Rattle.linear_forms.specs.Spreading.{all_rows_of, claims, comparison_for, spread_of}

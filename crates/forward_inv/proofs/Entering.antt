@@ -1,5 +1,5 @@
 -- The edges that lead to a label, taken down one after the other.
-use Rattle.std.proofs.Common.{◌≡◌, ◌≢◌, ℕ, zero, suc, ◌+◌, ◌<◌, ◌≤◌, inl, inr, ◌⊎◌, ⊎_elim, true, false, List, [], ◌∷◌, ◌++◌, length, slice_index_or, Option, None, Some, get_or-set_other, get_or-set_same, length-set, length-append, refl, sym, ap, subst, ◌∙◌, arith, unwrap_or}
+use Rattle.std.proofs.Common.{◌≡◌, ◌≢◌, ℕ, zero, suc, ◌+◌, ◌<◌, ◌≤◌, inl, inr, ◌⊎◌, ⊎_elim, true, false, List, [], ◌∷◌, ◌++◌, length, slice_index_or, Option, Some, get_or-set_other, get_or-set_same, length-set, length-append, refl, sym, ap, subst, ◌∙◌, arith, unwrap_or}
 use Rattle.std.proofs.lemmas.Bool.{cases_eq, cases_lt}
 use Rattle.std.proofs.lemmas.Option.{slice_get_past, unwrap_or-slice_get}
 use Rattle.step_meaning.specs.Syntax.{Statements}
@@ -11,7 +11,7 @@ use Rattle.control_flow.specs.Edges.{SomeEdge, edges_from}
 use Rattle.control_flow.specs.Labels.{Action, Label, ends, assigns, passes, tests, action_at, all_labels, end}
 use Rattle.forward_inv.specs.declared.behind.Entering.{Entering}
 use Rattle.forward_inv.specs.declared.behind.Entering.TheVariants.{NoEdge, OneEdge, Several}
-use Rattle.forward_inv.specs.Behind.{AreEntering, AreUnentered, IsEdgeOf, IsEntering, IsOnlyEdge, entered_by, noted}
+use Rattle.forward_inv.specs.Behind.{AreEntering, AreUnentered, IsEdgeOf, IsEntering, entered_by, noted}
 
 -- the edge is such, or it is this one
 abbrev Also : (Edge → Type 0) → Edge → Edge → Type 0

@@ -1,12 +1,12 @@
 -- Inductive sets have each store with which their label is reached.
-use Rattle.std.proofs.Common.{◌≡◌, ℕ, ◌<◌, ◌≤◌, ℤ, inl, inr, List, [], ◌∷◌, length, slice_get, slice_set, Option, None, Some, IfSome, IsSomeAnd, length-set, sym, subst, ◌∙◌}
+use Rattle.std.proofs.Common.{◌≡◌, ℕ, ◌≤◌, ℤ, inl, inr, List, [], ◌∷◌, length, slice_get, slice_set, Option, None, Some, IfSome, IsSomeAnd, length-set, subst, ◌∙◌}
 use Rattle.step_meaning.specs.Syntax.{Statements}
 use Rattle.step_meaning.specs.Outcome.{Store}
 use Rattle.step_meaning.specs.Valid.{IsBody}
 use Rattle.num_domain.specs.Domain.{HasEvery, IsStore}
 use Rattle.control_flow.specs.declared.edge.Edge.{Edge}
 use Rattle.control_flow.specs.Edges.{EachEdge, Leads, SomeEdge, edges_from}
-use Rattle.control_flow.specs.Labels.{Action, action_at, all_labels, entry_of}
+use Rattle.control_flow.specs.Labels.{action_at, entry_of}
 use Rattle.control_flow.proofs.LabelLaws.{labels_are_sorted}
 use Rattle.inductive_sets.specs.Sets.{AreInductive, KeepsEdge, LeadsInto}
 use Rattle.inductive_sets.proofs.Holding.{some_weaker}

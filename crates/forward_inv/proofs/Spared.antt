@@ -1,5 +1,5 @@
 -- Place 15, of which no program has a variable: whatever number stands there, outcomes are the same, and edges lead to the store with it.
-use Rattle.std.proofs.Common.{◌≡◌, ℕ, ◌<◌, ◌≤◌, ℤ, pos, inl, inr, Bool, slice_set, get_or-set_other, sym, ap, ◌∙◌, arith}
+use Rattle.std.proofs.Common.{ℕ, ◌≤◌, ℤ, pos, inl, inr, Bool, slice_set, get_or-set_other, sym, ap, ◌∙◌, arith}
 use Rattle.std.proofs.lemmas.List.{set_comm}
 use Rattle.step_meaning.specs.Naming.{NamesBelow}
 use Rattle.step_meaning.specs.Outcome.{May, MayTest, Store}

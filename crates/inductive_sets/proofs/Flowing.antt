@@ -1,8 +1,7 @@
 -- Over an edge a set's members come into the set behind it.
-use Rattle.std.proofs.Common.{◌≡◌, ℕ, ◌<◌, ◌≤◌, ℤ, pos, ◌≤ℤ◌, Bool, true, false, IsTrue, List, length, slice_set, Option, None, Some, refl, sym, ap, subst, arith}
+use Rattle.std.proofs.Common.{◌≡◌, ℕ, ◌≤◌, ℤ, pos, ◌≤ℤ◌, Bool, List, slice_set, Some, sym, ap, subst, arith}
 use Rattle.std.proofs.lemmas.Int.{by_lt_z, ints}
-use Rattle.step_meaning.specs.Naming.{NamesBelow}
-use Rattle.step_meaning.specs.Outcome.{May, MayTest, Store}
+use Rattle.step_meaning.specs.Outcome.{May, MayTest}
 use Rattle.step_meaning.specs.Syntax.{Expression}
 use Rattle.linear_cons.specs.declared.bounds.Bounds.{Bounds}
 use Rattle.linear_cons.specs.declared.bounds.Linear.{Linear}
@@ -14,7 +13,7 @@ use Rattle.linear_cons.proofs.RowLaws.{complement_met}
 use Rattle.linear_forms.specs.Linearising.{linear_of}
 use Rattle.linear_forms.specs.Spreading.{spread_of}
 use Rattle.linear_forms.specs.Meeting.{MeetsOne}
-use Rattle.num_domain.specs.Domain.{AllMeet, IsStore, KeepsAssigned, KeepsMeeting, SameMembers}
+use Rattle.num_domain.specs.Domain.{AllMeet, KeepsAssigned, KeepsMeeting, SameMembers}
 use Rattle.control_flow.specs.declared.edge.EdgeKind.TheVariants.{Assign, Test}
 use Rattle.control_flow.specs.Edges.{assigned_by, test_by}
 use Rattle.control_flow.specs.Labels.{Action, ends, assigns, passes, tests}

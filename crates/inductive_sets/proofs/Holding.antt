@@ -1,6 +1,5 @@
 -- Sets of stores for labels: what holds of each, and that edges lead from one into the other.
-use Rattle.std.proofs.Common.{◌≡◌, ℕ, zero, suc, ◌+◌, ◌<◌, ◌≤◌, ◌==◌, true, false, ℤ, get_or, List, [], ◌∷◌, ◌++◌, length, slice_get, slice_set, Option, None, Some, IfSome, IsSomeAnd, All, refl, sym, ap, subst, ◌∙◌, arith, inl, inr, length-set}
-use Rattle.std.specs.Bool.{⊤}
+use Rattle.std.proofs.Common.{◌≡◌, ℕ, zero, suc, ◌+◌, ◌<◌, ◌==◌, true, false, ℤ, get_or, List, [], ◌∷◌, ◌++◌, length, slice_get, Option, None, Some, IfSome, IsSomeAnd, All, refl, sym, ap, subst, ◌∙◌, arith, inl, inr, length-set}
 use Rattle.std.proofs.lemmas.List.Elements.{All-head, All-tail}
 use Rattle.std.proofs.lemmas.Option.{slice_get_past, slice_get_read}
 use Rattle.std.proofs.lemmas.Bool.{ltb-true}
@@ -10,8 +9,7 @@ use Rattle.std.proofs.lemmas.Bool.Decides.{Decides-eqb}
 use Rattle.step_meaning.specs.Outcome.{Store}
 use Rattle.step_meaning.specs.Syntax.{Statements}
 use Rattle.linear_cons.specs.declared.row.Row.{Row}
-use Rattle.linear_cons.specs.Rows.{MeetsAll}
-use Rattle.num_domain.specs.Domain.{AllMeet, HasEvery, IsStore, KeepsMeeting}
+use Rattle.num_domain.specs.Domain.{AllMeet, HasEvery, IsStore}
 use Rattle.control_flow.specs.declared.edge.Edge.{Edge}
 use Rattle.control_flow.specs.declared.edge.EdgeKind.{EdgeKind}
 use Rattle.control_flow.specs.declared.edge.EdgeKind.TheVariants.{Assign, Skip, Test}

@@ -1,12 +1,12 @@
 -- Sets met with rows, one after the other, and with one of some lists of rows.
-use Rattle.std.proofs.Common.{◌≡◌, ℕ, ◌+◌, ◌<◌, ◌≤◌, ℤ, inl, inr, List, [], ◌∷◌, ◌++◌, length, take, get_or, All, Option, None, Some, sym, subst, arith, ⊎_elim}
+use Rattle.std.proofs.Common.{◌≡◌, ℕ, ◌+◌, ◌<◌, ◌≤◌, ℤ, inl, inr, List, [], ◌∷◌, ◌++◌, length, take, get_or, All, Option, subst, arith}
 use Rattle.std.proofs.Math.ListN.{get_or-append}
 use Rattle.std.proofs.lemmas.List.{length-append, take_all}
-use Rattle.std.proofs.lemmas.List.Elements.{All-cons, All-nil, All-head, All-tail, All-contains, All-weaker, Contains-append_left, Contains-push}
+use Rattle.std.proofs.lemmas.List.Elements.{All-cons, All-nil, All-contains, Contains-push}
 use Rattle.linear_cons.specs.declared.row.Row.{Row}
 use Rattle.linear_cons.specs.Rows.{Meets, MeetsAll}
 use Rattle.linear_forms.specs.Meeting.{MeetsEach, MeetsOne}
-use Rattle.num_domain.specs.Domain.{IsStore, KeepsMeeting, SameMembers}
+use Rattle.num_domain.specs.Domain.{IsStore, KeepsMeeting}
 use Rattle.inductive_sets.specs.Sets.{IsMemberOf, KeepsMeetingAll, KeepsMeetingOne, KeepsMembers}
 use Rattle.inductive_sets.proofs.Taking.{taken}
 

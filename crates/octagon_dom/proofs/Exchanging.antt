@@ -1,10 +1,9 @@
 -- The two signed places of a place exchanged, cell by cell.
-use Rattle.std.proofs.Common.{◌≡◌, ◌≢◌, ⊎_elim, inl, inr, ◌⊎◌, ℕ, ◌+◌, ◌*◌, ◌/◌, ◌%◌, ◌<◌, ◌≤◌, ℤ, neg_ℤ, ◌-ℤ◌, true, false, eqb, cond}
+use Rattle.std.proofs.Common.{◌≡◌, ◌≢◌, ⊎_elim, inl, inr, ◌⊎◌, ℕ, ◌+◌, ◌*◌, ◌/◌, ◌%◌, ◌<◌, ◌≤◌, ℤ, neg_ℤ, true, false, eqb, cond}
 use Rattle.std.proofs.Common.{List, length}
-use Rattle.std.proofs.Common.{get_or, set, Option, arith, refl, sym, ◌∙◌, ap, subst, get_or-set_other, get_or-set_same, length-set}
+use Rattle.std.proofs.Common.{get_or, set, arith, refl, sym, ◌∙◌, ap, get_or-set_other, get_or-set_same, length-set}
 use Rattle.std.proofs.lemmas.Bool.{cases_lt}
 use Rattle.std.proofs.lemmas.Bool.Decides.{eqb_tells}
-use Rattle.std.proofs.lemmas.Int.{ints}
 use Rattle.linear_cons.specs.Numbers.{number_at}
 use Rattle.linear_cons.proofs.EndLaws.{up_to_same}
 use Rattle.linear_cons.proofs.Places.{eqb_apart}

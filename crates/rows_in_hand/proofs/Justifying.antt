@@ -1,5 +1,5 @@
 -- What rows in hand give is a reason against the system that they are of.
-use Rattle.std.proofs.Common.{◌≡◌, ◌≢◌, ℤ, inl, inr, List, [], ◌∷◌, ◌++◌, length, map, All, Contains, Option, None, Some, refl, sym, ap, subst, ◌∙◌, arith, ⊎_elim}
+use Rattle.std.proofs.Common.{◌≡◌, ◌≢◌, ℤ, inl, inr, List, [], ◌∷◌, ◌++◌, map, All, Contains, Option, None, Some, refl, sym, ap, subst, ◌∙◌, arith, ⊎_elim}
 use Rattle.std.proofs.lemmas.List.{map-append}
 use Rattle.std.proofs.lemmas.List.Elements.{All-append, All-cons, All-head, All-nil, All-tail, Contains-append_left, Contains-append_right, Contains-push, filter_map-append}
 use Rattle.linear_cons.specs.declared.exact.Wide.{Wide}

@@ -1,5 +1,5 @@
 -- The tightest of some rows: what they give as a reason all of them give, and a row that they refute is opposed to one of them.
-use Rattle.std.proofs.Common.{◌≡◌, ◌+◌, ◌*◌, ◌≤◌, ◌<ℤ◌, ◌^◌, pos, List, [], ◌∷◌, ◌++◌, length, Contains, subst, sym, arith, ⊎_elim}
+use Rattle.std.proofs.Common.{◌+◌, ◌*◌, ◌≤◌, ◌^◌, pos, List, [], ◌∷◌, ◌++◌, length, Contains, subst, sym, arith, ⊎_elim}
 use Rattle.std.proofs.lemmas.Int.{ints}
 use Rattle.std.proofs.lemmas.List.Elements.{Contains-push_cases}
 use Rattle.linear_cons.specs.declared.row.Row.{Row}
@@ -14,7 +14,7 @@ use Rattle.linear_solve.proofs.Solved.{after_mono, after_more}
 use Rattle.linear_solve.proofs.Tightening.{stand_for}
 use Rattle.linear_solve.specs.Answers.{MayOutgrow, MayOverflow}
 use Rattle.linear_solve.specs.Elimination.{StandFor}
-use Rattle.linear_solve.specs.Systems.{HasOpposed, IsOctagonList, IsOctagonRow, IsOpposedToOne, occurring}
+use Rattle.linear_solve.specs.Systems.{IsOctagonList, IsOctagonRow, IsOpposedToOne, occurring}
 use Rattle.decision_tree.specs.Trails.{AreTightestOf}
 use Rattle.rows_in_hand.specs.Hands.{KeepsApart}
 

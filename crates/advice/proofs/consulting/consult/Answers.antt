@@ -1,4 +1,4 @@
-use Rattle.std.proofs.Common.{◌≡◌, ◌+◌, ◌-◌, ◌<◌, ◌≤◌, ◌^◌, [], ◌∷◌, ap, arith, length, length-append, subst, sym, ◌∙◌}
+use Rattle.std.proofs.Common.{◌≡◌, ◌+◌, ◌-◌, ◌<◌, ◌^◌, [], ◌∷◌, ap, arith, length, length-append, subst, sym, ◌∙◌}
 use Rattle.advice.proofs.Asked.{next_below, one_more}
 use Rattle.advice.proofs.consulting.consult.Goals as goal
 use Rattle.advice.proofs.consulting.consult.Goals.{in-Some, in_default}

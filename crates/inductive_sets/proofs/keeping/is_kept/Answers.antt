@@ -1,4 +1,3 @@
-use Rattle.std.proofs.Common.{sym}
 use Rattle.step_meaning.specs.Syntax.{statements}
 use Rattle.inductive_sets.proofs.Holding.{kept_edge, looked_up}
 use Rattle.inductive_sets.proofs.keeping.is_kept.Goals as goal

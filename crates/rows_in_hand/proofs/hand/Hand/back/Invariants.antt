@@ -1,4 +1,4 @@
-use Rattle.std.proofs.Common.{◌≡◌, ℕ, length, take}
+use Rattle.std.proofs.Common.{◌≡◌, length, take}
 use Rattle.rows_in_hand.proofs.hand.Hand.back.Given as goal
 
 abbrev pub invariant-loop-self : goal.invariant-loop-self
