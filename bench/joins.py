@@ -1,13 +1,15 @@
 #!/usr/bin/env python3
-"""Times the calls that trim, join and prune trees, each as a ratio to a copy of the tree that it makes.
+"""Times the calls that trim, join, prune and widen trees, each as a ratio to a copy of the tree that it makes.
 
     python3 bench/joins.py [PROGRAM]
 
 PROGRAM is the built program, crates/tree_cli/out/tree_cli by default (`rt run < stdin` in crates/tree_cli
 builds it). A line of 65,535 nodes is trimmed by paths of 10 and of 1,000 rows that settle nothing, no two
 of them with one linear part, and joined with itself; two trees of 201 nodes that share no row are joined
-to one of 40,201; and a line of 4,095 nodes is pruned by a box of all stores. At the end stands the memory
-that a join takes which is refused, of 1,000 rows with nodes on their yes sides and a tree of 2,001 nodes.
+to one of 40,201; a line of 4,095 nodes is pruned by a box of all stores; and a line of 5,001 nodes is
+widened by one of the same rows with smaller ranks, so that the solver is asked nothing. At the end stands
+the memory that a join takes which is refused, of 1,000 rows with nodes on their yes sides and a tree of
+2,001 nodes.
 """
 
 import os
@@ -24,6 +26,7 @@ JOBS = [
     ("either with itself", f"either {LINE}", 10, "", f"copy {LINE}"),
     ("later of two trees", "later 100", 20, "", "grown 100"),
     ("prune by a box", "prune 2047", 40, "", "copy 2047"),
+    ("widen by smaller ranks", "widen 2500", 40, "", "copy 2500"),
 ]
 
 

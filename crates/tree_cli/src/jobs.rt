@@ -1,12 +1,13 @@
 //! The jobs, each done a number of times.
 use crate::fault::Fault;
-use crate::trees::{broad_trees, line_tree, path, two_trees};
+use crate::trees::{broad_trees, line_tree, path, rising_line, two_trees};
 use crate::walk::walk;
 use decision_tree::{AffineRank, Trail, Tree};
 use interval_dom::Boxes;
 use num_domain::NumDomain;
 use std::alloc::Global;
 use tree_unify::{TreeFault, either, later, prune, trim};
+use tree_widening::widen;
 
 /// What the job comes to: how many rows are settled for a walk, else the size of the last tree.
 pub fn done(alloc: Global, job: &str, rows: u32, times: u32, length: u32) -> Result<u64, Fault> {
@@ -22,6 +23,7 @@ pub fn done(alloc: Global, job: &str, rows: u32, times: u32, length: u32) -> Res
         }
         "prune" => pruned(alloc, rows, times),
         "full" => refused(alloc, rows, times),
+        "widen" => widened(alloc, rows, times),
         _ => Err(Fault::Job),
     }
 }
@@ -91,6 +93,16 @@ fn refused(alloc: Global, rows: u32, times: u32) -> Result<u64, Fault> {
             Err(TreeFault::Full { count }) => size = count,
             Err(fault) => return Err(fault.into()),
         }
+    }
+    Ok(size)
+}
+
+fn widened(alloc: Global, rows: u32, times: u32) -> Result<u64, Fault> {
+    let old = rising_line(alloc, rows)?;
+    let new = line_tree(alloc, rows)?;
+    let mut size = 0;
+    for _ in 0..times {
+        size = widen(alloc, &old, &new)?.size();
     }
     Ok(size)
 }

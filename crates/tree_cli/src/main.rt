@@ -4,9 +4,10 @@
 //! a line of ROWS rows: `walk` goes over it with its rows in hand, `trim ROWS TIMES LENGTH` trims it by a
 //! path of LENGTH rows, `either` joins it with itself, and `prune` holds it against all stores. `later`
 //! joins two trees of ROWS rows each that share no row, and `grown` copies the tree that `later` makes.
-//! `full` joins two that make too large a tree, the first with nodes on the yes sides of its line.
+//! `full` joins two that make too large a tree, the first with nodes on the yes sides of its line. `widen`
+//! widens a line of rising ranks by the line of ranks 0, which bears each of its claims out.
 //! For a walk it prints how many of the rows were settled by those above them, else the size of the last
-//! tree. A line of no job ends it with status 2. It stands on `decision_tree` and `tree_unify`.
+//! tree. A line of no job ends it with status 2. It stands on `decision_tree`, `tree_unify` and `tree_widening`.
 #![tactic(auto)]
 
 mod fault;

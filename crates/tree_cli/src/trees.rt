@@ -13,6 +13,11 @@ pub fn line_tree(alloc: Global, rows: u32) -> Result<Tree<AffineRank>, Fault> {
     line_of(alloc, rows, 0, &Affine::constant(0), 0)
 }
 
+/// Such a line whose ranks are above 0, and rise from leaf to leaf.
+pub fn rising_line(alloc: Global, rows: u32) -> Result<Tree<AffineRank>, Fault> {
+    line_of(alloc, rows, 0, &Affine::constant(0), 1)
+}
+
 /// Such a line over the first eight variables, and one over the last: the ranks of their leaves differ
 /// from one leaf to the next, and neither tree's always exceed the other's.
 pub fn two_trees(alloc: Global, rows: u32) -> Result<(Tree<AffineRank>, Tree<AffineRank>), Fault> {

@@ -7,6 +7,12 @@ use Rattle.decision_tree.specs.Plans.{Plan, bottom, branch, leaf}
 use Rattle.tree_unify.specs.Shapes.{OnSide, on_side}
 
 module _ {R : Type 0} where
+  -- where they begin: the first node whose row the path leaves open, or a leaf
+  abbrev pub beginning : List Row → Plan R → Plan R
+  beginning path (branch row this that) =
+      on_side (settles path row) (beginning path this) (beginning path that) (branch row this that)
+  beginning path end = end
+
   -- each of these leaves has the property, with its way
   abbrev pub AtEach : (List Row → Plan R → Type 0) → List Row → Plan R → Type 0
   AtEach P path (branch row this that) =

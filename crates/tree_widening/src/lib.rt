@@ -8,6 +8,7 @@
 mod against;
 mod extrapolation;
 pub mod laws;
+mod newer;
 #[cfg(test)]
 mod tests;
 mod walk;

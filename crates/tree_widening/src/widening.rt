@@ -8,10 +8,12 @@ ghost use Rattle.decision_tree.specs.declared.path.PathFault.TheVariants.{Wide a
 ghost use Rattle.tree_unify.specs.Pruned.{HasRow};
 ghost use Rattle.tree_unify.specs.declared.fault.TreeFault.TheVariants.{Full, Wide as WideFault};
 ghost use Rattle.tree_unify.specs.Shapes.{TrimWithFits};
+ghost use Rattle.tree_widening.specs.Leaves.{beginning};
 ghost use Rattle.tree_widening.specs.Widening.{ExceedFits, IsHeld, IsWidened, IsWideningOf, WidenedFits, WideningFits, same_rank};
 
 use crate::against::tells_against;
 use crate::extrapolation::grow;
+use crate::newer::beginnings;
 use crate::walk::{Stopped, Walk};
 use decision_tree::{AffineRank, Cause, PathFault, Tree, Why};
 use std::alloc::Global;
@@ -47,7 +49,7 @@ pub fn widen(
         });
     }
     let mut walk = Walk::new(alloc);
-    match weave(alloc, &mut walk, old, old, true, new) {
+    match weave(alloc, &mut walk, old, old, true, new, new) {
         Ok(made) => Ok(Box::into_inner(made)),
         Err(_) => match walk.fault {
             PathFault::Wide(wide) => Err(TreeFault::Wide(wide)),
@@ -57,7 +59,8 @@ pub fn widen(
 }
 
 /// The part of the old tree behind the rows of the walk, widened. It stands on a side of the node above it,
-/// or is the whole tree, which counts as above itself. The walk is where it was.
+/// or is the whole tree, which counts as above itself. Behind these rows the newer tree is what `rest` is
+/// there. The walk is where it was.
 fn weave(
     alloc: Global,
     walk: &mut Walk,
@@ -65,7 +68,9 @@ fn weave(
     above: &Tree<AffineRank>,
     holds: bool,
     new: &Tree<AffineRank>,
+    rest: &Tree<AffineRank>,
 ) -> Result<Box<Tree<AffineRank>>, Stopped>
+    requires { beginning walk.old.trail (plan_of rest.now) ≡ beginning walk.old.trail (plan_of new.now) }
     ensures widened { IfOk result (λ made. IsWidened (plan_of new.now) (plan_of above.now) holds walk.old.trail (plan_of old.now)
         (plan_of made.value)) }
     ensures trail { OnOk result (walk.new.trail ≡ walk.old.trail) }
@@ -74,17 +79,18 @@ fn weave(
     ensures operands { OnErr result ((w : Wide) → walk.new.fault ≡ TooWide w → IsOutside w) }
 {
     match old {
-        Tree::Bottom => grow(alloc, walk, above, holds, new),
+        Tree::Bottom => grow(alloc, walk, above, holds, rest),
         Tree::Top(cause) => walk.given_up(alloc, cause),
-        Tree::Leaf { why, rank } => hold(alloc, walk, why, rank, new),
+        Tree::Leaf { why, rank } => hold(alloc, walk, why, rank, rest),
         Tree::Node { row, yes, no } => {
+            let (this_rest, other_rest) = beginnings(&walk.trail, row, new, rest);
             walk.down(row)?;
-            let this = weave(alloc, walk, yes, old, true, new)?;
+            let this = weave(alloc, walk, yes, old, true, new, this_rest)?;
             if let Err(stopped) = walk.turn() {
                 Tree::discard(this);
                 return Err(stopped);
             }
-            match weave(alloc, walk, no, old, false, new) {
+            match weave(alloc, walk, no, old, false, new, other_rest) {
                 Ok(other) => {
                     walk.trail.up();
                     walk.join_sides(alloc, row, this, other)
