@@ -23,7 +23,3 @@ end_trees labels = at_once End ∷ replicate (labels - 1) bottom
 abbrev pub AreParts : ℕ → List (Family AffineRank) → Type 0
 AreParts labels (truth ∷ (end ∷ [])) = (truth.trees ≡ truth_trees labels) × (end.trees ≡ end_trees labels)
 AreParts labels _ = ⊥
-
--- no tree is defined
-abbrev pub undefined_trees : ℕ → List (Plan AffineRank)
-undefined_trees labels = replicate labels bottom

@@ -55,6 +55,7 @@ pub fn analyse<D: NumDomain>(
     ensures asked { (times : ℕ) × (times ≤ 8) × RoseBy (λ adviser. asked_of adviser) times advisers.old.items advisers.new.items
         × IfOk result (λ certificate. certificate.turns ≡ times) }
     ensures countdown { IsCountdown (statements program.now.body) → IfOk result (λ certificate. IsWhole (plan_of certificate.cover)) }
+    ensures unasked { IsCountdown (statements program.now.body) → IfOk result (λ certificate. certificate.turns ≡ 0) }
     ensures loopless { HasNoLoop (statements program.now.body) → IfOk result (λ certificate.
         rank_of (plan_of certificate.cover) ≡ Some (ranked (constant_of (pos (last_steps (statements program.now.body)))))) }
 {

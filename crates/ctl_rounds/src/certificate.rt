@@ -6,7 +6,7 @@ use decision_tree::{AffineRank, FamilyList, Tree};
 pub struct Certificate {
     /// The families, in the order in which they were found; there is at least one.
     pub tops: FamilyList<AffineRank>,
-    /// The first claim of theirs for each input.
+    /// The first claim of theirs for each input, but for families that couldn't be joined to it.
     pub cover: Tree<AffineRank>,
     /// The turns of advice, each of which asked each adviser once.
     pub turns: u32,

@@ -1,9 +1,11 @@
 //! The first claims of families.
-ghost use Rattle.std.specs.Prelude.{IfOk, IfSome, IsTrue, ◌↔◌, length};
+ghost use Rattle.std.specs.Prelude.{◌≡◌, IfOk, IfSome, IsTrue, ◌↔◌, length};
+ghost use Rattle.step_meaning.specs.Outcome.{Store};
 ghost use Rattle.step_meaning.specs.Syntax.{Statements};
 ghost use Rattle.count_down.specs.Trees.{IsWhole};
+ghost use Rattle.decision_tree.specs.Evaluation.{eval};
 ghost use Rattle.decision_tree.specs.Plans.{plan_of};
-ghost use Rattle.ctl_rounds.specs.Bounds.{IsBounding};
+ghost use Rattle.ctl_rounds.specs.Bounds.{IsBounding, first_defined};
 
 use crate::fitting::is_fit;
 use decision_tree::{AffineRank, Tree};
@@ -23,7 +25,9 @@ pub(crate) fn joined(
     tree: &Tree<AffineRank>,
     names: &Names,
 ) -> Result<Option<Tree<AffineRank>>, AllocError>
-    ensures { IfOk result (λ found. IfSome found (λ both. (body : Statements)
+    ensures first { IfOk result (λ found. IfSome found (λ both. (store : Store)
+        → eval (plan_of both) store ≡ first_defined (eval (plan_of cover.now) store) (eval (plan_of tree.now) store))) }
+    ensures bounding { IfOk result (λ found. IfSome found (λ both. (body : Statements)
         → IsBounding (length names.now) body (plan_of cover.now) → IsBounding (length names.now) body (plan_of tree.now)
         → IsBounding (length names.now) body (plan_of both))) }
 {
