@@ -1,5 +1,5 @@
 -- Which trees tell while those of a level are put in.
-use Rattle.std.proofs.Common.{◌≡◌, ◌⊎◌, inl, inr, ℕ, zero, suc, ◌<◌, ◌≤◌, true, false, List, [], ◌∷◌, get_or, length, set, refl, sym, ap, subst, ◌∙◌, arith, ⊎_elim}
+use Rattle.std.proofs.Common.{◌≡◌, ◌⊎◌, inl, inr, ℕ, zero, suc, ◌<◌, ◌≤◌, true, false, List, [], ◌∷◌, get_or, length, set, refl, sym, ap, subst, ◌∙◌, arith, ⊎_elim, cond}
 use Rattle.decision_tree.specs.Plans.{Plan, bottom, leaf}
 use Rattle.decision_tree.specs.declared.affine_rank.AffineRank.{AffineRank}
 use Rattle.decision_tree.specs.declared.reason.Why.TheVariants.{End}
@@ -10,6 +10,7 @@ use Rattle.control_flow.specs.Labels.{Action, ends, assigns, passes, tests, acti
 use Rattle.control_flow.proofs.LabelLaws.{edges_lead_to_labels, only_end_is_final}
 use Rattle.unroll.specs.Building.{AtAll, AtBehind, AtFirst, AtNext, IsBehind, IsDoneFirst, TellsAt, TellsTree}
 use Rattle.unroll.specs.Levels.{counted, tree_at}
+use Rattle.unroll.specs.Measures.{size_before}
 use Rattle.unroll.proofs.Lifting.{bottom_tree, end_tree}
 use Rattle.unroll.proofs.Ordering.{LeadsOn, heads_are_loops, labels_lead_on}
 
@@ -108,4 +109,5 @@ unclaimed_first body trees is others zero below first = subst (TellsTree 0 body 
 unclaimed_first body trees is others (suc k) below (inl nought) = absurd (omega arith)
 unclaimed_first body trees is others (suc k) below (inr head) =
     subst (TellsTree 0 body (suc k)) (sym (others (suc k) (omega arith)))
-    (bottom_tree body (suc k) (λ final. let nought = only_end_is_final body (suc k) below final in absurd (omega arith)) (sym (heads_are_loops body (suc k) below) ∙ head))
+    (bottom_tree body (suc k) (λ final. let nought = only_end_is_final body (suc k) below final in absurd (omega arith)) (sym (heads_are_loops body (suc k) below) ∙ head)
+    (λ sizes are. let same : sizes 0 (suc k) ≡ 1 = are 0 (suc k) below ∙ ap (λ t. cond t 1 (size_before (sizes zero) (action_at body (suc k)))) head in omega (arith, same)))

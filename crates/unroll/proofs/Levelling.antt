@@ -22,6 +22,7 @@ is_level tests body trees long tell = record {
   ranks = λ label low. (tell label low).ranks;
   complements = λ label low. (tell label low).complements;
   variables = λ label low. (tell label low).variables;
+  small = λ label low. (tell label low).small;
 }
 
 -- ---- a tree put in

@@ -1,5 +1,5 @@
 -- What the tree before a step tells, by the trees behind it.
-use Rattle.std.proofs.Common.{◌≡◌, ◌↔◌, ◌⊎◌, inl, inr, ℕ, ◌<◌, ◌≤◌, ℤ, pos, Bool, true, false, List, [], ◌∷◌, Option, None, Some, int_le, cond, length, length-set, set, refl, sym, ap, subst, ◌∙◌, arith, ⊎_elim}
+use Rattle.std.proofs.Common.{◌≡◌, ◌↔◌, ◌⊎◌, inl, inr, ℕ, zero, suc, ◌<◌, ◌≤◌, ℤ, pos, Bool, true, false, List, [], ◌∷◌, Option, None, Some, int_le, cond, length, length-set, set, refl, sym, ap, subst, ◌∙◌, arith, ⊎_elim}
 use Rattle.std.proofs.lemmas.Int.{by_lt_z, ints}
 use Rattle.std.proofs.lemmas.List.{get_or-replicate}
 use Rattle.linear_cons.specs.Bounds.{IsFrom, IsUpTo, LiesIn}
@@ -15,7 +15,7 @@ use Rattle.linear_forms.proofs.Naming.{number_names, test_names}
 use Rattle.linear_forms.proofs.SpreadCovering.{spread_covers}
 use Rattle.linear_forms.proofs.SpreadExactness.{spread_exact}
 use Rattle.decision_tree.specs.Evaluation.{eval}
-use Rattle.decision_tree.specs.Plans.{IsEnd, Plan, bottom, branch, leaf, top}
+use Rattle.decision_tree.specs.Plans.{IsEnd, Plan, bottom, branch, leaf, top, size_of}
 use Rattle.decision_tree.specs.declared.affine_rank.AffineRank.{AffineRank}
 use Rattle.decision_tree.specs.declared.reason.Why.TheVariants.{End}
 use Rattle.step_meaning.specs.AffineExpressions.{IsAffine, IsAffineTest, TestFits}
@@ -30,11 +30,13 @@ use Rattle.control_flow.specs.Edges.{configuration}
 use Rattle.control_flow.specs.Labels.{assigns, passes, tests, action_at, all_labels, rest}
 use Rattle.unroll.specs.Building.{ClaimsAt, IsBefore, IsBeforeBoth, Tells, TellsTree, left_by}
 use Rattle.unroll.specs.Levels.{ComplementsFit, RanksCount, counted}
-use Rattle.unroll.specs.Measures.{anywhere}
+use Rattle.unroll.specs.Measures.{AreSizes, anywhere}
+use Rattle.unroll.specs.Within.{TellsNumbers}
 use Rattle.unroll.specs.Plain.{IsPlainTest}
 use Rattle.unroll.proofs.Counting.{claims_one, counts_at, made_tells, twice}
 use Rattle.unroll.proofs.LevelLaws.{TwoNext, end_tells, head_tells, is_loop}
 use Rattle.unroll.proofs.Nexts.{assign_next, both_next, false_next, pass_next, true_next}
+use Rattle.unroll.proofs.WithinTrees.{bottom_numbers, end_numbers}
 
 eval_ends : (plan : Plan AffineRank) (store : Store) → IsEnd (eval plan store)
 eval_ends bottom store = tt
@@ -58,7 +60,7 @@ lies_anywhere s = record {
   upper = λ i h. subst (λ (t : Option ℤ × Option ℤ). IsUpTo t.1 (number_at s i)) (sym (get_or-replicate 16 i (None, None) (None, None) h)) tt;
 }
 
-plain_test : (c : Expression) → IsPlainTest c → (c ≡ free) ⊎ IsAffineTest c
+pub plain_test : (c : Expression) → IsPlainTest c → (c ≡ free) ⊎ IsAffineTest c
 plain_test free plain = inl refl
 plain_test (number z) plain = inr plain
 plain_test (variable x) plain = inr plain
@@ -100,22 +102,32 @@ end_tree limit body = record {
   ranks = (0, refl);
   complements = tt;
   variables = λ vars valid. over_constant vars (pos 0);
+  numbers = end_numbers limit body;
+  small = λ sizes are. at limit sizes are;
 }
+  where
+    at : (level : ℕ) (sizes : ℕ → ℕ → ℕ) → AreSizes body sizes → 1 ≤ sizes level 0
+    at zero sizes are = let same : sizes 0 0 ≡ 1 = are 0 0 (omega arith) in omega (arith, same)
+    at (suc level) sizes are = let same : sizes (suc level) 0 ≡ 1 = are (suc level) 0 (omega arith) in omega (arith, same)
 
 never_claims : (n : ℕ) → ClaimsAt bottom n → ⊥
 never_claims n claim = let is = claim.1 in absurd (cc)
 
-pub bottom_tree : (body : Statements) (l : ℕ) → (front (rest body l) ≡ [] → ⊥) → is_loop (front (rest body l)) ≡ true → TellsTree 0 body l bottom
-bottom_tree body l goes loop = record {
+pub bottom_tree : (body : Statements) (l : ℕ) → (front (rest body l) ≡ [] → ⊥) → is_loop (front (rest body l)) ≡ true
+    → ((sizes : ℕ → ℕ → ℕ) → AreSizes body sizes → 1 ≤ sizes 0 l) → TellsTree 0 body l bottom
+bottom_tree body l goes loop small = record {
   tells = λ s long. head_tells 0 (configuration body l s) (ClaimsAt bottom) goes (ap (λ t. left_by t 0) loop) never_claims;
   ranks = tt;
   complements = tt;
   variables = λ vars valid. tt;
+  numbers = bottom_numbers 0 body l;
+  small = small;
 }
 
 module _ (body : Statements) (l : ℕ) (low : l < length (all_labels body)) (some : l ≡ 0 → ⊥) (limit left : ℕ) (allows : left_by (is_loop (front (rest body l))) limit ≡ Some left)
     (made : Plan AffineRank) (ranks : RanksCount made) (complements : ComplementsFit made)
-    (variables : (vars : ℕ) → IsBody vars body → IsTreeOver vars made) where
+    (variables : (vars : ℕ) → IsBody vars body → IsTreeOver vars made) (numbers : TellsNumbers limit body l made)
+    (small : (sizes : ℕ → ℕ → ℕ) → AreSizes body sizes → size_of made ≤ sizes limit l) where
   -- behind a step to one label
   one_tells : (plan : Plan AffineRank) (next : ℕ) (s t : Store) → length t ≡ 16 → TellsTree left body next plan → IsBefore (eval plan t) (eval made s)
       → TwoNext (configuration body l s) (configuration body next t) (configuration body next t) → Tells limit (configuration body l s) (ClaimsAt (eval made s))
@@ -135,6 +147,8 @@ module _ (body : Statements) (l : ℕ) (low : l < length (all_labels body)) (som
         ranks = ranks;
         complements = complements;
         variables = variables;
+        numbers = numbers;
+        small = small;
       }
 
   pub pass_tree : (next : ℕ) → action_at body l ≡ passes next → (plan : Plan AffineRank) → TellsTree left body next plan
@@ -144,6 +158,8 @@ module _ (body : Statements) (l : ℕ) (low : l < length (all_labels body)) (som
     ranks = ranks;
     complements = complements;
     variables = variables;
+    numbers = numbers;
+    small = small;
   }
 
   module _ (vars : ℕ) (few : vars ≤ 15) (head : Bool) (c : Expression) (p q : ℕ) (is : action_at body l ≡ tests head c p q) (sorted : IsTest vars c) (plain : IsPlainTest c) (fit : TestFits c)
@@ -187,4 +203,4 @@ module _ (body : Statements) (l : ℕ) (low : l < length (all_labels body)) (som
         (one_or_not s (spread_of anywhere c true))
 
     pub test_tree : TellsTree limit body l made
-    test_tree = record { tells = told; ranks = ranks; complements = complements; variables = variables }
+    test_tree = record { tells = told; ranks = ranks; complements = complements; variables = variables; numbers = numbers; small = small }

@@ -6,7 +6,7 @@ use Rattle.linear_forms.specs.Meeting.{MeetsOne}
 use Rattle.linear_forms.specs.Spreading.{spread_of}
 use Rattle.linear_forms.proofs.Naming.{number_names, test_names}
 use Rattle.decision_tree.specs.Evaluation.{eval}
-use Rattle.decision_tree.specs.Plans.{Plan}
+use Rattle.decision_tree.specs.Plans.{Plan, size_of}
 use Rattle.decision_tree.specs.declared.affine_rank.AffineRank.{AffineRank}
 use Rattle.step_meaning.specs.AffineExpressions.{IsAffine}
 use Rattle.step_meaning.specs.Naming.{NamesBelow}
@@ -21,8 +21,11 @@ use Rattle.control_flow.proofs.LabelLaws.{edges_lead_to_labels, labels_are_sorte
 use Rattle.count_down.specs.Trees.{IsTreeOver}
 use Rattle.unroll.specs.Building.{AtNext, IsBefore, IsBeforeBoth, TellsAt, TellsTree, left_by}
 use Rattle.unroll.specs.Levels.{ComplementsFit, RanksCount, tree_at}
-use Rattle.unroll.specs.Measures.{anywhere}
-use Rattle.unroll.specs.Plain.{ActionFits, IsPlain, IsPlainAction, IsPlainTest}
+use Rattle.unroll.specs.Measures.{AreSizes, anywhere, size_before, size_of_test}
+use Rattle.unroll.specs.Plain.{ActionFits, IsFittingTest, IsPlain, IsPlainAction, IsPlainTest}
+use Rattle.unroll.specs.Within.{TellsNumbers}
+use Rattle.unroll.proofs.GrownLabels.{at_more}
+use Rattle.unroll.proofs.LevelSizes.{label_size, test_more}
 use Rattle.unroll.proofs.Lifting.{assign_tree, pass_tree, test_tree}
 use Rattle.unroll.proofs.LevelLaws.{is_loop}
 use Rattle.unroll.proofs.Ordering.{does, does_something, heads_are_loops}
@@ -88,27 +91,72 @@ module _ (body : Statements) (vars : ℕ) (few : vars ≤ 15) (valid : IsBody va
     behind_as : (action : Action) → action ≡ action_at body l → AtNext action (TellsAt left body trees)
     behind_as action is = subst (λ a. AtNext a (TellsAt left body trees)) (sym is) behind
 
+    size_is : (sizes : ℕ → ℕ → ℕ) → AreSizes body sizes → (action : Action) → action ≡ action_at body l → sizes limit l ≡ size_before (sizes left) action
+    size_is sizes are action is = label_size body sizes are l low limit left allows action is
+
+    -- a tree behind that is too large makes the label's size too large
+    pub assigned_full : (x : ℕ) (e : Expression) (next : ℕ) → assigns x e next ≡ action_at body l → 65536 < size_of (tree_at trees next)
+        → (sizes : ℕ → ℕ → ℕ) → AreSizes body sizes → 65536 < sizes limit l
+    assigned_full x e next is more sizes are =
+        let same = size_is sizes are (assigns x e next) is in let most = (behind_as (assigns x e next) is).small sizes are in omega (arith, more, same, most)
+
+    pub passed_full : (next : ℕ) → passes next ≡ action_at body l → 65536 < size_of (tree_at trees next) → (sizes : ℕ → ℕ → ℕ) → AreSizes body sizes → 65536 < sizes limit l
+    passed_full next is more sizes are =
+        let same = size_is sizes are (passes next) is in let most = (behind_as (passes next) is).small sizes are in omega (arith, more, same, most)
+
+    pub tested_full : (head : Bool) (c : Expression) (p q : ℕ) → tests head c p q ≡ action_at body l → 65536 < size_of_test c (size_of (tree_at trees p)) (size_of (tree_at trees q))
+        → (sizes : ℕ → ℕ → ℕ) → AreSizes body sizes → 65536 < sizes limit l
+    tested_full head c p q is more sizes are =
+        let same = size_is sizes are (tests head c p q) is in
+        let two = behind_as (tests head c p q) is in
+        let most = test_more (size_of (tree_at trees p)) (size_of (tree_at trees q)) (sizes left p) (sizes left q) (two.0.small sizes are) (two.1.small sizes are) c in
+        omega (arith, more, same, most)
+
+    pub tested_fits : (head : Bool) (c : Expression) (p q : ℕ) → tests head c p q ≡ action_at body l → IsFittingTest c
+    tested_fits head c p q is = record {
+      vars = vars;
+      few = few;
+      sorted = sorted_as (tests head c p q) is;
+      plain = plain_as (tests head c p q) is;
+      fit = subst ActionFits (sym is) fit;
+    }
+
     module _ (made : Plan AffineRank) (ranks : RanksCount made) (complements : ComplementsFit made)
-        (variables : (vars : ℕ) → IsBody vars body → IsTreeOver vars made) where
-      pub assigned_tells : (x : ℕ) (e : Expression) (next : ℕ) → assigns x e next ≡ action_at body l
+        (variables : (vars : ℕ) → IsBody vars body → IsTreeOver vars made) (numbers : TellsNumbers limit body l made) where
+      pub assigned_tells : (x : ℕ) (e : Expression) (next : ℕ) → assigns x e next ≡ action_at body l → size_of made ≤ size_of (tree_at trees next)
           → ((s : Store) → length s ≡ 16 → IsBefore (eval (tree_at trees next) (set s x (value_at (form_of e) s))) (eval made s)) → TellsTree limit body l made
-      assigned_tells x e next is before =
-          assign_tree body l low apart limit left allows_loop made ranks complements variables vars x e next (sym is) few (sorted_as (assigns x e next) is).1
-          (plain_as (assigns x e next) is) (tree_at trees next) (behind_as (assigns x e next) is) before
+      assigned_tells x e next is less before =
+          let behind_next = behind_as (assigns x e next) is in
+          assign_tree body l low apart limit left allows_loop made ranks complements variables numbers
+          (λ sizes are. let same = size_is sizes are (assigns x e next) is in let most = behind_next.small sizes are in omega (arith, same, most, less))
+          vars x e next (sym is) few (sorted_as (assigns x e next) is).1 (plain_as (assigns x e next) is) (tree_at trees next) behind_next before
 
-      pub passed_tells : (next : ℕ) → passes next ≡ action_at body l → ((s : Store) → IsBefore (eval (tree_at trees next) s) (eval made s)) → TellsTree limit body l made
-      passed_tells next is before =
-          pass_tree body l low apart limit left allows_loop made ranks complements variables next (sym is) (tree_at trees next) (behind_as (passes next) is) before
+      pub passed_tells : (next : ℕ) → passes next ≡ action_at body l → size_of made ≤ size_of (tree_at trees next)
+          → ((s : Store) → IsBefore (eval (tree_at trees next) s) (eval made s)) → TellsTree limit body l made
+      passed_tells next is less before =
+          let behind_next = behind_as (passes next) is in
+          pass_tree body l low apart limit left allows_loop made ranks complements variables numbers
+          (λ sizes are. let same = size_is sizes are (passes next) is in let most = behind_next.small sizes are in omega (arith, same, most, less))
+          next (sym is) (tree_at trees next) behind_next before
 
-      pub tested_tells : (head : Bool) (c : Expression) (p q : ℕ) → tests head c p q ≡ action_at body l
+      pub tested_tells : (head : Bool) (c : Expression) (p q : ℕ) → tests head c p q ≡ action_at body l → size_of made ≤ size_of_test c (size_of (tree_at trees p)) (size_of (tree_at trees q))
           → ((s : Store) → MeetsOne s (spread_of anywhere c true) → MeetsOne s (spread_of anywhere c false) → IsBeforeBoth (eval (tree_at trees p) s) (eval (tree_at trees q) s) (eval made s))
           → ((s : Store) → MeetsOne s (spread_of anywhere c true) → (MeetsOne s (spread_of anywhere c false) → ⊥) → IsBefore (eval (tree_at trees p) s) (eval made s))
           → ((s : Store) → (MeetsOne s (spread_of anywhere c true) → ⊥) → MeetsOne s (spread_of anywhere c false) → IsBefore (eval (tree_at trees q) s) (eval made s))
           → TellsTree limit body l made
-      tested_tells head c p q is both holds fails =
+      tested_tells head c p q is less both holds fails =
           let two = behind_as (tests head c p q) is in
-          test_tree body l low apart limit left allows_loop made ranks complements variables vars few head c p q (sym is) (sorted_as (tests head c p q) is) (plain_as (tests head c p q) is)
+          test_tree body l low apart limit left allows_loop made ranks complements variables numbers
+          (λ sizes are.
+          let same = size_is sizes are (tests head c p q) is in
+          let most = test_more (size_of (tree_at trees p)) (size_of (tree_at trees q)) (sizes left p) (sizes left q) (two.0.small sizes are) (two.1.small sizes are) c in
+          omega (arith, same, most, less))
+          vars few head c p q (sym is) (sorted_as (tests head c p q) is) (plain_as (tests head c p q) is)
           (subst ActionFits (sym is) fit) (tree_at trees p) (tree_at trees q) two.0 two.1 both holds fails
+
+    -- the numbers of the trees behind are those of their labels
+    pub numbers_behind : AtNext (action_at body l) (λ k. TellsNumbers left body k (tree_at trees k))
+    numbers_behind = at_more (TellsAt left body trees) (λ k. TellsNumbers left body k (tree_at trees k)) (λ k tells. tells.numbers) (action_at body l) behind
 
     -- the ranks of the trees behind are numbers of steps
     pub assigned_ranks_behind : (x : ℕ) (e : Expression) (next : ℕ) → assigns x e next ≡ action_at body l → RanksCount (tree_at trees next)

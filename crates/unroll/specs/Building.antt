@@ -1,7 +1,7 @@
 -- What is known while the trees of a level are made.
 use Rattle.std.specs.Prelude.{◌≡◌, ℕ, zero, suc, ◌<◌, ◌≤◌, max, ◌⊎◌, Bool, true, false, Option, None, Some, List, length, map, ⊤}
 use Rattle.decision_tree.specs.Evaluation.{eval}
-use Rattle.decision_tree.specs.Plans.{Plan, is_defined, leaf, plan_of}
+use Rattle.decision_tree.specs.Plans.{Plan, is_defined, leaf, plan_of, size_of}
 use Rattle.decision_tree.specs.declared.affine_rank.AffineRank.{AffineRank}
 use Rattle.decision_tree.specs.declared.reason.Why.{Why}
 use Rattle.decision_tree.specs.declared.tree.Tree.{Tree}
@@ -14,7 +14,9 @@ use Rattle.control_flow.specs.Labels.{Action, ends, assigns, passes, tests, acti
 use Rattle.step_meaning.specs.Valid.{IsBody}
 use Rattle.count_down.specs.Trees.{IsTreeOver}
 use Rattle.unroll.specs.Levels.{ComplementsFit, RanksCount, counted, tree_at}
+use Rattle.unroll.specs.Measures.{AreSizes}
 use Rattle.unroll.specs.Plain.{ActionFits, IsPlain}
+use Rattle.unroll.specs.Within.{TellsNumbers}
 
 -- The numbers that stand are those of the longest run, where all runs end with at most so many tests of a loop.
 pub record Tells (limit : ℕ) (c : Configuration) (Stands : ℕ → Type 0) : Type 0 where
@@ -40,13 +42,15 @@ pub record IsBeforeBoth (first second made : Plan AffineRank) : Type 0 where
   pub claims : (n m : ℕ) → ClaimsAt first n → ClaimsAt second m → ClaimsAt made (suc (max n m))
   pub none : (is_defined first ≡ false) ⊎ (is_defined second ≡ false) → is_defined made ≡ false
 
--- At each store the tree tells what all runs from the label do, its ranks are numbers of steps, its complements fit, and it speaks of no
--- other variables than the program.
+-- At each store the tree tells what all runs from the label do, its ranks are numbers of steps, its complements fit, it speaks of no other
+-- variables than the program, its numbers are those of the label, and it is no larger than the label's size.
 pub record TellsTree (limit : ℕ) (body : Statements) (label : ℕ) (plan : Plan AffineRank) : Type 0 where
   pub tells : (s : Store) → length s ≡ 16 → Tells limit (configuration body label s) (ClaimsAt (eval plan s))
   pub ranks : RanksCount plan
   pub complements : ComplementsFit plan
   pub variables : (vars : ℕ) → IsBody vars body → IsTreeOver vars plan
+  pub numbers : TellsNumbers limit body label plan
+  pub small : (sizes : ℕ → ℕ → ℕ) → AreSizes body sizes → size_of plan ≤ sizes limit label
 
 -- the plans of a list of trees
 abbrev pub plans : List (Tree AffineRank) → List (Plan AffineRank)

@@ -2,7 +2,7 @@
 use Rattle.std.specs.Prelude.{◌≡◌, ℕ, ◌<◌, ◌≤◌, pos, ◌↔◌, List, length, slice_index_or, ⊤}
 use Rattle.linear_cons.specs.Functions.{NumbersFit, complement_of, constant_of}
 use Rattle.decision_tree.specs.Evaluation.{eval}
-use Rattle.decision_tree.specs.Plans.{Plan, bottom, branch, leaf}
+use Rattle.decision_tree.specs.Plans.{Plan, bottom, branch, leaf, size_of}
 use Rattle.decision_tree.specs.declared.affine_rank.AffineRank.{AffineRank}
 use Rattle.decision_tree.specs.declared.reason.Why.{Why}
 use Rattle.step_meaning.specs.Outcome.{Store}
@@ -12,6 +12,7 @@ use Rattle.step_meaning.specs.Valid.{IsBody}
 use Rattle.count_down.specs.Trees.{IsTreeOver}
 use Rattle.control_flow.specs.Edges.{configuration}
 use Rattle.control_flow.specs.Labels.{all_labels}
+use Rattle.unroll.specs.Measures.{AreSizes}
 
 -- the rank that is the number everywhere
 abbrev pub counted : ℕ → AffineRank
@@ -38,8 +39,8 @@ ComplementsFit end = ⊤
 
 -- The trees tell exactly from where all runs end with so many tests of a loop, and how long the longest one is. A number of steps is claimed
 -- exactly where the longest run has so many and all runs end with at most so many tests; so it is where all runs end in any number of steps
--- with at most so many tests. Each rank is a number of steps, the complements of the rows fit 128 bits, and no tree speaks of other variables
--- than the program.
+-- with at most so many tests. Each rank is a number of steps, the complements of the rows fit 128 bits, no tree speaks of other variables than
+-- the program, and none is larger than the size of its label.
 pub record IsLevel (tests : ℕ) (body : Statements) (trees : List (Plan AffineRank)) : Type 0 where
   pub labels : length trees ≡ length (all_labels body)
   pub exact : (label : ℕ) → label < length (all_labels body) → (store : Store) → length store ≡ 16 → (n : ℕ)
@@ -49,3 +50,4 @@ pub record IsLevel (tests : ℕ) (body : Statements) (trees : List (Plan AffineR
   pub ranks : (label : ℕ) → label < length (all_labels body) → RanksCount (tree_at trees label)
   pub complements : (label : ℕ) → label < length (all_labels body) → ComplementsFit (tree_at trees label)
   pub variables : (label : ℕ) → label < length (all_labels body) → (vars : ℕ) → IsBody vars body → IsTreeOver vars (tree_at trees label)
+  pub small : (label : ℕ) → label < length (all_labels body) → (sizes : ℕ → ℕ → ℕ) → AreSizes body sizes → size_of (tree_at trees label) ≤ sizes tests label

@@ -7,3 +7,5 @@ pub mod Building
 pub mod Refusals
 pub mod Sizing
 pub mod Stopping
+pub mod Growth
+pub mod Within

@@ -1,5 +1,5 @@
 -- How many nodes the trees of a level may have, by the program alone.
-use Rattle.std.specs.Prelude.{◌≡◌, ℕ, zero, suc, ◌+◌, ◌*◌, ◌<◌, max, true, None, List, [], ◌∷◌, length, replicate, if◌then◌else◌}
+use Rattle.std.specs.Prelude.{◌≡◌, ℕ, zero, suc, ◌+◌, ◌*◌, ◌<◌, ◌≤◌, max, true, None, List, [], ◌∷◌, length, replicate, if◌then◌else◌}
 use Rattle.linear_cons.specs.declared.bounds.Bounds.{Bounds}
 use Rattle.linear_cons.specs.declared.row.Row.{Row}
 use Rattle.linear_forms.specs.Spreading.{spread_of}
@@ -57,3 +57,10 @@ greatest_below f (suc n) = max (greatest_below f n) (f n)
 -- the weight of a level: the greatest size at a label
 abbrev pub weight_by : Statements → (ℕ → ℕ → ℕ) → ℕ → ℕ
 weight_by body sizes level = greatest_below (sizes level) (length (all_labels body))
+
+-- the weight of a level is above 65,536, or is at most that
+abbrev pub IsHeavy : Statements → ℕ → Type 0
+IsHeavy body level = (sizes : ℕ → ℕ → ℕ) → AreSizes body sizes → 65536 < weight_by body sizes level
+
+abbrev pub IsLight : Statements → ℕ → Type 0
+IsLight body level = (sizes : ℕ → ℕ → ℕ) → AreSizes body sizes → weight_by body sizes level ≤ 65536

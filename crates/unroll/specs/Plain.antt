@@ -1,8 +1,9 @@
 -- Plain programs: what is assigned and compared is affine, and `?` is only ever a whole test.
-use Rattle.std.specs.Prelude.{⊤}
+use Rattle.std.specs.Prelude.{ℕ, ◌≤◌, ⊤}
 use Rattle.step_meaning.specs.AffineExpressions.{ExpressionFits, IsAffine, IsAffineTest, TestFits}
 use Rattle.step_meaning.specs.Syntax.{Expression, number, variable, free, range, truth, negative, negation, pair}
 use Rattle.control_flow.specs.Labels.{Action, ends, assigns, passes, tests}
+use Rattle.step_meaning.specs.Valid.{IsTest}
 use Rattle.step_meaning.specs.Syntax.{Statement, Statements, assign, skip, return, if_else, while_loop, do_while, empty, sequence}
 
 -- a whole `?`, or a test without `?` that compares affine expressions
@@ -43,3 +44,11 @@ ActionFits ends = ⊤
 ActionFits (assigns x e next) = ExpressionFits e
 ActionFits (passes next) = ⊤
 ActionFits (tests head c then_to else_to) = TestFits c
+
+-- a plain test of a program of at most 15 variables, whose numbers fit 128 bits
+pub record IsFittingTest (c : Expression) : Type 0 where
+  pub vars : ℕ
+  pub few : vars ≤ 15
+  pub sorted : IsTest vars c
+  pub plain : IsPlainTest c
+  pub fit : TestFits c

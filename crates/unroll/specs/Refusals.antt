@@ -1,6 +1,10 @@
 -- Why a tree isn't made.
-use Rattle.std.specs.Prelude.{◌<◌, ⊤}
+use Rattle.std.specs.Prelude.{ℕ, ◌^◌, ◌<◌, ◌⊎◌, ⊤}
 use Rattle.linear_cons.specs.Exact.{IsOutside}
+use Rattle.step_meaning.specs.Syntax.{Statements}
+use Rattle.unroll.specs.Building.{IsFitting}
+use Rattle.unroll.specs.Growth.{growth_of}
+use Rattle.unroll.specs.Measures.{IsHeavy, IsLight}
 use Rattle.tree_unify.specs.declared.fault.TreeFault.{TreeFault}
 use Rattle.tree_unify.specs.declared.fault.TreeFault.TheVariants.{Full as TooFull, Memory as NoMemory, Wide as TooWide}
 use Rattle.unroll.specs.declared.moving.Refusal.{Refusal}
@@ -17,3 +21,19 @@ abbrev pub IsFault : TreeFault → Type 0
 IsFault (TooFull count) = 65536 < count
 IsFault (TooWide operands) = IsOutside operands
 IsFault (NoMemory error) = ⊤
+
+-- it would have more than 65,536 nodes
+abbrev pub IsNodes : Refusal → Type 0
+IsNodes (Full count) = 65536 < count
+IsNodes (Wide operands) = ⊥
+IsNodes (Memory error) = ⊥
+
+-- numbers may be wide at the level: one of what the program assigns or compares doesn't fit 128 bits, or the growth is above 2^100
+abbrev pub IsWide : Statements → ℕ → Type 0
+IsWide body level = (IsFitting body → ⊥) ⊎ (2 ^ 100 < growth_of body level)
+
+-- why a level isn't made: its weight is above 65,536; or it isn't, its numbers may be wide, and an exact one lies outside 128 bits
+abbrev pub IsRefusalAt : Statements → ℕ → Refusal → Type 0
+IsRefusalAt body level (Full count) = (65536 < count) × IsHeavy body level
+IsRefusalAt body level (Wide operands) = IsOutside operands × IsLight body level × IsWide body level
+IsRefusalAt body level (Memory error) = ⊤

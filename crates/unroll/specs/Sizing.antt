@@ -2,7 +2,8 @@
 use Rattle.std.specs.Prelude.{◌≡◌, ℕ, ◌-◌, ◌^◌, ◌<◌, min, List, length, slice_index_or}
 use Rattle.step_meaning.specs.Syntax.{Statements}
 use Rattle.control_flow.specs.Labels.{Action, ends, assigns, passes, tests, action_at, all_labels}
-use Rattle.unroll.specs.Measures.{leaves_of_test}
+use Rattle.unroll.specs.Building.{AtAll}
+use Rattle.unroll.specs.Measures.{AreSizes, leaves_of_test}
 
 -- the number, or the type's last value where that is less
 abbrev pub held : ℕ → ℕ
@@ -25,3 +26,7 @@ pub record AreLeaves (body : Statements) (leaves : List ℕ) : Type 0 where
 -- the list has the label's size
 abbrev pub HoldsAt : (ℕ → ℕ) → List ℕ → ℕ → Type 0
 HoldsAt sizes list label = held_at list label ≡ held (sizes label)
+
+-- the list has each label's size at the level
+abbrev pub HasSizes : Statements → ℕ → List ℕ → Type 0
+HasSizes body level list = (sizes : ℕ → ℕ → ℕ) → AreSizes body sizes → AtAll body (HoldsAt (sizes level) list)

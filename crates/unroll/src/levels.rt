@@ -1,13 +1,14 @@
 //! Levels made in turn.
-ghost use Rattle.std.specs.Prelude.{◌≡◌, ℕ, suc, ◌<◌, IfOk, IfErr, IfSome, IsSomeAnd, OnOk, length};
-ghost use Rattle.step_meaning.specs.Syntax.{statements};
+ghost use Rattle.std.specs.Prelude.{◌≡◌, ℕ, suc, ◌^◌, ◌<◌, ◌≤◌, IfOk, IfErr, IfSome, IsSome, IsSomeAnd, OnOk, length};
+ghost use Rattle.step_meaning.specs.Syntax.{Statements, statements};
 ghost use Rattle.control_flow.specs.Labels.{all_labels};
 ghost use Rattle.unroll.specs.Building.{AtAll, IsFitting, TellsAt, plans};
 ghost use Rattle.unroll.specs.Levels.{IsLevel};
 ghost use Rattle.unroll.specs.Plain.{IsPlain};
-ghost use Rattle.unroll.specs.Refusals.{IsRefusal};
-ghost use Rattle.unroll.specs.Sizing.{AreLeaves};
-ghost use Rattle.unroll.specs.Stopping.{IsCause, IsMade};
+ghost use Rattle.unroll.specs.Measures.{IsLight, greatest_below};
+ghost use Rattle.unroll.specs.Refusals.{IsNodes, IsRefusalAt};
+ghost use Rattle.unroll.specs.Sizing.{AreLeaves, HasSizes, held_at};
+ghost use Rattle.unroll.specs.Stopping.{IsCause, IsMade, next_level};
 
 use crate::fitting::check_labels;
 use crate::moving::Refusal;
@@ -40,14 +41,15 @@ struct Level {
 
 /// The trees of the level for so many tests of a loop, or of the last level before it that was made: at each store the tree of a label makes
 /// a claim exactly where all runs from there end with at most as many tests of a loop as the level says, and the claim is the number of
-/// steps of the longest one. The levels are made in turn. `Nodes` stops them before one whose weight is above 65,536, or where a tree would
-/// have more nodes; `Wide` where a number of a function, of a rank or of a complement doesn't fit `i128`, and before level 0 where one of
-/// what the program assigns or compares doesn't. The program is plain. The only error is want of memory.
+/// steps of the longest one. The levels are made in turn. `Nodes` stops them before the first one whose weight is above 65,536; else `Wide`
+/// where a number of a function, of a rank or of a complement doesn't fit `i128`, and before level 0 where one of what the program assigns
+/// or compares doesn't. The program is plain. The only error is want of memory.
 pub fn unroll(alloc: Global, graph: &Graph, tests: u32) -> Result<Unrolled, AllocError>
     requires { IsPlain (statements graph.now.body) }
     ensures level { IfOk result (λ unrolled. IfSome unrolled.family (λ family. IsLevel unrolled.tests (statements graph.now.body) family.trees)) }
     ensures made { IfOk result (λ unrolled. IsMade tests unrolled) }
-    ensures cause { IfOk result (λ unrolled. IfSome unrolled.stopped IsCause) }
+    ensures light { IfOk result (λ unrolled. IsSome unrolled.family → (level : ℕ) → level ≤ unrolled.tests → IsLight (statements graph.now.body) level) }
+    ensures cause { IfOk result (λ unrolled. IfSome unrolled.stopped (IsCause (statements graph.now.body) (next_level unrolled))) }
 {
     let leaves = leaves(alloc, graph)?;
     match first(alloc, graph, &leaves) {
@@ -73,12 +75,15 @@ fn climb(
 ) -> Result<Unrolled, AllocError>
     requires fitting { IsFitting (statements graph.now.body) }
     requires leaves { AreLeaves (statements graph.now.body) leaves.now }
-    requires sizes { length first.sizes.items ≡ length (all_labels (statements graph.now.body)) }
+    requires light { IsLight (statements graph.now.body) 0 }
+    requires sizes { HasSizes (statements graph.now.body) 0 first.sizes.items }
+    requires sizes_count { length first.sizes.items ≡ length (all_labels (statements graph.now.body)) }
     requires count { length first.trees.items ≡ length (all_labels (statements graph.now.body)) }
     requires tells { AtAll (statements graph.now.body) (TellsAt 0 (statements graph.now.body) (plans first.trees.items)) }
     ensures level { IfOk result (λ unrolled. IfSome unrolled.family (λ family. IsLevel unrolled.tests (statements graph.now.body) family.trees)) }
     ensures made { IfOk result (λ unrolled. IsMade tests unrolled) }
-    ensures cause { IfOk result (λ unrolled. IfSome unrolled.stopped IsCause) }
+    ensures light { IfOk result (λ unrolled. IsSome unrolled.family → (level : ℕ) → level ≤ unrolled.tests → IsLight (statements graph.now.body) level) }
+    ensures cause { IfOk result (λ unrolled. IfSome unrolled.stopped (IsCause (statements graph.now.body) (next_level unrolled))) }
 {
     let mut level = first;
     for made in 0..tests {
@@ -112,8 +117,7 @@ fn unrolled_to(level: Level, tests: u32, stopped: Option<Cause>) -> Unrolled
 
 /// What the refusal gave up for.
 fn cause(refusal: Refusal) -> Result<Cause, AllocError>
-    requires { IsRefusal refusal }
-    ensures { IfOk result IsCause }
+    ensures { (body : Statements) (level : ℕ) → IsRefusalAt body level refusal → IfOk result (IsCause body level) }
 {
     match refusal {
         Refusal::Full { count } => Ok(Cause::Nodes {
@@ -129,10 +133,12 @@ fn first(alloc: Global, graph: &Graph, leaves: &[u128]) -> Result<Level, Refusal
     requires plain { IsPlain (statements graph.now.body) }
     requires leaves { AreLeaves (statements graph.now.body) leaves.now }
     ensures tells { IfOk result (λ level. AtAll (statements graph.now.body) (TellsAt 0 (statements graph.now.body) (plans level.trees.items))) }
-    ensures sizes { IfOk result (λ level. length level.sizes.items ≡ length (all_labels (statements graph.now.body))) }
+    ensures sizes { IfOk result (λ level. HasSizes (statements graph.now.body) 0 level.sizes.items) }
+    ensures sizes_count { IfOk result (λ level. length level.sizes.items ≡ length (all_labels (statements graph.now.body))) }
+    ensures light { OnOk result (IsLight (statements graph.now.body) 0) }
     ensures count { IfOk result (λ level. length level.trees.items ≡ length (all_labels (statements graph.now.body))) }
     ensures fitting { OnOk result (IsFitting (statements graph.now.body)) }
-    ensures refusal { IfErr result IsRefusal }
+    ensures refusal { IfErr result (IsRefusalAt (statements graph.now.body) 0) }
 {
     let sizes = first_sizes(alloc, graph, leaves)?;
     check_sizes(&sizes)?;
@@ -148,13 +154,19 @@ fn first(alloc: Global, graph: &Graph, leaves: &[u128]) -> Result<Level, Refusal
 fn next(alloc: Global, graph: &Graph, leaves: &[u128], last: &Level) -> Result<Level, Refusal>
     requires fitting { IsFitting (statements graph.now.body) }
     requires leaves { AreLeaves (statements graph.now.body) leaves.now }
-    requires sizes { length last.now.sizes.items ≡ length (all_labels (statements graph.now.body)) }
+    requires sizes_count { length last.now.sizes.items ≡ length (all_labels (statements graph.now.body)) }
     requires count { length last.now.trees.items ≡ length (all_labels (statements graph.now.body)) }
     ensures tells { (tests : ℕ) → AtAll (statements graph.now.body) (TellsAt tests (statements graph.now.body) (plans last.now.trees.items))
         → IfOk result (λ level. AtAll (statements graph.now.body) (TellsAt (suc tests) (statements graph.now.body) (plans level.trees.items))) }
-    ensures sizes { IfOk result (λ level. length level.sizes.items ≡ length (all_labels (statements graph.now.body))) }
+    ensures sizes { (tests : ℕ) → HasSizes (statements graph.now.body) tests last.now.sizes.items
+        → IfOk result (λ level. HasSizes (statements graph.now.body) (suc tests) level.sizes.items) }
+    ensures sizes_count { IfOk result (λ level. length level.sizes.items ≡ length (all_labels (statements graph.now.body))) }
+    ensures light { (tests : ℕ) → HasSizes (statements graph.now.body) tests last.now.sizes.items
+        → OnOk result (IsLight (statements graph.now.body) (suc tests)) }
     ensures count { IfOk result (λ level. length level.trees.items ≡ length (all_labels (statements graph.now.body))) }
-    ensures refusal { IfErr result IsRefusal }
+    ensures refusal { (tests : ℕ) → suc tests < 2 ^ 32 → HasSizes (statements graph.now.body) tests last.now.sizes.items
+        → AtAll (statements graph.now.body) (TellsAt tests (statements graph.now.body) (plans last.now.trees.items))
+        → IfErr result (IsRefusalAt (statements graph.now.body) (suc tests)) }
 {
     let sizes = next_sizes(alloc, graph, leaves, &last.sizes)?;
     check_sizes(&sizes)?;
@@ -164,7 +176,9 @@ fn next(alloc: Global, graph: &Graph, leaves: &[u128], last: &Level) -> Result<L
 
 /// No size is above the most nodes.
 fn check_sizes(sizes: &[u128]) -> Result<(), Refusal>
-    ensures refusal { IfErr result IsRefusal }
+    ensures light { OnOk result (greatest_below (λ label. held_at sizes.now label) (length sizes.now) ≤ 65536) }
+    ensures heavy { IfErr result (λ refusal. 65536 < greatest_below (λ label. held_at sizes.now label) (length sizes.now)) }
+    ensures nodes { IfErr result IsNodes }
 {
     let most = greatest(sizes);
     if most > NODES {

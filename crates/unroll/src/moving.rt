@@ -1,21 +1,28 @@
 //! The tree before a step, by the trees behind it.
-ghost use Rattle.std.specs.Prelude.{◌≡◌, ℕ, ◌<◌, true, false, IfErr, IfOk, length, slice_set};
+ghost use Rattle.std.specs.Prelude.{◌≡◌, ℕ, suc, ◌+◌, ◌*◌, ◌<◌, ◌≤◌, true, false, Err, IfErr, IfOk, length, slice_set};
 ghost use Rattle.linear_cons.specs.Functions.{value_at};
+ghost use Rattle.linear_cons.specs.declared.exact.Wide.{Wide as Operands};
 ghost use Rattle.linear_forms.specs.Linearising.{form_of};
 ghost use Rattle.linear_forms.specs.Meeting.{MeetsOne};
 ghost use Rattle.linear_forms.specs.Spreading.{spread_of};
 ghost use Rattle.decision_tree.specs.Evaluation.{eval};
-ghost use Rattle.decision_tree.specs.Plans.{plan_of};
-ghost use Rattle.step_meaning.specs.AffineExpressions.{IsAffine};
+ghost use Rattle.decision_tree.specs.Plans.{plan_of, size_of};
+ghost use Rattle.step_meaning.specs.AffineExpressions.{ExpressionFits, IsAffine};
+ghost use Rattle.step_meaning.specs.Countdown.{total_size};
 ghost use Rattle.step_meaning.specs.Naming.{NamesBelow};
 ghost use Rattle.step_meaning.specs.Outcome.{Store};
 ghost use Rattle.step_meaning.specs.Syntax.{expression};
 ghost use Rattle.step_meaning.specs.Valid.{IsNumber, IsTest};
 ghost use Rattle.count_down.specs.Trees.{IsTreeOver};
 ghost use Rattle.unroll.specs.Building.{IsBefore, IsBeforeBoth};
+ghost use Rattle.unroll.specs.Growth.{greatest_of_conjunctions};
 ghost use Rattle.unroll.specs.Levels.{ComplementsFit, RanksCount};
-ghost use Rattle.unroll.specs.Measures.{anywhere};
+ghost use Rattle.unroll.specs.Measures.{anywhere, size_of_test};
+ghost use Rattle.unroll.specs.Plain.{IsFittingTest};
+ghost use Rattle.unroll.specs.Within.{AreWithin, IsNarrow};
+ghost use Rattle.tree_unify.specs.declared.fault.TreeFault.TheVariants.{Full as TooFull, Wide as TooWide};
 ghost use Rattle.unroll.specs.Refusals.{IsFault, IsRefusal};
+ghost use Rattle.unroll.specs.declared.moving.Refusal.TheVariants.{Full, Wide as TooLarge};
 
 use crate::sizes::anywhere;
 use backward_transfer::{back_assign, back_skip, back_test};
@@ -63,6 +70,12 @@ pub(crate) fn assigned(
         → IsBefore (eval (plan_of behind.now) (slice_set s place (value_at (form_of (expression value.now)) s))) (eval (plan_of tree) s)) }
     ensures ranks { RanksCount (plan_of behind.now) → IfOk result (λ tree. RanksCount (plan_of tree)) }
     ensures complements { IfOk result (λ tree. ComplementsFit (plan_of tree)) }
+    ensures small { IfOk result (λ tree. size_of (plan_of tree) ≤ size_of (plan_of behind.now)) }
+    ensures full { (count : ℕ) → result ≡ Err (Full count) → 65536 < size_of (plan_of behind.now) }
+    ensures within { (k most steps : ℕ) → AreWithin ((1 + total_size (form_of (expression value.now))) * k) most steps (plan_of behind.now)
+        → IfOk result (λ tree. AreWithin k most (suc steps) (plan_of tree)) }
+    ensures wide { (operands : Operands) (k most steps : ℕ) → ExpressionFits (expression value.now) → IsNarrow k most steps
+        → AreWithin ((1 + total_size (form_of (expression value.now))) * k) most steps (plan_of behind.now) → result ≡ Err (TooLarge operands) → ⊥ }
     ensures refusal { IfErr result IsRefusal }
 {
     let function = function(value)?;
@@ -78,6 +91,11 @@ pub(crate) fn passed(alloc: Global, behind: &Tree<AffineRank>) -> Result<Tree<Af
     ensures before { IfOk result (λ tree. (s : Store) → IsBefore (eval (plan_of behind.now) s) (eval (plan_of tree) s)) }
     ensures ranks { RanksCount (plan_of behind.now) → IfOk result (λ tree. RanksCount (plan_of tree)) }
     ensures complements { IfOk result (λ tree. ComplementsFit (plan_of tree)) }
+    ensures small { IfOk result (λ tree. size_of (plan_of tree) ≤ size_of (plan_of behind.now)) }
+    ensures full { (count : ℕ) → result ≡ Err (Full count) → 65536 < size_of (plan_of behind.now) }
+    ensures within { (k most steps : ℕ) → AreWithin k most steps (plan_of behind.now) → IfOk result (λ tree. AreWithin k most (suc steps) (plan_of tree)) }
+    ensures wide { (operands : Operands) (k most steps : ℕ) → IsNarrow k most steps → AreWithin k most steps (plan_of behind.now)
+        → result ≡ Err (TooLarge operands) → ⊥ }
     ensures refusal { IfErr result IsRefusal }
 {
     match back_skip(alloc, behind) {
@@ -106,6 +124,16 @@ pub(crate) fn tested(
         → MeetsOne s (spread_of anywhere (expression test.now) false) → IsBefore (eval (plan_of no.now) s) (eval (plan_of tree) s)) }
     ensures ranks { RanksCount (plan_of yes.now) → RanksCount (plan_of no.now) → IfOk result (λ tree. RanksCount (plan_of tree)) }
     ensures complements { IfOk result (λ tree. ComplementsFit (plan_of tree)) }
+    ensures small { IsFittingTest (expression test.now) → RanksCount (plan_of yes.now) → RanksCount (plan_of no.now)
+        → IfOk result (λ tree. size_of (plan_of tree) ≤ size_of_test (expression test.now) (size_of (plan_of yes.now)) (size_of (plan_of no.now))) }
+    ensures full { (count : ℕ) → IsFittingTest (expression test.now) → RanksCount (plan_of yes.now) → RanksCount (plan_of no.now)
+        → result ≡ Err (Full count) → 65536 < size_of_test (expression test.now) (size_of (plan_of yes.now)) (size_of (plan_of no.now)) }
+    ensures within { (k most steps : ℕ) → IsFittingTest (expression test.now)
+        → greatest_of_conjunctions (spread_of anywhere (expression test.now) true) * k ≤ most → AreWithin k most steps (plan_of yes.now)
+        → AreWithin k most steps (plan_of no.now) → IfOk result (λ tree. AreWithin k most (suc steps) (plan_of tree)) }
+    ensures wide { (operands : Operands) (k most steps : ℕ) → IsFittingTest (expression test.now) → IsNarrow k most steps
+        → greatest_of_conjunctions (spread_of anywhere (expression test.now) true) * k ≤ most → AreWithin k most steps (plan_of yes.now)
+        → AreWithin k most steps (plan_of no.now) → result ≡ Err (TooLarge operands) → ⊥ }
     ensures refusal { IfErr result IsRefusal }
 {
     let holds = spread(alloc, test, true, &anywhere())?;
@@ -121,6 +149,8 @@ fn function(value: &Expr) -> Result<Affine, Refusal>
     requires affine { IsAffine (expression value.now) }
     requires names { NamesBelow 16 (expression value.now) }
     ensures function { IfOk result (λ function. function ≡ form_of (expression value.now)) }
+    ensures full { (count : ℕ) → result ≡ Err (Full count) → ⊥ }
+    ensures wide { (operands : Operands) → ExpressionFits (expression value.now) → result ≡ Err (TooLarge operands) → ⊥ }
     ensures refusal { IfErr result IsRefusal }
 {
     match affine_of(value) {
@@ -132,7 +162,9 @@ fn function(value: &Expr) -> Result<Affine, Refusal>
 /// What a fault refuses.
 fn refused(fault: TreeFault) -> Refusal
     requires { IsFault fault }
-    ensures { IsRefusal result }
+    ensures refusal { IsRefusal result }
+    ensures full { (count : ℕ) → result ≡ Full count → fault ≡ TooFull count }
+    ensures wide { (operands : Operands) → result ≡ TooLarge operands → fault ≡ TooWide operands }
 {
     match fault {
         TreeFault::Full { count } => Refusal::Full { count },

@@ -1,13 +1,17 @@
 //! The trees of a level.
-ghost use Rattle.std.specs.Prelude.{◌≡◌, ℕ, suc, ◌<◌, Some, IfOk, IfErr, OnOk, length};
+ghost use Rattle.std.specs.Prelude.{◌≡◌, ℕ, suc, ◌^◌, ◌<◌, ◌≤◌, Some, Err, IfOk, IfErr, OnOk, length};
+ghost use Rattle.linear_cons.specs.declared.exact.Wide.{Wide as Operands};
 ghost use Rattle.decision_tree.specs.Plans.{bottom, leaf, plan_of};
 ghost use Rattle.decision_tree.specs.declared.reason.Why.TheVariants.{End};
 ghost use Rattle.step_meaning.specs.Syntax.{statements};
 ghost use Rattle.control_flow.specs.Edges.{is_head_by};
 ghost use Rattle.control_flow.specs.Labels.{action_at, all_labels};
 ghost use Rattle.unroll.specs.Building.{AtAll, AtBehind, AtFirst, AtNext, IsFitting, TellsAt, TellsTree, left_by, plans};
+ghost use Rattle.unroll.specs.Growth.{growth_of};
 ghost use Rattle.unroll.specs.Levels.{counted, tree_at};
+ghost use Rattle.unroll.specs.Measures.{AreSizes, IsHeavy};
 ghost use Rattle.unroll.specs.Refusals.{IsRefusal};
+ghost use Rattle.unroll.specs.declared.moving.Refusal.TheVariants.{Full, Wide as TooLarge};
 
 use crate::action::{Action, done_at};
 use crate::moving::{Refusal, assigned, passed, tested};
@@ -21,6 +25,8 @@ pub(crate) fn first_trees(alloc: Global, graph: &Graph) -> Result<Vec<Tree<Affin
     requires { IsFitting (statements graph.now.body) }
     ensures tells { IfOk result (λ trees. AtAll (statements graph.now.body) (TellsAt 0 (statements graph.now.body) (plans trees.items))) }
     ensures count { IfOk result (λ trees. length trees.items ≡ length (all_labels (statements graph.now.body))) }
+    ensures full { (count : ℕ) → result ≡ Err (Full count) → IsHeavy (statements graph.now.body) 0 }
+    ensures wide { (operands : Operands) → result ≡ Err (TooLarge operands) → 2 ^ 100 < growth_of (statements graph.now.body) 0 }
     ensures refusal { IfErr result IsRefusal }
 {
     let mut trees = unclaimed(alloc, graph)?;
@@ -39,6 +45,10 @@ pub(crate) fn next_trees(
     ensures tells { (tests : ℕ) → AtAll (statements graph.now.body) (TellsAt tests (statements graph.now.body) (plans last.now))
         → IfOk result (λ trees. AtAll (statements graph.now.body) (TellsAt (suc tests) (statements graph.now.body) (plans trees.items))) }
     ensures count { IfOk result (λ trees. length trees.items ≡ length (all_labels (statements graph.now.body))) }
+    ensures full { (tests count : ℕ) → AtAll (statements graph.now.body) (TellsAt tests (statements graph.now.body) (plans last.now))
+        → result ≡ Err (Full count) → IsHeavy (statements graph.now.body) (suc tests) }
+    ensures wide { (tests : ℕ) (operands : Operands) → suc tests < 2 ^ 32 → AtAll (statements graph.now.body) (TellsAt tests (statements graph.now.body) (plans last.now))
+        → result ≡ Err (TooLarge operands) → 2 ^ 100 < growth_of (statements graph.now.body) (suc tests) }
     ensures refusal { IfErr result IsRefusal }
 {
     let mut trees = unclaimed(alloc, graph)?;
@@ -75,6 +85,10 @@ fn fill_heads(
         → AtFirst (statements graph.now.body) 1 (TellsAt (suc tests) (statements graph.now.body) (plans trees.old))
         → OnOk result (AtFirst (statements graph.now.body) (length (all_labels (statements graph.now.body))) (TellsAt (suc tests) (statements graph.now.body) (plans trees.new))) }
     ensures count { OnOk result (length trees.new ≡ length (all_labels (statements graph.now.body))) }
+    ensures full { (tests count : ℕ) → AtAll (statements graph.now.body) (TellsAt tests (statements graph.now.body) (plans last.now))
+        → result ≡ Err (Full count) → IsHeavy (statements graph.now.body) (suc tests) }
+    ensures wide { (tests : ℕ) (operands : Operands) → suc tests < 2 ^ 32 → AtAll (statements graph.now.body) (TellsAt tests (statements graph.now.body) (plans last.now))
+        → result ≡ Err (TooLarge operands) → 2 ^ 100 < growth_of (statements graph.now.body) (suc tests) }
     ensures refusal { IfErr result IsRefusal }
 {
     for label in 1..graph.labels() {
@@ -94,12 +108,17 @@ fn fill_head(
     requires fitting { IsFitting (statements graph.now.body) }
     requires some { 0 < label }
     requires within { label < length (all_labels (statements graph.now.body)) }
+    requires few { length (all_labels (statements graph.now.body)) ≤ 1024 }
     requires last_count { length last.now ≡ length (all_labels (statements graph.now.body)) }
     requires count { length trees.old ≡ length (all_labels (statements graph.now.body)) }
     ensures tells { (tests : ℕ) → AtAll (statements graph.now.body) (TellsAt tests (statements graph.now.body) (plans last.now))
         → AtFirst (statements graph.now.body) label (TellsAt (suc tests) (statements graph.now.body) (plans trees.old))
         → OnOk result (AtFirst (statements graph.now.body) (suc label) (TellsAt (suc tests) (statements graph.now.body) (plans trees.new))) }
     ensures count { OnOk result (length trees.new ≡ length (all_labels (statements graph.now.body))) }
+    ensures full { (tests count : ℕ) → AtAll (statements graph.now.body) (TellsAt tests (statements graph.now.body) (plans last.now))
+        → result ≡ Err (Full count) → IsHeavy (statements graph.now.body) (suc tests) }
+    ensures wide { (tests : ℕ) (operands : Operands) → suc tests < 2 ^ 32 → AtAll (statements graph.now.body) (TellsAt tests (statements graph.now.body) (plans last.now))
+        → result ≡ Err (TooLarge operands) → 2 ^ 100 < growth_of (statements graph.now.body) (suc tests) }
     ensures refusal { IfErr result IsRefusal }
 {
     if !graph.is_head(label) {
@@ -118,6 +137,12 @@ fn fill(alloc: Global, graph: &Graph, trees: &mut [Tree<AffineRank>]) -> Result<
         → AtFirst (statements graph.now.body) (length (all_labels (statements graph.now.body))) (TellsAt tests (statements graph.now.body) (plans trees.old))
         → OnOk result (AtAll (statements graph.now.body) (TellsAt tests (statements graph.now.body) (plans trees.new))) }
     ensures count { OnOk result (length trees.new ≡ length (all_labels (statements graph.now.body))) }
+    ensures full { (tests count : ℕ)
+        → AtFirst (statements graph.now.body) (length (all_labels (statements graph.now.body))) (TellsAt tests (statements graph.now.body) (plans trees.old))
+        → result ≡ Err (Full count) → IsHeavy (statements graph.now.body) tests }
+    ensures wide { (tests : ℕ) (operands : Operands) → tests < 2 ^ 32
+        → AtFirst (statements graph.now.body) (length (all_labels (statements graph.now.body))) (TellsAt tests (statements graph.now.body) (plans trees.old))
+        → result ≡ Err (TooLarge operands) → 2 ^ 100 < growth_of (statements graph.now.body) tests }
     ensures refusal { IfErr result IsRefusal }
 {
     for label in (1..graph.labels()).rev() {
@@ -136,10 +161,15 @@ fn fill_one(
     requires fitting { IsFitting (statements graph.now.body) }
     requires some { 0 < label }
     requires within { label < length (all_labels (statements graph.now.body)) }
+    requires few { length (all_labels (statements graph.now.body)) ≤ 1024 }
     requires count { length trees.old ≡ length (all_labels (statements graph.now.body)) }
     ensures tells { (tests : ℕ) → AtBehind (statements graph.now.body) (suc label) (TellsAt tests (statements graph.now.body) (plans trees.old))
         → OnOk result (AtBehind (statements graph.now.body) label (TellsAt tests (statements graph.now.body) (plans trees.new))) }
     ensures count { OnOk result (length trees.new ≡ length (all_labels (statements graph.now.body))) }
+    ensures full { (tests count : ℕ) → AtBehind (statements graph.now.body) (suc label) (TellsAt tests (statements graph.now.body) (plans trees.old))
+        → result ≡ Err (Full count) → IsHeavy (statements graph.now.body) tests }
+    ensures wide { (tests : ℕ) (operands : Operands) → tests < 2 ^ 32 → AtBehind (statements graph.now.body) (suc label) (TellsAt tests (statements graph.now.body) (plans trees.old))
+        → result ≡ Err (TooLarge operands) → 2 ^ 100 < growth_of (statements graph.now.body) tests }
     ensures refusal { IfErr result IsRefusal }
 {
     if graph.is_head(label) {
@@ -160,10 +190,17 @@ fn tree(
     requires fitting { IsFitting (statements graph.now.body) }
     requires some { 0 < label }
     requires within { label < length (all_labels (statements graph.now.body)) }
+    requires few { length (all_labels (statements graph.now.body)) ≤ 1024 }
     requires count { length behind.now ≡ length (all_labels (statements graph.now.body)) }
     ensures tells { (tests left : ℕ) → left_by (is_head_by (action_at (statements graph.now.body) label)) tests ≡ Some left
         → AtNext (action_at (statements graph.now.body) label) (TellsAt left (statements graph.now.body) (plans behind.now))
         → IfOk result (λ tree. TellsTree tests (statements graph.now.body) label (plan_of tree)) }
+    ensures full { (tests left count : ℕ) → left_by (is_head_by (action_at (statements graph.now.body) label)) tests ≡ Some left
+        → AtNext (action_at (statements graph.now.body) label) (TellsAt left (statements graph.now.body) (plans behind.now))
+        → result ≡ Err (Full count) → (sizes : ℕ → ℕ → ℕ) → AreSizes (statements graph.now.body) sizes → 65536 < sizes tests label }
+    ensures wide { (tests left : ℕ) (operands : Operands) → tests < 2 ^ 32 → left_by (is_head_by (action_at (statements graph.now.body) label)) tests ≡ Some left
+        → AtNext (action_at (statements graph.now.body) label) (TellsAt left (statements graph.now.body) (plans behind.now))
+        → result ≡ Err (TooLarge operands) → 2 ^ 100 < growth_of (statements graph.now.body) tests }
     ensures refusal { IfErr result IsRefusal }
 {
     match done_at(graph, label) {

@@ -1,18 +1,29 @@
-use Rattle.std.proofs.Common.{◌≡◌, [], slice_set, sym, subst}
+use Rattle.std.proofs.Common.{◌≡◌, ℕ, suc, ◌+◌, ◌*◌, [], Err, slice_set, sym, ap, subst, arith}
 use Rattle.linear_cons.specs.Functions.{value_at}
 use Rattle.linear_cons.specs.declared.affine.Affine.{Affine}
 use Rattle.decision_tree.specs.Evaluation.{eval}
-use Rattle.decision_tree.specs.Plans.{Plan, plan_of}
+use Rattle.decision_tree.specs.Plans.{Plan, plan_of, size_of}
 use Rattle.decision_tree.specs.declared.affine_rank.AffineRank.{AffineRank}
 use Rattle.unroll.specs.Building.{IsBefore}
 use Rattle.unroll.specs.Levels.{ComplementsFit, RanksCount}
-use Rattle.unroll.specs.Shapes.{assigned_shape, cut}
+use Rattle.unroll.specs.Shapes.{affine_ranks, assigned_shape, cut, same_rank}
+use Rattle.backward_transfer.proofs.Making.{trimmed_size}
+use Rattle.unroll.proofs.Bounding.{assigned_size}
 use Rattle.unroll.proofs.Standing.{assigned_before, assigned_count, trimmed_complements}
 use Rattle.step_meaning.specs.Syntax.{expression}
 use Rattle.count_down.specs.Trees.{IsOver, IsTreeOver}
 use Rattle.count_down.proofs.Over.{over_form}
+use Rattle.linear_forms.specs.Linearising.{form_of}
+use Rattle.step_meaning.specs.Countdown.{total_size}
+use Rattle.unroll.specs.Within.{AreWithin}
 use Rattle.unroll.proofs.Variables.{assigned_over}
+use Rattle.unroll.proofs.WithinTrees.{assigned_fits, assigned_within}
 use Rattle.unroll.proofs.moving.assigned.Goals as goal
+
+-- the tree behind is within, by the function that the value is
+within_by : (by form : Affine) → by ≡ form → (k most steps : ℕ) (plan : Plan AffineRank) → AreWithin ((1 + total_size form) * k) most steps plan
+    → AreWithin ((1 + total_size by) * k) most steps plan
+within_by by form is k most steps plan within = subst (λ (a : Affine). AreWithin ((1 + total_size a) * k) most steps plan) (sym is) within
 
 pub returns-in-Ok-clause-before : goal.returns-in-Ok-clause-before
 returns-in-Ok-clause-before c s long =
@@ -42,3 +53,47 @@ returns-in-Ok-clause-variables c vars sorted over =
     let is : plan_of c.in-Ok.tree ≡ cut (assigned_shape c.args.place by plan) = c.in-Ok.ensures.tree in
     let own = subst (IsOver vars) (sym c.in_ok-function.ensures.function) (over_form vars (expression c.args.value.now) sorted) in
     subst (IsTreeOver vars) (sym is) (assigned_over vars c.args.place by plan own over)
+
+pub returns-in-Ok-clause-small : goal.returns-in-Ok-clause-small
+returns-in-Ok-clause-small c =
+    let plan = plan_of c.args.behind.now in
+    let shape = assigned_shape c.args.place c.in_ok-function.function plan in
+    let is : plan_of c.in-Ok.tree ≡ cut shape = c.in-Ok.ensures.tree in
+    let made = ap size_of is in
+    let less = trimmed_size same_rank [] shape in
+    let most = assigned_size same_rank affine_ranks.substituted affine_ranks.one_more c.args.place c.in_ok-function.function plan in
+    omega (arith, made, less, most)
+
+pub returns-in-Err-clause-full : goal.returns-in-Err-clause-full
+returns-in-Err-clause-full c count is =
+    let plan = plan_of c.args.behind.now in
+    let most = assigned_size same_rank affine_ranks.substituted affine_ranks.one_more c.args.place c.in_ok-function.function plan in
+    let more = (c.in-Err.ensures.full count (ap Err (c.refused.ensures.full count cc))).1 in
+    omega (arith, most, more)
+
+pub returns-in_err-function-clause-full : goal.returns-in_err-function-clause-full
+returns-in_err-function-clause-full c count is =
+    let gives = rw is at c.from_residual.ensures.1 in
+    absurd (c.in_err-function.ensures.full count (cc))
+
+pub returns-in-Ok-clause-within : goal.returns-in-Ok-clause-within
+returns-in-Ok-clause-within c k most steps within =
+    let by = c.in_ok-function.function in
+    let plan = plan_of c.args.behind.now in
+    let is : plan_of c.in-Ok.tree ≡ cut (assigned_shape c.args.place by plan) = c.in-Ok.ensures.tree in
+    subst (AreWithin k most (suc steps)) (sym is)
+    (assigned_within k most steps c.args.place c.requires.place by plan
+    (within_by by (form_of (expression c.args.value.now)) c.in_ok-function.ensures.function k most steps plan within))
+
+pub returns-in-Err-clause-wide : goal.returns-in-Err-clause-wide
+returns-in-Err-clause-wide c operands k most steps known narrow within is =
+    let by = c.in_ok-function.function in
+    let plan = plan_of c.args.behind.now in
+    let fits = assigned_fits k most steps c.args.place c.requires.place by narrow plan
+    (within_by by (form_of (expression c.args.value.now)) c.in_ok-function.ensures.function k most steps plan within) in
+    c.in-Err.ensures.wide operands (ap Err (c.refused.ensures.wide operands cc)) fits.0 fits.1
+
+pub returns-in_err-function-clause-wide : goal.returns-in_err-function-clause-wide
+returns-in_err-function-clause-wide c operands k most steps known narrow within is =
+    let gives = rw is at c.from_residual.ensures.1 in
+    absurd (c.in_err-function.ensures.wide operands known (cc))

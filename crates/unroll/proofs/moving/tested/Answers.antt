@@ -1,18 +1,26 @@
-use Rattle.std.proofs.Common.{◌≡◌, true, false, Bool, List, [], sym, ap, subst, ◌∙◌}
+use Rattle.std.proofs.Common.{◌≡◌, ℕ, suc, ◌*◌, ◌≤◌, true, false, Bool, List, [], Err, sym, ap, subst, ◌∙◌, arith}
 use Rattle.linear_cons.specs.declared.bounds.Bounds.{Bounds}
 use Rattle.linear_cons.specs.declared.row.Row.{Row}
 use Rattle.linear_forms.specs.Spreading.{spread_of}
 use Rattle.decision_tree.specs.Evaluation.{eval}
-use Rattle.decision_tree.specs.Plans.{Plan, plan_of}
+use Rattle.decision_tree.specs.Plans.{Plan, plan_of, size_of}
 use Rattle.decision_tree.specs.declared.affine_rank.AffineRank.{AffineRank}
 use Rattle.step_meaning.specs.Syntax.{Expression, expression}
 use Rattle.unroll.specs.Building.{IsBefore, IsBeforeBoth}
 use Rattle.unroll.specs.Levels.{ComplementsFit, RanksCount}
 use Rattle.unroll.specs.Measures.{anywhere}
-use Rattle.unroll.specs.Shapes.{cut, tested_shape}
+use Rattle.unroll.specs.Shapes.{CutFits, affine_ranks, cut, same_rank, tested_shape}
+use Rattle.backward_transfer.proofs.Making.{trimmed_size}
+use Rattle.unroll.proofs.LaterSizes.{shape_full, shape_size}
 use Rattle.unroll.proofs.Standing.{both_before, first_before, second_before, tested_count, trimmed_complements}
 use Rattle.count_down.specs.Trees.{IsTreeOver}
+use Rattle.backward_transfer.specs.Tests.{ComplementFits, EnabledFits, TestAsks}
+use Rattle.unroll.specs.Growth.{greatest_of_conjunctions}
+use Rattle.unroll.specs.Plain.{IsFittingTest}
+use Rattle.unroll.specs.Within.{AreWithin, IsNarrow}
+use Rattle.unroll.proofs.GrownLabels.{asked_within}
 use Rattle.unroll.proofs.Variables.{tested_over}
+use Rattle.unroll.proofs.WithinTrees.{tested_fits, tested_within}
 use Rattle.unroll.proofs.moving.tested.Goals as goal
 
 rows_are : (e : Expression) (t : Bool) (bounds : Bounds) (rows items : List (List Row)) → rows ≡ items → items ≡ spread_of bounds e t → bounds ≡ anywhere
@@ -80,3 +88,57 @@ returns-in-Ok-clause-variables c vars sorted first second =
     (rows_are e true c.anywhere.result _ _ c.deref.ensures.value c.in_ok-holds.ensures c.anywhere.ensures)
     (rows_are e false c.anywhere-2.result _ _ c.deref-2.ensures.value c.in_ok-fails.ensures c.anywhere-2.ensures) c.in-Ok.ensures.tree in
     subst (IsTreeOver vars) (sym is) (tested_over vars this that e sorted first second)
+
+pub returns-in-Ok-clause-small : goal.returns-in-Ok-clause-small
+returns-in-Ok-clause-small c fits first second =
+    let this = plan_of c.args.yes.now in
+    let that = plan_of c.args.no.now in
+    let e = expression c.args.test.now in
+    let is = made_is this that (plan_of c.in-Ok.tree) e c.deref.result.now c.deref-2.result.now
+    (rows_are e true c.anywhere.result _ _ c.deref.ensures.value c.in_ok-holds.ensures c.anywhere.ensures)
+    (rows_are e false c.anywhere-2.result _ _ c.deref-2.ensures.value c.in_ok-fails.ensures c.anywhere-2.ensures) c.in-Ok.ensures.tree in
+    let made = ap size_of is in
+    let less = trimmed_size same_rank [] (tested_shape this that (spread_of anywhere e true) (spread_of anywhere e false)) in
+    let most = shape_size e fits this that first second in
+    omega (arith, made, less, most)
+
+pub returns-clause-full : goal.returns-clause-full
+returns-clause-full c count fits first second is =
+    let e = expression c.args.test.now in
+    shape_full e fits (plan_of c.args.yes.now) (plan_of c.args.no.now) first second c.deref.result.now c.deref-2.result.now
+    (rows_are e true c.anywhere.result _ _ c.deref.ensures.value c.in_ok-holds.ensures c.anywhere.ensures)
+    (rows_are e false c.anywhere-2.result _ _ c.deref-2.ensures.value c.in_ok-fails.ensures c.anywhere-2.ensures)
+    (c.in-Err.ensures.full count (ap Err (c.refused.ensures.full count cc))).1
+
+pub returns-in-Ok-clause-within : goal.returns-in-Ok-clause-within
+returns-in-Ok-clause-within c k most steps fits small first second =
+    let this = plan_of c.args.yes.now in
+    let that = plan_of c.args.no.now in
+    let e = expression c.args.test.now in
+    let is = made_is this that (plan_of c.in-Ok.tree) e c.deref.result.now c.deref-2.result.now
+    (rows_are e true c.anywhere.result _ _ c.deref.ensures.value c.in_ok-holds.ensures c.anywhere.ensures)
+    (rows_are e false c.anywhere-2.result _ _ c.deref-2.ensures.value c.in_ok-fails.ensures c.anywhere-2.ensures) c.in-Ok.ensures.tree in
+    subst (AreWithin k most (suc steps)) (sym is)
+    (tested_within k most steps this that first second (spread_of anywhere e true) (spread_of anywhere e false) (asked_within e fits k most small))
+
+-- the numbers of a test of these rows fit
+fitting_test : (e : Expression) → IsFittingTest e → (k most steps : ℕ) → IsNarrow k most steps → greatest_of_conjunctions (spread_of anywhere e true) * k ≤ most
+    → (this that : Plan AffineRank) → AreWithin k most steps this → AreWithin k most steps that → (holds fails : List (List Row))
+    → holds ≡ spread_of anywhere e true → fails ≡ spread_of anywhere e false
+    → TestAsks ComplementFits (EnabledFits same_rank affine_ranks.where_greater affine_ranks.greater_fits affine_ranks.one_more affine_ranks.add_one_fits this that) fails holds
+    × CutFits (tested_shape this that holds fails)
+fitting_test e fits k most steps narrow small this that first second holds fails one two =
+    let Fits = λ (yes_rows no_rows : List (List Row)).
+    TestAsks ComplementFits (EnabledFits same_rank affine_ranks.where_greater affine_ranks.greater_fits affine_ranks.one_more affine_ranks.add_one_fits this that) no_rows yes_rows
+    × CutFits (tested_shape this that yes_rows no_rows) in
+    subst (λ (list : List (List Row)). Fits list fails) (sym one)
+    (subst (λ (list : List (List Row)). Fits (spread_of anywhere e true) list) (sym two)
+    (tested_fits k most steps this that first second (spread_of anywhere e true) (spread_of anywhere e false) (asked_within e fits k most small) narrow))
+
+pub returns-clause-wide : goal.returns-clause-wide
+returns-clause-wide c operands k most steps fits narrow small first second is =
+    let e = expression c.args.test.now in
+    let fit = fitting_test e fits k most steps narrow small (plan_of c.args.yes.now) (plan_of c.args.no.now) first second c.deref.result.now c.deref-2.result.now
+    (rows_are e true c.anywhere.result _ _ c.deref.ensures.value c.in_ok-holds.ensures c.anywhere.ensures)
+    (rows_are e false c.anywhere-2.result _ _ c.deref-2.ensures.value c.in_ok-fails.ensures c.anywhere-2.ensures) in
+    c.in-Err.ensures.wide operands (ap Err (c.refused.ensures.wide operands cc)) fit.0 fit.1

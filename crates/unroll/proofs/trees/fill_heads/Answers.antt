@@ -1,6 +1,7 @@
 use Rattle.std.proofs.Common.{◌≡◌, suc, ◌+◌, subst, arith}
 use Rattle.step_meaning.specs.Syntax.{statements}
 use Rattle.unroll.specs.Building.{AtFirst, TellsAt, plans}
+use Rattle.unroll.proofs.Passing.{passed_on}
 use Rattle.unroll.proofs.trees.fill_heads.Goals as goal
 
 pub loop-label-preserved : goal.loop-label-preserved
@@ -18,3 +19,13 @@ returns-clause-tells c limit last first =
     let end = c.loop-label-test.false in
     let count = c.labels-label-end.ensures.count in
     λ label low known. c.loop-label.invariant.1 limit last first label (omega (arith, low, end, count)) known
+
+pub fill_head-requires-clause-few : goal.fill_head-requires-clause-few
+fill_head-requires-clause-few c =
+    let count = c.labels-label-end.ensures.count in
+    let few = c.labels-label-end.ensures.few in
+    omega (arith, count, few)
+
+pub returns-in_err-fill_head-clause-wide : goal.returns-in_err-fill_head-clause-wide
+returns-in_err-fill_head-clause-wide c limit operands short last is =
+    c.in_err-fill_head.ensures.wide limit operands short last (passed_on _ _ _ c.from_residual.ensures.1 is)

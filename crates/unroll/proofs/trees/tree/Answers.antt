@@ -1,14 +1,21 @@
-use Rattle.std.proofs.Common.{◌≡◌, length, slice_set, sym, ap, subst, ◌∙◌, arith}
+use Rattle.std.proofs.Common.{◌≡◌, ◌+◌, ◌*◌, ◌<◌, ◌≤◌, length, slice_set, sym, ap, subst, ◌∙◌, arith}
 use Rattle.linear_cons.specs.Functions.{value_at}
 use Rattle.linear_forms.specs.Linearising.{form_of}
 use Rattle.decision_tree.specs.Evaluation.{eval}
-use Rattle.decision_tree.specs.Plans.{plan_of}
+use Rattle.decision_tree.specs.Plans.{plan_of, size_of}
 use Rattle.step_meaning.specs.Syntax.{expression, statements}
 use Rattle.unroll.specs.Building.{IsBefore, IsBeforeBoth, plans}
 use Rattle.unroll.specs.Levels.{RanksCount, tree_at}
+use Rattle.unroll.specs.Measures.{size_of_test}
+use Rattle.unroll.proofs.Passing.{passed_on}
 use Rattle.unroll.proofs.Putting.{plan_at}
 use Rattle.count_down.specs.Trees.{IsTreeOver}
-use Rattle.unroll.proofs.Treeing.{assigned_ranks_behind, assigned_tells, assigned_variables, is_assigned, is_passed, is_tested, never_ends, passed_ranks_behind, passed_tells, passed_variables, tested_ranks_behind, tested_tells, tested_variables}
+use Rattle.unroll.proofs.Treeing.{assigned_full, assigned_ranks_behind, assigned_tells, assigned_variables, is_assigned, is_passed, is_tested, never_ends, passed_full, passed_ranks_behind, passed_tells, passed_variables, numbers_behind, tested_fits, tested_full, tested_ranks_behind, tested_tells, tested_variables}
+use Rattle.step_meaning.specs.AffineExpressions.{ExpressionFits}
+use Rattle.step_meaning.specs.Countdown.{total_size}
+use Rattle.unroll.specs.Plain.{ActionFits}
+use Rattle.unroll.specs.Within.{AreWithin}
+use Rattle.unroll.proofs.GrownLabels.{assigned_numbers, assigned_wide, passed_numbers, passed_wide, tested_numbers, tested_wide}
 use Rattle.unroll.proofs.trees.tree.Goals as goal
 
 pub bounds-behind-next : goal.bounds-behind-next
@@ -84,7 +91,13 @@ returns-in_ok-tree-in-Assign-clause-tells c limit left allows behind =
     (assigned_variables body vars valid.few valid.well_sorted c.requires.fitting.plain c.args.label c.requires.within c.requires.some (c.requires.fitting.fit c.args.label c.requires.within) (plans c.args.behind.now) limit left allows behind
     (plan_of c.in_ok-tree-in-Assign.tree) _ _ _ c.in-Assign.ensures
     (λ other sorted over. c.in_ok-tree-in-Assign.ensures.variables other sorted (subst (IsTreeOver other) (sym at) over)))
+    (assigned_numbers body c.args.label c.requires.some c.requires.within limit left allows (plans c.args.behind.now)
+    (numbers_behind body vars valid.few valid.well_sorted c.requires.fitting.plain c.args.label c.requires.within c.requires.some (c.requires.fitting.fit c.args.label c.requires.within) (plans c.args.behind.now) limit left allows behind)
+    (plan_of c.in_ok-tree-in-Assign.tree) _ _ _ c.in-Assign.ensures
+    (λ k most steps within. c.in_ok-tree-in-Assign.ensures.within k most steps
+    (subst (AreWithin ((1 + total_size (form_of (expression c.in-Assign.value.now))) * k) most steps) (sym at) within)))
     _ _ _ c.in-Assign.ensures
+    (subst (λ p. size_of (plan_of c.in_ok-tree-in-Assign.tree) ≤ size_of p) at c.in_ok-tree-in-Assign.ensures.small)
     (λ s long. subst (λ p. IsBefore (eval p (slice_set s c.in-Assign.place (value_at (form_of (expression c.in-Assign.value.now)) s))) (eval (plan_of c.in_ok-tree-in-Assign.tree) s)) at (c.in_ok-tree-in-Assign.ensures.before s long))
 
 pub returns-in_ok-tree-in-Pass-clause-tells : goal.returns-in_ok-tree-in-Pass-clause-tells
@@ -103,7 +116,12 @@ returns-in_ok-tree-in-Pass-clause-tells c limit left allows behind =
     (passed_variables body vars valid.few valid.well_sorted c.requires.fitting.plain c.args.label c.requires.within c.requires.some (c.requires.fitting.fit c.args.label c.requires.within) (plans c.args.behind.now) limit left allows behind
     (plan_of c.in_ok-tree-in-Pass.tree) _ c.in-Pass.ensures
     (λ other over. c.in_ok-tree-in-Pass.ensures.variables other (subst (IsTreeOver other) (sym at) over)))
+    (passed_numbers body c.args.label c.requires.some c.requires.within limit left allows (plans c.args.behind.now)
+    (numbers_behind body vars valid.few valid.well_sorted c.requires.fitting.plain c.args.label c.requires.within c.requires.some (c.requires.fitting.fit c.args.label c.requires.within) (plans c.args.behind.now) limit left allows behind)
+    (plan_of c.in_ok-tree-in-Pass.tree) _ c.in-Pass.ensures
+    (λ k most steps within. c.in_ok-tree-in-Pass.ensures.within k most steps (subst (AreWithin k most steps) (sym at) within)))
     _ c.in-Pass.ensures
+    (subst (λ p. size_of (plan_of c.in_ok-tree-in-Pass.tree) ≤ size_of p) at c.in_ok-tree-in-Pass.ensures.small)
     (λ s. subst (λ p. IsBefore (eval p s) (eval (plan_of c.in_ok-tree-in-Pass.tree) s)) at (c.in_ok-tree-in-Pass.ensures.before s))
 
 pub returns-in_ok-tree-in-Test-clause-tells : goal.returns-in_ok-tree-in-Test-clause-tells
@@ -119,6 +137,7 @@ returns-in_ok-tree-in-Test-clause-tells c limit left allows behind =
     ap plan_of c.index-behind-yes.is ∙ plan_at c.args.behind.now c.in-Test.yes c.index-behind-yes.result (omega (arith, inside, count)) in
     let else_at : plan_of c.index-behind-no.result ≡ tree_at (plans c.args.behind.now) c.in-Test.no =
     ap plan_of c.index-behind-no.is ∙ plan_at c.args.behind.now c.in-Test.no c.index-behind-no.result (omega (arith, also, count)) in
+    let fits = tested_fits body vars valid.few valid.well_sorted c.requires.fitting.plain c.args.label c.requires.within c.requires.some (c.requires.fitting.fit c.args.label c.requires.within) (plans c.args.behind.now) limit left allows behind _ _ _ _ c.in-Test.ensures in
     let two = tested_ranks_behind body vars valid.few valid.well_sorted c.requires.fitting.plain c.args.label c.requires.within c.requires.some (c.requires.fitting.fit c.args.label c.requires.within) (plans c.args.behind.now) limit left allows behind _ _ _ _ c.in-Test.ensures in
     tested_tells body vars valid.few valid.well_sorted c.requires.fitting.plain c.args.label c.requires.within c.requires.some (c.requires.fitting.fit c.args.label c.requires.within) (plans c.args.behind.now) limit left allows behind
     (plan_of c.in_ok-tree-in-Test.tree) (c.in_ok-tree-in-Test.ensures.ranks (subst RanksCount (sym then_at) two.0) (subst RanksCount (sym else_at) two.1))
@@ -127,8 +146,121 @@ returns-in_ok-tree-in-Test-clause-tells c limit left allows behind =
     (plan_of c.in_ok-tree-in-Test.tree) _ _ _ _ c.in-Test.ensures
     (λ other sorted first second. c.in_ok-tree-in-Test.ensures.variables other sorted (subst (IsTreeOver other) (sym then_at) first)
     (subst (IsTreeOver other) (sym else_at) second)))
+    (tested_numbers body c.args.label c.requires.some c.requires.within limit left allows (plans c.args.behind.now)
+    (numbers_behind body vars valid.few valid.well_sorted c.requires.fitting.plain c.args.label c.requires.within c.requires.some (c.requires.fitting.fit c.args.label c.requires.within) (plans c.args.behind.now) limit left allows behind)
+    (plan_of c.in_ok-tree-in-Test.tree) _ _ _ _ c.in-Test.ensures
+    (λ k most steps small first second. c.in_ok-tree-in-Test.ensures.within k most steps fits small (subst (AreWithin k most steps) (sym then_at) first)
+    (subst (AreWithin k most steps) (sym else_at) second)))
     _ _ _ _ c.in-Test.ensures
+    (subst (λ p. size_of (plan_of c.in_ok-tree-in-Test.tree) ≤ size_of_test (expression c.in-Test.test.now) (size_of p) (size_of (tree_at (plans c.args.behind.now) c.in-Test.no))) then_at
+    (subst (λ p. size_of (plan_of c.in_ok-tree-in-Test.tree) ≤ size_of_test (expression c.in-Test.test.now) (size_of (plan_of c.index-behind-yes.result)) (size_of p)) else_at
+    (c.in_ok-tree-in-Test.ensures.small fits (subst RanksCount (sym then_at) two.0) (subst RanksCount (sym else_at) two.1))))
     (λ s met also. subst (λ p. IsBeforeBoth (eval p s) (eval (tree_at (plans c.args.behind.now) c.in-Test.no) s) (eval (plan_of c.in_ok-tree-in-Test.tree) s)) then_at
     (subst (λ p. IsBeforeBoth (eval (plan_of c.index-behind-yes.result) s) (eval p s) (eval (plan_of c.in_ok-tree-in-Test.tree) s)) else_at (c.in_ok-tree-in-Test.ensures.both s met also)))
     (λ s met missed. subst (λ p. IsBefore (eval p s) (eval (plan_of c.in_ok-tree-in-Test.tree) s)) then_at (c.in_ok-tree-in-Test.ensures.holds s met missed))
     (λ s missed met. subst (λ p. IsBefore (eval p s) (eval (plan_of c.in_ok-tree-in-Test.tree) s)) else_at (c.in_ok-tree-in-Test.ensures.fails s missed met))
+
+pub returns-in_err-tree-in-Assign-clause-full : goal.returns-in_err-tree-in-Assign-clause-full
+returns-in_err-tree-in-Assign-clause-full c limit left number allows behind is sizes are =
+    let valid = c.args.graph.now.valid in
+    let body = statements c.args.graph.now.body in
+    let vars = length c.args.graph.now.names in
+    let known = is_assigned body vars valid.few valid.well_sorted c.requires.fitting.plain c.args.label c.requires.within _ _ _ c.in-Assign.ensures in
+    let inside = known.inside in
+    let count = c.requires.count in
+    let at : plan_of c.index-behind-next.result ≡ tree_at (plans c.args.behind.now) c.in-Assign.next =
+    ap plan_of c.index-behind-next.is ∙ plan_at c.args.behind.now c.in-Assign.next c.index-behind-next.result (omega (arith, inside, count)) in
+    assigned_full body vars valid.few valid.well_sorted c.requires.fitting.plain c.args.label c.requires.within c.requires.some (c.requires.fitting.fit c.args.label c.requires.within) (plans c.args.behind.now) limit left allows behind
+    _ _ _ c.in-Assign.ensures
+    (subst (λ p. 65536 < size_of p) at (c.in_err-tree-in-Assign.ensures.full number (passed_on _ _ _ c.from_residual.ensures.1 is))) sizes are
+
+pub returns-in_err-tree-in-Assign-clause-wide : goal.returns-in_err-tree-in-Assign-clause-wide
+returns-in_err-tree-in-Assign-clause-wide c limit left operands short allows behind is =
+    let valid = c.args.graph.now.valid in
+    let body = statements c.args.graph.now.body in
+    let vars = length c.args.graph.now.names in
+    let known = is_assigned body vars valid.few valid.well_sorted c.requires.fitting.plain c.args.label c.requires.within _ _ _ c.in-Assign.ensures in
+    let inside = known.inside in
+    let count = c.requires.count in
+    let few = c.requires.few in
+    let at : plan_of c.index-behind-next.result ≡ tree_at (plans c.args.behind.now) c.in-Assign.next =
+    ap plan_of c.index-behind-next.is ∙ plan_at c.args.behind.now c.in-Assign.next c.index-behind-next.result (omega (arith, inside, count)) in
+    let fit : ExpressionFits (expression c.in-Assign.value.now) = subst ActionFits (sym c.in-Assign.ensures) (c.requires.fitting.fit c.args.label c.requires.within) in
+    assigned_wide body c.args.label c.requires.some c.requires.within limit left allows (plans c.args.behind.now)
+    (numbers_behind body vars valid.few valid.well_sorted c.requires.fitting.plain c.args.label c.requires.within c.requires.some (c.requires.fitting.fit c.args.label c.requires.within) (plans c.args.behind.now) limit left allows behind)
+    short (omega (arith, few)) _ _ _ c.in-Assign.ensures
+    (λ k most steps narrow within. c.in_err-tree-in-Assign.ensures.wide operands k most steps fit narrow
+    (subst (AreWithin ((1 + total_size (form_of (expression c.in-Assign.value.now))) * k) most steps) (sym at) within)
+    (passed_on _ _ _ c.from_residual.ensures.1 is))
+
+pub returns-in_err-tree-in-Pass-clause-wide : goal.returns-in_err-tree-in-Pass-clause-wide
+returns-in_err-tree-in-Pass-clause-wide c limit left operands short allows behind is =
+    let valid = c.args.graph.now.valid in
+    let body = statements c.args.graph.now.body in
+    let vars = length c.args.graph.now.names in
+    let inside = is_passed body vars valid.few valid.well_sorted c.requires.fitting.plain c.args.label c.requires.within _ c.in-Pass.ensures in
+    let count = c.requires.count in
+    let few = c.requires.few in
+    let at : plan_of c.index-behind-next-in-Pass.result ≡ tree_at (plans c.args.behind.now) c.in-Pass.next =
+    ap plan_of c.index-behind-next-in-Pass.is ∙ plan_at c.args.behind.now c.in-Pass.next c.index-behind-next-in-Pass.result (omega (arith, inside, count)) in
+    passed_wide body c.args.label c.requires.some c.requires.within limit left allows (plans c.args.behind.now)
+    (numbers_behind body vars valid.few valid.well_sorted c.requires.fitting.plain c.args.label c.requires.within c.requires.some (c.requires.fitting.fit c.args.label c.requires.within) (plans c.args.behind.now) limit left allows behind)
+    short (omega (arith, few)) _ c.in-Pass.ensures
+    (λ k most steps narrow within. c.in_err-tree-in-Pass.ensures.wide operands k most steps narrow (subst (AreWithin k most steps) (sym at) within)
+    (passed_on _ _ _ c.from_residual-in_err-tree-in-Pass.ensures.1 is))
+
+pub returns-in_err-tree-in-Test-clause-wide : goal.returns-in_err-tree-in-Test-clause-wide
+returns-in_err-tree-in-Test-clause-wide c limit left operands short allows behind is =
+    let valid = c.args.graph.now.valid in
+    let body = statements c.args.graph.now.body in
+    let vars = length c.args.graph.now.names in
+    let known = is_tested body vars valid.few valid.well_sorted c.requires.fitting.plain c.args.label c.requires.within _ _ _ _ c.in-Test.ensures in
+    let inside = known.inside in
+    let also = known.also in
+    let count = c.requires.count in
+    let few = c.requires.few in
+    let then_at : plan_of c.index-behind-yes.result ≡ tree_at (plans c.args.behind.now) c.in-Test.yes =
+    ap plan_of c.index-behind-yes.is ∙ plan_at c.args.behind.now c.in-Test.yes c.index-behind-yes.result (omega (arith, inside, count)) in
+    let else_at : plan_of c.index-behind-no.result ≡ tree_at (plans c.args.behind.now) c.in-Test.no =
+    ap plan_of c.index-behind-no.is ∙ plan_at c.args.behind.now c.in-Test.no c.index-behind-no.result (omega (arith, also, count)) in
+    let fits = tested_fits body vars valid.few valid.well_sorted c.requires.fitting.plain c.args.label c.requires.within c.requires.some (c.requires.fitting.fit c.args.label c.requires.within) (plans c.args.behind.now) limit left allows behind _ _ _ _ c.in-Test.ensures in
+    tested_wide body c.args.label c.requires.some c.requires.within limit left allows (plans c.args.behind.now)
+    (numbers_behind body vars valid.few valid.well_sorted c.requires.fitting.plain c.args.label c.requires.within c.requires.some (c.requires.fitting.fit c.args.label c.requires.within) (plans c.args.behind.now) limit left allows behind)
+    short (omega (arith, few)) _ _ _ _ c.in-Test.ensures
+    (λ k most steps narrow small first second. c.in_err-tree-in-Test.ensures.wide operands k most steps fits narrow small (subst (AreWithin k most steps) (sym then_at) first)
+    (subst (AreWithin k most steps) (sym else_at) second) (passed_on _ _ _ c.from_residual-in_err-tree-in-Test.ensures.1 is))
+
+pub returns-in_err-tree-in-Pass-clause-full : goal.returns-in_err-tree-in-Pass-clause-full
+returns-in_err-tree-in-Pass-clause-full c limit left number allows behind is sizes are =
+    let valid = c.args.graph.now.valid in
+    let body = statements c.args.graph.now.body in
+    let vars = length c.args.graph.now.names in
+    let inside = is_passed body vars valid.few valid.well_sorted c.requires.fitting.plain c.args.label c.requires.within _ c.in-Pass.ensures in
+    let count = c.requires.count in
+    let at : plan_of c.index-behind-next-in-Pass.result ≡ tree_at (plans c.args.behind.now) c.in-Pass.next =
+    ap plan_of c.index-behind-next-in-Pass.is ∙ plan_at c.args.behind.now c.in-Pass.next c.index-behind-next-in-Pass.result (omega (arith, inside, count)) in
+    passed_full body vars valid.few valid.well_sorted c.requires.fitting.plain c.args.label c.requires.within c.requires.some (c.requires.fitting.fit c.args.label c.requires.within) (plans c.args.behind.now) limit left allows behind
+    _ c.in-Pass.ensures
+    (subst (λ p. 65536 < size_of p) at (c.in_err-tree-in-Pass.ensures.full number (passed_on _ _ _ c.from_residual-in_err-tree-in-Pass.ensures.1 is))) sizes are
+
+pub returns-in_err-tree-in-Test-clause-full : goal.returns-in_err-tree-in-Test-clause-full
+returns-in_err-tree-in-Test-clause-full c limit left number allows behind is sizes are =
+    let valid = c.args.graph.now.valid in
+    let body = statements c.args.graph.now.body in
+    let vars = length c.args.graph.now.names in
+    let known = is_tested body vars valid.few valid.well_sorted c.requires.fitting.plain c.args.label c.requires.within _ _ _ _ c.in-Test.ensures in
+    let inside = known.inside in
+    let also = known.also in
+    let count = c.requires.count in
+    let then_at : plan_of c.index-behind-yes.result ≡ tree_at (plans c.args.behind.now) c.in-Test.yes =
+    ap plan_of c.index-behind-yes.is ∙ plan_at c.args.behind.now c.in-Test.yes c.index-behind-yes.result (omega (arith, inside, count)) in
+    let else_at : plan_of c.index-behind-no.result ≡ tree_at (plans c.args.behind.now) c.in-Test.no =
+    ap plan_of c.index-behind-no.is ∙ plan_at c.args.behind.now c.in-Test.no c.index-behind-no.result (omega (arith, also, count)) in
+    let fits = tested_fits body vars valid.few valid.well_sorted c.requires.fitting.plain c.args.label c.requires.within c.requires.some (c.requires.fitting.fit c.args.label c.requires.within) (plans c.args.behind.now) limit left allows behind _ _ _ _ c.in-Test.ensures in
+    let two = tested_ranks_behind body vars valid.few valid.well_sorted c.requires.fitting.plain c.args.label c.requires.within c.requires.some (c.requires.fitting.fit c.args.label c.requires.within) (plans c.args.behind.now) limit left allows behind _ _ _ _ c.in-Test.ensures in
+    tested_full body vars valid.few valid.well_sorted c.requires.fitting.plain c.args.label c.requires.within c.requires.some (c.requires.fitting.fit c.args.label c.requires.within) (plans c.args.behind.now) limit left allows behind
+    _ _ _ _ c.in-Test.ensures
+    (subst (λ p. 65536 < size_of_test (expression c.in-Test.test.now) (size_of p) (size_of (tree_at (plans c.args.behind.now) c.in-Test.no))) then_at
+    (subst (λ p. 65536 < size_of_test (expression c.in-Test.test.now) (size_of (plan_of c.index-behind-yes.result)) (size_of p)) else_at
+    (c.in_err-tree-in-Test.ensures.full number fits (subst RanksCount (sym then_at) two.0) (subst RanksCount (sym else_at) two.1)
+    (passed_on _ _ _ c.from_residual-in_err-tree-in-Test.ensures.1 is)))) sizes are

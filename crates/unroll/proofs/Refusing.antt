@@ -1,0 +1,59 @@
+-- Refusals that are passed on, and what they tell of the weight of a level.
+use Rattle.std.specs.Result.{IsErrAnd}
+use Rattle.std.specs.Prelude.{IfErr, IfSome, IsSomeAnd}
+use Rattle.std.specs.Option.{is_some}
+use Rattle.std.proofs.Common.{◌≡◌, ℕ, suc, ◌^◌, ◌-◌, ◌<◌, ◌≤◌, min, if◌then◌else◌, Option, None, Some, Result, Ok, Err, List, length, refl, sym, ap, subst, ◌∙◌, arith}
+use Rattle.decision_tree.specs.Plans.{Plan}
+use Rattle.decision_tree.specs.declared.affine_rank.AffineRank.{AffineRank}
+use Rattle.decision_tree.specs.declared.family.Family.{Family}
+use Rattle.decision_tree.specs.declared.reason.Cause.{Cause}
+use Rattle.linear_cons.specs.declared.exact.Wide.{Wide as Operands}
+use Rattle.step_meaning.specs.Syntax.{Statements}
+use Rattle.control_flow.specs.Labels.{all_labels}
+use Rattle.unroll.specs.Measures.{AreSizes, IsHeavy, IsLight, greatest_below}
+use Rattle.unroll.specs.Refusals.{IsNodes, IsRefusal, IsRefusalAt, IsWide}
+use Rattle.unroll.specs.Sizing.{HasSizes, held_at}
+use Rattle.unroll.specs.Stopping.{IsCause}
+use Rattle.unroll.specs.declared.moving.Refusal.{Refusal}
+use Rattle.unroll.specs.declared.moving.Refusal.TheVariants.{Full, Memory, Wide}
+use Rattle.unroll.proofs.Holding.{greatest_held}
+
+-- what is said of an error is said where it is passed on
+pub told_of : {T : Type 0} (P : Refusal → Type 0) (r : Result T Refusal) (error : Refusal) → IsErrAnd r (λ (e : Refusal). e ≡ error) → P error → IfErr r P
+told_of P (Ok x) error gives own = absurd gives
+told_of P (Err e) error gives own = subst P (sym gives) own
+
+-- the greatest number of a list of sizes is above 65,536 exactly where the weight is
+module _ (body : Statements) (level : ℕ) (list : List ℕ) (count : length list ≡ length (all_labels body)) (has : HasSizes body level list) where
+  most_is : (sizes : ℕ → ℕ → ℕ) → AreSizes body sizes
+      → greatest_below (λ label. held_at list label) (length list) ≡ min (greatest_below (sizes level) (length (all_labels body))) (2 ^ 128 - 1)
+  most_is sizes are =
+      ap (greatest_below (λ label. held_at list label)) count
+      ∙ greatest_held (2 ^ 128 - 1) (omega arith) (length (all_labels body)) (λ label. held_at list label) (sizes level) (has sizes are)
+
+  pub light_by : greatest_below (λ label. held_at list label) (length list) ≤ 65536 → IsLight body level
+  light_by few sizes are = let same = most_is sizes are in omega (arith, same, few)
+
+  heavy_by : 65536 < greatest_below (λ label. held_at list label) (length list) → IsHeavy body level
+  heavy_by more sizes are = let same = most_is sizes are in omega (arith, same, more)
+
+  pub refused_by : (refusal : Refusal) → IsNodes refusal → 65536 < greatest_below (λ label. held_at list label) (length list) → IsRefusalAt body level refusal
+  refused_by (Full count) nodes more = (nodes, heavy_by more)
+  refused_by (Wide operands) nodes more = absurd nodes
+  refused_by (Memory error) nodes more = absurd nodes
+
+-- a refusal of the trees of a light level
+pub refused_at : (body : Statements) (level : ℕ) (refusal : Refusal) → IsLight body level → IsRefusal refusal → ((count : ℕ) → refusal ≡ Full count → IsHeavy body level)
+    → ((operands : Operands) → refusal ≡ Wide operands → IsWide body level) → IsRefusalAt body level refusal
+refused_at body level (Full count) light own full wide = (own, full count refl)
+refused_at body level (Wide operands) light own full wide = (own, light, wide operands refl)
+refused_at body level (Memory error) light own full wide = tt
+
+-- why no further level was made
+pub cause_in : (body : Statements) (family : Option (Family AffineRank)) (tests made : ℕ) (stopped : Option Cause) (cause : Cause) (trees : List (Plan AffineRank))
+    → IsSomeAnd family (λ (f : Family AffineRank). f.trees ≡ trees) → tests ≡ made → stopped ≡ Some cause → IsCause body (suc made) cause
+    → IfSome stopped (IsCause body (if is_some family then suc tests else 0))
+cause_in body None tests made stopped cause trees has same is own = absurd has
+cause_in body (Some family) tests made None cause trees has same is own = absurd (cc)
+cause_in body (Some family) tests made (Some this) cause trees has same is own =
+    let equal : this ≡ cause = cc in subst (IsCause body (suc tests)) (sym equal) (subst (λ n. IsCause body (suc n) cause) (sym same) own)

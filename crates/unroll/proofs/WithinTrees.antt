@@ -1,0 +1,103 @@
+-- How large the numbers of the tree before a step are, by those of the trees behind it; and that what is formed for it fits.
+use Rattle.std.proofs.Common.{ℕ, suc, ◌+◌, ◌*◌, ◌<◌, ◌≤◌, List, [], refl, arith}
+use Rattle.linear_cons.specs.declared.affine.Affine.{Affine}
+use Rattle.linear_cons.specs.declared.row.Row.{Row}
+use Rattle.decision_tree.specs.Plans.{Plan, bottom, leaf}
+use Rattle.decision_tree.specs.declared.affine_rank.AffineRank.{AffineRank}
+use Rattle.decision_tree.specs.declared.reason.Why.TheVariants.{End}
+use Rattle.step_meaning.specs.Countdown.{total_size}
+use Rattle.step_meaning.specs.Syntax.{Statements}
+use Rattle.backward_transfer.specs.Steps.{AssignFits, StepFits}
+use Rattle.backward_transfer.specs.Tests.{ComplementFits, EnabledFits, TestAsks, enabled}
+use Rattle.unroll.specs.Levels.{counted}
+use Rattle.unroll.specs.Shapes.{CutFits, affine_ranks, assigned_shape, cut, same_rank, stepped_shape, tested_shape}
+use Rattle.unroll.specs.Within.{AreWithin, EachIs, IsNarrow, IsSteps, IsWithin, TellsNumbers}
+use Rattle.unroll.proofs.CountedRanks.{met_fits, met_steps, more_fits, more_steps, put_fits, put_steps}
+use Rattle.unroll.proofs.DualAsks.{IsAsked, ask_each}
+use Rattle.unroll.proofs.Keeping.{assigned_each, each_more, enabled_each, later_each, stepped_each, tested_each, trimmed_each}
+use Rattle.unroll.proofs.KeptFits.{assign_fits, enabled_fits, step_fits, trim_fits}
+use Rattle.unroll.proofs.WithinRows.{put_row_fits, put_within, turned_fits}
+
+module _ (k most steps : ℕ) where
+  abbrev Rows : Row → Type 0
+  Rows = IsWithin k most
+
+  abbrev Ranks : AffineRank → Type 0
+  Ranks = IsSteps steps
+
+  -- ---- an assignment
+
+  module _ (x : ℕ) (low : x < 16) (by : Affine) where
+    moved_within : (plan : Plan AffineRank) → AreWithin ((1 + total_size by) * k) most steps plan → AreWithin k most (suc steps) (assigned_shape x by plan)
+    moved_within plan within =
+        assigned_each same_rank (IsWithin ((1 + total_size by) * k) most) Rows Ranks (IsSteps (suc steps)) affine_ranks.substituted affine_ranks.one_more x by
+        (put_within x low by k most) (λ rank own. more_steps steps (affine_ranks.substituted rank x by) (put_steps x by low steps rank own)) plan within
+
+    pub assigned_within : (plan : Plan AffineRank) → AreWithin ((1 + total_size by) * k) most steps plan → AreWithin k most (suc steps) (cut (assigned_shape x by plan))
+    assigned_within plan within = trimmed_each same_rank Rows (IsSteps (suc steps)) [] (assigned_shape x by plan) (moved_within plan within)
+
+    pub assigned_fits : IsNarrow k most steps → (plan : Plan AffineRank) → AreWithin ((1 + total_size by) * k) most steps plan
+        → AssignFits affine_ranks.substituted affine_ranks.subst_fits affine_ranks.add_one_fits x by plan × CutFits (assigned_shape x by plan)
+    assigned_fits narrow plan within = (
+      assign_fits (IsWithin ((1 + total_size by) * k) most) Ranks affine_ranks.substituted affine_ranks.subst_fits affine_ranks.add_one_fits x by
+          (put_row_fits x low by k most narrow.some narrow.small)
+          (λ rank own. (put_fits x by low steps narrow.few rank own, more_fits steps narrow.few (affine_ranks.substituted rank x by) (put_steps x by low steps rank own))) plan within,
+      trim_fits Rows (IsSteps (suc steps)) same_rank (turned_fits k most narrow.some narrow.small) [] (assigned_shape x by plan) (moved_within plan within),
+    )
+
+  -- ---- a step that changes nothing
+
+  moved_on : (plan : Plan AffineRank) → AreWithin k most steps plan → AreWithin k most (suc steps) (stepped_shape plan)
+  moved_on plan within = stepped_each same_rank Rows Ranks (IsSteps (suc steps)) affine_ranks.one_more (more_steps steps) plan within
+
+  pub stepped_within : (plan : Plan AffineRank) → AreWithin k most steps plan → AreWithin k most (suc steps) (cut (stepped_shape plan))
+  stepped_within plan within = trimmed_each same_rank Rows (IsSteps (suc steps)) [] (stepped_shape plan) (moved_on plan within)
+
+  pub stepped_fits : IsNarrow k most steps → (plan : Plan AffineRank) → AreWithin k most steps plan
+      → StepFits affine_ranks.add_one_fits plan × CutFits (stepped_shape plan)
+  stepped_fits narrow plan within = (
+    step_fits Rows Ranks affine_ranks.add_one_fits (more_fits steps narrow.few) plan within,
+    trim_fits Rows (IsSteps (suc steps)) same_rank (turned_fits k most narrow.some narrow.small) [] (stepped_shape plan) (moved_on plan within),
+  )
+
+  -- ---- a test
+
+  module _ (this that : Plan AffineRank) (first : AreWithin k most steps this) (second : AreWithin k most steps that) (holds fails : List (List Row))
+      (asked : IsAsked Rows holds fails) where
+    moved_back : AreWithin k most (suc steps) (tested_shape this that holds fails)
+    moved_back =
+        tested_each same_rank Rows (IsSteps (suc steps)) affine_ranks.where_greater affine_ranks.greater_fits affine_ranks.one_more this that fails holds
+        (ask_each Rows Rows (λ row own. own)
+        (λ t u. EachIs Rows (IsSteps (suc steps)) (enabled same_rank affine_ranks.where_greater affine_ranks.greater_fits affine_ranks.one_more this that t u))
+        (enabled_each same_rank Rows Ranks (IsSteps (suc steps)) affine_ranks.one_more (more_steps steps) affine_ranks.where_greater affine_ranks.greater_fits (met_steps Rows steps)
+        this that first second) holds fails asked)
+
+    pub tested_within : AreWithin k most (suc steps) (cut (tested_shape this that holds fails))
+    tested_within = trimmed_each same_rank Rows (IsSteps (suc steps)) [] (tested_shape this that holds fails) moved_back
+
+    pub tested_fits : IsNarrow k most steps
+        → TestAsks ComplementFits (EnabledFits same_rank affine_ranks.where_greater affine_ranks.greater_fits affine_ranks.one_more affine_ranks.add_one_fits this that) fails holds
+        × CutFits (tested_shape this that holds fails)
+    tested_fits narrow =
+        let both = later_each same_rank Rows Ranks affine_ranks.where_greater affine_ranks.greater_fits (met_steps Rows steps) this that first second in (
+          ask_each Rows ComplementFits (turned_fits k most narrow.some narrow.small)
+              (EnabledFits same_rank affine_ranks.where_greater affine_ranks.greater_fits affine_ranks.one_more affine_ranks.add_one_fits this that)
+              (enabled_fits Rows Ranks same_rank (turned_fits k most narrow.some narrow.small) affine_ranks.where_greater affine_ranks.greater_fits (met_fits steps narrow.few)
+              affine_ranks.one_more affine_ranks.add_one_fits (more_fits steps narrow.few) this that first second both) holds fails asked,
+          trim_fits Rows (IsSteps (suc steps)) same_rank (turned_fits k most narrow.some narrow.small) [] (tested_shape this that holds fails) moved_back,
+        )
+
+-- ---- trees within larger numbers, and those made without any
+
+pub within_more : (k next most more steps further : ℕ) → ((size : ℕ) → size * k ≤ most → size * next ≤ more) → steps ≤ further → (plan : Plan AffineRank)
+    → AreWithin k most steps plan → AreWithin next more further plan
+within_more k next most more steps further rows ranks plan within =
+    each_more (IsWithin k most) (IsWithin next more) (IsSteps steps) (IsSteps further)
+    (λ row own. record { size = own.size; sizes = own.sizes; small = rows own.size own.small })
+    (λ rank own. record { steps = own.steps; few = let few = own.few in omega (arith, few, ranks); is = own.is }) plan within
+
+pub end_numbers : (level : ℕ) (body : Statements) → TellsNumbers level body 0 (leaf End (counted 0))
+end_numbers level body = record { within = record { steps = 0; few = omega arith; is = refl } }
+
+pub bottom_numbers : (level : ℕ) (body : Statements) (label : ℕ) → TellsNumbers level body label bottom
+bottom_numbers level body label = record { within = tt }
