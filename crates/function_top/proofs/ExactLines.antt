@@ -22,7 +22,10 @@ use Rattle.line_text.specs.declared.claim.Claim.{Claim}
 use Rattle.line_text.specs.declared.claim.Claim.TheVariants.{Exactly, Holds, Unknown, Within}
 use Rattle.report_text.specs.declared.line.Line.{Line}
 use Rattle.report_text.specs.declared.line.Top.TheVariants.{Exact}
-use Rattle.report_text.specs.declared.report.Stop.TheVariants.{NotPlain, WideNumbers}
+use Rattle.report_text.specs.declared.report.Header.{Header}
+use Rattle.report_text.specs.declared.report.Header.TheVariants.{Stopped}
+use Rattle.report_text.specs.declared.report.Stop.{Stop}
+use Rattle.report_text.specs.declared.report.Stop.TheVariants.{WideNumbers}
 use Rattle.report_text.specs.Leaves.{AreLinesOf, ComplementsFit, HasConstantRanks, OneOf, claim_at, claiming, is_unknown}
 use Rattle.report_text.specs.Printed.{IsLineOver}
 use Rattle.report_text.proofs.Standing.{one_line_met}
@@ -33,10 +36,12 @@ use Rattle.control_flow.proofs.LabelLaws.{entry_is_a_label}
 use Rattle.control_flow.proofs.Steps.{entry_is_start}
 use Rattle.unroll.specs.Levels.{Claims, IsLevel, RanksCount, counted, tree_at}
 use Rattle.unroll.specs.Levels as levels
+use Rattle.unroll.specs.Measures.{IsLight}
 use Rattle.unroll.specs.Plain.{IsPlain}
+use Rattle.unroll.specs.Stopping.{IsCause}
 use Rattle.unroll.proofs.Putting.{plan_at}
 use Rattle.unroll.proofs.LevelLaws.{Alike, alike_back, longest_alike, tests_alike}
-use Rattle.function_top.specs.Exact.{EndsExactly, IsExact, IsExactLevel, MeetsLine, header_of, stop_of}
+use Rattle.function_top.specs.Exact.{EndsExactly, IsExact, IsExactLevel, IsUnmade, MeetsLine, header_of, stop_of}
 use Rattle.function_top.proofs.OnlyMet.{met_is_one}
 use Rattle.function_top.proofs.Over.{tree_lines_over, tree_over}
 
@@ -139,15 +144,16 @@ module _ (names : List (List ℕ)) (body : Statements) (tests : ℕ) (trees : Li
       let back = alike_back here (start body input) (begins input) in
       (tests_alike tests n (start body input) here back ends.ends, longest_alike n (start body input) here back ends.longest)
 
-  pub exact_level : (tree : Plan AffineRank) (all lines : List Line) → tree ≡ tree_at trees (entry_of body) → AreLinesOf Exact tree all
+  pub exact_level : ((l : ℕ) → l ≤ tests → IsLight body l) → (tree : Plan AffineRank) (all lines : List Line) → tree ≡ tree_at trees (entry_of body) → AreLinesOf Exact tree all
       → lines ≡ claiming all → IsExactLevel names body tests lines
-  exact_level tree all lines is are claims =
+  exact_level light tree all lines is are claims =
       let low = entry_is_a_label body in
       let at = subst (λ t. (input : Store) → length input ≡ 16 → (n : ℕ) → Claims t input n ↔ EndsExactly body tests input n) (sym is)
       (λ input long n.
       let told = level.exact (entry_of body) low input long n in
       ((λ claimed. ends_there input n (told.0 claimed)), (λ ends. told.1 (ends_here input n ends)))) in
       record {
+        light = light;
         tree = tree;
         exact = λ input is_input n. at input is_input.places n;
         ranks = subst RanksCount (sym is) (level.ranks (entry_of body) low);
@@ -161,22 +167,36 @@ module _ (names : List (List ℕ)) (body : Statements) (tests : ℕ) (trees : Li
 -- what the header says where a level was made
 module _ (names : List (List ℕ)) (body : Statements) (delay tests : ℕ) (lines : List Line) (plain : IsPlain body) (level : IsExactLevel names body tests lines) where
   pub exact_by : (stopped : Option Cause) → (stopped ≡ None → tests ≡ delay) → (IsSome stopped → tests < delay)
-      → IsExact names body delay (header_of tests (stop_of stopped)) lines
-  exact_by None whole short = (plain, whole refl, level)
-  exact_by (Some (Nodes count)) whole short = (plain, short refl, (λ e. cc), level)
-  exact_by (Some (Wide operands)) whole short = (plain, short refl, (λ e. cc), level)
-  exact_by (Some (Rows count)) whole short = (plain, short refl, (λ e. cc), level)
-  exact_by (Some (Point num den)) whole short = (plain, short refl, (λ e. cc), level)
-  exact_by (Some Given) whole short = (plain, short refl, (λ e. cc), level)
+      → IfSome stopped (IsCause body (suc tests)) → IsExact names body delay (header_of tests (stop_of stopped)) lines
+  exact_by None whole short why = (plain, whole refl, level)
+  exact_by (Some (Nodes count)) whole short why = (plain, short refl, why.1, level)
+  exact_by (Some (Wide operands)) whole short why = (plain, short refl, (why.1, why.2), level)
+  exact_by (Some (Rows count)) whole short why = absurd why
+  exact_by (Some (Point num den)) whole short why = absurd why
+  exact_by (Some Given) whole short why = absurd why
 
--- no cause of a level is that the program isn't plain
-pub other_stop : (stopped : Option Cause) → unwrap_or (stop_of stopped) WideNumbers ≡ NotPlain → ⊥
-other_stop None e = cc
-other_stop (Some (Nodes count)) e = cc
-other_stop (Some (Wide operands)) e = cc
-other_stop (Some (Rows count)) e = cc
-other_stop (Some (Point num den)) e = cc
-other_stop (Some Given) e = cc
+-- and where none was
+pub unmade_by : (body : Statements) → IsPlain body → (stopped : Option Cause) → IsSome stopped → IfSome stopped (IsCause body 0)
+    → IsUnmade body (unwrap_or (stop_of stopped) WideNumbers)
+unmade_by body plain None some why = absurd (cc)
+unmade_by body plain (Some (Nodes count)) some why = (plain, why.1)
+unmade_by body plain (Some (Wide operands)) some why = (plain, (why.1, why.2))
+unmade_by body plain (Some (Rows count)) some why = absurd why
+unmade_by body plain (Some (Point num den)) some why = absurd why
+unmade_by body plain (Some Given) some why = absurd why
+
+pub none_by : {A : Type 0} (found : Option A) → ((a : A) → found ≡ Some a → ⊥) → found ≡ None
+none_by None none = refl
+none_by (Some a) none = absurd (none a refl)
+
+-- what wasn't made was stopped
+pub some_stop : {A : Type 0} (stopped : Option Cause) (family : Option A) → (stopped ≡ None → IsSome family) → family ≡ None → IsSome stopped
+some_stop None family whole none = absurd (let there = subst IsSome none (whole refl) in cc)
+some_stop (Some cause) family whole none = refl
+
+pub stopped_by : (names : List (List ℕ)) (body : Statements) (delay : ℕ) (header : Header) (lines : List Line) (cause : Stop) → header ≡ Stopped cause → lines ≡ []
+    → IsUnmade body cause → IsExact names body delay header lines
+stopped_by names body delay header lines cause is none unmade = subst (λ h. IsExact names body delay h lines) (sym is) (unmade, none)
 
 -- what printing asks of the tree
 pub ranks_constant : (plan : Plan AffineRank) → RanksCount plan → HasConstantRanks plan

@@ -22,7 +22,7 @@ use Rattle.line_text.specs.Spells.{Spells}
 use Rattle.report_text.specs.declared.line.Line.{Line}
 use Rattle.report_text.specs.declared.line.Top.TheVariants.{Bound}
 use Rattle.report_text.specs.declared.report.Report.{Report}
-use Rattle.report_text.specs.Leaves.{AreLines, claiming_nothing, is_unknown, leaves_below, none, skipped, stands}
+use Rattle.report_text.specs.Leaves.{AreLines, AreLinesOf, claiming_nothing, is_unknown, leaves_below, none, skipped, stands}
 use Rattle.report_text.specs.Printed.{IsReportText}
 use Rattle.function_top.specs.declared.order.Order.{Order}
 use Rattle.function_top.specs.declared.status.Status.{Status}
@@ -254,9 +254,28 @@ none_unknown (stands {path} {claim} {line} {leaves} {lines} is more) all =
     let claims : is_unknown line.claim ≡ false = ap is_unknown is.claims ∙ All-head Claims (path, claim) leaves all in
     rw claims (none_unknown more (All-tail Claims (path, claim) leaves all))
 
+never_failing : (status : Status) → after_failing status ≡ SomeInputs → ⊥
+never_failing AllInputs is = cc
+never_failing SomeInputs is = cc
+never_failing Words is = cc
+never_failing Program is = cc
+never_failing Formula is = cc
+never_failing ReadFault is = cc
+never_failing WriteFault is = cc
+never_failing NoMemory is = cc
+
+-- a tree without an undefined leaf leaves no input without a claim
+pub whole_claims : (tree : Plan AffineRank) (lines : List Line) → AreLinesOf Bound tree lines → IsWhole tree → claiming_nothing lines ≡ []
+whole_claims tree lines are whole = none_unknown are (all_claim [] tree whole)
+
 covered : (order : Order) (names : List Bytes) (body : Statements) (report : Report) → IsReportOf order names body report → IsCountdown body → report.unknown ≡ []
 covered order names body report due counts =
-    due.unknown ∙ none_unknown due.lines_of (all_claim [] due.tree (due.countdown counts))
+    due.unknown ∙ whole_claims due.tree due.lines due.lines_of (due.countdown counts)
+
+-- no failed write has the status of a report with an unknown line
+pub some_unknown : (status result : Status) → (result ≡ status) ⊎ (result ≡ after_failing status) → result ≡ SomeInputs → status ≡ SomeInputs
+some_unknown status result (inl same) is = sym same ∙ is
+some_unknown status result (inr failed) is = absurd (never_failing status (sym failed ∙ is))
 
 pub covers_countdowns : KnownTexts → (words : List Bytes) (status : Status) (call : Call) → Answers words status call → CoversCountdowns status call
 covers_countdowns known words SomeInputs call h told names body is program counts same =

@@ -1,6 +1,6 @@
 //! From a source to what is to be written.
 
-ghost use Rattle.std.specs.Prelude.{◌≡◌, ◌≤◌, ◌<◌, ◌+◌, ◌^◌, ℕ, List, All, IfOk, OnErr, MatchOption, length};
+ghost use Rattle.std.specs.Prelude.{◌≡◌, ◌≤◌, ◌<◌, ◌+◌, ◌^◌, ℕ, List, All, IfOk, IfSome, OnErr, MatchOption, length};
 ghost use Rattle.outside.specs.Faults.{Rose};
 ghost use Rattle.outside.specs.Source.{ConsumesUpTo};
 ghost use Rattle.step_meaning.specs.Syntax.{statements};
@@ -42,6 +42,8 @@ pub fn answer<S: Source>(
     ensures never_falls { S.faults source.old ≤ S.faults source.new }
     ensures stays { OnErr result (S.faults source.new ≡ S.faults source.old) }
     ensures asked { (times : ℕ) × (times ≤ 8) × RoseBy (λ adviser. asked_of adviser) times advisers.old.items advisers.new.items }
+    ensures insists { IfOk result (λ outcome. IfSome outcome (λ due. due.status ≡ Status.SomeInputs
+        → RoseBy (λ adviser. asked_of adviser) 8 advisers.old.items advisers.new.items)) }
 {
     match read_program(alloc, source)? {
         ReadEnd::Text(text) => Ok(Some(answer_to(alloc, order, &text, advisers)?)),
@@ -61,6 +63,8 @@ fn answer_to(
     requires patient { All (λ adviser. asked_of adviser ≤ 2 ^ 32) advisers.old.items }
     ensures due { IfOk result (λ due. IsDueOn order.now text.now due.status due.bytes.items) }
     ensures asked { (times : ℕ) × (times ≤ 8) × RoseBy (λ adviser. asked_of adviser) times advisers.old.items advisers.new.items }
+    ensures insists { IfOk result (λ due. due.status ≡ Status.SomeInputs
+        → RoseBy (λ adviser. asked_of adviser) 8 advisers.old.items advisers.new.items) }
 {
     a_program_has_no_fault();
     match parse(alloc, text) {
@@ -82,6 +86,8 @@ fn answer_on(
     requires patient { All (λ adviser. asked_of adviser ≤ 2 ^ 32) advisers.old.items }
     ensures due { IfOk result (λ due. IsDueOnProgram order.now program.now due.status due.bytes.items) }
     ensures asked { (times : ℕ) × (times ≤ 8) × RoseBy (λ adviser. asked_of adviser) times advisers.old.items advisers.new.items }
+    ensures insists { IfOk result (λ due. due.status ≡ Status.SomeInputs
+        → RoseBy (λ adviser. asked_of adviser) 8 advisers.old.items advisers.new.items) }
 {
     match Graph::of(alloc, program) {
         Ok(graph) => Ok(reported(alloc, order, &graph, program, advisers)?),
@@ -104,6 +110,8 @@ fn reported(
     requires patient { All (λ adviser. asked_of adviser ≤ 2 ^ 32) advisers.old.items }
     ensures due { IfOk result (λ due. IsDueOnProgram order.now program.now due.status due.bytes.items) }
     ensures asked { (times : ℕ) × (times ≤ 8) × RoseBy (λ adviser. asked_of adviser) times advisers.old.items advisers.new.items }
+    ensures insists { IfOk result (λ due. due.status ≡ Status.SomeInputs
+        → RoseBy (λ adviser. asked_of adviser) 8 advisers.old.items advisers.new.items) }
 {
     match order.domain {
         Domain::Boxes => analysed::<Boxes>(alloc, order, graph, program, advisers),
@@ -125,6 +133,8 @@ fn analysed<D: NumDomain>(
     requires patient { All (λ adviser. asked_of adviser ≤ 2 ^ 32) advisers.old.items }
     ensures due { IfOk result (λ due. IsDueOnProgram order.now program.now due.status due.bytes.items) }
     ensures asked { (times : ℕ) × (times ≤ 8) × RoseBy (λ adviser. asked_of adviser) times advisers.old.items advisers.new.items }
+    ensures insists { IfOk result (λ due. due.status ≡ Status.SomeInputs
+        → RoseBy (λ adviser. asked_of adviser) 8 advisers.old.items advisers.new.items) }
 {
     let exact = exact(alloc, order.delay, graph, program)?;
     let inv: Inv<D> = invariants(alloc, graph)?;
@@ -134,7 +144,8 @@ fn analysed<D: NumDomain>(
 
 // The line of a text of more than 65,536 bytes.
 fn too_long(alloc: Global) -> Result<Due, AllocError>
-    ensures { IfOk result (λ due. (order : Order) (text : List ℕ) → 65536 < length text → IsDueOn order text due.status due.bytes.items) }
+    ensures due { IfOk result (λ due. (order : Order) (text : List ℕ) → 65536 < length text → IsDueOn order text due.status due.bytes.items) }
+    ensures status { IfOk result (λ due. due.status ≡ Status.Program) }
 {
     refused(alloc, 14, 65_536)
 }

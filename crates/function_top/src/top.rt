@@ -25,8 +25,8 @@ use std::alloc::Global;
 /// the first refusal ends the run. The whole output is built before its first byte is written. After a refusal nothing was written but its
 /// line, or a front of that where the sink failed.
 ///
-/// `advisers` are shown facts about loops, and may hint at what bounds one, at most eight times each. Nothing is assumed of what they hint;
-/// each was asked at most 2^32 times before.
+/// `advisers` are shown facts about loops, and may hint at what bounds one: each equally often and at most eight times, and eight times
+/// where the report has an unknown line. Nothing is assumed of what they hint; each was asked at most 2^32 times before.
 pub fn run<S: Source, K: Sink>(
     alloc: Global,
     words: &[&str],
@@ -49,6 +49,7 @@ pub fn run<S: Source, K: Sink>(
     ensures reads_never_fall { S.faults source.old ≤ S.faults source.new }
     ensures writes_never_fall { K.faults sink.old ≤ K.faults sink.new }
     ensures asked { (times : ℕ) × (times ≤ 8) × RoseBy (λ adviser. asked_of adviser) times advisers.old.items advisers.new.items }
+    ensures insists { result ≡ Status.SomeInputs → RoseBy (λ adviser. asked_of adviser) 8 advisers.old.items advisers.new.items }
 {
     a_text_is_one_program();
     names_are_spelled_as_names();

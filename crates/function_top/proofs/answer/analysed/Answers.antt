@@ -1,7 +1,11 @@
-use Rattle.std.proofs.Common.{arith}
+use Rattle.std.proofs.Common.{◌≡◌, ◌≢◌, inl, inr, [], sym, subst, ◌∙◌, arith}
 use Rattle.step_meaning.specs.Syntax.{statements}
 use Rattle.decision_tree.specs.Plans.{plan_of}
+use Rattle.ctl_rounds.specs.Asked.{RoseBy}
 use Rattle.ctl_rounds.proofs.Asking.{unasked}
+use Rattle.report_text.specs.Leaves.{claiming_nothing}
+use Rattle.function_top.specs.Due.{IsVerdict}
+use Rattle.function_top.proofs.Headline.{whole_claims}
 use Rattle.function_top.proofs.Over.{tree_over}
 use Rattle.function_top.proofs.Reported.{report_due}
 use Rattle.function_top.proofs.answer.analysed.Goals as goal
@@ -27,3 +31,15 @@ returns-in_err-inv-clause-asked g c = (0, omega (arith), unasked (λ a. (goal.Ad
 
 pub returns-in_err-exact-clause-asked : goal.returns-in_err-exact-clause-asked
 returns-in_err-exact-clause-asked g c = (0, omega (arith), unasked (λ a. (goal.Adviser-dyn g (a.vtable, a.value)).asked_of a.value) c.args.advisers.now.items)
+
+pub returns-clause-insists : goal.returns-clause-insists
+returns-clause-insists g c some =
+    let asked = c.in_ok-certificate.ensures.asked in
+    let is = c.in_ok-report.ensures in
+    let unknown : claiming_nothing is.0 ≢ [] = subst (λ status. IsVerdict status (claiming_nothing is.0)) some is.3 in
+    let all : c.in_ok-certificate.certificate.turns ≡ 8 = elim c.in_ok-certificate.ensures.turns [
+      | inl whole ↦ absurd (unknown (whole_claims (plan_of c.in_ok-certificate.certificate.cover) is.0 is.1 whole))
+      | inr turns ↦ turns
+    ] in
+    subst (λ times. RoseBy (λ a. (goal.Adviser-dyn g (a.vtable, a.value)).asked_of a.value) times c.args.advisers.now.items c.analyse.new.advisers.items)
+    (sym asked.3 ∙ all) asked.2

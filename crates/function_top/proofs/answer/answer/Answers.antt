@@ -19,5 +19,5 @@ pub returns-in_ok-too_long-in-TooLong-clause-due : goal.returns-in_ok-too_long-i
 returns-in_ok-too_long-in-TooLong-clause-due g c =
     let due : (text : List ℕ) → 65536 < length text
     → IsDueOn c.args.order.now text c.in_ok-too_long-in-TooLong.field-0.status c.in_ok-too_long-in-TooLong.field-0.bytes.items
-    = λ text long. c.in_ok-too_long-in-TooLong.ensures c.args.order.now text long in
+    = λ text long. c.in_ok-too_long-in-TooLong.ensures.due c.args.order.now text long in
     search rules

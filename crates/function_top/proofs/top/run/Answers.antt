@@ -1,6 +1,6 @@
-use Rattle.std.proofs.Common.{ℕ, List, map, refl, arith, Bor}
+use Rattle.std.proofs.Common.{ℕ, inl, inr, List, map, refl, arith, Bor}
 use Rattle.ctl_rounds.proofs.Asking.{unasked}
-use Rattle.function_top.proofs.Headline.{keeps_itself, known_texts, settled_accepts}
+use Rattle.function_top.proofs.Headline.{keeps_itself, known_texts, settled_accepts, some_unknown}
 use Rattle.function_top.proofs.Running.{Accepted, run_refused, run_settled, run_silent}
 use Rattle.function_top.proofs.top.run.Goals as goal
 
@@ -52,3 +52,11 @@ returns-in-Err-clause-run g c =
 
 pub returns-in_default-clause-asked : goal.returns-in_default-clause-asked
 returns-in_default-clause-asked g c = (0, omega (arith), unasked (λ a. (goal.Adviser-dyn g (a.vtable, a.value)).asked_of a.value) c.args.advisers.now.items)
+
+pub returns-in-Ok-Some-clause-insists : goal.returns-in-Ok-Some-clause-insists
+returns-in-Ok-Some-clause-insists g c is =
+    (rw c.in-Ok-Some.field-0-is at c.in-Ok-Some.ensures.insists)
+    (some_unknown c.in-Ok-Some.due.status c.settle-in-Ok-Some.result (elim c.settle-in-Ok-Some.ensures.settles [
+      | inl done ↦ inl done.0
+      | inr failed ↦ inr failed.0
+    ]) is)
