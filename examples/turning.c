@@ -1,4 +1,4 @@
-/* x swings around 10/3, and the loop is left from every input; a bound is found where one turn is enough. */
+/* x swings around 10/3 until it is below 0; a bound is found where one turn is enough (after Podelski and Rybalchenko, 2004). */
 int main() {
   int x;
   while (x >= 0)
