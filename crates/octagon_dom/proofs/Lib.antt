@@ -10,3 +10,5 @@ pub mod PlainRows
 pub mod UnaryEnds
 pub mod RowMembers
 pub mod Exchanging
+pub mod Moved
+pub mod Examples

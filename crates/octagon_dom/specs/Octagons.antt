@@ -5,12 +5,14 @@ use Rattle.std.specs.Prelude.{map, Option, None, Some, if◌then◌else◌}
 use Rattle.std.specs.List.{range_with_len}
 use Rattle.linear_cons.specs.declared.affine.Affine.{Affine}
 use Rattle.linear_cons.specs.declared.bounds.Bounds.{Bounds}
+use Rattle.linear_cons.specs.declared.bounds.Linear.{Linear}
 use Rattle.linear_cons.specs.declared.row.Row.{Row}
 use Rattle.linear_cons.specs.Bounds.{IsUpTo}
 use Rattle.linear_cons.specs.Numbers.{at_places, floor_by}
 use Rattle.num_domain.specs.declared.bound.Bound.{Bound}
 use Rattle.num_domain.specs.Lines.{rows_of_lines}
 use Rattle.octagon_dom.specs.declared.octagon.Octagon.{Octagon}
+use Rattle.octagon_dom.specs.Assignments.{ComesFromAssigned, HasModerateBounds, IsStepOf}
 use Rattle.octagon_dom.specs.Cells.{AreCellsOf, IsBelow, bound, is_void, joined, least_end, signed, turned, widened}
 use Rattle.octagon_dom.specs.Stated.{IsHalfSized}
 use Rattle.octagon_dom.specs.Terms.{IsOctagonal}
@@ -104,3 +106,8 @@ WidensFilled own newer wide =
 pub record StatesBound (row : Row) : Type 0 where
   pub shape : IsOctagonal row.affine
   pub half : IsHalfSized row.affine.constant
+
+-- a closed octagon with moderate bounds moves with its place: its members after `x = x + c` or `x = -x + c` come from those before
+abbrev pub MovesClosed : ℕ → Linear → Octagon → Octagon → Type 0
+MovesClosed place value old new =
+    old.closed ≡ true → HasModerateBounds old.cells.items → IsStepOf place value → ComesFromAssigned place value (Has old) (Has new)

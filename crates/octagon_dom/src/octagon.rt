@@ -24,11 +24,12 @@ impl Octagon {
     ghost use Rattle.std.specs.Prelude.{◌≡◌, ◌<◌, true, IfOk};
     ghost use Rattle.num_domain.specs.Domain.{HasEvery, IsMeet, KeepsAssigned, KeepsMeeting, SameMembers, Within};
     ghost use Rattle.octagon_dom.specs.Assignments.{IsSimpleBeside, SetsValue};
-    ghost use Rattle.octagon_dom.specs.Octagons.{Has, HullsClosed, StatesBound, WidensFilled, bounds_of, is_empty_octagon};
+    ghost use Rattle.octagon_dom.specs.Octagons.{Has, HullsClosed, MovesClosed, StatesBound, WidensFilled, bounds_of, is_empty_octagon};
 
     /// No bound at all.
     fn whole(alloc: Global) -> Result<Octagon, AllocError>
-        ensures { IfOk result (λ all. HasEvery (Has all)) }
+        ensures every { IfOk result (λ all. HasEvery (Has all)) }
+        ensures closed { IfOk result (λ all. all.closed ≡ true) }
     {
         let cells = vec![in alloc; Bound::Without; CELLS]?;
         Ok(Octagon {
@@ -47,7 +48,8 @@ impl Octagon {
     /// Closes the bounds if they are not yet closed.
     fn close_up(&mut self)
         ensures same { SameMembers (Has self.old) (Has self.new) }
-        ensures closed { self.old.closed ≡ true → self.new ≡ self.old }
+        ensures kept { self.old.closed ≡ true → self.new ≡ self.old }
+        ensures closed { self.new.closed ≡ true }
     {
         if !self.closed {
             close(self.cells.as_mut_slice());
@@ -60,6 +62,7 @@ impl Octagon {
         ensures keeps { KeepsMeeting row.now (Has self.old) (Has self.new) }
         ensures inside { Within (Has self.new) (Has self.old) }
         ensures exact { StatesBound row.now → IsMeet row.now (Has self.old) (Has self.new) }
+        ensures closed { self.new.closed ≡ true }
     {
         self.close_up();
         meet(self.cells.as_mut_slice(), row);
@@ -112,6 +115,8 @@ impl Octagon {
         requires { place < 16 }
         ensures keeps { KeepsAssigned place value.now (Has self.old) (Has self.new) }
         ensures sets { IsSimpleBeside place value.now → SetsValue value.now place (Has self.new) }
+        ensures moves { MovesClosed place value.now self.old self.new }
+        ensures closed { self.new.closed ≡ true }
     {
         self.close_up();
         if self.has_none() {
@@ -140,13 +145,13 @@ impl Octagon {
 }
 
 impl NumDomain for Octagon {
-    ghost use Rattle.std.specs.Prelude.{◌≡◌, ◌≤◌, ◌<◌, ◌↔◌, ℕ, ℤ, List, length, IsOk, IfOk, OnErr};
+    ghost use Rattle.std.specs.Prelude.{◌≡◌, ◌≤◌, ◌<◌, ◌↔◌, ℕ, ℤ, List, length, true, IsOk, IfOk, OnErr};
     ghost use Rattle.linear_cons.specs.Bounds.{LiesIn};
     ghost use Rattle.linear_cons.specs.Rows.{MeetsAll};
     ghost use Rattle.num_domain.specs.Domain.{AllMeet, HasEvery, IsMeet, IsPlain, IsStore, IsUnchanged, KeepsAssigned, KeepsMeeting};
     ghost use Rattle.num_domain.specs.Domain.{SameMembers, Within};
     ghost use Rattle.octagon_dom.specs.Assignments.{IsSimpleBeside, SetsValue};
-    ghost use Rattle.octagon_dom.specs.Octagons.{Has, HullsClosed, KeepsToEnds, StatesBound, WidensFilled, bounds_of, is_empty_octagon};
+    ghost use Rattle.octagon_dom.specs.Octagons.{Has, HullsClosed, KeepsToEnds, MovesClosed, StatesBound, WidensFilled, bounds_of, is_empty_octagon};
     ghost use Rattle.octagon_dom.specs.Octagons.{rows_of};
     ghost use Rattle.octagon_dom.specs.Laws.Rows.{bounds_lie, empty_none, rows_met};
 
@@ -158,7 +163,10 @@ impl NumDomain for Octagon {
 
     ghost told_bounds = { bounds_of };
 
-    fn top(alloc: Global) -> Result<Octagon, AllocError> {
+    fn top(alloc: Global) -> Result<Octagon, AllocError>
+        ensures every { IfOk result (λ all. HasEvery (Has all)) }
+        ensures closed { IfOk result (λ all. all.closed ≡ true) }
+    {
         Octagon::whole(alloc)
     }
 
@@ -170,6 +178,7 @@ impl NumDomain for Octagon {
         ensures plain { IfOk result (λ _. (place : ℕ) → IsPlain row.now place → AllMeet row.now (Has self.new)) }
         ensures exact { IfOk result (λ _. StatesBound row.now → IsMeet row.now (Has self.old) (Has self.new)) }
         ensures inside { IfOk result (λ _. Within (Has self.new) (Has self.old)) }
+        ensures closed { IfOk result (λ _. self.new.closed ≡ true) }
         ensures total { IsOk result }
         ensures err { OnErr result (IsUnchanged Has is_empty_octagon rows_of bounds_of self.old self.new) }
     {
@@ -210,12 +219,15 @@ impl NumDomain for Octagon {
 
     /// Replaces the number at the place. Where the expression is at most one variable of another place,
     /// with the coefficient 1 or -1, plus a number between two ends, all that it says of the new number
-    /// is kept; where the variable is that of the place the bounds move with it. Of any other expression
-    /// the least and the greatest value are kept. Takes no memory.
+    /// is kept; where the variable is that of the place the bounds move with it, which is exact for a step
+    /// by one number in a closed octagon, all of them at most 2^125 in size. Of any other expression the
+    /// least and the greatest value are kept. Takes no memory.
     fn assign(&mut self, _alloc: Global, place: u8, value: &Linear) -> Result<(), AllocError>
         requires { place < 16 }
         ensures keeps { IfOk result (λ _. KeepsAssigned place value.now (Has self.old) (Has self.new)) }
         ensures sets { IfOk result (λ _. IsSimpleBeside place value.now → SetsValue value.now place (Has self.new)) }
+        ensures moves { IfOk result (λ _. MovesClosed place value.now self.old self.new) }
+        ensures closed { IfOk result (λ _. self.new.closed ≡ true) }
         ensures total { IsOk result }
         ensures err { OnErr result (IsUnchanged Has is_empty_octagon rows_of bounds_of self.old self.new) }
     {

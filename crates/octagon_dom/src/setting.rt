@@ -4,7 +4,8 @@ ghost use Rattle.linear_cons.specs.Bounds.{Covers, IsUpTo};
 ghost use Rattle.linear_cons.specs.Numbers.{number_at};
 ghost use Rattle.num_domain.specs.Ends.{some_end};
 ghost use Rattle.linear_cons.specs.Functions.{IsConstant};
-ghost use Rattle.octagon_dom.specs.Assignments.{FitsEnds, IsSimpleBeside, SetsValue, above_terms, below_terms};
+ghost use Rattle.octagon_dom.specs.Assignments.{ComesFromAssigned, FitsEnds, HasModerateBounds, IsSimpleBeside, IsStepOf};
+ghost use Rattle.octagon_dom.specs.Assignments.{SetsValue, above_terms, below_terms};
 ghost use Rattle.octagon_dom.specs.Cells.{IsBelow, negative_end, signed, sum_end};
 ghost use Rattle.octagon_dom.specs.Terms.{IsOneTerm};
 
@@ -122,6 +123,8 @@ fn set_term(cells: &mut [Bound<i128>], place: usize, term: usize, value: &Linear
     ensures keeps { (store : List ℤ) (z : ℤ) → length store ≡ 16 → IsBelow cells.old store → Covers value.now store z
         → IsBelow cells.new (slice_set store place z) }
     ensures sets { term / 2 ≢ place → FitsEnds value.now → SetsValue value.now place (IsBelow cells.new) }
+    ensures moves { term / 2 ≡ place → HasModerateBounds cells.old → IsStepOf place value.now
+        → ComesFromAssigned place value.now (IsBelow cells.old) (IsBelow cells.new) }
 {
     let up = above(value);
     let down = below(value);
@@ -170,6 +173,8 @@ pub(crate) fn set(cells: &mut [Bound<i128>], place: usize, value: &Linear)
     ensures keeps { (store : List ℤ) (z : ℤ) → length store ≡ 16 → IsBelow cells.old store → Covers value.now store z
         → IsBelow cells.new (slice_set store place z) }
     ensures sets { IsSimpleBeside place value.now → SetsValue value.now place (IsBelow cells.new) }
+    ensures moves { HasModerateBounds cells.old → IsStepOf place value.now
+        → ComesFromAssigned place value.now (IsBelow cells.old) (IsBelow cells.new) }
 {
     match terms_of(&value.affine) {
         Terms::Nothing => set_range(cells, place, value),

@@ -1,10 +1,152 @@
 //! Tables of meets, joins and assignments, computed by hand.
 use super::*;
+use Step::*;
 use linear_cons::{Affine, PLACES, RowKind};
 use std::test::Fail;
 
-/// The function `x * x0 + y * x1 + z * x2 + constant`.
-fn line(x: i128, y: i128, z: i128, constant: i128) -> Affine {
+/// The numbers x, y, z and c of the function `x * x0 + y * x1 + z * x2 + c`.
+type Numbers = [i128; 4];
+
+/// A lower and an upper end.
+type Ends = (Option<i128>, Option<i128>);
+
+/// A step from one octagon to the next.
+#[derive(Clone, Copy, Debug)]
+enum Step {
+    /// It meets the row of the function, which is at least 0.
+    Meet(Numbers),
+    /// The number at place 0 becomes the function's value plus a number between the two.
+    Assign(Numbers, i128, i128),
+}
+
+const ANY: Ends = (None, None);
+
+/// y from 1 to 5; then x = y + 2, x = x + 1 and x = x + [0, 2], so that x - y is from 3 to 5.
+const BAND: [Step; 5] = [
+    Meet([0, 1, 0, -1]),
+    Meet([0, -1, 0, 5]),
+    Assign([0, 1, 0, 2], 0, 0),
+    Assign([1, 0, 0, 1], 0, 0),
+    Assign([1, 0, 0, 0], 0, 2),
+];
+
+/// Both x and y from 1 to 5.
+const SQUARE: [Step; 4] = [
+    Meet([1, 0, 0, -1]),
+    Meet([-1, 0, 0, 5]),
+    Meet([0, 1, 0, -1]),
+    Meet([0, -1, 0, 5]),
+];
+
+const ONE_TO_FIVE: Ends = (Some(1), Some(5));
+
+/// Steps from all stores on, and the ends of the first three places; no ends where there is no member.
+const MADE: [(&[Step], Option<[Ends; 3]>); 9] = [
+    // x >= y and y >= 3
+    (
+        &[Meet([1, -1, 0, 0]), Meet([0, 1, 0, -3])],
+        Some([(Some(3), None), (Some(3), None), ANY]),
+    ),
+    // 2 * x >= 1
+    (&[Meet([2, 0, 0, -1])], Some([(Some(1), None), ANY, ANY])),
+    // x + y <= 3 and x - y <= 0: x is at most 3 / 2
+    (
+        &[Meet([-1, -1, 0, 3]), Meet([-1, 1, 0, 0])],
+        Some([(None, Some(1)), ANY, ANY]),
+    ),
+    // x + y >= 3, x <= 1, y <= 1
+    (
+        &[
+            Meet([1, 1, 0, -3]),
+            Meet([-1, 0, 0, 1]),
+            Meet([0, -1, 0, 1]),
+        ],
+        None,
+    ),
+    // x + y + z >= 9, y <= 2, z <= 3: x is at least 4
+    (
+        &[
+            Meet([0, -1, 0, 2]),
+            Meet([0, 0, -1, 3]),
+            Meet([1, 1, 1, -9]),
+        ],
+        Some([(Some(4), None), (None, Some(2)), (None, Some(3))]),
+    ),
+    // 2 * x - 3 * y + 1 >= 0 and x <= 7: y is at most 5
+    (
+        &[Meet([-1, 0, 0, 7]), Meet([2, -3, 0, 1])],
+        Some([(None, Some(7)), (None, Some(5)), ANY]),
+    ),
+    // a bound that leaves the type is missing: 2 * x <= 2 * most
+    (&[Meet([-1, 0, 0, i128::MAX])], Some([ANY, ANY, ANY])),
+    (
+        &[
+            Meet([0, 1, 0, -1]),
+            Meet([0, -1, 0, 5]),
+            Assign([0, 1, 0, 2], 0, 0),
+        ],
+        Some([(Some(3), Some(7)), ONE_TO_FIVE, ANY]),
+    ),
+    (&BAND, Some([(Some(4), Some(10)), ONE_TO_FIVE, ANY])),
+];
+
+/// An octagon, what is assigned to x, and the ends of x after it; those of y are from 1 to 5 before it and after.
+const ASSIGNED: [(&[Step], Step, Ends); 6] = [
+    (&BAND, Assign([0, -1, 0, 0], 0, 0), (Some(-5), Some(-1))),
+    (&BAND, Assign([0, 0, 0, 2], 0, 1), (Some(2), Some(3))),
+    (&BAND, Assign([-1, 0, 0, 3], 0, 0), (Some(-7), Some(-1))),
+    (&BAND, Assign([0, 2, 0, 1], 0, 0), (Some(3), Some(11))),
+    (&SQUARE, Assign([1, 0, 0, 3], 0, 0), (Some(4), Some(8))),
+    (&SQUARE, Assign([-1, 0, 0, 3], 0, 0), (Some(-2), Some(2))),
+];
+
+/// An octagon, a step on, and a row that no member meets then.
+const EXCLUDED: [(&[Step], Step, Numbers); 4] = [
+    // x - y is from 3 to 5
+    (&BAND, Assign([1, 0, 0, 0], 0, 0), [1, -1, 0, -6]),
+    (&BAND, Assign([1, 0, 0, 0], 0, 0), [-1, 1, 0, 2]),
+    // x = 3 - x: x + y is from -2 to 0
+    (&BAND, Assign([-1, 0, 0, 3], 0, 0), [1, 1, 0, -1]),
+    (&BAND, Assign([-1, 0, 0, 3], 0, 0), [-1, -1, 0, -3]),
+];
+
+/// x and y are 0.
+const LOW: [Step; 4] = [
+    Meet([1, -1, 0, 0]),
+    Meet([-1, 1, 0, 0]),
+    Meet([1, 0, 0, 0]),
+    Meet([-1, 0, 0, 0]),
+];
+
+/// x and y are 1.
+const HIGH: [Step; 4] = [
+    Meet([1, -1, 0, 0]),
+    Meet([-1, 1, 0, 0]),
+    Meet([1, 0, 0, -1]),
+    Meet([-1, 0, 0, 1]),
+];
+
+/// x and y are equal, from 0 to 1.
+const BOTH: [Step; 4] = [
+    Meet([1, -1, 0, 0]),
+    Meet([-1, 1, 0, 0]),
+    Meet([1, 0, 0, 0]),
+    Meet([-1, 0, 0, 1]),
+];
+
+/// x and y are equal, from 1 to 0.
+const NONE: [Step; 4] = [
+    Meet([1, -1, 0, 0]),
+    Meet([-1, 1, 0, 0]),
+    Meet([1, 0, 0, -1]),
+    Meet([-1, 0, 0, 0]),
+];
+
+/// The rows of the first of the octagons above.
+const LISTED: [Numbers; 4] = [[1, 0, 0, -3], [1, 1, 0, -6], [1, -1, 0, 0], [0, 1, 0, -3]];
+
+/// The function of the numbers.
+fn function([x, y, z, constant]: Numbers) -> Affine {
     let mut coef = [0; PLACES];
     coef[0] = x;
     coef[1] = y;
@@ -12,156 +154,140 @@ fn line(x: i128, y: i128, z: i128, constant: i128) -> Affine {
     Affine { coef, constant }
 }
 
-/// The row of `x * x0 + y * x1 + constant >= 0`.
-fn row(x: i128, y: i128, constant: i128) -> Result<Row, &'static str> {
-    row_of(line(x, y, 0, constant))
-}
-
-fn row_of(a: Affine) -> Result<Row, &'static str> {
-    match Row::of(a) {
+/// Its row, where it has one.
+fn row(numbers: Numbers) -> Result<Row, &'static str> {
+    match Row::of(function(numbers)) {
         RowKind::Row(row) => Ok(row),
         RowKind::Always => Err("always"),
         RowKind::Never => Err("never"),
     }
 }
 
-/// Ends of the place 0, and of the place 1.
-fn pair(first: (Option<i128>, Option<i128>), second: (Option<i128>, Option<i128>)) -> Bounds {
-    let mut ends = [(None, None); PLACES];
-    ends[0] = first;
-    ends[1] = second;
-    Bounds { ends }
+fn take(alloc: Global, set: &mut Octagon, step: Step) -> Result<(), Fail> {
+    match step {
+        Meet(numbers) => set.meet_row(alloc, &row(numbers)?)?,
+        Assign(numbers, lo, hi) => {
+            let value = Linear {
+                affine: function(numbers),
+                lo: Some(lo),
+                hi: Some(hi),
+            };
+            set.assign(alloc, 0, &value)?;
+        }
+    }
+    Ok(())
 }
 
-/// Every store that meets the rows, as far as the domain keeps it.
-fn met<D: NumDomain>(alloc: Global, rows: &[Row]) -> Result<D, AllocError> {
-    let mut set = D::top(alloc)?;
-    for row in rows {
-        set.meet_row(alloc, row)?;
+/// What the steps make of all stores.
+fn made(alloc: Global, steps: &[Step]) -> Result<Octagon, Fail> {
+    let mut set = Octagon::top(alloc)?;
+    for step in steps {
+        take(alloc, &mut set, *step)?;
     }
     Ok(set)
 }
 
-/// True where no member of the set meets the row.
-fn excludes(alloc: Global, set: &Octagon, row: &Row) -> Result<bool, AllocError> {
+/// These ends of the first three places, and none of the others.
+fn bounds(first: [Ends; 3]) -> Bounds {
+    let mut ends = [ANY; PLACES];
+    ends[0] = first[0];
+    ends[1] = first[1];
+    ends[2] = first[2];
+    Bounds { ends }
+}
+
+/// Whether these are the ends of the first three places, and the others have none; or there is no member.
+fn has_ends(set: &Octagon, wanted: Option<[Ends; 3]>) -> bool {
+    match wanted {
+        None => set.is_empty(),
+        Some(ends) => set.bounds() == bounds(ends),
+    }
+}
+
+/// Whether no member of the set meets the row.
+fn excludes(alloc: Global, set: &Octagon, numbers: Numbers) -> Result<bool, Fail> {
     let mut both = set.copy(alloc)?;
-    both.meet_row(alloc, row)?;
+    both.meet_row(alloc, &row(numbers)?)?;
     Ok(both.is_empty())
 }
 
 #[test]
-fn rows_and_ends(rt: HostRuntime) -> Result<(), Fail> {
-    let alloc = rt.alloc();
-    // x - y >= 0 and y - 3 >= 0
-    let set: Octagon = met(alloc, [row(1, -1, 0)?, row(0, 1, -3)?].as_slice())?;
-    assert_eq!(rt; set.bounds(), pair((Some(3), None), (Some(3), None)));
-    let listed = set.rows(alloc)?;
-    let expected = [
-        row(1, 0, -3)?,
-        row(1, 1, -6)?,
-        row(1, -1, 0)?,
-        row(0, 1, -3)?,
-    ];
-    assert_eq!(rt; listed.as_slice(), expected.as_slice());
-    // 2 * x >= 1
-    let half: Octagon = met(alloc, [row(2, 0, -1)?].as_slice())?;
-    assert_eq!(rt; half.bounds(), pair((Some(1), None), (None, None)));
-    // x + y <= 3 and x - y <= 0: x is at most 3 / 2
-    let whole: Octagon = met(alloc, [row(-1, -1, 3)?, row(-1, 1, 0)?].as_slice())?;
-    assert_eq!(rt; whole.bounds(), pair((None, Some(1)), (None, None)));
-    // x + y >= 3, x <= 1, y <= 1
-    let none: Octagon = met(
-        alloc,
-        [row(1, 1, -3)?, row(-1, 0, 1)?, row(0, -1, 1)?].as_slice(),
-    )?;
-    assert!(rt; none.is_empty());
-    Ok(())
-}
-
-#[test]
-fn other_rows(rt: HostRuntime) -> Result<(), Fail> {
-    let alloc = rt.alloc();
-    // x + y + z >= 9, y <= 2, z <= 3: x is at least 4
-    let three = [
-        row(0, -1, 2)?,
-        row_of(line(0, 0, -1, 3))?,
-        row_of(line(1, 1, 1, -9))?,
-    ];
-    let set: Octagon = met(alloc, three.as_slice())?;
-    assert_eq!(rt; set.bounds().ends[0], (Some(4), None));
-    // 2 * x - 3 * y + 1 >= 0 and x <= 7: y is at most 5
-    let slope: Octagon = met(alloc, [row(-1, 0, 7)?, row(2, -3, 1)?].as_slice())?;
-    assert_eq!(rt; slope.bounds(), pair((None, Some(7)), (None, Some(5))));
-    // a bound that leaves the type is missing: 2 * x <= 2 * most
-    let wide: Octagon = met(alloc, [row(-1, 0, i128::MAX)?].as_slice())?;
-    assert_eq!(rt; wide.bounds(), pair((None, None), (None, None)));
-    Ok(())
-}
-
-#[test]
-fn joins_and_widenings(rt: HostRuntime) -> Result<(), Fail> {
-    let alloc = rt.alloc();
-    let equal = [row(1, -1, 0)?, row(-1, 1, 0)?];
-    let mut low: Octagon = met(alloc, equal.as_slice())?;
-    low.meet_row(alloc, &row(1, 0, 0)?)?;
-    low.meet_row(alloc, &row(-1, 0, 0)?)?;
-    let mut high: Octagon = met(alloc, equal.as_slice())?;
-    high.meet_row(alloc, &row(1, 0, -1)?)?;
-    high.meet_row(alloc, &row(-1, 0, 1)?)?;
-    let none: Octagon = met(alloc, [row(1, 0, -1)?, row(-1, 0, 0)?].as_slice())?;
-    let mut hull = low.copy(alloc)?;
-    hull.join(alloc, &high)?;
-    let one = (Some(0), Some(1));
-    assert_eq!(rt; hull.bounds(), pair(one, one));
-    assert!(rt; excludes(alloc, &hull, &row(1, -1, -1)?)?);
-    let mut wide = low.copy(alloc)?;
-    wide.widen(alloc, &hull)?;
-    assert_eq!(rt; wide.bounds(), pair((Some(0), None), (Some(0), None)));
-    assert!(rt; excludes(alloc, &wide, &row(-1, 1, -1)?)?);
-    let mut own = high.copy(alloc)?;
-    own.join(alloc, &none)?;
-    assert_eq!(rt; own.bounds(), high.bounds());
-    let mut other = none.copy(alloc)?;
-    other.join(alloc, &wide)?;
-    assert_eq!(rt; other.bounds(), wide.bounds());
-    Ok(())
-}
-
-#[test]
-fn assignments(rt: HostRuntime) -> Result<(), Fail> {
-    let alloc = rt.alloc();
-    let start: Octagon = met(alloc, [row(0, 1, -1)?, row(0, -1, 5)?].as_slice())?;
-    let between = |affine: Affine, lo: i128, hi: i128| Linear {
-        affine,
-        lo: Some(lo),
-        hi: Some(hi),
-    };
-    let y = (Some(1), Some(5));
-    // x = y + 2, then x = x + 1, then x = x + [0, 2]: x - y is from 3 to 5
-    let mut set = start.copy(alloc)?;
-    set.assign(alloc, 0, &between(line(0, 1, 0, 2), 0, 0))?;
-    assert_eq!(rt; set.bounds(), pair((Some(3), Some(7)), y));
-    set.assign(alloc, 0, &between(line(1, 0, 0, 1), 0, 0))?;
-    set.assign(alloc, 0, &between(line(1, 0, 0, 0), 0, 2))?;
-    assert_eq!(rt; set.bounds(), pair((Some(4), Some(10)), y));
-    assert!(rt; excludes(alloc, &set, &row(1, -1, -6)?)?);
-    assert!(rt; excludes(alloc, &set, &row(-1, 1, 2)?)?);
-    // x = 3 - x: x + y is from -2 to 0
-    let mut turned = set.copy(alloc)?;
-    turned.assign(alloc, 0, &between(line(-1, 0, 0, 3), 0, 0))?;
-    assert!(rt; excludes(alloc, &turned, &row(1, 1, -1)?)?);
-    assert!(rt; excludes(alloc, &turned, &row(-1, -1, -3)?)?);
-    // x = -y, x = [2, 3], x = 3 - x, x = 2 * y + 1
-    let table = [
-        (line(0, -1, 0, 0), 0, 0, (Some(-5), Some(-1))),
-        (line(0, 0, 0, 2), 0, 1, (Some(2), Some(3))),
-        (line(-1, 0, 0, 3), 0, 0, (Some(-7), Some(-1))),
-        (line(0, 2, 0, 1), 0, 0, (Some(3), Some(11))),
-    ];
-    for (affine, lo, hi, first) in table {
-        let mut moved = set.copy(alloc)?;
-        moved.assign(alloc, 0, &between(affine, lo, hi))?;
-        assert_eq!(rt; moved.bounds(), pair(first, y));
+fn steps_lead_to_ends(rt: HostRuntime) -> Result<(), Fail> {
+    for (steps, ends) in MADE {
+        let set = made(rt.alloc(), steps)?;
+        assert!(rt; has_ends(&set, ends), "after {steps:?}");
     }
+    Ok(())
+}
+
+#[test]
+fn rows_are_listed(rt: HostRuntime) -> Result<(), Fail> {
+    let set = made(rt.alloc(), MADE[0].0)?;
+    let rows = set.rows(rt.alloc())?;
+    assert_eq!(rt; rows.len(), LISTED.len());
+    for place in 0..LISTED.len().min(rows.len()) {
+        assert!(rt; rows[place] == row(LISTED[place])?, "at {place}");
+    }
+    Ok(())
+}
+
+#[test]
+fn assignments_have_ends(rt: HostRuntime) -> Result<(), Fail> {
+    for (steps, step, ends) in ASSIGNED {
+        let mut set = made(rt.alloc(), steps)?;
+        take(rt.alloc(), &mut set, step)?;
+        assert!(rt;
+            has_ends(&set, Some([ends, ONE_TO_FIVE, ANY])),
+            "after {step:?}"
+        );
+    }
+    Ok(())
+}
+
+#[test]
+fn assignments_keep_sums_and_differences(rt: HostRuntime) -> Result<(), Fail> {
+    for (steps, step, numbers) in EXCLUDED {
+        let mut set = made(rt.alloc(), steps)?;
+        take(rt.alloc(), &mut set, step)?;
+        assert!(rt;
+            excludes(rt.alloc(), &set, numbers)?,
+            "{numbers:?} after {step:?}"
+        );
+    }
+    Ok(())
+}
+
+#[test]
+fn joins_are_hulls(rt: HostRuntime) -> Result<(), Fail> {
+    let high = made(rt.alloc(), &HIGH)?;
+    let mut hull = made(rt.alloc(), &LOW)?;
+    hull.join(rt.alloc(), &high)?;
+    let ends = (Some(0), Some(1));
+    assert!(rt; has_ends(&hull, Some([ends, ends, ANY])));
+    assert!(rt; excludes(rt.alloc(), &hull, [1, -1, 0, -1])?);
+    Ok(())
+}
+
+#[test]
+fn widenings_drop_ends_that_move(rt: HostRuntime) -> Result<(), Fail> {
+    let newer = made(rt.alloc(), &BOTH)?;
+    let mut wide = made(rt.alloc(), &LOW)?;
+    wide.widen(rt.alloc(), &newer)?;
+    let ends = (Some(0), None);
+    assert!(rt; has_ends(&wide, Some([ends, ends, ANY])));
+    assert!(rt; excludes(rt.alloc(), &wide, [-1, 1, 0, -1])?);
+    let mut none = made(rt.alloc(), &NONE)?;
+    none.join(rt.alloc(), &wide)?;
+    assert!(rt; has_ends(&none, Some([ends, ends, ANY])));
+    Ok(())
+}
+
+#[test]
+fn joins_with_nothing_change_nothing(rt: HostRuntime) -> Result<(), Fail> {
+    let none = made(rt.alloc(), &NONE)?;
+    let mut own = made(rt.alloc(), &HIGH)?;
+    own.join(rt.alloc(), &none)?;
+    let ends = (Some(1), Some(1));
+    assert!(rt; has_ends(&own, Some([ends, ends, ANY])));
     Ok(())
 }

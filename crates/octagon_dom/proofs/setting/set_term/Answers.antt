@@ -8,6 +8,7 @@ use Rattle.octagon_dom.specs.Laws.Members.{signed_negative, signed_own}
 use Rattle.octagon_dom.proofs.Assigned.{assigned_down, assigned_up, covers_of, one_value}
 use Rattle.octagon_dom.proofs.Exchanging.{flipped_keeps}
 use Rattle.octagon_dom.proofs.Members.{number_here, shifted_keeps}
+use Rattle.octagon_dom.proofs.Moved.{flipped_moderate, own_moves, turned_moves}
 use Rattle.octagon_dom.proofs.setting.set_term.Goals as goal
 use Rattle.octagon_dom.proofs.setting.set_term.Goals.{After-below-down}
 
@@ -62,3 +63,21 @@ returns-else-term-place-2-clause-keeps c store z is below covers =
     (some_end c.below-down.result) c.flip.new.cells c.shift-else-term-place-2.new.cells c.shift-else-term-place-2.ensures
     (up_to_same (some_end c.above-up.result) _ _ (rw (turned, number) refl) (above here store z covers))
     (up_to_same (some_end c.below-down.result) _ _ (rw (turned, number) refl) (under here store z covers)) flipped)
+
+pub returns-then-term-place-clause-moves : goal.returns-then-term-place-clause-moves
+returns-then-term-place-clause-moves c here = absurd (c.if-term-place.true here)
+
+pub returns-then-term-place-2-clause-moves : goal.returns-then-term-place-2-clause-moves
+returns-then-term-place-2-clause-moves c here bounds step =
+    own_moves c.args.place c.args.value.now step c.args.term (some_end c.above-up.result) (some_end c.below-down.result) c.args.cells.now
+    c.shift.new.cells c.requires.inside c.requires.one c.above-up.ensures c.below-down.ensures c.shift.ensures bounds c.if-term-place-2.true
+
+pub returns-else-term-place-2-clause-moves : goal.returns-else-term-place-2-clause-moves
+returns-else-term-place-2-clause-moves c here bounds step =
+    let own = c.if-term-place.false in
+    let other = c.if-term-place-2.false in
+    let odd : c.args.term ≡ 2 * c.args.place + 1 = omega arith in
+    turned_moves c.args.place c.args.value.now step c.args.term (some_end c.above-up.result) (some_end c.below-down.result) c.flip.new.cells
+    c.shift-else-term-place-2.new.cells c.requires.inside c.requires.one c.above-up.ensures c.below-down.ensures
+    c.shift-else-term-place-2.ensures (flipped_moderate c.args.place c.args.cells.now c.flip.new.cells c.flip.ensures bounds)
+    c.args.cells.now c.flip.ensures odd

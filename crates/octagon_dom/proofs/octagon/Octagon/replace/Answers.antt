@@ -1,4 +1,6 @@
 use Rattle.std.proofs.Common.{◌≡◌, ◌∙◌, ap, length, set, subst, sym}
+use Rattle.octagon_dom.specs.declared.octagon.Octagon.{Octagon}
+use Rattle.octagon_dom.specs.Assignments.{HasModerateBounds}
 use Rattle.octagon_dom.specs.Cells.{IsBelow}
 use Rattle.octagon_dom.specs.Laws.Rows.{empty_none}
 use Rattle.octagon_dom.proofs.Writing.{written_back}
@@ -26,3 +28,16 @@ returns-clause-sets c simple store long has =
     sym c.as_mut_slice.ensures.len ∙ ap length c.as_mut_slice.ensures.value ∙ c.close_up.new.self.size in
     c.set.ensures.sets simple store long
     (subst (λ items. IsBelow items store) (written_back _ c.set.new.cells _ c.set.ensures.long len) has)
+
+pub returns-then-has_none-clause-moves : goal.returns-then-has_none-clause-moves
+returns-then-has_none-clause-moves c closed bounds step store long has =
+    absurd (empty_none c.close_up.new.self store (sym c.has_none.ensures ∙ c.if-has_none.true) has)
+
+pub returns-clause-moves : goal.returns-clause-moves
+returns-clause-moves c closed bounds step store long has =
+    let len : c.close_up.new.self.cells.len ≡ 1024 =
+    sym c.as_mut_slice.ensures.len ∙ ap length c.as_mut_slice.ensures.value ∙ c.close_up.new.self.size in
+    let same = c.as_mut_slice.ensures.value ∙ ap (λ (set : Octagon). set.cells.items) (c.close_up.ensures.kept closed) in
+    let moved = c.set.ensures.moves (subst HasModerateBounds (sym same) bounds) step store long
+    (subst (λ items. IsBelow items store) (written_back _ c.set.new.cells _ c.set.ensures.long len) has) in
+    (moved.0, subst (λ items. IsBelow items (set store c.args.place moved.0)) same moved.1, moved.2)

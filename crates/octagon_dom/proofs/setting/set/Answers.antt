@@ -1,0 +1,13 @@
+use Rattle.std.proofs.Common.{inl, inr, subst}
+use Rattle.octagon_dom.specs.Terms.{AreTermsBelow}
+use Rattle.octagon_dom.proofs.Moved.{step_two}
+use Rattle.octagon_dom.proofs.PlainRows.{unit_octagonal}
+use Rattle.octagon_dom.proofs.setting.set.Goals as goal
+
+pub returns-in-Two-clause-moves : goal.returns-in-Two-clause-moves
+returns-in-Two-clause-moves c bounds step = elim c.in-Two.is [
+  | inl two ↦ absurd (step_two c.args.place c.args.value.now step two.0 two.1
+      (subst (AreTermsBelow 16 c.args.value.now.affine) two.2 c.terms_of.ensures))
+  | inr other ↦ absurd (subst (AreTermsBelow 16 c.args.value.now.affine) other c.terms_of.ensures
+      (unit_octagonal c.args.value.now.affine c.args.place step.unit step.alone))
+]
