@@ -216,14 +216,13 @@ fails {c} {d} {A} {B} {a} {b} {x} {F} {rule} p q =
     }
 
 -- What is still to be read is something else where the next word opens it so: each tree of the one is a tree of the other, with the same
--- pieces behind `front`, which has no words, and the next word tells which trees are.
-pub opens : {Opening : Type 0} → (A B : Phrase) → (c : ℕ) → (from : List Word) → (classify : Option Word → Opening) → (o : Opening)
-    → (front : List Piece) → (fill : B.Tree → A.Tree)
+-- pieces behind `front`, which has no words, and each tree whose first word opens it so is one.
+pub opens : (A B : Phrase) → (c : ℕ) → (from : List Word) → (Opens : Option Word → Type 0) → (front : List Piece) → (fill : B.Tree → A.Tree)
     → (spelling front ≡ []) → AllWithin c front → (c ≡ count_behind c front) → FitsBefore front (first from)
     → ((g : B.Tree) → A.pieces (fill g) ≡ front ++ B.pieces g)
-    → ((f : A.Tree) → Fits (A.pieces f) → classify (first_before (A.pieces f) None) ≡ o → (g : B.Tree) × (f ≡ fill g))
-    → classify (first from) ≡ o → Comes c A from c B from fill
-opens A B c from classify o front fill empty within counted fits spells view is = record {
+    → ((f : A.Tree) → Fits (A.pieces f) → Opens (first_before (A.pieces f) None) → (g : B.Tree) × (f ≡ fill g))
+    → Opens (first from) → Comes c A from c B from fill
+opens A B c from Opens front fill empty within counted fits spells view is = record {
   front = front;
   parted = ap (λ ws. ws ++ from) (sym empty);
   within = within;
@@ -232,7 +231,7 @@ opens A B c from classify o front fill empty within counted fits spells view is 
   spells = spells;
   only = λ f f_fits rest e next.
       view f f_fits
-      (ap classify (sym (first_spelling (A.pieces f)) ∙ ap first (e ∙ ap (λ ws. ws ++ rest) empty) ∙ next) ∙ is);
+      (subst Opens (sym (sym (first_spelling (A.pieces f)) ∙ ap first (e ∙ ap (λ ws. ws ++ rest) empty) ∙ next)) is);
 }
 
 -- a token stands where it has to
@@ -251,11 +250,10 @@ reads A B c from to t fill e within spells view = record {
 }
 
 -- no tree goes on with the next word
-pub sticks : {Opening : Type 0} → (A : Phrase) → (c : ℕ) → (from : List Word) → (classify : Option Word → Opening) → (o : Opening)
-    → (tree : A.Tree) → Fits (A.pieces tree) → IsQuiet (first_before (A.pieces tree) None)
-    → ((f : A.Tree) → Fits (A.pieces f) → classify (first_before (A.pieces f) None) ≢ o)
-    → classify (first from) ≡ o → Breaks c A from Expected from
-sticks A c from classify o tree fits quiet never is = record {
+pub sticks : (A : Phrase) → (c : ℕ) → (from : List Word) → (Opens : Option Word → Type 0) → (tree : A.Tree) → Fits (A.pieces tree)
+    → IsQuiet (first_before (A.pieces tree) None) → ((f : A.Tree) → Fits (A.pieces f) → Opens (first_before (A.pieces f) None) → ⊥)
+    → Opens (first from) → Breaks c A from Expected from
+sticks A c from Opens tree fits quiet never is = record {
   front = [];
   rest = A.pieces tree;
   parted = refl;
@@ -265,7 +263,7 @@ sticks A c from classify o tree fits quiet never is = record {
   begins = refl;
   stands = inr quiet;
   cause = λ f f_fits behind_words e next.
-      never f f_fits (ap classify (sym (first_spelling (A.pieces f)) ∙ ap first e ∙ next) ∙ is);
+      never f f_fits (subst Opens (sym (sym (first_spelling (A.pieces f)) ∙ ap first e ∙ next)) is);
 }
 
 -- behind no words the first word is the next token's

@@ -1,18 +1,14 @@
 -- The words that the parser's own lexemes are.
 use Rattle.std.specs.Prelude.{ℕ, ◌<◌, ◌≤◌, List, map, drop, length}
 use Rattle.derivation.specs.declared.lexeme.Lexeme.{Lexeme}
-use Rattle.derivation.specs.declared.lexeme.Reading.{Reading}
-use Rattle.derivation.specs.declared.lexeme.Reading.TheVariants.{Symbol, Name, Number, Unknown}
+use Rattle.derivation.specs.declared.lexeme.Lexeme.TheVariants.{Symbol, Name, Number, Unknown}
 use Rattle.derivation.specs.Word.{Word, symbol, name, number, unknown}
 
-abbrev pub word_read : Reading → Word
-word_read (Symbol s) = symbol s
-word_read (Name bytes) = name bytes.now
-word_read (Number value) = number value
-word_read Unknown = unknown
-
 abbrev pub spelled : Lexeme → Word
-spelled lexeme = word_read lexeme.reading
+spelled (Symbol s) = symbol s
+spelled (Name bytes) = name bytes.now
+spelled (Number value) = number value
+spelled Unknown = unknown
 
 abbrev pub all_spelled : List Lexeme → List Word
 all_spelled lexemes = map spelled lexemes

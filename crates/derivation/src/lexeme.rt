@@ -1,17 +1,17 @@
-//! Words as the parser reads them: each with its place, told apart by what it is.
+//! Words as the parser reads them, told apart by what they are.
 
-ghost use Rattle.std.specs.Prelude.{◌≡◌, map, IfOk, All};
+ghost use Rattle.std.specs.Prelude.{◌≡◌, IfOk, All};
 ghost use Rattle.source_lex.specs.Spans.{IsWithin};
 ghost use Rattle.derivation.specs.Word.{word_of, words};
-ghost use Rattle.derivation.specs.Spelled.{word_read, all_spelled};
+ghost use Rattle.derivation.specs.Spelled.{spelled, all_spelled};
 
 use crate::symbol::{Symbol, reserved_word, sign};
 use source_lex::{Kind, Token};
 use std::alloc::{AllocError, Global};
 
-/// What a word is: a reserved word or sign, a name that isn't reserved, or a number.
+/// A word: a reserved word or sign, a name that isn't reserved, or a number.
 #[derive(Clone, Copy)]
-pub enum Reading<'t> {
+pub enum Lexeme<'t> {
     Symbol(Symbol),
     Name(&'t [u8]),
     Number(i64),
@@ -19,46 +19,34 @@ pub enum Reading<'t> {
     Unknown,
 }
 
-/// A word and the place of its first byte in the text.
-#[derive(Clone, Copy)]
-pub struct Lexeme<'t> {
-    pub reading: Reading<'t>,
-    pub at: u32,
-}
-
-/// The words of a text, one for each token and at its place. `AllocError` where the list finds no room.
+/// The words of a text, one for each token. `AllocError` where the list finds no room.
 pub fn lexemes<'t>(
     alloc: Global,
     text: &'t [u8],
     tokens: &[Token],
 ) -> Result<Vec<Lexeme<'t>>, AllocError>
     requires { All (IsWithin text.now) tokens.now }
-    ensures spelled { IfOk result (λ found. all_spelled found.items ≡ words text.now tokens.now) }
-    ensures places { IfOk result (λ found. map (λ lexeme. lexeme.at) found.items ≡ map (λ token. token.start) tokens.now) }
+    ensures { IfOk result (λ found. all_spelled found.items ≡ words text.now tokens.now) }
 {
     let mut found = Vec::with_capacity(alloc, tokens.len())?;
     for token in tokens {
-        let reading = read(token.kind, token.bytes(text));
-        found.push(Lexeme {
-            reading,
-            at: token.start,
-        })?;
+        found.push(read(token.kind, token.bytes(text)))?;
     }
     Ok(found)
 }
 
-fn read<'t>(kind: Kind, bytes: &'t [u8]) -> Reading<'t>
-    ensures { word_read result ≡ word_of kind bytes.now }
+fn read<'t>(kind: Kind, bytes: &'t [u8]) -> Lexeme<'t>
+    ensures { spelled result ≡ word_of kind bytes.now }
 {
     match kind {
-        Kind::Number(value) => Reading::Number(value),
+        Kind::Number(value) => Lexeme::Number(value),
         Kind::Name => match reserved_word(bytes) {
-            Some(symbol) => Reading::Symbol(symbol),
-            None => Reading::Name(bytes),
+            Some(symbol) => Lexeme::Symbol(symbol),
+            None => Lexeme::Name(bytes),
         },
         Kind::Sign => match sign(bytes) {
-            Some(symbol) => Reading::Symbol(symbol),
-            None => Reading::Unknown,
+            Some(symbol) => Lexeme::Symbol(symbol),
+            None => Lexeme::Unknown,
         },
     }
 }

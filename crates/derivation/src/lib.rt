@@ -8,7 +8,7 @@ mod rule;
 mod symbol;
 mod words;
 
-pub use lexeme::{Lexeme, Reading, lexemes};
+pub use lexeme::{Lexeme, lexemes};
 pub use rule::Rule;
 pub use symbol::{Symbol, reserved_word, sign};
 pub use words::after;

@@ -4,7 +4,7 @@ ghost use Rattle.std.specs.Prelude.{◌≡◌, ◌≢◌, ◌∷◌, ◌<◌, Li
 ghost use Rattle.derivation.specs.Word.{Word, symbol};
 ghost use Rattle.derivation.specs.Spelled.{words_from, IsBehind};
 
-use crate::lexeme::{Lexeme, Reading};
+use crate::lexeme::Lexeme;
 use crate::symbol::Symbol;
 
 /// The place behind this symbol, where it stands at the place of the list of words; `None` where it doesn't.
@@ -14,8 +14,8 @@ pub fn after(words: &[Lexeme<'_>], at: usize, wanted: Symbol) -> Option<usize>
         (λ next. (words_from words.now at ≡ symbol wanted ∷ words_from words.now next)) }
     ensures forward { IfSome result (IsBehind words.now at) }
 {
-    match words.get(at)?.reading {
-        Reading::Symbol(found) if found == wanted => Some(at + 1),
+    match *words.get(at)? {
+        Lexeme::Symbol(found) if found == wanted => Some(at + 1),
         _ => None,
     }
 }

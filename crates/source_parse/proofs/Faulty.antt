@@ -1,12 +1,12 @@
 -- A text has one fault.
 use Rattle.std.proofs.Common.{◌≡◌, ℕ, List, Option, None, Some, refl, sym, ap, ◌∙◌, subst}
 use Rattle.std.proofs.lemmas.Option.{none-some, same_Some}
+use Rattle.derivation.specs.declared.rule.Rule.{Rule as SyntaxRule}
 use Rattle.source_lex.specs.Laws.{TokensAreUnique}
 use Rattle.source_lex.specs.declared.fault.LexFault.{LexFault}
 use Rattle.source_lex.specs.declared.fault.LexFault.TheVariants.{BadByte, BigNumber, OpenComment, Memory as LexMemory}
 use Rattle.source_syntax.specs.declared.fault.SyntaxFault.{SyntaxFault}
 use Rattle.source_syntax.specs.declared.fault.SyntaxFault.TheVariants as S
-use Rattle.source_syntax.specs.declared.fault.Which.{Which as SyntaxWhich}
 use Rattle.source_syntax.specs.Laws.{IsMemory as IsSyntaxMemory, IsSameFault as IsSameSyntaxFault, ProgramsHaveNoFault as SyntaxHasNoFault, TreesAreUnique, FirstFaultsAgree}
 use Rattle.source_syntax.specs.Texts.{IsFaultOf as IsSyntaxFaultOf, place_in}
 use Rattle.elaboration.specs.declared.fault.Fault.{Fault}
@@ -21,14 +21,17 @@ use Rattle.source_parse.specs.Faults.{HasNamesFault, IsFaultOf, numbered, number
 use Rattle.source_parse.specs.Laws.{FaultsAgree}
 
 -- the numbers of the faults of tokens and of syntax
+abbrev rule_number : SyntaxRule → ℕ
+rule_number SyntaxRule.Expected = 4
+rule_number SyntaxRule.Nesting = 10
+rule_number SyntaxRule.Operators = 11
+
 abbrev syntax_numbered : SyntaxFault → Option (ℕ × ℕ)
 syntax_numbered (S.Lex (BadByte at)) = Some (1, at)
 syntax_numbered (S.Lex (BigNumber at)) = Some (2, at)
 syntax_numbered (S.Lex (OpenComment at)) = Some (3, at)
 syntax_numbered (S.Lex (LexMemory error)) = None
-syntax_numbered (S.Expected at) = Some (4, at)
-syntax_numbered (S.Limit SyntaxWhich.Nesting at count) = Some (10, at)
-syntax_numbered (S.Limit SyntaxWhich.Operators at count) = Some (11, at)
+syntax_numbered (S.Broken rule at) = Some (rule_number rule, at)
 syntax_numbered (S.Memory error) = None
 
 -- a fault of a text is one of its syntax, or one of names and sorts, or none
@@ -45,54 +48,33 @@ lex_number (LexMemory error) = refl
 
 kind : (text : List ℕ) (fault : ParseFault) → IsFaultOf text fault → Kind text fault
 kind text (Lex f) is = of_syntax (S.Lex f) is (lex_number f)
-kind text (Expected at) is = of_syntax (S.Expected at) is refl
+kind text (Expected at) is = of_syntax (S.Broken SyntaxRule.Expected at) is refl
 kind text (Unknown at) is = of_names Rule.Unknown at is refl
 kind text (Twice at) is = of_names Rule.Twice at is refl
 kind text (Mixed at) is = of_names Rule.Mixed at is refl
 kind text (BadRange at) is = of_names Rule.BadRange at is refl
 kind text (Limit Which.Variables at count) is = of_names Rule.Variables at is.0 refl
-kind text (Limit Which.Nesting at count) is = of_syntax (S.Limit SyntaxWhich.Nesting at count) is refl
-kind text (Limit Which.Operators at count) is = of_syntax (S.Limit SyntaxWhich.Operators at count) is refl
+kind text (Limit Which.Nesting at count) is = of_syntax (S.Broken SyntaxRule.Nesting at) is.0 refl
+kind text (Limit Which.Operators at count) is = of_syntax (S.Broken SyntaxRule.Operators at) is.0 refl
 kind text (Memory error) is = of_memory refl
 
-limit_number : (which : SyntaxWhich) (at count : ℕ) → (n : ℕ) × (syntax_numbered (S.Limit which at count) ≡ Some (n, at))
-limit_number SyntaxWhich.Nesting at count = (10, refl)
-limit_number SyntaxWhich.Operators at count = (11, refl)
-
--- the count has no part in the number
-limit_same : (which : SyntaxWhich) (at count more : ℕ) → syntax_numbered (S.Limit which at count) ≡ syntax_numbered (S.Limit which at more)
-limit_same SyntaxWhich.Nesting at count more = refl
-limit_same SyntaxWhich.Operators at count more = refl
+told_same : (s t : SyntaxFault) (x y : ℕ × ℕ) → s ≡ t → syntax_numbered s ≡ Some x → syntax_numbered t ≡ Some y → x ≡ y
+told_same s t x y same first second = same_Some x y (sym first ∙ ap syntax_numbered same ∙ second)
 
 same_syntax : (s t : SyntaxFault) (x y : ℕ × ℕ) → IsSameSyntaxFault s t → syntax_numbered s ≡ Some x → syntax_numbered t ≡ Some y → x ≡ y
 same_syntax (S.Memory error) t x y same first second = absurd (none-some x first)
-same_syntax (S.Lex f) (S.Lex g) x y same first second =
-    same_Some x y (sym first ∙ ap (λ k. syntax_numbered (S.Lex k)) same ∙ second)
-same_syntax (S.Lex f) (S.Expected at) x y same first second = absurd same
-same_syntax (S.Lex f) (S.Limit which at count) x y same first second = absurd same
 same_syntax (S.Lex f) (S.Memory error) x y same first second = absurd (none-some y second)
-same_syntax (S.Expected at) (S.Lex g) x y same first second = absurd same
-same_syntax (S.Expected at) (S.Expected place) x y same first second =
-    same_Some x y (sym first ∙ ap (λ k. syntax_numbered (S.Expected k)) same ∙ second)
-same_syntax (S.Expected at) (S.Limit which place count) x y same first second = absurd same
-same_syntax (S.Expected at) (S.Memory error) x y same first second = absurd (none-some y second)
-same_syntax (S.Limit which at count) (S.Lex g) x y same first second = absurd same
-same_syntax (S.Limit which at count) (S.Expected place) x y same first second = absurd same
-same_syntax (S.Limit which at count) (S.Limit other place number) x y same first second =
-    same_Some x y
-    (sym first
-    ∙ ap (λ k. syntax_numbered (S.Limit k at count)) same.0
-    ∙ ap (λ k. syntax_numbered (S.Limit other k count)) same.1
-    ∙ limit_same other place count number
-    ∙ second)
-same_syntax (S.Limit which at count) (S.Memory error) x y same first second = absurd (none-some y second)
+same_syntax (S.Broken rule at) (S.Memory error) x y same first second = absurd (none-some y second)
+same_syntax (S.Lex f) (S.Lex g) x y same first second = told_same _ _ x y same first second
+same_syntax (S.Lex f) (S.Broken rule at) x y same first second = told_same _ _ x y same first second
+same_syntax (S.Broken rule at) (S.Lex g) x y same first second = told_same _ _ x y same first second
+same_syntax (S.Broken rule at) (S.Broken other place) x y same first second = told_same _ _ x y same first second
 
 -- want of memory has no number
 memory_number : (s : SyntaxFault) (x : ℕ × ℕ) → IsSyntaxMemory s → syntax_numbered s ≡ Some x → ⊥
 memory_number (S.Memory error) x is told = none-some x told
 memory_number (S.Lex f) x is told = is
-memory_number (S.Expected at) x is told = is
-memory_number (S.Limit which at count) x is told = is
+memory_number (S.Broken rule at) x is told = is
 
 -- two first faults of names and sorts of one text are at one place and of one rule
 same_names : TreesAreUnique → TokensAreUnique → (text : List ℕ) (rule other : Rule) (at place : ℕ)

@@ -2,7 +2,7 @@
 use Rattle.std.proofs.Common.{◌≡◌, ℕ, List, [], Contains, sym, ap, ◌∙◌, subst, arith}
 use Rattle.step_meaning.specs.Syntax.{Statements}
 use Rattle.source_syntax.specs.declared.fault.SyntaxFault.TheVariants as S
-use Rattle.source_syntax.specs.declared.fault.Which.TheVariants as SyntaxWhich
+use Rattle.derivation.specs.declared.rule.Rule.TheVariants as SyntaxRule
 use Rattle.source_syntax.specs.Laws.{ProgramsHaveNoFault as SyntaxHasNoFault, TreesAreUnique}
 use Rattle.elaboration.specs.declared.fault.Rule.{Rule}
 use Rattle.elaboration.specs.Faults.{fault as fault_at}
@@ -29,12 +29,12 @@ named unique text names body rule at h k =
 
 pub no_fault : TreesAreUnique → SyntaxHasNoFault → ProgramsHaveNoFault
 no_fault unique clean text names body (Lex fault) h is = clean text h.tree (S.Lex fault) h.spelled is
-no_fault unique clean text names body (Expected at) h is = clean text h.tree (S.Expected at) h.spelled is
+no_fault unique clean text names body (Expected at) h is = clean text h.tree (S.Broken SyntaxRule.Expected at) h.spelled is
 no_fault unique clean text names body (Unknown at) h is = named unique text names body _ at h is
 no_fault unique clean text names body (Twice at) h is = named unique text names body _ at h is
 no_fault unique clean text names body (Mixed at) h is = named unique text names body _ at h is
 no_fault unique clean text names body (BadRange at) h is = named unique text names body _ at h is
 no_fault unique clean text names body (Limit Which.Variables at count) h is = named unique text names body _ at h is.0
-no_fault unique clean text names body (Limit Which.Nesting at count) h is = clean text h.tree (S.Limit SyntaxWhich.Nesting at count) h.spelled is
-no_fault unique clean text names body (Limit Which.Operators at count) h is = clean text h.tree (S.Limit SyntaxWhich.Operators at count) h.spelled is
+no_fault unique clean text names body (Limit Which.Nesting at count) h is = clean text h.tree (S.Broken SyntaxRule.Nesting at) h.spelled is.0
+no_fault unique clean text names body (Limit Which.Operators at count) h is = clean text h.tree (S.Broken SyntaxRule.Operators at) h.spelled is.0
 no_fault unique clean text names body (Memory error) h is = tt

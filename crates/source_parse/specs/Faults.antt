@@ -6,7 +6,6 @@ use Rattle.source_lex.specs.Faults.{FirstFault as FirstLexFault}
 use Rattle.source_lex.specs.declared.fault.LexFault.TheVariants.{BadByte, BigNumber, OpenComment, Memory as LexMemory}
 use Rattle.source_lex.specs.declared.token.Token.{Token}
 use Rattle.concrete_syntax.specs.Trees.{Program}
-use Rattle.source_syntax.specs.declared.fault.Which.{Which as SyntaxWhich}
 use Rattle.source_syntax.specs.Texts.{HasFault as HasSyntaxFault, IsTextOf as IsSyntaxOf, place_in}
 use Rattle.elaboration.specs.declared.fault.Rule.{Rule}
 use Rattle.elaboration.specs.Elaborates.{HasFirstFault}
@@ -24,10 +23,6 @@ pub record HasNamesFault (text : List ℕ) (rule : Rule) (at : ℕ) : Type 0 whe
   pub token : ℕ
   pub first : HasFirstFault tree (fault rule token)
   pub place : at ≡ place_in text tokens token
-
-abbrev pub limit_of : SyntaxWhich → Which
-limit_of SyntaxWhich.Nesting = Which.Nesting
-limit_of SyntaxWhich.Operators = Which.Operators
 
 -- What may be answered in place of a program: the first fault of the text's tokens; where it has tokens, the first fault of its syntax;
 -- where it has a tree, the tree's first fault of names and sorts; or that memory ran out. Of a count nothing is said but that it is above

@@ -10,14 +10,15 @@ ghost use Rattle.elaboration.specs.Elaborates.{HasFirstFault, StandsFor};
 ghost use Rattle.elaboration.specs.Places.{program_places};
 ghost use Rattle.source_syntax.specs.Texts.{IsTextOf as IsSyntaxOf, IsFaultOf as IsSyntaxFaultOf, place_in};
 ghost use Rattle.source_parse.specs.Derives.{Derives, HasPlaces};
-ghost use Rattle.source_parse.specs.Faults.{IsFaultOf, limit_of};
+ghost use Rattle.source_parse.specs.Faults.{IsFaultOf};
 
 use crate::fault::{ParseFault, Which};
 use crate::laws::a_program_is_no_larger_than_its_text;
 use concrete_syntax::Program as Tree;
+use derivation::Rule as SyntaxRule;
 use elaboration::{Fault, Refusal, Rule, elaborate};
 use source_lex::{Token, tokens_are_in_order};
-use source_syntax::{SyntaxFault, Which as SyntaxWhich, place_in, read_syntax};
+use source_syntax::{SyntaxFault, place_in, read_syntax};
 use std::alloc::Global;
 use step_meaning::Program;
 
@@ -66,22 +67,20 @@ fn of_syntax(fault: SyntaxFault) -> ParseFault
 {
     match fault {
         SyntaxFault::Lex(fault) => ParseFault::Lex(fault),
-        SyntaxFault::Expected { at } => ParseFault::Expected { at },
-        SyntaxFault::Limit { which, at, count } => ParseFault::Limit {
-            which: which_of(which),
-            at,
-            count,
+        SyntaxFault::Broken { rule, at } => match rule {
+            SyntaxRule::Expected => ParseFault::Expected { at },
+            SyntaxRule::Nesting => ParseFault::Limit {
+                which: Which::Nesting,
+                at,
+                count: 65,
+            },
+            SyntaxRule::Operators => ParseFault::Limit {
+                which: Which::Operators,
+                at,
+                count: 257,
+            },
         },
         SyntaxFault::Memory(error) => ParseFault::Memory(error),
-    }
-}
-
-fn which_of(which: SyntaxWhich) -> Which
-    ensures { result ≡ limit_of which }
-{
-    match which {
-        SyntaxWhich::Nesting => Which::Nesting,
-        SyntaxWhich::Operators => Which::Operators,
     }
 }
 

@@ -1,5 +1,5 @@
 -- The readers' answers as steps of the calculus.
-use Rattle.std.proofs.Common.{◌≡◌, ℕ, ◌≤◌, ℤ, List, ◌∷◌, Some, Result, Ok, Err, refl, sym, ap, ◌∙◌, subst, arith, IfErr}
+use Rattle.std.proofs.Common.{◌≡◌, inl, inr, ℕ, ◌≤◌, ℤ, List, [], ◌∷◌, Some, Result, Ok, Err, refl, sym, ap, ◌∙◌, subst, arith, IfErr}
 use Rattle.std.specs.Result.{IsErr, IsErrAnd}
 use Rattle.derivation.specs.declared.rule.Rule.{Rule}
 use Rattle.derivation.specs.declared.rule.Rule.TheVariants.{Expected, Nesting, Operators}
@@ -13,9 +13,10 @@ use Rattle.source_syntax.specs.declared.fault.Fault.{Fault}
 use Rattle.source_syntax.specs.declared.fault.Failure.{Failure}
 use Rattle.source_syntax.specs.Failures.{OnFault, IfFault}
 use Rattle.source_syntax.specs.Spelling.{plain, sign, leading, opening, leading_opening}
-use Rattle.source_syntax.specs.Pending.{Pending, exactly, a_name}
+use Rattle.source_syntax.specs.Pending.{Pending, exactly, a_name, Trees}
 use Rattle.source_syntax.specs.Leads.{Leads, Stops}
-use Rattle.source_syntax.specs.Reads.{MissesSign, MissesOpening, MissesName}
+use Rattle.source_syntax.specs.Reads.{MissesSign, MissesOpening, MissesName, AreNext, MissesOne}
+use Rattle.source_syntax.proofs.Calculus.{over, fails, stay}
 use Rattle.source_syntax.proofs.Expressions.{token_read, token_missed, token_too_deep, name_read, name_missed}
 
 -- a fault that is handed on
@@ -104,3 +105,33 @@ module _ {c : ℕ} {S : List Pending} (lexemes : List Lexeme) (at : ℕ) (fault 
       by_rule Expected h = name_missed c S (words_from lexemes at) h
       by_rule Nesting h = absurd h
       by_rule Operators h = absurd h
+
+-- signs one behind the other
+abbrev pub AreQuiet : List Symbol → Type 0
+AreQuiet [] = Unit {0}
+AreQuiet (s ∷ more) = IsQuiet (Some (symbol s)) × AreQuiet more
+
+abbrev pub in_turn : (all : List Symbol) → AreQuiet all → List Pending → List Pending
+in_turn [] quiet S = S
+in_turn (s ∷ more) quiet S = exactly (sign s) quiet.0 ∷ in_turn more quiet.1 S
+
+abbrev pub units : (all : List Symbol) (quiet : AreQuiet all) (S : List Pending) → Trees S → Trees (in_turn all quiet S)
+units [] quiet S g = g
+units (s ∷ more) quiet S g = (tt, units more quiet.1 S g)
+
+abbrev pub behind_units : (all : List Symbol) (quiet : AreQuiet all) (S : List Pending) → Trees (in_turn all quiet S) → Trees S
+behind_units [] quiet S g = g
+behind_units (s ∷ more) quiet S g = behind_units more quiet.1 S g.1
+
+module _ {c : ℕ} {S : List Pending} where
+  pub signs_read : (all : List Symbol) (quiet : AreQuiet all) {from to : List Word} → AreNext all from to
+      → Leads c (in_turn all quiet S) from c S to (units all quiet S)
+  signs_read [] quiet {from} {to} h = subst (λ to. Leads c S from c S to (λ g. g)) h (stay c S from)
+  signs_read (s ∷ more) quiet h = over (sign_reads s quiet.0 h.1) (signs_read more quiet.1 h.2)
+
+pub signs_refused : {c : ℕ} (S : List Pending) (all : List Symbol) (quiet : AreQuiet all) {from to : List Word} {rule : Rule}
+    → MissesOne all from rule to → Stops c (in_turn all quiet S) from rule to
+signs_refused S [] quiet h = absurd h
+signs_refused {c} S (s ∷ more) quiet {from} {to} {rule} (inl h) =
+    subst (λ to. Stops c (in_turn (s ∷ more) quiet S) from rule to) (sym h.1) (missed c (sign s) quiet.0 (in_turn more quiet.1 S) from s rule refl h.0)
+signs_refused S (s ∷ more) quiet (inr h) = fails (sign_reads s quiet.0 h.1) (signs_refused S more quiet.1 h.2)

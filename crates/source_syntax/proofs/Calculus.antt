@@ -36,14 +36,14 @@ pub fails : {c d : ℕ} {A B : List Pending} {a b x : List Word} {F : Trees B �
     → Leads c A a d B b F → Stops d B b rule x → Stops c A a rule x
 fails p q = record { breaks = calculus.fails p.comes q.breaks }
 
-pub opens : {Opening : Type 0} → (A B : List Pending) → (c : ℕ) → (from : List Word) → (classify : Option Word → Opening) → (o : Opening)
-    → (front : List Piece) → (fill : Trees B → Trees A)
+pub opens : (A B : List Pending) → (c : ℕ) → (from : List Word) → (Opens : Option Word → Type 0) → (front : List Piece)
+    → (fill : Trees B → Trees A)
     → (spelling front ≡ []) → AllWithin c front → (c ≡ count_behind c front) → FitsBefore front (first from)
     → ((g : Trees B) → pieces A (fill g) ≡ front ++ pieces B g)
-    → ((f : Trees A) → Fits (pieces A f) → classify (first_before (pieces A f) None) ≡ o → (g : Trees B) × (f ≡ fill g))
-    → classify (first from) ≡ o → Leads c A from c B from fill
-opens A B c from classify o front fill empty within counted fits spells view is =
-    record { comes = calculus.opens (phrase A) (phrase B) c from classify o front fill empty within counted fits spells view is }
+    → ((f : Trees A) → Fits (pieces A f) → Opens (first_before (pieces A f) None) → (g : Trees B) × (f ≡ fill g))
+    → Opens (first from) → Leads c A from c B from fill
+opens A B c from Opens front fill empty within counted fits spells view is =
+    record { comes = calculus.opens (phrase A) (phrase B) c from Opens front fill empty within counted fits spells view is }
 
 pub reads : (A B : List Pending) → (c : ℕ) → (from to : List Word) → (t : Token) → (fill : Trees B → Trees A) → from ≡ t.word ∷ to → IsWithin c t
     → ((g : Trees B) → pieces A (fill g) ≡ token t ∷ pieces B g)
@@ -52,12 +52,11 @@ pub reads : (A B : List Pending) → (c : ℕ) → (from to : List Word) → (t 
 reads A B c from to t fill e within spells view =
     record { comes = calculus.reads (phrase A) (phrase B) c from to t fill e within spells view }
 
-pub sticks : {Opening : Type 0} → (A : List Pending) → (c : ℕ) → (from : List Word) → (classify : Option Word → Opening) → (o : Opening)
-    → (tree : Trees A) → Fits (pieces A tree) → IsQuiet (first_before (pieces A tree) None)
-    → ((f : Trees A) → Fits (pieces A f) → classify (first_before (pieces A f) None) ≢ o)
-    → classify (first from) ≡ o → Stops c A from Expected from
-sticks A c from classify o tree fits quiet never is =
-    record { breaks = calculus.sticks (phrase A) c from classify o tree fits quiet never is }
+pub sticks : (A : List Pending) → (c : ℕ) → (from : List Word) → (Opens : Option Word → Type 0) → (tree : Trees A) → Fits (pieces A tree)
+    → IsQuiet (first_before (pieces A tree) None) → ((f : Trees A) → Fits (pieces A f) → Opens (first_before (pieces A f) None) → ⊥)
+    → Opens (first from) → Stops c A from Expected from
+sticks A c from Opens tree fits quiet never is =
+    record { breaks = calculus.sticks (phrase A) c from Opens tree fits quiet never is }
 
 pub exceeds : (A : List Pending) → (c : ℕ) → (from : List Word) → (t : Token) → (more : List Piece) → (rule : Rule) → (tree : Trees A) → Fits (pieces A tree)
     → pieces A tree ≡ token t ∷ more → first from ≡ Some t.word → (rule ≢ Expected) → BreaksLimit c t rule

@@ -1,5 +1,5 @@
 -- How the reading of expressions goes on, by the next word.
-use Rattle.std.proofs.Common.{◌≡◌, ◌≢◌, ℕ, ◌+◌, ◌<◌, ◌≤◌, ℤ, List, [], ◌∷◌, Option, None, Some, Bool, true, false, refl, sym, ap, ◌∙◌, subst, arith}
+use Rattle.std.proofs.Common.{◌≡◌, ◌≢◌, inl, inr, ℕ, ◌+◌, ◌<◌, ◌≤◌, ℤ, List, [], ◌∷◌, Option, None, Some, Bool, true, false, refl, sym, ap, ◌∙◌, arith}
 use Rattle.std.specs.Bool.{IsFalse}
 use Rattle.step_meaning.specs.declared.expression.Op2.{Op2}
 use Rattle.derivation.specs.declared.rule.Rule.TheVariants.{Expected, Nesting, Operators}
@@ -13,11 +13,12 @@ use Rattle.source_syntax.proofs.Calculus.{opens, reads, sticks, exceeds}
 use Rattle.concrete_syntax.specs.declared.sign.Prefix.{Prefix}
 use Rattle.source_syntax.specs.declared.opening.OperandOpening.{OperandOpening}
 use Rattle.source_syntax.specs.declared.opening.SizeOpening.{SizeOpening}
-use Rattle.source_syntax.specs.Openings.{opening_of_operand, binary_operator, size_opening, negative_follows}
+use Rattle.source_syntax.specs.Openings.{opening_of_operand, binary_operator, size_opening}
 use Rattle.concrete_syntax.specs.Trees.{Operand, number, name, truth, unknown, call, signed, parentheses, range, Tail, ended, further}
 use Rattle.source_syntax.specs.Spelling.{plain, sign, opening, operator, sign_of, prefix_sign, truth_word}
 use Rattle.source_syntax.specs.Pending.{Pending, exactly, a_name, a_size, an_end, an_operand, a_tail, an_expression, Trees, pieces}
 use Rattle.source_syntax.proofs.Completions.{complete, completes}
+use Rattle.source_syntax.proofs.Choices.{begins, Way, Choice, Sides, Fork, not_next}
 
 abbrev pub Same : (all : List Pending) → Trees all → Trees all → Type 0
 Same all x y = x ≡ y
@@ -31,12 +32,8 @@ module _ (c : ℕ) (t : Token) (quiet : IsQuiet (Some t.word)) (S : List Pending
 
   pub token_missed : ((to : List Word) → from ≢ t.word ∷ to) → Stops c ((exactly t quiet ∷ S)) from Expected from
   token_missed h =
-      sticks ((exactly t quiet ∷ S)) c from (λ next. next) (first from) (complete (exactly t quiet ∷ S))
-      (completes (exactly t quiet ∷ S)).0 (completes (exactly t quiet ∷ S)).1 (λ f fits e. absurd (missed from h (sym e))) refl
-    where
-      missed : (ws : List Word) → ((to : List Word) → ws ≢ t.word ∷ to) → first ws ≢ Some t.word
-      missed [] k e = cc
-      missed (w ∷ ws) k e = k ws (let same : w ≡ t.word = cc in ap (λ x. x ∷ ws) same)
+      sticks (exactly t quiet ∷ S) c from (λ next. next ≢ Some t.word) (complete (exactly t quiet ∷ S))
+      (completes (exactly t quiet ∷ S)).0 (completes (exactly t quiet ∷ S)).1 (λ f fits other. other refl) (not_next t.word from h)
 
   pub token_too_deep : (to : List Word) → from ≡ t.word ∷ to → 64 < t.level → Stops c ((exactly t quiet ∷ S)) from Nesting from
   token_too_deep to e deep =
@@ -53,14 +50,14 @@ module _ (c : ℕ) (S : List Pending) (from : List Word) where
 
   pub name_missed : ((x : List ℕ) (to : List Word) → from ≢ named x ∷ to) → Stops c ((a_name ∷ S)) from Expected from
   name_missed h =
-      sticks ((a_name ∷ S)) c from (λ next. next) (first from) (complete (a_name ∷ S))
-      (completes (a_name ∷ S)).0 (completes (a_name ∷ S)).1 (λ f fits e. absurd (missed from f.0 (h f.0) (sym e))) refl
-    where
-      missed : (ws : List Word) → (x : List ℕ) → ((to : List Word) → ws ≢ named x ∷ to) → first ws ≢ Some (named x)
-      missed [] x k e = cc
-      missed (w ∷ ws) x k e = k ws (let same : w ≡ named x = cc in ap (λ y. y ∷ ws) same)
+      sticks (a_name ∷ S) c from (λ next. (x : List ℕ) → next ≢ Some (named x)) (complete (a_name ∷ S))
+      (completes (a_name ∷ S)).0 (completes (a_name ∷ S)).1 (λ f fits other. other f.0 refl) (λ x. not_next (named x) from (h x))
 
 -- the end of a range
+abbrev pub IsSize : SizeOpening → Type 0
+IsSize SizeOpening.Nothing = ⊥
+IsSize _ = Unit {0}
+
 abbrev pub size_rest : SizeOpening → List Pending → List Pending
 size_rest (SizeOpening.Number z) S = exactly (plain (numbered z)) (refl, refl) ∷ S
 size_rest SizeOpening.Infinite S = exactly (sign Sym.Infinite) (refl, refl) ∷ S
@@ -71,82 +68,39 @@ size_tree (SizeOpening.Number z) S g = (Some z, g.1)
 size_tree SizeOpening.Infinite S g = (None, g.1)
 size_tree SizeOpening.Nothing S g = g
 
-abbrev pub end_rest : Bool → List Pending → List Pending
-end_rest true S = an_end ∷ S
-end_rest false S = a_size ∷ S
-
-abbrev pub end_tree : (b : Bool) → (S : List Pending) → Trees (end_rest b S) → Trees (an_end ∷ S)
-end_tree true S g = g
-end_tree false S g = (record { negative = false; size = g.0 }, g.1)
-
-module _ (c : ℕ) (S : List Pending) (from : List Word) where
-  pub size_goes : (o : SizeOpening) → o ≡ size_opening (first from)
-      → Leads c ((a_size ∷ S)) from c ((size_rest o S)) from (size_tree o S)
-  size_goes o e =
-      opens ((a_size ∷ S)) ((size_rest o S)) c from size_opening o [] (size_tree o S) refl tt refl tt (spells o) view (sym e)
+module _ (S : List Pending) where
+  pub sizes : Choice (a_size ∷ S) size_opening IsSize (λ o. size_rest o S) (λ o. size_tree o S)
+  sizes = record { spells = spells; view = view }
     where
       spells : (o : SizeOpening) → (g : Trees (size_rest o S)) → pieces (a_size ∷ S) (size_tree o S g) ≡ pieces (size_rest o S) g
       spells (SizeOpening.Number z) g = refl
       spells SizeOpening.Infinite g = refl
       spells SizeOpening.Nothing g = refl
 
-      view : (f : Trees (a_size ∷ S)) → Fits (pieces (a_size ∷ S) f) → size_opening (first_before (pieces (a_size ∷ S) f) None) ≡ o
-          → (g : Trees (size_rest o S)) × (f ≡ size_tree o S g)
-      view (Some z, rest) fits e = subst (λ o. (g : Trees (size_rest o S)) × Same (a_size ∷ S) (Some z, rest) (size_tree o S g)) e ((tt, rest), refl)
-      view (None, rest) fits e = subst (λ o. (g : Trees (size_rest o S)) × Same (a_size ∷ S) (None, rest) (size_tree o S g)) e ((tt, rest), refl)
+      view : (f : Trees (a_size ∷ S)) → Way (a_size ∷ S) IsSize (λ o. size_rest o S) (λ o. size_tree o S) (size_opening (begins (a_size ∷ S) f)) f
+      view (Some z, rest) = (tt, (tt, rest), refl)
+      view (None, rest) = (tt, (tt, rest), refl)
 
-  pub size_sticks : SizeOpening.Nothing ≡ size_opening (first from) → Stops c ((a_size ∷ S)) from Expected from
-  size_sticks e =
-      sticks ((a_size ∷ S)) c from size_opening SizeOpening.Nothing (complete (a_size ∷ S))
-      (completes (a_size ∷ S)).0 (completes (a_size ∷ S)).1 never (sym e)
+  -- with a `-` and without
+  pub ends : Fork (an_end ∷ S) (sign Sym.Minus) (a_size ∷ S) (λ g. (record { negative = true; size = g.0 }, g.1))
+      (a_size ∷ S) (λ g. (record { negative = false; size = g.0 }, g.1))
+  ends = record { spells = λ g. refl; spells_other = λ g. refl; view = λ f. view f.0.negative f.0.size f.1 }
     where
-      never : (f : Trees (a_size ∷ S)) → Fits (pieces (a_size ∷ S) f) → size_opening (first_before (pieces (a_size ∷ S) f) None) ≢ SizeOpening.Nothing
-      never (Some z, rest) fits e = cc
-      never (None, rest) fits e = cc
-
-  pub end_goes : (b : Bool) → b ≡ negative_follows (first from)
-      → Leads c ((an_end ∷ S)) from c ((end_rest b S)) from (end_tree b S)
-  end_goes b e =
-      opens ((an_end ∷ S)) ((end_rest b S)) c from negative_follows b [] (end_tree b S) refl tt refl tt (spells b) view (sym e)
-    where
-      spells : (b : Bool) → (g : Trees (end_rest b S)) → pieces (an_end ∷ S) (end_tree b S g) ≡ pieces (end_rest b S) g
-      spells true g = refl
-      spells false g = refl
-
-      split : (negative : Bool) (size : Option ℤ) (rest : Trees S) → (b : Bool)
-          → negative_follows (first_before (pieces (an_end ∷ S) (record { negative = negative; size = size }, rest)) None) ≡ b
-          → (g : Trees (end_rest b S)) × Same (an_end ∷ S) (record { negative = negative; size = size }, rest) (end_tree b S g)
-      split true size rest b e =
-          subst (λ b. (g : Trees (end_rest b S)) × Same (an_end ∷ S) (record { negative = true; size = size }, rest) (end_tree b S g)) e
-          ((record { negative = true; size = size }, rest), refl)
-      split false (Some z) rest b e =
-          subst (λ b. (g : Trees (end_rest b S)) × Same (an_end ∷ S) (record { negative = false; size = Some z }, rest) (end_tree b S g)) e ((Some z, rest), refl)
-      split false None rest b e =
-          subst (λ b. (g : Trees (end_rest b S)) × Same (an_end ∷ S) (record { negative = false; size = None }, rest) (end_tree b S g)) e ((None, rest), refl)
-
-      view : (f : Trees (an_end ∷ S)) → Fits (pieces (an_end ∷ S) f) → negative_follows (first_before (pieces (an_end ∷ S) f) None) ≡ b
-          → (g : Trees (end_rest b S)) × (f ≡ end_tree b S g)
-      view f fits e = split f.0.negative f.0.size f.1 b e
-
-  -- which ends begin with a `-`
-  pub minus_view : (negative : Bool) (size : Option ℤ) (rest : Trees S)
-      → first_before (pieces (an_end ∷ S) (record { negative = negative; size = size }, rest)) None ≡ Some (symbol Sym.Minus)
-      → (g : Trees (a_size ∷ S)) × Same (an_end ∷ S) (record { negative = negative; size = size }, rest) (record { negative = true; size = g.0 }, g.1)
-  minus_view true size rest e = ((size, rest), refl)
-  minus_view false (Some z) rest e = absurd (cc)
-  minus_view false None rest e = absurd (cc)
-
-  -- behind the `-` of an end
-  pub minus_read : (to : List Word) → from ≡ symbol Sym.Minus ∷ to
-      → Leads c ((an_end ∷ S)) from c ((a_size ∷ S)) to (λ g. (record { negative = true; size = g.0 }, g.1))
-  minus_read to e =
-      reads ((an_end ∷ S)) ((a_size ∷ S)) c from to (sign Sym.Minus) (λ g. (record { negative = true; size = g.0 }, g.1)) e
-      (omega arith, tt) (λ g. refl) (λ f fits next. minus_view f.0.negative f.0.size f.1 next)
+      view : (negative : Bool) (size : Option ℤ) (rest : Trees S)
+          → Sides (an_end ∷ S) (sign Sym.Minus) (a_size ∷ S) (λ g. (record { negative = true; size = g.0 }, g.1))
+          (a_size ∷ S) (λ g. (record { negative = false; size = g.0 }, g.1)) (record { negative = negative; size = size }, rest)
+      view true size rest = inl ((size, rest), refl)
+      view false (Some z) rest = inr ((Some z, rest), refl, λ e. cc)
+      view false None rest = inr ((None, rest), refl, λ e. cc)
 
 -- an operand
 pub truth_quiet : (b : Bool) → IsQuiet (Some (symbol (truth_word b)))
 truth_quiet true = (refl, refl)
 truth_quiet false = (refl, refl)
+
+abbrev pub IsOperand : OperandOpening → Type 0
+IsOperand OperandOpening.Nothing = ⊥
+IsOperand _ = Unit {0}
 
 module _ (n : ℕ) where
   abbrev pub operand_rest : OperandOpening → List Pending → List Pending
@@ -176,12 +130,9 @@ module _ (n : ℕ) where
   operand_tree OperandOpening.Bracket S g = (range g.1.0 g.1.1.1.0, g.1.1.1.1.1)
   operand_tree OperandOpening.Nothing S g = g
 
-  module _ (c : ℕ) (S : List Pending) (from : List Word) where
-    pub operand_goes : (o : OperandOpening) → o ≡ opening_of_operand (first from)
-        → Leads c ((an_operand n ∷ S)) from c ((operand_rest o S)) from (operand_tree o S)
-    operand_goes o e =
-        opens ((an_operand n ∷ S)) ((operand_rest o S)) c from opening_of_operand o [] (operand_tree o S) refl tt refl tt (spells o)
-        view (sym e)
+  module _ (S : List Pending) where
+    pub operands : Choice (an_operand n ∷ S) opening_of_operand IsOperand (λ o. operand_rest o S) (λ o. operand_tree o S)
+    operands = record { spells = spells; view = view }
       where
         spells : (o : OperandOpening) → (g : Trees (operand_rest o S)) → pieces (an_operand n ∷ S) (operand_tree o S g) ≡ pieces (operand_rest o S) g
         spells (OperandOpening.Number z) g = refl
@@ -194,46 +145,21 @@ module _ (n : ℕ) where
         spells OperandOpening.Bracket g = refl
         spells OperandOpening.Nothing g = refl
 
-        view : (f : Trees (an_operand n ∷ S)) → Fits (pieces (an_operand n ∷ S) f)
-            → opening_of_operand (first_before (pieces (an_operand n ∷ S) f) None) ≡ o
-            → (g : Trees (operand_rest o S)) × (f ≡ operand_tree o S g)
-        view (number z, rest) fits e = subst (λ o. (g : Trees (operand_rest o S)) × Same (an_operand n ∷ S) (number z, rest) (operand_tree o S g)) e ((tt, rest), refl)
-        view (name x, rest) fits e = subst (λ o. (g : Trees (operand_rest o S)) × Same (an_operand n ∷ S) (name x, rest) (operand_tree o S g)) e ((x, rest), refl)
-        view (truth true, rest) fits e = subst (λ o. (g : Trees (operand_rest o S)) × Same (an_operand n ∷ S) (truth true, rest) (operand_tree o S g)) e ((tt, rest), refl)
-        view (truth false, rest) fits e = subst (λ o. (g : Trees (operand_rest o S)) × Same (an_operand n ∷ S) (truth false, rest) (operand_tree o S g)) e ((tt, rest), refl)
-        view (unknown, rest) fits e = subst (λ o. (g : Trees (operand_rest o S)) × Same (an_operand n ∷ S) (unknown, rest) (operand_tree o S g)) e ((tt, rest), refl)
-        view (call, rest) fits e = subst (λ o. (g : Trees (operand_rest o S)) × Same (an_operand n ∷ S) (call, rest) (operand_tree o S g)) e ((tt, (tt, (tt, rest))), refl)
-        view (signed Prefix.Plus t, rest) fits e =
-            subst (λ o. (g : Trees (operand_rest o S)) × Same (an_operand n ∷ S) (signed Prefix.Plus t, rest) (operand_tree o S g)) e ((signed Prefix.Plus t, rest), refl)
-        view (signed Prefix.Minus t, rest) fits e =
-            subst (λ o. (g : Trees (operand_rest o S)) × Same (an_operand n ∷ S) (signed Prefix.Minus t, rest) (operand_tree o S g)) e ((signed Prefix.Minus t, rest), refl)
-        view (signed Prefix.Not t, rest) fits e =
-            subst (λ o. (g : Trees (operand_rest o S)) × Same (an_operand n ∷ S) (signed Prefix.Not t, rest) (operand_tree o S g)) e ((signed Prefix.Not t, rest), refl)
-        view (parentheses t more, rest) fits e =
-            subst (λ o. (g : Trees (operand_rest o S)) × Same (an_operand n ∷ S) (parentheses t more, rest) (operand_tree o S g)) e
-            ((tt, (record { operand = t; tail = more }, (tt, rest))), refl)
-        view (range lo hi, rest) fits e =
-            subst (λ o. (g : Trees (operand_rest o S)) × Same (an_operand n ∷ S) (range lo hi, rest) (operand_tree o S g)) e ((tt, (lo, (tt, (hi, (tt, rest))))), refl)
+        view : (f : Trees (an_operand n ∷ S))
+            → Way (an_operand n ∷ S) IsOperand (λ o. operand_rest o S) (λ o. operand_tree o S) (opening_of_operand (begins (an_operand n ∷ S) f)) f
+        view (number z, rest) = (tt, (tt, rest), refl)
+        view (name x, rest) = (tt, (x, rest), refl)
+        view (truth true, rest) = (tt, (tt, rest), refl)
+        view (truth false, rest) = (tt, (tt, rest), refl)
+        view (unknown, rest) = (tt, (tt, rest), refl)
+        view (call, rest) = (tt, (tt, (tt, (tt, rest))), refl)
+        view (signed Prefix.Plus t, rest) = (tt, (signed Prefix.Plus t, rest), refl)
+        view (signed Prefix.Minus t, rest) = (tt, (signed Prefix.Minus t, rest), refl)
+        view (signed Prefix.Not t, rest) = (tt, (signed Prefix.Not t, rest), refl)
+        view (parentheses t more, rest) = (tt, (tt, (record { operand = t; tail = more }, (tt, rest))), refl)
+        view (range lo hi, rest) = (tt, (tt, (lo, (tt, (hi, (tt, rest))))), refl)
 
-    pub operand_sticks : OperandOpening.Nothing ≡ opening_of_operand (first from) → Stops c ((an_operand n ∷ S)) from Expected from
-    operand_sticks e =
-        sticks ((an_operand n ∷ S)) c from opening_of_operand OperandOpening.Nothing (complete (an_operand n ∷ S))
-        (completes (an_operand n ∷ S)).0 (completes (an_operand n ∷ S)).1 never (sym e)
-      where
-        never : (f : Trees (an_operand n ∷ S)) → Fits (pieces (an_operand n ∷ S) f)
-            → opening_of_operand (first_before (pieces (an_operand n ∷ S) f) None) ≢ OperandOpening.Nothing
-        never (number z, rest) fits e = cc
-        never (name x, rest) fits e = cc
-        never (truth true, rest) fits e = cc
-        never (truth false, rest) fits e = cc
-        never (unknown, rest) fits e = cc
-        never (call, rest) fits e = cc
-        never (signed Prefix.Plus t, rest) fits e = cc
-        never (signed Prefix.Minus t, rest) fits e = cc
-        never (signed Prefix.Not t, rest) fits e = cc
-        never (parentheses t more, rest) fits e = cc
-        never (range lo hi, rest) fits e = cc
-
+  module _ (c : ℕ) (S : List Pending) (from : List Word) where
     -- which operands begin with a sign
     pub opening_of_prefix : (p : Prefix) → opening_of_operand (Some (symbol (prefix_sign p))) ≡ OperandOpening.Signed p
     opening_of_prefix Prefix.Plus = refl
@@ -271,9 +197,6 @@ module _ (n : ℕ) where
         (pieces (an_operand (n + 1) ∷ S) found.0, ap (pieces (an_operand n ∷ S)) found.1))
 
 -- the operators and operands behind the first operand
-abbrev pub operator_at : Option Word → Option Op2
-operator_at = binary_operator
-
 pub unseen : (next : Option Word) → IsFalse (sees no_operator next) → binary_operator next ≡ None
 unseen None h = refl
 unseen (Some (named x)) h = refl
@@ -328,7 +251,7 @@ module _ (n c : ℕ) (S : List Pending) (from : List Word) where
   pub tail_ends : None ≡ binary_operator (first from)
       → Leads c ((a_tail n ∷ S)) from c S from (λ g. (ended, g))
   tail_ends e =
-      opens ((a_tail n ∷ S)) S c from binary_operator None (look no_operator ∷ []) (λ g. (ended, g)) refl tt refl
+      opens (a_tail n ∷ S) S c from (λ next. binary_operator next ≡ None) (look no_operator ∷ []) (λ g. (ended, g)) refl tt refl
       (seen (first from) (sym e), tt) (λ g. refl) (λ f fits none. view f.0 f.1 none) (sym e)
     where
       view : (t : Tail) (rest : Trees S) → binary_operator (first_before (pieces (a_tail n ∷ S) (t, rest)) None) ≡ None
@@ -366,6 +289,6 @@ module _ (n c : ℕ) (S : List Pending) (from : List Word) where
   pub expression_goes : Leads c ((an_expression n ∷ S)) from c ((an_operand n ∷ a_tail n ∷ S)) from
       (λ g. (record { operand = g.0; tail = g.1.0 }, g.1.1))
   expression_goes =
-      opens ((an_expression n ∷ S)) ((an_operand n ∷ a_tail n ∷ S)) c from (λ next. true) true []
+      opens (an_expression n ∷ S) (an_operand n ∷ a_tail n ∷ S) c from (λ next. Unit {0}) []
       (λ g. (record { operand = g.0; tail = g.1.0 }, g.1.1)) refl tt refl tt (λ g. refl)
-      (λ f fits e. ((f.0.operand, (f.0.tail, f.1)), refl)) refl
+      (λ f fits any. ((f.0.operand, (f.0.tail, f.1)), refl)) tt

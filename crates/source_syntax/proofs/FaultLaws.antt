@@ -7,8 +7,7 @@ use Rattle.derivation.specs.Comes.{FirstFault, IsSpelledBy}
 use Rattle.derivation.proofs.Faults.{spelled_has_no_fault, faults_agree}
 use Rattle.source_lex.proofs.Readings.{tokens_unique, fault_unique, tokens_or_fault}
 use Rattle.concrete_syntax.specs.Trees.{Program}
-use Rattle.source_syntax.specs.declared.fault.SyntaxFault.TheVariants.{Lex, Expected, Limit, Memory}
-use Rattle.source_syntax.specs.declared.fault.Which.TheVariants as Which
+use Rattle.source_syntax.specs.declared.fault.SyntaxFault.TheVariants.{Lex, Broken, Memory}
 use Rattle.source_syntax.specs.Texts.{programs, place_in, IsTextOf, HasFault}
 use Rattle.source_syntax.proofs.OneTree.{one_program}
 use Rattle.source_syntax.specs.Laws.{TreesAreUnique, ProgramsHaveNoFault, FirstFaultsAgree}
@@ -28,9 +27,7 @@ no_fault text tree rule at h k =
 
 pub programs_have_no_fault : ProgramsHaveNoFault
 programs_have_no_fault text tree (Lex fault) h k = absurd (tokens_or_fault text 0 h.tokens fault h.lexed k)
-programs_have_no_fault text tree (Expected at) h k = absurd (no_fault text tree Rule.Expected at h k)
-programs_have_no_fault text tree (Limit Which.Nesting at count) h k = absurd (no_fault text tree Rule.Nesting at h k.0)
-programs_have_no_fault text tree (Limit Which.Operators at count) h k = absurd (no_fault text tree Rule.Operators at h k.0)
+programs_have_no_fault text tree (Broken rule at) h k = absurd (no_fault text tree rule at h k)
 programs_have_no_fault text tree (Memory error) h k = tt
 
 -- two places with the same behind them are one place
@@ -54,26 +51,11 @@ faults_meet text rule other at place h k =
     )
 
 pub first_faults_agree : FirstFaultsAgree
-first_faults_agree text (Lex fault) (Lex other) h k = fault_unique text 0 fault other h k
-first_faults_agree text (Lex fault) (Expected place) h k = absurd (tokens_or_fault text 0 k.tokens fault k.lexed h)
-first_faults_agree text (Lex fault) (Limit Which.Nesting place number) h k = absurd (tokens_or_fault text 0 k.0.tokens fault k.0.lexed h)
-first_faults_agree text (Lex fault) (Limit Which.Operators place number) h k = absurd (tokens_or_fault text 0 k.0.tokens fault k.0.lexed h)
+first_faults_agree text (Lex fault) (Lex other) h k = ap Lex (fault_unique text 0 fault other h k)
+first_faults_agree text (Lex fault) (Broken rule at) h k = absurd (tokens_or_fault text 0 k.tokens fault k.lexed h)
 first_faults_agree text (Lex fault) (Memory error) h k = tt
-first_faults_agree text (Expected at) (Lex other) h k = absurd (tokens_or_fault text 0 h.tokens other h.lexed k)
-first_faults_agree text (Expected at) (Expected place) h k = (faults_meet text _ _ at place h k).1
-first_faults_agree text (Expected at) (Limit Which.Nesting place number) h k = absurd (let e = (faults_meet text _ _ at place h k.0).0 in cc)
-first_faults_agree text (Expected at) (Limit Which.Operators place number) h k = absurd (let e = (faults_meet text _ _ at place h k.0).0 in cc)
-first_faults_agree text (Expected at) (Memory error) h k = tt
-first_faults_agree text (Limit Which.Nesting at count) (Lex other) h k = absurd (tokens_or_fault text 0 h.0.tokens other h.0.lexed k)
-first_faults_agree text (Limit Which.Nesting at count) (Expected place) h k = absurd (let e = (faults_meet text _ _ at place h.0 k).0 in cc)
-first_faults_agree text (Limit Which.Nesting at count) (Limit Which.Nesting place number) h k = (refl, (faults_meet text _ _ at place h.0 k.0).1)
-first_faults_agree text (Limit Which.Nesting at count) (Limit Which.Operators place number) h k =
-    absurd (let e = (faults_meet text _ _ at place h.0 k.0).0 in cc)
-first_faults_agree text (Limit Which.Nesting at count) (Memory error) h k = tt
-first_faults_agree text (Limit Which.Operators at count) (Lex other) h k = absurd (tokens_or_fault text 0 h.0.tokens other h.0.lexed k)
-first_faults_agree text (Limit Which.Operators at count) (Expected place) h k = absurd (let e = (faults_meet text _ _ at place h.0 k).0 in cc)
-first_faults_agree text (Limit Which.Operators at count) (Limit Which.Nesting place number) h k =
-    absurd (let e = (faults_meet text _ _ at place h.0 k.0).0 in cc)
-first_faults_agree text (Limit Which.Operators at count) (Limit Which.Operators place number) h k = (refl, (faults_meet text _ _ at place h.0 k.0).1)
-first_faults_agree text (Limit Which.Operators at count) (Memory error) h k = tt
+first_faults_agree text (Broken rule at) (Lex other) h k = absurd (tokens_or_fault text 0 h.tokens other h.lexed k)
+first_faults_agree text (Broken rule at) (Broken other place) h k =
+    let same = faults_meet text rule other at place h k in ap (λ r. Broken r at) same.0 ∙ ap (Broken other) same.1
+first_faults_agree text (Broken rule at) (Memory error) h k = tt
 first_faults_agree text (Memory error) other h k = tt

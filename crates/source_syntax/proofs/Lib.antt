@@ -1,5 +1,6 @@
 pub mod Calculus
 pub mod Completions
+pub mod Choices
 pub mod Expressions
 pub mod Statements
 pub mod Words

@@ -1,29 +1,24 @@
--- The loops of the readers, and what `else` leads to.
-use Rattle.std.proofs.Common.{◌≡◌, ℕ, ◌+◌, ◌<◌, ◌≤◌, List, [], ◌∷◌, ◌++◌, map, Bool, true, false, refl, sym, ap, ◌∙◌, subst, append_assoc}
+-- The loops of the readers.
+use Rattle.std.proofs.Common.{◌≡◌, ◌≢◌, ℕ, ◌+◌, List, [], ◌∷◌, ◌++◌, map, Bool, refl, sym, ap, ◌∙◌, subst, append_assoc, arith}
 use Rattle.std.proofs.lemmas.List.{append-nil, map-append}
 use Rattle.derivation.specs.declared.rule.Rule.{Rule}
-use Rattle.derivation.specs.declared.rule.Rule.TheVariants.{Nesting}
 use Rattle.derivation.specs.declared.symbol.Symbol.TheVariants as Sym
-use Rattle.derivation.specs.declared.lexeme.Lexeme.{Lexeme}
 use Rattle.derivation.specs.Word.{Word, symbol}
-use Rattle.derivation.specs.Spelled.{words_from}
 use Rattle.derivation.specs.Pieces.{first}
 use Rattle.source_syntax.specs.declared.opening.ItemOpening.TheVariants as ItemOpening
-use Rattle.source_syntax.specs.Openings.{opening_of_item, else_follows, comma_follows}
+use Rattle.source_syntax.specs.Openings.{opening_of_item}
 use Rattle.concrete_syntax.specs.declared.statement.Item.{Item as RustItem}
 use Rattle.concrete_syntax.specs.declared.simple.Part.{Part as RustPart}
 use Rattle.concrete_syntax.specs.declared.program.Prelude.{Prelude as RustPrelude}
-use Rattle.concrete_syntax.specs.Trees.{Part, Declaration, Statement, Items, none, otherwise, Prelude}
+use Rattle.concrete_syntax.specs.Trees.{Part, Declaration, Statement, Items, none, Prelude}
 use Rattle.concrete_syntax.specs.Chains.{Item, declared, stated, items_of}
 use Rattle.concrete_syntax.specs.Mirror.{item, part, prelude}
 use Rattle.concrete_syntax.proofs.Chains.{items_of-append}
-use Rattle.source_syntax.specs.Pending.{Pending, a_declaration, a_statement, an_otherwise, items, a_program, TreeOf}
-use Rattle.source_syntax.specs.Leads.{Leads, Stops}
+use Rattle.source_syntax.specs.Pending.{Pending, a_declaration, a_statement, items, a_program, TreeOf}
 use Rattle.source_syntax.specs.Reads.{Reads, ReadsLeading, Refuses, Continues, behind_preludes, ReadsPart, RefusesPart, ComesToParts}
 use Rattle.source_syntax.proofs.Calculus.{over, fails, stay, refilled}
-use Rattle.source_syntax.proofs.Statements.{items_goes, else_read, else_too_deep, declaration_goes, parts_goes}
-use Rattle.source_syntax.proofs.Words.{else_word}
-use Rattle.source_syntax.proofs.Reading.{next_of}
+use Rattle.source_syntax.proofs.Choices.{goes, not_next, taken, left_out}
+use Rattle.source_syntax.proofs.Statements.{all_items, declaration_goes, further_parts}
 use Rattle.source_syntax.proofs.Answering.{sign_reads, leading_reads}
 
 -- a tree that is told by an equation
@@ -43,7 +38,7 @@ module _ (n : ℕ) (start here : List Word) where
     comes = λ count behind. (
       _,
       refilled (λ trees. ap (λ all. (all, trees.1)) (sym (ap (λ l. items_of l trees.0) pushed ∙ items_of-append list (declared d ∷ []) trees.0)))
-          (over (h.comes count behind).1 (over (items_goes n _ behind here ItemOpening.Declaration e) (r.comes _ (items n ∷ behind)))),
+          (over (h.comes count behind).1 (over (goes (all_items n behind) _ here ItemOpening.Declaration e) (r.comes _ (items n ∷ behind)))),
     );
   }
 
@@ -54,7 +49,7 @@ module _ (n : ℕ) (start here : List Word) where
     comes = λ count behind. (
       _,
       refilled (λ trees. ap (λ all. (all, trees.1)) (sym (ap (λ l. items_of l trees.0) pushed ∙ items_of-append list (stated s ∷ []) trees.0)))
-          (over (h.comes count behind).1 (over (items_goes n _ behind here ItemOpening.Statement e) (r.comes _ (items n ∷ behind)).1)),
+          (over (h.comes count behind).1 (over (goes (all_items n behind) _ here ItemOpening.Statement e) (r.comes _ (items n ∷ behind)).1)),
     );
   }
 
@@ -64,23 +59,9 @@ module _ (n : ℕ) (start here : List Word) where
     comes = λ count behind. (
       _,
       refilled (λ trees. ap (λ t. (t, trees)) (sym made))
-          (over (h.comes count behind).1 (over (items_goes n _ behind here ItemOpening.Close e) (sign_reads Sym.CloseBrace (refl, refl) r))),
+          (over (h.comes count behind).1 (over (goes (all_items n behind) _ here ItemOpening.Close e) (sign_reads Sym.CloseBrace (refl, refl) r))),
     );
   }
-
--- the second part of an `if`
-module _ (lexemes : List Lexeme) (at n : ℕ) where
-  pub behind_else : (count : ℕ) (behind : List Pending) → true ≡ else_follows (first (words_from lexemes at)) → n + 1 ≤ 64
-      → Leads count (an_otherwise n ∷ behind) (words_from lexemes at) count (a_statement (n + 1) ∷ behind) (words_from lexemes (at + 1)) (λ g. (otherwise g.0, g.1))
-  behind_else count behind e shallow =
-      let w = else_word (words_from lexemes at) e in
-      else_read n count behind (words_from lexemes at) (words_from lexemes (at + 1)) (next_of lexemes at (symbol Sym.Else) w.0 w.1) shallow
-
-  pub else_stops : (count : ℕ) (behind : List Pending) → true ≡ else_follows (first (words_from lexemes at)) → 64 < n + 1
-      → Stops count (an_otherwise n ∷ behind) (words_from lexemes at) Nesting (words_from lexemes at)
-  else_stops count behind e deep =
-      let w = else_word (words_from lexemes at) e in
-      else_too_deep n count behind (words_from lexemes at) w.0 w.1 deep
 
 -- the parts of a declaration
 module _ (n : ℕ) (start : List Word) where
@@ -95,24 +76,24 @@ module _ (n : ℕ) (start : List Word) where
       fails (declaration_goes n count behind start) (fails (sign_reads Sym.Int (refl, refl) e) (h _ behind))
 
   pub parts_over : (here inner to : List Word) (part further : Part) (so_far more : List Part) → more ≡ so_far ++ further ∷ []
-      → ComesToParts n part so_far start here → true ≡ comma_follows (first here) → here ≡ symbol Sym.Comma ∷ inner
-      → ReadsPart n further inner to → ComesToParts n part more start to
-  parts_over here inner to part further so_far more pushed h e c r = record {
+      → ComesToParts n part so_far start here → here ≡ symbol Sym.Comma ∷ inner → ReadsPart n further inner to → ComesToParts n part more start to
+  parts_over here inner to part further so_far more pushed h c r = record {
     comes = λ count behind. (
       _,
       refilled (λ trees. ap (λ l. (record { part = part; more = l }, trees.1))
           (sym (ap (λ l. l ++ trees.0) pushed ∙ append_assoc so_far (further ∷ []) trees.0)))
-          (over (h.comes count behind).1
-          (over (parts_goes n _ behind here true e) (over (sign_reads Sym.Comma (refl, refl) c) (r.comes _ behind).1))),
+          (over (h.comes count behind).1 (over (taken (further_parts n behind) c (omega arith, tt)) (r.comes _ behind).1)),
     );
   }
 
-  pub parts_close : (here to : List Word) (part : Part) (so_far : List Part) → ComesToParts n part so_far start here → false ≡ comma_follows (first here)
-      → here ≡ symbol Sym.Semicolon ∷ to → ReadsLeading (a_declaration n) (record { part = part; more = so_far }) start to
-  parts_close here to part so_far h e c = record {
+  pub parts_close : (here to : List Word) (part : Part) (so_far : List Part) → ComesToParts n part so_far start here
+      → ((to : List Word) → here ≢ symbol Sym.Comma ∷ to) → here ≡ symbol Sym.Semicolon ∷ to
+      → ReadsLeading (a_declaration n) (record { part = part; more = so_far }) start to
+  parts_close here to part so_far h missing c = record {
     comes = λ count behind.
         refilled (λ trees. ap (λ l. (record { part = part; more = l }, trees)) (append-nil so_far))
-        (over (h.comes count behind).1 (over (parts_goes n _ behind here false e) (leading_reads Sym.Semicolon (refl, refl) c)));
+        (over (h.comes count behind).1
+        (over (left_out (further_parts n behind) (not_next (symbol Sym.Comma) here missing)) (leading_reads Sym.Semicolon (refl, refl) c)));
   }
 
 -- what stands before `main`

@@ -1,29 +1,31 @@
 -- Words are what at most one tree spells.
-use Rattle.std.proofs.Common.{◌≡◌, ℕ, ◌+◌, ℤ, List, [], ◌∷◌, ◌++◌, Option, None, Some, Bool, true, false, refl, sym, ap, ◌∙◌, subst}
+use Rattle.std.proofs.Common.{◌≡◌, ◌≢◌, ℕ, ◌+◌, ℤ, List, [], ◌∷◌, ◌++◌, Option, None, Some, Bool, true, false, refl, sym, ap, ◌∙◌, subst}
+use Rattle.derivation.specs.declared.symbol.Symbol.{Symbol}
 use Rattle.derivation.specs.declared.symbol.Symbol.TheVariants as Sym
 use Rattle.derivation.specs.Word.{Word, symbol, name as named}
-use Rattle.derivation.specs.Pieces.{Token, Piece, token, spelling, first, first_before, Fits}
+use Rattle.std.specs.Bool.{IsFalse}
+use Rattle.derivation.specs.Pieces.{Token, token, no_else, sees, spelling, first, first_before, Fits}
 use Rattle.derivation.specs.Comes.{IsQuiet}
 use Rattle.derivation.proofs.Calculus.{cancel, spelling-append, fits-behind, first_spelling}
-use Rattle.concrete_syntax.specs.declared.sign.Prefix.TheVariants as Prefix
 use Rattle.concrete_syntax.specs.declared.sign.Assignment.{Assignment}
 use Rattle.concrete_syntax.specs.declared.sign.Step.{Step}
 use Rattle.source_syntax.specs.declared.opening.OperandOpening.TheVariants as OperandOpening
 use Rattle.source_syntax.specs.declared.opening.SizeOpening.TheVariants as SizeOpening
+use Rattle.source_syntax.specs.declared.opening.PreludeOpening.TheVariants as PreludeOpening
 use Rattle.source_syntax.specs.declared.opening.ActionOpening.{ActionOpening}
 use Rattle.source_syntax.specs.declared.opening.SimpleOpening.{SimpleOpening}
 use Rattle.source_syntax.specs.declared.opening.StatementOpening.{StatementOpening}
 use Rattle.source_syntax.specs.declared.opening.ItemOpening.{ItemOpening}
 use Rattle.source_syntax.specs.declared.opening.StartOpening.{StartOpening}
-use Rattle.source_syntax.specs.declared.opening.PreludeOpening.TheVariants as PreludeOpening
-use Rattle.source_syntax.specs.Openings.{opening_of_operand, binary_operator, opening_of_simple, opening_of_action, opening_of_statement, opening_of_item, opening_of_start, semicolon_follows, parenthesis_follows, else_follows}
+use Rattle.source_syntax.specs.Openings.{opening_of_operand, binary_operator, opening_of_simple, opening_of_action}
 use Rattle.concrete_syntax.specs.Trees.{End, Operand, number, name, truth, unknown, call, signed, parentheses, range, Tail, ended, further, Expression, Action, assigns, steps, Simple, acts, steps_before, Part, Declaration, Start, starts_with_nothing, starts_with, declares, Statement, simple, skip, braces, conditional, while_loop, do_loop, for_loop, return, Otherwise, without, otherwise, Items, none, declaration, statement, Prelude, extern_call, typedef_bool, Program}
-use Rattle.source_syntax.specs.Spelling.{plain, sign, opening, operator, prefix_sign, assignment_sign, step_sign, operand_pieces, simple_pieces, statement_pieces}
+use Rattle.source_syntax.specs.Spelling.{plain, sign, leading, opening, operator, prefix_sign, assignment_sign, step_sign}
 use Rattle.source_syntax.specs.Pending.{Pending, exactly, a_name, a_size, an_end, an_operand, a_tail, an_expression, an_optional, a_test, an_action, a_simple, a_part_end, parts, a_declaration, a_start, a_finish, a_statement, an_otherwise, items, a_void, a_program, Trees, pieces}
 use Rattle.source_syntax.specs.Leads.{Leads}
-use Rattle.source_syntax.proofs.Expressions.{size_goes, end_goes, minus_view, operand_goes, opening_of_prefix, prefix_view, unseen, reads_back, tail_ends, operator_view, expression_goes}
-use Rattle.source_syntax.proofs.Statements.{action_goes, simple_goes, part_end_goes, parts_goes, declaration_goes, test_goes, optional_goes, start_goes, finish_goes, statement_goes, items_goes, void_goes, program_goes, otherwise_ends, else_view}
-use Rattle.source_syntax.proofs.Statements as statements
+use Rattle.source_syntax.proofs.Answering.{AreQuiet, in_turn, units}
+use Rattle.source_syntax.proofs.Choices.{begins, Choice, Fork, goes, this_side, left_out}
+use Rattle.source_syntax.proofs.Expressions.{sizes, ends, operands, opening_of_prefix, prefix_view, unseen, reads_back, tail_ends, operator_view, expression_goes}
+use Rattle.source_syntax.proofs.Statements.{actions, simples, simple_begins, opens_simply, part_ends, further_parts, declaration_goes, test_goes, no_semicolon, optionals, starts, no_parenthesis, finishes, statements, statement_among, all_items, voids, extern_signs, extern_quiet, typedef_signs, typedef_quiet, main_signs, main_quiet, beginnings, otherwise_ends, else_view}
 
 -- all trees that spell the words of these are these
 record IsOnly (A : List Pending) (trees : Trees A) : Type 0 where
@@ -67,28 +69,43 @@ behind {A} {B} {fill} t g spells view d = record {
       found.1 ∙ ap fill (d.same found.0 (subst Fits mine fits) (subst Fits theirs others_fit) (cancel (t.word ∷ []) all));
 }
 
+-- what opens in one of several ways
+chosen : {Opening : Type 0} {A : List Pending} {classify : Option Word → Opening} {IsOpen : Opening → Type 0} {rest : Opening → List Pending}
+    {fill : (o : Opening) → Trees (rest o) → Trees A} (x : Choice A classify IsOpen rest fill) (o : Opening) (g : Trees (rest o))
+    → classify (begins A (fill o g)) ≡ o → IsOnly (rest o) g → IsOnly A (fill o g)
+chosen {Opening} {A} {classify} {IsOpen} {rest} {fill} x o g is d =
+    through g (goes x 0 (own A (fill o g)) o (sym (ap classify (first_spelling (pieces A (fill o g))) ∙ is))) refl d
+
+-- what begins with a token, or not
+module _ {A : List Pending} {t : Token} {B : List Pending} {fill : Trees B → Trees A} {C : List Pending} {other : Trees C → Trees A}
+    (x : Fork A t B fill C other) where
+  begun : (g : Trees B) → IsOnly B g → IsOnly A (fill g)
+  begun g d = behind t g x.spells (λ f fits next. this_side x f next) d
+
+  not_begun : (g : Trees C) → begins A (other g) ≢ Some t.word → IsOnly C g → IsOnly A (other g)
+  not_begun g differs d = through g (left_out x {c = 0} {from = own A (other g)} (λ e. differs (sym (first_spelling (pieces A (other g))) ∙ e))) refl d
+
 exactly_one : (t : Token) (quiet : IsQuiet (Some t.word)) (S : List Pending) (rest : Trees S) → IsOnly S rest → IsOnly (exactly t quiet ∷ S) (tt, rest)
 exactly_one t quiet S rest d = behind {fill = λ g. (tt, g)} t rest (λ h. refl) (λ f fits next. (f.1, refl)) d
+
+signs_one : (all : List Symbol) (quiet : AreQuiet all) (S : List Pending) (rest : Trees S) → IsOnly S rest
+    → IsOnly (in_turn all quiet S) (units all quiet S rest)
+signs_one [] quiet S rest d = d
+signs_one (s ∷ more) quiet S rest d = exactly_one _ _ _ _ (signs_one more quiet.1 S rest d)
 
 name_one : (x : List ℕ) (S : List Pending) (rest : Trees S) → IsOnly S rest → IsOnly (a_name ∷ S) (x, rest)
 name_one x S rest d =
     behind {fill = λ g. (x, g)} (plain (named x)) rest (λ h. refl) (λ f fits next. (f.1, let same : f.0 ≡ x = cc in ap (λ y. (y, f.1)) same)) d
 
 size_one : (size : Option ℤ) (S : List Pending) (rest : Trees S) → IsOnly S rest → IsOnly (a_size ∷ S) (size, rest)
-size_one (Some z) S rest d =
-    through (tt, rest) (size_goes 0 S (own (a_size ∷ S) (Some z, rest)) (SizeOpening.Number z) refl) refl (exactly_one _ _ S rest d)
-size_one None S rest d =
-    through (tt, rest) (size_goes 0 S (own (a_size ∷ S) (None, rest)) SizeOpening.Infinite refl) refl (exactly_one _ _ S rest d)
+size_one (Some z) S rest d = chosen (sizes S) (SizeOpening.Number z) (tt, rest) refl (exactly_one _ _ S rest d)
+size_one None S rest d = chosen (sizes S) SizeOpening.Infinite (tt, rest) refl (exactly_one _ _ S rest d)
 
 end_of : (negative : Bool) (size : Option ℤ) (S : List Pending) (rest : Trees S) → IsOnly S rest
     → IsOnly (an_end ∷ S) (record { negative = negative; size = size }, rest)
-end_of true size S rest d =
-    behind {fill = λ g. (record { negative = true; size = g.0 }, g.1)} (sign Sym.Minus) (size, rest) (λ h. refl)
-    (λ f fits next. minus_view 0 S [] f.0.negative f.0.size f.1 next) (size_one size S rest d)
-end_of false (Some z) S rest d =
-    through (Some z, rest) (end_goes 0 S (own (an_end ∷ S) (record { negative = false; size = Some z }, rest)) false refl) refl (size_one (Some z) S rest d)
-end_of false None S rest d =
-    through (None, rest) (end_goes 0 S (own (an_end ∷ S) (record { negative = false; size = None }, rest)) false refl) refl (size_one None S rest d)
+end_of true size S rest d = begun (ends S) (size, rest) (size_one size S rest d)
+end_of false (Some z) S rest d = not_begun (ends S) (Some z, rest) (λ e. cc) (size_one (Some z) S rest d)
+end_of false None S rest d = not_begun (ends S) (None, rest) (λ e. cc) (size_one None S rest d)
 
 end_one : (e : End) (S : List Pending) (rest : Trees S) → IsOnly S rest → IsOnly (an_end ∷ S) (e, rest)
 end_one e S rest d = end_of e.negative e.size S rest d
@@ -100,30 +117,24 @@ expression_step n e S rest d = through (e.operand, (e.tail, rest)) (expression_g
 
 mutual
   operand_one : (n : ℕ) (t : Operand) (S : List Pending) (rest : Trees S) → IsOnly S rest → IsOnly (an_operand n ∷ S) (t, rest)
-  operand_one n (number z) S rest d =
-      through (tt, rest) (operand_goes n 0 S (own (an_operand n ∷ S) (number z, rest)) (OperandOpening.Number z) refl) refl (exactly_one _ _ S rest d)
-  operand_one n (name x) S rest d =
-      through (x, rest) (operand_goes n 0 S (own (an_operand n ∷ S) (name x, rest)) OperandOpening.Name refl) refl (name_one x S rest d)
-  operand_one n (truth true) S rest d =
-      through (tt, rest) (operand_goes n 0 S (own (an_operand n ∷ S) (truth true, rest)) (OperandOpening.Truth true) refl) refl (exactly_one _ _ S rest d)
-  operand_one n (truth false) S rest d =
-      through (tt, rest) (operand_goes n 0 S (own (an_operand n ∷ S) (truth false, rest)) (OperandOpening.Truth false) refl) refl (exactly_one _ _ S rest d)
-  operand_one n unknown S rest d =
-      through (tt, rest) (operand_goes n 0 S (own (an_operand n ∷ S) (unknown, rest)) OperandOpening.Unknown refl) refl (exactly_one _ _ S rest d)
+  operand_one n (number z) S rest d = chosen (operands n S) (OperandOpening.Number z) (tt, rest) refl (exactly_one _ _ S rest d)
+  operand_one n (name x) S rest d = chosen (operands n S) OperandOpening.Name (x, rest) refl (name_one x S rest d)
+  operand_one n (truth true) S rest d = chosen (operands n S) (OperandOpening.Truth true) (tt, rest) refl (exactly_one _ _ S rest d)
+  operand_one n (truth false) S rest d = chosen (operands n S) (OperandOpening.Truth false) (tt, rest) refl (exactly_one _ _ S rest d)
+  operand_one n unknown S rest d = chosen (operands n S) OperandOpening.Unknown (tt, rest) refl (exactly_one _ _ S rest d)
   operand_one n call S rest d =
-      through (tt, (tt, (tt, rest))) (operand_goes n 0 S (own (an_operand n ∷ S) (call, rest)) OperandOpening.Call refl) refl
+      chosen (operands n S) OperandOpening.Call (tt, (tt, (tt, rest))) refl
       (exactly_one _ _ _ _ (exactly_one _ _ _ _ (exactly_one _ _ S rest d)))
   operand_one n (signed prefix e) S rest d =
       behind {fill = λ g. (signed prefix g.0, g.1)} (opening (prefix_sign prefix) (n + 1)) (e, rest) (λ h. refl)
       (λ f fits next. prefix_view n 0 S [] prefix f.0 f.1 (ap opening_of_operand next ∙ opening_of_prefix n 0 S [] prefix))
       (operand_one (n + 1) e S rest d)
   operand_one n (parentheses e more) S rest d =
-      through (tt, (record { operand = e; tail = more }, (tt, rest)))
-      (operand_goes n 0 S (own (an_operand n ∷ S) (parentheses e more, rest)) OperandOpening.Parenthesis refl) refl
+      chosen (operands n S) OperandOpening.Parenthesis (tt, (record { operand = e; tail = more }, (tt, rest))) refl
       (exactly_one _ _ _ _ (expression_step (n + 1) (record { operand = e; tail = more }) _ _
       (operand_one (n + 1) e _ _ (tail_one (n + 1) more _ _ (exactly_one _ _ S rest d)))))
   operand_one n (range lo hi) S rest d =
-      through (tt, (lo, (tt, (hi, (tt, rest))))) (operand_goes n 0 S (own (an_operand n ∷ S) (range lo hi, rest)) OperandOpening.Bracket refl) refl
+      chosen (operands n S) OperandOpening.Bracket (tt, (lo, (tt, (hi, (tt, rest))))) refl
       (exactly_one _ _ _ _ (end_one lo _ _ (exactly_one _ _ _ _ (end_one hi _ _ (exactly_one _ _ S rest d)))))
 
   tail_one : (n : ℕ) (t : Tail) (S : List Pending) (rest : Trees S) → IsOnly S rest → IsOnly (a_tail n ∷ S) (t, rest)
@@ -138,25 +149,9 @@ mutual
 expression_one : (n : ℕ) (e : Expression) (S : List Pending) (rest : Trees S) → IsOnly S rest → IsOnly (an_expression n ∷ S) (e, rest)
 expression_one n e S rest d = expression_step n e S rest (operand_one n e.operand _ _ (tail_one n e.tail S rest d))
 
-no_semicolon : (n : ℕ) (t : Operand) (more : List Piece) → false ≡ semicolon_follows (first (spelling (operand_pieces n t more)))
-no_semicolon n (number z) more = refl
-no_semicolon n (name x) more = refl
-no_semicolon n (truth true) more = refl
-no_semicolon n (truth false) more = refl
-no_semicolon n unknown more = refl
-no_semicolon n call more = refl
-no_semicolon n (signed Prefix.Plus e) more = refl
-no_semicolon n (signed Prefix.Minus e) more = refl
-no_semicolon n (signed Prefix.Not e) more = refl
-no_semicolon n (parentheses e tail) more = refl
-no_semicolon n (range lo hi) more = refl
-
 optional_one : (n : ℕ) (value : Option Expression) (S : List Pending) (rest : Trees S) → IsOnly S rest → IsOnly (an_optional n ∷ S) (value, rest)
-optional_one n None S rest d =
-    through (tt, rest) (optional_goes n 0 S (own (an_optional n ∷ S) (None, rest)) true refl) refl (exactly_one _ _ S rest d)
-optional_one n (Some e) S rest d =
-    through (e, (tt, rest)) (optional_goes n 0 S (own (an_optional n ∷ S) (Some e, rest)) false (no_semicolon n e.operand _)) refl
-    (expression_one n e _ _ (exactly_one _ _ S rest d))
+optional_one n None S rest d = begun (optionals n S) rest d
+optional_one n (Some e) S rest d = not_begun (optionals n S) (e, (tt, rest)) (no_semicolon n S e rest) (expression_one n e _ _ (exactly_one _ _ S rest d))
 
 test_one : (n : ℕ) (e : Expression) (S : List Pending) (rest : Trees S) → IsOnly S rest → IsOnly (a_test n ∷ S) (e, rest)
 test_one n e S rest d =
@@ -164,170 +159,114 @@ test_one n e S rest d =
     (exactly_one _ _ _ _ (expression_one (n + 1) e _ _ (exactly_one _ _ S rest d)))
 
 -- simple statements
-assigns_so : (a : Assignment) → ActionOpening.Assigns a ≡ opening_of_action (Some (symbol (assignment_sign a)))
+assigns_so : (a : Assignment) → opening_of_action (Some (symbol (assignment_sign a))) ≡ ActionOpening.Assigns a
 assigns_so Assignment.Assign = refl
 assigns_so Assignment.Add = refl
 assigns_so Assignment.Subtract = refl
 assigns_so Assignment.Multiply = refl
 
-steps_so : (s : Step) → ActionOpening.Steps s ≡ opening_of_action (Some (symbol (step_sign s)))
-steps_so Step.Increment = refl
-steps_so Step.Decrement = refl
-
-steps_first : (s : Step) → SimpleOpening.Steps s ≡ opening_of_simple (Some (symbol (step_sign s)))
-steps_first Step.Increment = refl
-steps_first Step.Decrement = refl
+steps_so : (s : Step) → (opening_of_action (Some (symbol (step_sign s))) ≡ ActionOpening.Steps s)
+    × (opening_of_simple (Some (symbol (step_sign s))) ≡ SimpleOpening.Steps s)
+steps_so Step.Increment = (refl, refl)
+steps_so Step.Decrement = (refl, refl)
 
 action_one : (n : ℕ) (action : Action) (S : List Pending) (rest : Trees S) → IsOnly S rest → IsOnly (an_action n ∷ S) (action, rest)
 action_one n (assigns a e) S rest d =
-    through (tt, (e, rest)) (action_goes n 0 S (own (an_action n ∷ S) (assigns a e, rest)) (ActionOpening.Assigns a) (assigns_so a)) refl
-    (exactly_one _ _ _ _ (expression_one n e S rest d))
-action_one n (steps s) S rest d =
-    through (tt, rest) (action_goes n 0 S (own (an_action n ∷ S) (steps s, rest)) (ActionOpening.Steps s) (steps_so s)) refl (exactly_one _ _ S rest d)
+    chosen (actions n S) (ActionOpening.Assigns a) (tt, (e, rest)) (assigns_so a) (exactly_one _ _ _ _ (expression_one n e S rest d))
+action_one n (steps s) S rest d = chosen (actions n S) (ActionOpening.Steps s) (tt, rest) (steps_so s).0 (exactly_one _ _ S rest d)
 
 simple_one : (n : ℕ) (s : Simple) (S : List Pending) (rest : Trees S) → IsOnly S rest → IsOnly (a_simple n ∷ S) (s, rest)
-simple_one n (acts x action) S rest d =
-    through (x, (action, rest)) (simple_goes n 0 S (own (a_simple n ∷ S) (acts x action, rest)) SimpleOpening.Name refl) refl
-    (name_one x _ _ (action_one n action S rest d))
+simple_one n (acts x action) S rest d = chosen (simples n S) SimpleOpening.Name (x, (action, rest)) refl (name_one x _ _ (action_one n action S rest d))
 simple_one n (steps_before s x) S rest d =
-    through (tt, (x, rest)) (simple_goes n 0 S (own (a_simple n ∷ S) (steps_before s x, rest)) (SimpleOpening.Steps s) (steps_first s)) refl
-    (exactly_one _ _ _ _ (name_one x S rest d))
+    chosen (simples n S) (SimpleOpening.Steps s) (tt, (x, rest)) (steps_so s).1 (exactly_one _ _ _ _ (name_one x S rest d))
 
 -- declarations
 part_end_step : (n : ℕ) (value : Option Expression) (more : List Part) (S : List Pending) (rest : Trees S) → IsOnly (parts n ∷ S) (more, rest)
     → IsOnly (a_part_end n ∷ S) ((value, more), rest)
-part_end_step n (Some e) more S rest d =
-    through (tt, (e, (more, rest))) (part_end_goes n 0 S (own (a_part_end n ∷ S) ((Some e, more), rest)) true refl) refl
-    (exactly_one _ _ _ _ (expression_one n e _ _ d))
-part_end_step n None [] S rest d = through ([], rest) (part_end_goes n 0 S (own (a_part_end n ∷ S) ((None, []), rest)) false refl) refl d
-part_end_step n None (part ∷ more) S rest d =
-    through (part ∷ more, rest) (part_end_goes n 0 S (own (a_part_end n ∷ S) ((None, part ∷ more), rest)) false refl) refl d
+part_end_step n (Some e) more S rest d = begun (part_ends n S) (e, (more, rest)) (expression_one n e _ _ d)
+part_end_step n None [] S rest d = not_begun (part_ends n S) ([], rest) (λ e. cc) d
+part_end_step n None (part ∷ more) S rest d = not_begun (part_ends n S) (part ∷ more, rest) (λ e. cc) d
 
 parts_one : (n : ℕ) (more : List Part) (S : List Pending) (rest : Trees S) → IsOnly S rest → IsOnly (parts n ∷ S) (more, rest)
-parts_one n [] S rest d = through (tt, rest) (parts_goes n 0 S (own (parts n ∷ S) ([], rest)) false refl) refl (exactly_one _ _ S rest d)
+parts_one n [] S rest d = not_begun (further_parts n S) (tt, rest) (λ e. cc) (exactly_one _ _ S rest d)
 parts_one n (part ∷ more) S rest d =
-    through (tt, (part.declared, ((part.initialiser, more), rest))) (parts_goes n 0 S (own (parts n ∷ S) (part ∷ more, rest)) true refl) refl
-    (exactly_one _ _ _ _ (name_one part.declared _ _ (part_end_step n part.initialiser more S rest (parts_one n more S rest d))))
+    begun (further_parts n S) (part.declared, ((part.initialiser, more), rest))
+    (name_one part.declared _ _ (part_end_step n part.initialiser more S rest (parts_one n more S rest d)))
 
 declaration_one : (n : ℕ) (d : Declaration) (S : List Pending) (rest : Trees S) → IsOnly S rest → IsOnly (a_declaration n ∷ S) (d, rest)
 declaration_one n d S rest h =
     through (tt, (d.part.declared, ((d.part.initialiser, d.more), rest))) (declaration_goes n 0 S (own (a_declaration n ∷ S) (d, rest))) refl
     (exactly_one _ _ _ _ (name_one d.part.declared _ _ (part_end_step n d.part.initialiser d.more S rest (parts_one n d.more S rest h))))
 
-starts_simply : (n : ℕ) (s : Simple) (more : List Piece) → StartOpening.Simple ≡ opening_of_start (first (spelling (simple_pieces n s more)))
-starts_simply n (acts x action) more = refl
-starts_simply n (steps_before Step.Increment x) more = refl
-starts_simply n (steps_before Step.Decrement x) more = refl
-
-no_parenthesis : (n : ℕ) (s : Simple) (more : List Piece) → false ≡ parenthesis_follows (first (spelling (simple_pieces n s more)))
-no_parenthesis n (acts x action) more = refl
-no_parenthesis n (steps_before Step.Increment x) more = refl
-no_parenthesis n (steps_before Step.Decrement x) more = refl
-
 start_one : (n : ℕ) (start : Start) (S : List Pending) (rest : Trees S) → IsOnly S rest → IsOnly (a_start n ∷ S) (start, rest)
-start_one n starts_with_nothing S rest d =
-    through (tt, rest) (start_goes n 0 S (own (a_start n ∷ S) (starts_with_nothing, rest)) StartOpening.Nothing refl) refl (exactly_one _ _ S rest d)
-start_one n (declares declared) S rest d =
-    through (declared, rest) (start_goes n 0 S (own (a_start n ∷ S) (declares declared, rest)) StartOpening.Declaration refl) refl
-    (declaration_one n declared S rest d)
+start_one n starts_with_nothing S rest d = chosen (starts n S) StartOpening.Nothing (tt, rest) refl (exactly_one _ _ S rest d)
+start_one n (declares declared) S rest d = chosen (starts n S) StartOpening.Declaration (declared, rest) refl (declaration_one n declared S rest d)
 start_one n (starts_with s) S rest d =
-    through (s, (tt, rest)) (start_goes n 0 S (own (a_start n ∷ S) (starts_with s, rest)) StartOpening.Simple (starts_simply n s _)) refl
+    chosen (starts n S) StartOpening.Simple (s, (tt, rest)) (opens_simply _ (simple_begins n (exactly (leading Sym.Semicolon) (refl, refl) ∷ S) s (tt, rest))).1
     (simple_one n s _ _ (exactly_one _ _ S rest d))
 
 finish_one : (n : ℕ) (step : Option Simple) (S : List Pending) (rest : Trees S) → IsOnly S rest → IsOnly (a_finish n ∷ S) (step, rest)
-finish_one n None S rest d =
-    through (tt, rest) (finish_goes n 0 S (own (a_finish n ∷ S) (None, rest)) true refl) refl (exactly_one _ _ S rest d)
-finish_one n (Some s) S rest d =
-    through (s, (tt, rest)) (finish_goes n 0 S (own (a_finish n ∷ S) (Some s, rest)) false (no_parenthesis n s _)) refl
-    (simple_one n s _ _ (exactly_one _ _ S rest d))
+finish_one n None S rest d = begun (finishes n S) rest d
+finish_one n (Some s) S rest d = not_begun (finishes n S) (s, (tt, rest)) (no_parenthesis n S s rest) (simple_one n s _ _ (exactly_one _ _ S rest d))
 
 -- statements
-opens_simply : (n : ℕ) (s : Simple) (more : List Piece) → StatementOpening.Simple ≡ opening_of_statement (first (spelling (simple_pieces n s more)))
-opens_simply n (acts x action) more = refl
-opens_simply n (steps_before Step.Increment x) more = refl
-opens_simply n (steps_before Step.Decrement x) more = refl
-
-is_statement : (n : ℕ) (s : Statement) (more : List Piece) → ItemOpening.Statement ≡ opening_of_item (first (spelling (statement_pieces n s more)))
-is_statement n (simple (acts x action)) more = refl
-is_statement n (simple (steps_before Step.Increment x)) more = refl
-is_statement n (simple (steps_before Step.Decrement x)) more = refl
-is_statement n skip more = refl
-is_statement n (braces all) more = refl
-is_statement n (conditional test part other) more = refl
-is_statement n (while_loop test body) more = refl
-is_statement n (do_loop body test) more = refl
-is_statement n (for_loop start test step body) more = refl
-is_statement n (return value) more = refl
-
 mutual
   statement_one : (n : ℕ) (s : Statement) (S : List Pending) (rest : Trees S) → IsOnly S rest → IsOnly (a_statement n ∷ S) (s, rest)
   statement_one n (simple s) S rest d =
-      through (s, (tt, rest)) (statement_goes n 0 S (own (a_statement n ∷ S) (simple s, rest)) StatementOpening.Simple (opens_simply n s _)) refl
+      chosen (statements n S) StatementOpening.Simple (s, (tt, rest))
+      (opens_simply _ (simple_begins n (exactly (sign Sym.Semicolon) (refl, refl) ∷ S) s (tt, rest))).0
       (simple_one n s _ _ (exactly_one _ _ S rest d))
-  statement_one n skip S rest d =
-      through (tt, rest) (statement_goes n 0 S (own (a_statement n ∷ S) (skip, rest)) StatementOpening.Skip refl) refl (exactly_one _ _ S rest d)
-  statement_one n (braces all) S rest d =
-      through (tt, (all, rest)) (statement_goes n 0 S (own (a_statement n ∷ S) (braces all, rest)) StatementOpening.Braces refl) refl
-      (exactly_one _ _ _ _ (items_one (n + 1) all S rest d))
+  statement_one n skip S rest d = chosen (statements n S) StatementOpening.Skip (tt, rest) refl (exactly_one _ _ S rest d)
+  statement_one n (braces all) S rest d = chosen (statements n S) StatementOpening.Braces (tt, (all, rest)) refl (exactly_one _ _ _ _ (items_one (n + 1) all S rest d))
   statement_one n (conditional test part other) S rest d =
-      through (tt, (test, (part, (other, rest)))) (statement_goes n 0 S (own (a_statement n ∷ S) (conditional test part other, rest)) StatementOpening.If refl) refl
+      chosen (statements n S) StatementOpening.If (tt, (test, (part, (other, rest)))) refl
       (exactly_one _ _ _ _ (test_one (n + 1) test _ _ (statement_one (n + 1) part _ _ (otherwise_one (n + 1) other S rest d))))
   statement_one n (while_loop test body) S rest d =
-      through (tt, (test, (body, rest))) (statement_goes n 0 S (own (a_statement n ∷ S) (while_loop test body, rest)) StatementOpening.While refl) refl
+      chosen (statements n S) StatementOpening.While (tt, (test, (body, rest))) refl
       (exactly_one _ _ _ _ (test_one (n + 1) test _ _ (statement_one (n + 1) body S rest d)))
   statement_one n (do_loop body test) S rest d =
-      through (tt, (body, (tt, (test, (tt, rest))))) (statement_goes n 0 S (own (a_statement n ∷ S) (do_loop body test, rest)) StatementOpening.Do refl) refl
+      chosen (statements n S) StatementOpening.Do (tt, (body, (tt, (test, (tt, rest))))) refl
       (exactly_one _ _ _ _ (statement_one (n + 1) body _ _ (exactly_one _ _ _ _ (test_one (n + 1) test _ _ (exactly_one _ _ S rest d)))))
   statement_one n (for_loop start test step body) S rest d =
-      through (tt, (tt, (start, (test, (step, (body, rest))))))
-      (statement_goes n 0 S (own (a_statement n ∷ S) (for_loop start test step body, rest)) StatementOpening.For refl) refl
+      chosen (statements n S) StatementOpening.For (tt, (tt, (start, (test, (step, (body, rest)))))) refl
       (exactly_one _ _ _ _ (exactly_one _ _ _ _ (start_one (n + 1) start _ _ (optional_one (n + 1) test _ _
       (finish_one (n + 1) step _ _ (statement_one (n + 1) body S rest d))))))
   statement_one n (return value) S rest d =
-      through (tt, (value, rest)) (statement_goes n 0 S (own (a_statement n ∷ S) (return value, rest)) StatementOpening.Return refl) refl
-      (exactly_one _ _ _ _ (optional_one n value S rest d))
+      chosen (statements n S) StatementOpening.Return (tt, (value, rest)) refl (exactly_one _ _ _ _ (optional_one n value S rest d))
 
   otherwise_one : (n : ℕ) (other : Otherwise) (S : List Pending) (rest : Trees S) → IsOnly S rest → IsOnly (an_otherwise n ∷ S) (other, rest)
   otherwise_one n without S rest d =
       fitting (λ fits. through rest (otherwise_ends n 0 S (own (an_otherwise n ∷ S) (without, rest))
-      (sym (ap else_follows (first_spelling (pieces S rest)) ∙ statements.unseen (first_before (pieces S rest) None) fits.0))) refl d)
+      (subst (λ next. IsFalse (sees no_else next)) (sym (first_spelling (pieces S rest))) fits.0)) refl d)
   otherwise_one n (otherwise part) S rest d =
       behind {fill = λ g. (otherwise g.0, g.1)} (opening Sym.Else (n + 1)) (part, rest) (λ h. refl)
-      (λ f fits next. else_view n 0 S [] f.0 f.1 fits (ap else_follows next)) (statement_one (n + 1) part S rest d)
+      (λ f fits next. else_view n 0 S [] f.0 f.1 fits next) (statement_one (n + 1) part S rest d)
 
   items_one : (n : ℕ) (all : Items) (S : List Pending) (rest : Trees S) → IsOnly S rest → IsOnly (items n ∷ S) (all, rest)
-  items_one n none S rest d =
-      through (tt, rest) (items_goes n 0 S (own (items n ∷ S) (none, rest)) ItemOpening.Close refl) refl (exactly_one _ _ S rest d)
+  items_one n none S rest d = chosen (all_items n S) ItemOpening.Close (tt, rest) refl (exactly_one _ _ S rest d)
   items_one n (declaration first_one more) S rest d =
-      through (first_one, (more, rest)) (items_goes n 0 S (own (items n ∷ S) (declaration first_one more, rest)) ItemOpening.Declaration refl) refl
-      (declaration_one n first_one _ _ (items_one n more S rest d))
+      chosen (all_items n S) ItemOpening.Declaration (first_one, (more, rest)) refl (declaration_one n first_one _ _ (items_one n more S rest d))
   items_one n (statement first_one more) S rest d =
-      through (first_one, (more, rest))
-      (items_goes n 0 S (own (items n ∷ S) (statement first_one more, rest)) ItemOpening.Statement (is_statement n first_one _)) refl
+      chosen (all_items n S) ItemOpening.Statement (first_one, (more, rest)) (statement_among n (items n ∷ S) first_one (more, rest))
       (statement_one n first_one _ _ (items_one n more S rest d))
 
 -- programs
 void_one : (void : Bool) (S : List Pending) (rest : Trees S) → IsOnly S rest → IsOnly (a_void ∷ S) (void, rest)
-void_one true S rest d =
-    through (tt, (tt, rest)) (void_goes 0 S (own (a_void ∷ S) (true, rest)) true refl) refl (exactly_one _ _ _ _ (exactly_one _ _ S rest d))
-void_one false S rest d = through (tt, rest) (void_goes 0 S (own (a_void ∷ S) (false, rest)) false refl) refl (exactly_one _ _ S rest d)
+void_one true S rest d = begun (voids S) (tt, rest) (exactly_one _ _ S rest d)
+void_one false S rest d = not_begun (voids S) (tt, rest) (λ e. cc) (exactly_one _ _ S rest d)
 
 program_of : (list : List Prelude) (void : Bool) (all : Items) (S : List Pending) (rest : Trees S) → IsOnly S rest
     → IsOnly (a_program ∷ S) (record { preludes = list; void = void; items = all }, rest)
 program_of [] void all S rest d =
-    through (tt, (tt, (tt, (void, (tt, (all, rest))))))
-    (program_goes 0 S (own (a_program ∷ S) (record { preludes = []; void = void; items = all }, rest)) PreludeOpening.Main refl) refl
-    (exactly_one _ _ _ _ (exactly_one _ _ _ _ (exactly_one _ _ _ _ (void_one void _ _ (exactly_one _ _ _ _ (items_one 1 all S rest d))))))
+    chosen (beginnings S) PreludeOpening.Main (units main_signs main_quiet (a_void ∷ exactly (opening Sym.OpenBrace 1) (refl, refl) ∷ items 1 ∷ S) (void, (tt, (all, rest)))) refl
+    (signs_one main_signs main_quiet _ _ (void_one void _ _ (exactly_one _ _ _ _ (items_one 1 all S rest d))))
 program_of (extern_call written ∷ more) void all S rest d =
-    through (tt, (tt, (tt, (tt, (written, (tt, (record { preludes = more; void = void; items = all }, rest)))))))
-    (program_goes 0 S (own (a_program ∷ S) (record { preludes = extern_call written ∷ more; void = void; items = all }, rest)) PreludeOpening.Extern refl) refl
-    (exactly_one _ _ _ _ (exactly_one _ _ _ _ (exactly_one _ _ _ _ (exactly_one _ _ _ _ (void_one written _ _ (exactly_one _ _ _ _
-    (program_of more void all S rest d)))))))
+    chosen (beginnings S) PreludeOpening.Extern
+    (units extern_signs extern_quiet (a_void ∷ exactly (sign Sym.Semicolon) (refl, refl) ∷ a_program ∷ S) (written, (tt, (record { preludes = more; void = void; items = all }, rest)))) refl
+    (signs_one extern_signs extern_quiet _ _ (void_one written _ _ (exactly_one _ _ _ _ (program_of more void all S rest d))))
 program_of (typedef_bool ∷ more) void all S rest d =
-    through (tt, (tt, (tt, (tt, (tt, (tt, (tt, (tt, (tt, (record { preludes = more; void = void; items = all }, rest))))))))))
-    (program_goes 0 S (own (a_program ∷ S) (record { preludes = typedef_bool ∷ more; void = void; items = all }, rest)) PreludeOpening.Typedef refl) refl
-    (exactly_one _ _ _ _ (exactly_one _ _ _ _ (exactly_one _ _ _ _ (exactly_one _ _ _ _ (exactly_one _ _ _ _ (exactly_one _ _ _ _
-    (exactly_one _ _ _ _ (exactly_one _ _ _ _ (exactly_one _ _ _ _ (program_of more void all S rest d))))))))))
+    chosen (beginnings S) PreludeOpening.Typedef (units typedef_signs typedef_quiet (a_program ∷ S) (record { preludes = more; void = void; items = all }, rest)) refl
+    (signs_one typedef_signs typedef_quiet _ _ (program_of more void all S rest d))
 
 -- two programs with the same words are the same
 pub one_program : (p other : Program) → Fits (pieces (a_program ∷ []) (p, tt)) → Fits (pieces (a_program ∷ []) (other, tt))

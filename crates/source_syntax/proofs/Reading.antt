@@ -1,5 +1,5 @@
 -- Readings of a single word that the next word opens.
-use Rattle.std.proofs.Common.{◌≡◌, ℕ, ◌+◌, ◌<◌, ◌≤◌, ℤ, List, [], ◌∷◌, ◌++◌, subst, Some, None, Bool, true, refl, sym, ap, ◌∙◌, arith}
+use Rattle.std.proofs.Common.{◌≡◌, ℕ, ◌+◌, ◌<◌, ◌≤◌, ℤ, List, [], ◌∷◌, ◌++◌, subst, Some, None, Bool, refl, sym, ap, ◌∙◌, arith}
 use Rattle.step_meaning.specs.declared.expression.Op2.{Op2}
 use Rattle.derivation.specs.declared.rule.Rule.TheVariants.{Nesting, Operators}
 use Rattle.derivation.specs.declared.symbol.Symbol.{Symbol}
@@ -11,7 +11,7 @@ use Rattle.derivation.specs.Pieces.{first}
 use Rattle.concrete_syntax.specs.declared.sign.Prefix.{Prefix}
 use Rattle.source_syntax.specs.declared.opening.OperandOpening.{OperandOpening}
 use Rattle.source_syntax.specs.declared.opening.SizeOpening.{SizeOpening}
-use Rattle.source_syntax.specs.Openings.{opening_of_operand, binary_operator, size_opening, negative_follows}
+use Rattle.source_syntax.specs.Openings.{opening_of_operand, binary_operator, size_opening}
 use Rattle.std.proofs.lemmas.List.{map-append}
 use Rattle.concrete_syntax.specs.declared.expression.Operand.{Operand as RustOperand}
 use Rattle.concrete_syntax.specs.Chains.{Link, tail_of}
@@ -19,12 +19,13 @@ use Rattle.concrete_syntax.specs.Mirror.{operand, link, links}
 use Rattle.concrete_syntax.proofs.Chains.{tail_of-append}
 use Rattle.concrete_syntax.specs.Trees.{Operand, Tail, number, truth, unknown, signed, further, ended}
 use Rattle.source_syntax.specs.Spelling.{truth_word, prefix_sign, sign_of}
-use Rattle.source_syntax.specs.Pending.{Pending, a_size, an_end, an_operand, a_tail, an_expression, TreeOf}
+use Rattle.source_syntax.specs.Pending.{Pending, a_size, an_operand, a_tail, an_expression, TreeOf}
 use Rattle.source_syntax.specs.Leads.{Leads, Stops}
 use Rattle.source_syntax.specs.Reads.{ReadsCounting, ComesToTail}
 use Rattle.source_syntax.proofs.Calculus.{over, refilled}
-use Rattle.source_syntax.proofs.Expressions.{size_goes, minus_read, operand_goes, prefix_read, prefix_too_deep, operator_read, operator_too_many, tail_ends, expression_goes, truth_quiet}
-use Rattle.source_syntax.proofs.Words.{stands_at, operand_word, size_word, operator_word, minus_word}
+use Rattle.source_syntax.proofs.Expressions.{sizes, operands, prefix_read, prefix_too_deep, operator_read, operator_too_many, tail_ends, expression_goes, truth_quiet}
+use Rattle.source_syntax.proofs.Choices.{goes}
+use Rattle.source_syntax.proofs.Words.{stands_at, operand_word, size_word, operator_word}
 use Rattle.source_syntax.proofs.Answering.{sign_reads, number_reads}
 
 -- behind one word
@@ -41,7 +42,7 @@ module _ (lexemes : List Lexeme) (at : ℕ) where
   size_number z e =
       let w = size_word (words_from lexemes at) (SizeOpening.Number z) e in (
         λ count. record {
-          comes = λ behind. over (size_goes count behind (words_from lexemes at) (SizeOpening.Number z) e)
+          comes = λ behind. over (goes (sizes behind) count (words_from lexemes at) (SizeOpening.Number z) e)
               (number_reads (next_of lexemes at (numbered z) w.0 w.1));
         },
         one_behind lexemes at (numbered z) w.0 w.1,
@@ -52,17 +53,11 @@ module _ (lexemes : List Lexeme) (at : ℕ) where
   size_infinite e =
       let w = size_word (words_from lexemes at) SizeOpening.Infinite e in (
         λ count. record {
-          comes = λ behind. over (size_goes count behind (words_from lexemes at) SizeOpening.Infinite e)
+          comes = λ behind. over (goes (sizes behind) count (words_from lexemes at) SizeOpening.Infinite e)
               (sign_reads Sym.Infinite (refl, refl) (next_of lexemes at (symbol Sym.Infinite) w.0 w.1));
         },
         one_behind lexemes at (symbol Sym.Infinite) w.0 w.1,
       )
-
-  pub behind_minus : (count : ℕ) (behind : List Pending) → true ≡ negative_follows (first (words_from lexemes at))
-      → Leads count (an_end ∷ behind) (words_from lexemes at) count (a_size ∷ behind) (words_from lexemes (at + 1)) (λ g. (record { negative = true; size = g.0 }, g.1))
-  behind_minus count behind e =
-      let w = minus_word (words_from lexemes at) e in
-      minus_read count behind (words_from lexemes at) (words_from lexemes (at + 1)) (next_of lexemes at (symbol Sym.Minus) w.0 w.1)
 
 -- operands of one word
 module _ (lexemes : List Lexeme) (at n : ℕ) where
@@ -71,7 +66,7 @@ module _ (lexemes : List Lexeme) (at n : ℕ) where
   operand_number z e =
       let w = operand_word (words_from lexemes at) (OperandOpening.Number z) e in (
         λ count. record {
-          comes = λ behind. over (operand_goes n count behind (words_from lexemes at) (OperandOpening.Number z) e)
+          comes = λ behind. over (goes (operands n behind) count (words_from lexemes at) (OperandOpening.Number z) e)
               (number_reads (next_of lexemes at (numbered z) w.0 w.1));
         },
         one_behind lexemes at (numbered z) w.0 w.1,
@@ -82,7 +77,7 @@ module _ (lexemes : List Lexeme) (at n : ℕ) where
   operand_truth b e =
       let w = operand_word (words_from lexemes at) (OperandOpening.Truth b) e in (
         λ count. record {
-          comes = λ behind. over (operand_goes n count behind (words_from lexemes at) (OperandOpening.Truth b) e)
+          comes = λ behind. over (goes (operands n behind) count (words_from lexemes at) (OperandOpening.Truth b) e)
               (sign_reads (truth_word b) (truth_quiet b) (next_of lexemes at (symbol (truth_word b)) w.0 w.1));
         },
         one_behind lexemes at (symbol (truth_word b)) w.0 w.1,
@@ -93,7 +88,7 @@ module _ (lexemes : List Lexeme) (at n : ℕ) where
   operand_unknown e =
       let w = operand_word (words_from lexemes at) OperandOpening.Unknown e in (
         λ count. record {
-          comes = λ behind. over (operand_goes n count behind (words_from lexemes at) OperandOpening.Unknown e)
+          comes = λ behind. over (goes (operands n behind) count (words_from lexemes at) OperandOpening.Unknown e)
               (sign_reads Sym.Question (refl, refl) (next_of lexemes at (symbol Sym.Question) w.0 w.1));
         },
         one_behind lexemes at (symbol Sym.Question) w.0 w.1,

@@ -1,5 +1,5 @@
 -- The word that stands at a place, by how it opens.
-use Rattle.std.proofs.Common.{◌≡◌, ℕ, suc, ◌+◌, ◌<◌, ◌≤◌, ◌⊎◌, inl, inr, List, [], ◌∷◌, Option, None, Some, true, length, drop, get_or, drop-cons, refl, sym, ap, ◌∙◌, subst, add-one}
+use Rattle.std.proofs.Common.{◌≡◌, ℕ, suc, ◌+◌, ◌<◌, ◌≤◌, ◌⊎◌, inl, inr, List, [], ◌∷◌, Option, None, Some, length, drop, get_or, drop-cons, refl, sym, ap, ◌∙◌, subst, add-one}
 use Rattle.std.proofs.lemmas.Bool.{cases_lt}
 use Rattle.std.proofs.lemmas.List.{drop_all}
 use Rattle.step_meaning.specs.declared.expression.Op2.{Op2}
@@ -10,7 +10,7 @@ use Rattle.derivation.specs.Spelled.{spelled, all_spelled, words_from}
 use Rattle.derivation.specs.Pieces.{first}
 use Rattle.source_syntax.specs.declared.opening.OperandOpening.{OperandOpening}
 use Rattle.source_syntax.specs.declared.opening.SizeOpening.{SizeOpening}
-use Rattle.source_syntax.specs.Openings.{opening_of_operand, binary_operator, size_opening, negative_follows, else_follows}
+use Rattle.source_syntax.specs.Openings.{opening_of_operand, binary_operator, size_opening}
 use Rattle.source_syntax.specs.Spelling.{sign_of, prefix_sign, truth_word}
 
 -- where a word stands, there is room for it, and the others stand behind
@@ -89,19 +89,3 @@ operator_word (symbol Sym.NotEqual ∷ ws) o e = subst (λ o. WordForOperator o 
 operator_word (symbol Sym.And ∷ ws) o e = subst (λ o. WordForOperator o (symbol Sym.And ∷ ws)) (sym e) (ws, refl)
 operator_word (symbol Sym.Or ∷ ws) o e = subst (λ o. WordForOperator o (symbol Sym.Or ∷ ws)) (sym e) (ws, refl)
 operator_word (symbol s ∷ ws) o e = subst (λ o. WordForOperator o (symbol s ∷ ws)) (sym e) tt
-
-pub minus_word : (ws : List Word) → true ≡ negative_follows (first ws) → (rest : List Word) × (ws ≡ symbol Sym.Minus ∷ rest)
-minus_word [] e = absurd (cc)
-minus_word (named x ∷ ws) e = absurd (cc)
-minus_word (numbered z ∷ ws) e = absurd (cc)
-minus_word (unreadable ∷ ws) e = absurd (cc)
-minus_word (symbol Sym.Minus ∷ ws) e = (ws, refl)
-minus_word (symbol s ∷ ws) e = absurd (cc)
-
-pub else_word : (ws : List Word) → true ≡ else_follows (first ws) → (rest : List Word) × (ws ≡ symbol Sym.Else ∷ rest)
-else_word [] e = absurd (cc)
-else_word (named x ∷ ws) e = absurd (cc)
-else_word (numbered z ∷ ws) e = absurd (cc)
-else_word (unreadable ∷ ws) e = absurd (cc)
-else_word (symbol Sym.Else ∷ ws) e = (ws, refl)
-else_word (symbol s ∷ ws) e = absurd (cc)

@@ -2,7 +2,7 @@
 use Rattle.std.specs.Prelude.{◌≡◌, ℕ, List, ⊤}
 use Rattle.concrete_syntax.specs.Trees.{Program}
 use Rattle.source_syntax.specs.declared.fault.SyntaxFault.{SyntaxFault}
-use Rattle.source_syntax.specs.declared.fault.SyntaxFault.TheVariants.{Lex, Expected, Limit, Memory}
+use Rattle.source_syntax.specs.declared.fault.SyntaxFault.TheVariants.{Memory}
 use Rattle.source_syntax.specs.Texts.{IsTextOf, IsFaultOf}
 
 -- a text is what at most one tree spells
@@ -18,14 +18,11 @@ IsMemory _ = ⊥
 abbrev pub ProgramsHaveNoFault : Type 0
 ProgramsHaveNoFault = (text : List ℕ) (tree : Program) (fault : SyntaxFault) → IsTextOf text tree → IsFaultOf text fault → IsMemory fault
 
--- the same kind at the same place; of two counts and of want of memory nothing is said
+-- the same; of want of memory nothing is said
 abbrev pub IsSameFault : SyntaxFault → SyntaxFault → Type 0
-IsSameFault (Lex fault) (Lex other) = fault ≡ other
-IsSameFault (Expected at) (Expected place) = at ≡ place
-IsSameFault (Limit which at count) (Limit other place number) = (which ≡ other) × (at ≡ place)
 IsSameFault (Memory error) _ = ⊤
 IsSameFault _ (Memory error) = ⊤
-IsSameFault _ _ = ⊥
+IsSameFault fault other = fault ≡ other
 
 -- a text has at most one first fault
 abbrev pub FirstFaultsAgree : Type 0

@@ -1,5 +1,5 @@
 -- How each kind of phrase opens, by its next word.
-use Rattle.std.specs.Prelude.{Bool, true, false, Option, Some, None}
+use Rattle.std.specs.Prelude.{true, false, Option, Some, None}
 use Rattle.step_meaning.specs.declared.expression.Op2.{Op2}
 use Rattle.derivation.specs.declared.symbol.Symbol.TheVariants as Symbol
 use Rattle.derivation.specs.Word.{Word, symbol, name, number}
@@ -90,31 +90,3 @@ abbrev pub opening_of_prelude : Option Word → PreludeOpening
 opening_of_prelude (Some (symbol Symbol.Extern)) = PreludeOpening.Extern
 opening_of_prelude (Some (symbol Symbol.Typedef)) = PreludeOpening.Typedef
 opening_of_prelude _ = PreludeOpening.Main
-
-abbrev pub negative_follows : Option Word → Bool
-negative_follows (Some (symbol Symbol.Minus)) = true
-negative_follows _ = false
-
-abbrev pub assign_follows : Option Word → Bool
-assign_follows (Some (symbol Symbol.Assign)) = true
-assign_follows _ = false
-
-abbrev pub comma_follows : Option Word → Bool
-comma_follows (Some (symbol Symbol.Comma)) = true
-comma_follows _ = false
-
-abbrev pub semicolon_follows : Option Word → Bool
-semicolon_follows (Some (symbol Symbol.Semicolon)) = true
-semicolon_follows _ = false
-
-abbrev pub parenthesis_follows : Option Word → Bool
-parenthesis_follows (Some (symbol Symbol.CloseParenthesis)) = true
-parenthesis_follows _ = false
-
-abbrev pub void_follows : Option Word → Bool
-void_follows (Some (symbol Symbol.Void)) = true
-void_follows _ = false
-
-abbrev pub else_follows : Option Word → Bool
-else_follows (Some (symbol Symbol.Else)) = true
-else_follows _ = false

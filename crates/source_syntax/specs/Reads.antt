@@ -1,5 +1,5 @@
 -- What the readers of the parser answer, for whatever is to be read behind.
-use Rattle.std.specs.Prelude.{◌≡◌, ◌≢◌, ℕ, ◌<◌, List, ◌∷◌, ◌++◌}
+use Rattle.std.specs.Prelude.{◌≡◌, ◌≢◌, ◌⊎◌, ℕ, ◌<◌, List, [], ◌∷◌, ◌++◌}
 use Rattle.derivation.specs.declared.rule.Rule.{Rule}
 use Rattle.derivation.specs.declared.rule.Rule.TheVariants.{Expected, Nesting, Operators}
 use Rattle.derivation.specs.declared.symbol.Symbol.{Symbol}
@@ -37,6 +37,16 @@ pub record ReadsLeading (p : Pending) (tree : TreeOf p) (from to : List Word) : 
 abbrev pub MissesSign : List Word → Symbol → Rule → Type 0
 MissesSign from wanted Expected = (to : List Word) → from ≢ symbol wanted ∷ to
 MissesSign from wanted _ = ⊥
+
+-- these signs stand one behind the other; and the first of them that doesn't, behind those that do
+abbrev pub AreNext : List Symbol → List Word → List Word → Type 0
+AreNext [] from to = from ≡ to
+AreNext (wanted ∷ more) from to = (behind : List Word) × (from ≡ symbol wanted ∷ behind) × AreNext more behind to
+
+abbrev pub MissesOne : List Symbol → List Word → Rule → List Word → Type 0
+MissesOne [] from rule to = ⊥
+MissesOne (wanted ∷ more) from rule to =
+    (MissesSign from wanted rule × (to ≡ from)) ⊎ ((behind : List Word) × (from ≡ symbol wanted ∷ behind) × MissesOne more behind rule to)
 
 abbrev pub MissesOpening : List Word → Symbol → ℕ → Rule → Type 0
 MissesOpening from wanted level Expected = (to : List Word) → from ≢ symbol wanted ∷ to

@@ -1,7 +1,6 @@
 -- Which texts are programs by their syntax, and the first fault of those that aren't.
-use Rattle.std.specs.Prelude.{◌≡◌, ℕ, ◌<◌, List, [], length, drop, ⊤}
+use Rattle.std.specs.Prelude.{◌≡◌, ℕ, List, [], length, drop, ⊤}
 use Rattle.derivation.specs.declared.rule.Rule.{Rule}
-use Rattle.derivation.specs.declared.rule.Rule.TheVariants.{Expected, Nesting, Operators}
 use Rattle.derivation.specs.Word.{words}
 use Rattle.derivation.specs.Comes.{Phrase, FirstFault, IsSpelledBy}
 use Rattle.source_lex.specs.Spans.{start_of}
@@ -9,8 +8,7 @@ use Rattle.source_lex.specs.Tokens.{TokensOf}
 use Rattle.source_lex.specs.Faults.{FirstFault as FirstLexFault}
 use Rattle.source_lex.specs.declared.token.Token.{Token}
 use Rattle.source_syntax.specs.declared.fault.SyntaxFault.{SyntaxFault}
-use Rattle.source_syntax.specs.declared.fault.SyntaxFault.TheVariants.{Lex, Expected as ExpectedAt, Limit, Memory}
-use Rattle.source_syntax.specs.declared.fault.Which.TheVariants as Which
+use Rattle.source_syntax.specs.declared.fault.SyntaxFault.TheVariants.{Lex, Broken, Memory}
 use Rattle.concrete_syntax.specs.Trees.{Program}
 use Rattle.source_syntax.specs.Spelling.{program_pieces}
 
@@ -36,11 +34,8 @@ pub record HasFault (text : List ℕ) (rule : Rule) (at : ℕ) : Type 0 where
   pub fault : FirstFault programs (words text tokens) rule (drop number (words text tokens))
   pub place : at ≡ place_in text tokens number
 
--- what may be answered in place of Ok: the first fault of the text, or that memory ran out; of a count nothing is said but that it is
--- above its limit
+-- what may be answered in place of Ok: the first fault of the text, or that memory ran out
 abbrev pub IsFaultOf : List ℕ → SyntaxFault → Type 0
 IsFaultOf text (Lex fault) = FirstLexFault text fault
-IsFaultOf text (ExpectedAt at) = HasFault text Expected at
-IsFaultOf text (Limit Which.Nesting at count) = HasFault text Nesting at × (64 < count)
-IsFaultOf text (Limit Which.Operators at count) = HasFault text Operators at × (256 < count)
+IsFaultOf text (Broken rule at) = HasFault text rule at
 IsFaultOf text (Memory _) = ⊤

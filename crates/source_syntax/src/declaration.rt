@@ -10,11 +10,11 @@ ghost use Rattle.source_syntax.specs.Reads.{ReadsLeading, Refuses, ReadsPart, Re
 
 use crate::expression::expression;
 use crate::fault::Failure;
-use crate::opening::{StartOpening, assign_follows, comma_follows, opening_of_start};
+use crate::opening::{StartOpening, opening_of_start};
 use crate::reader::{owned_name, sign};
 use crate::simple::simple;
 use concrete_syntax::{Declaration, Part, Start};
-use derivation::{Lexeme, Symbol};
+use derivation::{Lexeme, Symbol, after};
 use std::alloc::Global;
 
 /// Reads a declaration and the `;` behind it.
@@ -33,8 +33,7 @@ pub fn declaration(
     let (first, mut here) = part(alloc, words, inner, levels)?;
     let mut more = Vec::new(alloc);
     'parts: loop {
-        if comma_follows(words, here) {
-            let behind = sign(words, here, Symbol::Comma)?;
+        if let Some(behind) = after(words, here, Symbol::Comma) {
             let (further, next) = part(alloc, words, behind, levels)?;
             more.push(further)?;
             here = next;
@@ -58,8 +57,7 @@ fn part(
     ensures refused { IfFault result (λ fault. RefusesPart levels (words_from words.now at) fault.rule (words_from words.now fault.at)) }
 {
     let (declared, behind) = owned_name(alloc, words, at)?;
-    if assign_follows(words, behind) {
-        let inner = sign(words, behind, Symbol::Assign)?;
+    if let Some(inner) = after(words, behind, Symbol::Assign) {
         let (value, next, _) = expression(alloc, words, inner, levels, 0)?;
         return Ok((
             Part {

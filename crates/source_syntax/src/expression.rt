@@ -13,12 +13,11 @@ ghost use Rattle.source_syntax.specs.Reads.{ReadsCounting, RefusesCounting};
 
 use crate::fault::{Failure, Fault};
 use crate::opening::{
-    OperandOpening, SizeOpening, binary_operator, negative_follows, opening_of_operand,
-    size_opening,
+    OperandOpening, SizeOpening, binary_operator, opening_of_operand, size_opening,
 };
 use crate::reader::{MOST_LEVELS, opening, owned_name, sign};
 use concrete_syntax::{End, Expression, Operand, Prefix, Tail};
-use derivation::{Lexeme, Rule, Symbol};
+use derivation::{Lexeme, Rule, Symbol, after};
 use std::alloc::Global;
 
 /// How many binary operators one expression may have.
@@ -202,8 +201,8 @@ fn range_end(words: &[Lexeme<'_>], at: usize) -> Result<(End, usize), Fault>
     ensures forward { IfOk result (λ found. IsBehind words.now at found.1) }
     ensures refused { IfErr result (λ fault. (count : ℕ) → RefusesCounting count an_end (words_from words.now at) fault.rule (words_from words.now fault.at)) }
 {
-    if negative_follows(words, at) {
-        let (below, next) = size(words, at + 1)?;
+    if let Some(inner) = after(words, at, Symbol::Minus) {
+        let (below, next) = size(words, inner)?;
         return Ok((
             End {
                 negative: true,

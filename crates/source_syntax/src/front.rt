@@ -9,7 +9,7 @@ ghost use Rattle.concrete_syntax.specs.Mirror.{program as program_tree};
 ghost use Rattle.source_syntax.specs.Failures.{IfFault};
 ghost use Rattle.source_syntax.specs.Texts.{programs, place_in, IsTextOf, IsFaultOf};
 
-use crate::fault::{Failure, Fault, SyntaxFault, Which};
+use crate::fault::{Failure, Fault, SyntaxFault};
 use crate::program::program;
 use concrete_syntax::Program;
 use derivation::{Lexeme, Rule, lexemes};
@@ -26,8 +26,8 @@ pub struct Syntax {
 /// The tokens and the concrete tree of a text that is a program by its syntax: its grammar and the limits on nesting (64 levels) and on
 /// the binary operators of one expression (256). Names and sorts have no part in it. The text has at most 65,536 bytes. Time is linear in the text.
 ///
-/// The first fault is answered where there is one: `Lex` where the text has no tokens; else the first of `Expected` and `Limit` by its
-/// place, `Expected` where a token is both. `Memory` where the tokens or the tree find no room.
+/// The first fault is answered where there is one: `Lex` where the text has no tokens; else the first token that breaks a rule, of
+/// `Expected` where it breaks a limit too. `Memory` where the tokens or the tree find no room.
 pub fn read_syntax(alloc: Global, text: &[u8]) -> Result<Syntax, SyntaxFault>
     requires { length text.now ≤ 65536 }
     ensures tokens { IfOk result (λ read. TokensOf text.now read.tokens.items) }
@@ -72,19 +72,9 @@ fn placed(text: &[u8], tokens: &[Token], fault: Fault) -> SyntaxFault
     requires breaks { FirstFault programs (words text.now tokens.now) fault.rule (drop fault.at (words text.now tokens.now)) }
     ensures { IsFaultOf text.now result }
 {
-    let at = place_in(text, tokens, fault.at);
-    match fault.rule {
-        Rule::Expected => SyntaxFault::Expected { at },
-        Rule::Nesting => SyntaxFault::Limit {
-            which: Which::Nesting,
-            at,
-            count: 65,
-        },
-        Rule::Operators => SyntaxFault::Limit {
-            which: Which::Operators,
-            at,
-            count: 257,
-        },
+    SyntaxFault::Broken {
+        rule: fault.rule,
+        at: place_in(text, tokens, fault.at),
     }
 }
 

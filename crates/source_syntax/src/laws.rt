@@ -12,7 +12,7 @@ pub fn programs_have_no_fault()
     ensures { ProgramsHaveNoFault }
 {}
 
-/// Two faults that may be answered of one text are the same, but for the counts that they hold and for want of memory.
+/// Two faults that may be answered of one text are the same, but for want of memory.
 pub fn first_faults_agree()
     ensures { FirstFaultsAgree }
 {}

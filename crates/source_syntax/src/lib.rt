@@ -16,6 +16,6 @@ mod statement;
 #[cfg(test)]
 mod tests;
 
-pub use fault::{SyntaxFault, Which};
+pub use fault::SyntaxFault;
 pub use front::{Syntax, place_in, read_syntax};
 pub use laws::{first_faults_agree, programs_have_no_fault, trees_are_unique};

@@ -3,10 +3,10 @@
 ghost use Rattle.std.specs.Prelude.{◌≡◌};
 ghost use Rattle.derivation.specs.Spelled.{words_from};
 ghost use Rattle.derivation.specs.Pieces.{first};
-ghost use Rattle.source_syntax.specs.Openings.{opening_of_operand, binary_operator, opening_of_simple, opening_of_action, opening_of_statement, opening_of_item, opening_of_prelude, negative_follows, size_opening, assign_follows, comma_follows, semicolon_follows, parenthesis_follows, void_follows, else_follows, opening_of_start};
+ghost use Rattle.source_syntax.specs.Openings.{opening_of_operand, binary_operator, opening_of_simple, opening_of_action, opening_of_statement, opening_of_item, opening_of_prelude, size_opening, opening_of_start};
 
 use concrete_syntax::{Assignment, Prefix, Step};
-use derivation::{Lexeme, Reading, Symbol};
+use derivation::{Lexeme, Symbol};
 use step_meaning::Op2;
 
 /// How an operand opens.
@@ -92,18 +92,18 @@ pub fn opening_of_operand(words: &[Lexeme<'_>], at: usize) -> OperandOpening
     let Some(word) = words.get(at) else {
         return OperandOpening::Nothing;
     };
-    match word.reading {
-        Reading::Number(value) => OperandOpening::Number(value),
-        Reading::Name(_) => OperandOpening::Name,
-        Reading::Symbol(Symbol::True) => OperandOpening::Truth(true),
-        Reading::Symbol(Symbol::False) => OperandOpening::Truth(false),
-        Reading::Symbol(Symbol::Question) => OperandOpening::Unknown,
-        Reading::Symbol(Symbol::Nondeterministic) => OperandOpening::Call,
-        Reading::Symbol(Symbol::Plus) => OperandOpening::Signed(Prefix::Plus),
-        Reading::Symbol(Symbol::Minus) => OperandOpening::Signed(Prefix::Minus),
-        Reading::Symbol(Symbol::Not) => OperandOpening::Signed(Prefix::Not),
-        Reading::Symbol(Symbol::OpenParenthesis) => OperandOpening::Parenthesis,
-        Reading::Symbol(Symbol::OpenBracket) => OperandOpening::Bracket,
+    match *word {
+        Lexeme::Number(value) => OperandOpening::Number(value),
+        Lexeme::Name(_) => OperandOpening::Name,
+        Lexeme::Symbol(Symbol::True) => OperandOpening::Truth(true),
+        Lexeme::Symbol(Symbol::False) => OperandOpening::Truth(false),
+        Lexeme::Symbol(Symbol::Question) => OperandOpening::Unknown,
+        Lexeme::Symbol(Symbol::Nondeterministic) => OperandOpening::Call,
+        Lexeme::Symbol(Symbol::Plus) => OperandOpening::Signed(Prefix::Plus),
+        Lexeme::Symbol(Symbol::Minus) => OperandOpening::Signed(Prefix::Minus),
+        Lexeme::Symbol(Symbol::Not) => OperandOpening::Signed(Prefix::Not),
+        Lexeme::Symbol(Symbol::OpenParenthesis) => OperandOpening::Parenthesis,
+        Lexeme::Symbol(Symbol::OpenBracket) => OperandOpening::Bracket,
         _ => OperandOpening::Nothing,
     }
 }
@@ -115,18 +115,18 @@ pub fn binary_operator(words: &[Lexeme<'_>], at: usize) -> Option<Op2>
     let Some(word) = words.get(at) else {
         return None;
     };
-    match word.reading {
-        Reading::Symbol(Symbol::Plus) => Some(Op2::Add),
-        Reading::Symbol(Symbol::Minus) => Some(Op2::Sub),
-        Reading::Symbol(Symbol::Times) => Some(Op2::Mul),
-        Reading::Symbol(Symbol::Less) => Some(Op2::Less),
-        Reading::Symbol(Symbol::LessEqual) => Some(Op2::LessEqual),
-        Reading::Symbol(Symbol::Greater) => Some(Op2::Greater),
-        Reading::Symbol(Symbol::GreaterEqual) => Some(Op2::GreaterEqual),
-        Reading::Symbol(Symbol::Equal) => Some(Op2::Equal),
-        Reading::Symbol(Symbol::NotEqual) => Some(Op2::NotEqual),
-        Reading::Symbol(Symbol::And) => Some(Op2::And),
-        Reading::Symbol(Symbol::Or) => Some(Op2::Or),
+    match *word {
+        Lexeme::Symbol(Symbol::Plus) => Some(Op2::Add),
+        Lexeme::Symbol(Symbol::Minus) => Some(Op2::Sub),
+        Lexeme::Symbol(Symbol::Times) => Some(Op2::Mul),
+        Lexeme::Symbol(Symbol::Less) => Some(Op2::Less),
+        Lexeme::Symbol(Symbol::LessEqual) => Some(Op2::LessEqual),
+        Lexeme::Symbol(Symbol::Greater) => Some(Op2::Greater),
+        Lexeme::Symbol(Symbol::GreaterEqual) => Some(Op2::GreaterEqual),
+        Lexeme::Symbol(Symbol::Equal) => Some(Op2::Equal),
+        Lexeme::Symbol(Symbol::NotEqual) => Some(Op2::NotEqual),
+        Lexeme::Symbol(Symbol::And) => Some(Op2::And),
+        Lexeme::Symbol(Symbol::Or) => Some(Op2::Or),
         _ => None,
     }
 }
@@ -138,9 +138,9 @@ pub fn size_opening(words: &[Lexeme<'_>], at: usize) -> SizeOpening
     let Some(word) = words.get(at) else {
         return SizeOpening::Nothing;
     };
-    match word.reading {
-        Reading::Number(value) => SizeOpening::Number(value),
-        Reading::Symbol(Symbol::Infinite) => SizeOpening::Infinite,
+    match *word {
+        Lexeme::Number(value) => SizeOpening::Number(value),
+        Lexeme::Symbol(Symbol::Infinite) => SizeOpening::Infinite,
         _ => SizeOpening::Nothing,
     }
 }
@@ -152,10 +152,10 @@ pub fn opening_of_simple(words: &[Lexeme<'_>], at: usize) -> SimpleOpening
     let Some(word) = words.get(at) else {
         return SimpleOpening::Nothing;
     };
-    match word.reading {
-        Reading::Name(_) => SimpleOpening::Name,
-        Reading::Symbol(Symbol::Increment) => SimpleOpening::Steps(Step::Increment),
-        Reading::Symbol(Symbol::Decrement) => SimpleOpening::Steps(Step::Decrement),
+    match *word {
+        Lexeme::Name(_) => SimpleOpening::Name,
+        Lexeme::Symbol(Symbol::Increment) => SimpleOpening::Steps(Step::Increment),
+        Lexeme::Symbol(Symbol::Decrement) => SimpleOpening::Steps(Step::Decrement),
         _ => SimpleOpening::Nothing,
     }
 }
@@ -167,13 +167,13 @@ pub fn opening_of_action(words: &[Lexeme<'_>], at: usize) -> ActionOpening
     let Some(word) = words.get(at) else {
         return ActionOpening::Nothing;
     };
-    match word.reading {
-        Reading::Symbol(Symbol::Assign) => ActionOpening::Assigns(Assignment::Assign),
-        Reading::Symbol(Symbol::AddAssign) => ActionOpening::Assigns(Assignment::Add),
-        Reading::Symbol(Symbol::SubtractAssign) => ActionOpening::Assigns(Assignment::Subtract),
-        Reading::Symbol(Symbol::MultiplyAssign) => ActionOpening::Assigns(Assignment::Multiply),
-        Reading::Symbol(Symbol::Increment) => ActionOpening::Steps(Step::Increment),
-        Reading::Symbol(Symbol::Decrement) => ActionOpening::Steps(Step::Decrement),
+    match *word {
+        Lexeme::Symbol(Symbol::Assign) => ActionOpening::Assigns(Assignment::Assign),
+        Lexeme::Symbol(Symbol::AddAssign) => ActionOpening::Assigns(Assignment::Add),
+        Lexeme::Symbol(Symbol::SubtractAssign) => ActionOpening::Assigns(Assignment::Subtract),
+        Lexeme::Symbol(Symbol::MultiplyAssign) => ActionOpening::Assigns(Assignment::Multiply),
+        Lexeme::Symbol(Symbol::Increment) => ActionOpening::Steps(Step::Increment),
+        Lexeme::Symbol(Symbol::Decrement) => ActionOpening::Steps(Step::Decrement),
         _ => ActionOpening::Nothing,
     }
 }
@@ -185,17 +185,17 @@ pub fn opening_of_statement(words: &[Lexeme<'_>], at: usize) -> StatementOpening
     let Some(word) = words.get(at) else {
         return StatementOpening::Nothing;
     };
-    match word.reading {
-        Reading::Name(_) => StatementOpening::Simple,
-        Reading::Symbol(Symbol::Increment) => StatementOpening::Simple,
-        Reading::Symbol(Symbol::Decrement) => StatementOpening::Simple,
-        Reading::Symbol(Symbol::Semicolon) => StatementOpening::Skip,
-        Reading::Symbol(Symbol::OpenBrace) => StatementOpening::Braces,
-        Reading::Symbol(Symbol::If) => StatementOpening::If,
-        Reading::Symbol(Symbol::While) => StatementOpening::While,
-        Reading::Symbol(Symbol::Do) => StatementOpening::Do,
-        Reading::Symbol(Symbol::For) => StatementOpening::For,
-        Reading::Symbol(Symbol::Return) => StatementOpening::Return,
+    match *word {
+        Lexeme::Name(_) => StatementOpening::Simple,
+        Lexeme::Symbol(Symbol::Increment) => StatementOpening::Simple,
+        Lexeme::Symbol(Symbol::Decrement) => StatementOpening::Simple,
+        Lexeme::Symbol(Symbol::Semicolon) => StatementOpening::Skip,
+        Lexeme::Symbol(Symbol::OpenBrace) => StatementOpening::Braces,
+        Lexeme::Symbol(Symbol::If) => StatementOpening::If,
+        Lexeme::Symbol(Symbol::While) => StatementOpening::While,
+        Lexeme::Symbol(Symbol::Do) => StatementOpening::Do,
+        Lexeme::Symbol(Symbol::For) => StatementOpening::For,
+        Lexeme::Symbol(Symbol::Return) => StatementOpening::Return,
         _ => StatementOpening::Nothing,
     }
 }
@@ -207,9 +207,9 @@ pub fn opening_of_item(words: &[Lexeme<'_>], at: usize) -> ItemOpening
     let Some(word) = words.get(at) else {
         return ItemOpening::Statement;
     };
-    match word.reading {
-        Reading::Symbol(Symbol::CloseBrace) => ItemOpening::Close,
-        Reading::Symbol(Symbol::Int) => ItemOpening::Declaration,
+    match *word {
+        Lexeme::Symbol(Symbol::CloseBrace) => ItemOpening::Close,
+        Lexeme::Symbol(Symbol::Int) => ItemOpening::Declaration,
         _ => ItemOpening::Statement,
     }
 }
@@ -221,9 +221,9 @@ pub fn opening_of_start(words: &[Lexeme<'_>], at: usize) -> StartOpening
     let Some(word) = words.get(at) else {
         return StartOpening::Simple;
     };
-    match word.reading {
-        Reading::Symbol(Symbol::Semicolon) => StartOpening::Nothing,
-        Reading::Symbol(Symbol::Int) => StartOpening::Declaration,
+    match *word {
+        Lexeme::Symbol(Symbol::Semicolon) => StartOpening::Nothing,
+        Lexeme::Symbol(Symbol::Int) => StartOpening::Declaration,
         _ => StartOpening::Simple,
     }
 }
@@ -235,79 +235,9 @@ pub fn opening_of_prelude(words: &[Lexeme<'_>], at: usize) -> PreludeOpening
     let Some(word) = words.get(at) else {
         return PreludeOpening::Main;
     };
-    match word.reading {
-        Reading::Symbol(Symbol::Extern) => PreludeOpening::Extern,
-        Reading::Symbol(Symbol::Typedef) => PreludeOpening::Typedef,
+    match *word {
+        Lexeme::Symbol(Symbol::Extern) => PreludeOpening::Extern,
+        Lexeme::Symbol(Symbol::Typedef) => PreludeOpening::Typedef,
         _ => PreludeOpening::Main,
     }
-}
-
-/// Whether a `-` stands at this place.
-pub fn negative_follows(words: &[Lexeme<'_>], at: usize) -> bool
-    ensures { result ≡ negative_follows (first (words_from words.now at)) }
-{
-    let Some(word) = words.get(at) else {
-        return false;
-    };
-    matches!(word.reading, Reading::Symbol(Symbol::Minus))
-}
-
-/// Whether a `=` stands at this place.
-pub fn assign_follows(words: &[Lexeme<'_>], at: usize) -> bool
-    ensures { result ≡ assign_follows (first (words_from words.now at)) }
-{
-    let Some(word) = words.get(at) else {
-        return false;
-    };
-    matches!(word.reading, Reading::Symbol(Symbol::Assign))
-}
-
-/// Whether a `,` stands at this place.
-pub fn comma_follows(words: &[Lexeme<'_>], at: usize) -> bool
-    ensures { result ≡ comma_follows (first (words_from words.now at)) }
-{
-    let Some(word) = words.get(at) else {
-        return false;
-    };
-    matches!(word.reading, Reading::Symbol(Symbol::Comma))
-}
-
-/// Whether a `;` stands at this place.
-pub fn semicolon_follows(words: &[Lexeme<'_>], at: usize) -> bool
-    ensures { result ≡ semicolon_follows (first (words_from words.now at)) }
-{
-    let Some(word) = words.get(at) else {
-        return false;
-    };
-    matches!(word.reading, Reading::Symbol(Symbol::Semicolon))
-}
-
-/// Whether a `)` stands at this place.
-pub fn parenthesis_follows(words: &[Lexeme<'_>], at: usize) -> bool
-    ensures { result ≡ parenthesis_follows (first (words_from words.now at)) }
-{
-    let Some(word) = words.get(at) else {
-        return false;
-    };
-    matches!(word.reading, Reading::Symbol(Symbol::CloseParenthesis))
-}
-
-/// Whether the word `void` stands at this place.
-pub fn void_follows(words: &[Lexeme<'_>], at: usize) -> bool
-    ensures { result ≡ void_follows (first (words_from words.now at)) }
-{
-    let Some(word) = words.get(at) else {
-        return false;
-    };
-    matches!(word.reading, Reading::Symbol(Symbol::Void))
-}
-
-/// Whether the word `else` stands at this place.
-pub fn else_follows(words: &[Lexeme<'_>], at: usize) -> bool
-    ensures { result ≡ else_follows (first (words_from words.now at)) }
-{
-    let Some(word) = words.get(at) else {
-        return false;
-    };
-    matches!(word.reading, Reading::Symbol(Symbol::Else))
 }

@@ -12,11 +12,11 @@ ghost use Rattle.source_syntax.specs.Pending.{a_program, a_void};
 ghost use Rattle.source_syntax.specs.Reads.{Reads, Refuses, Continues, behind_preludes};
 
 use crate::fault::{Failure, Fault};
-use crate::opening::{PreludeOpening, opening_of_prelude, void_follows};
-use crate::reader::{opening, sign};
+use crate::opening::{PreludeOpening, opening_of_prelude};
+use crate::reader::{opening, sign, signs};
 use crate::statement::items;
 use concrete_syntax::{Items, Prelude, Program};
-use derivation::{Lexeme, Symbol};
+use derivation::{Lexeme, Symbol, after};
 use std::alloc::Global;
 
 /// Reads a program.
@@ -61,10 +61,13 @@ fn extern_call(words: &[Lexeme<'_>], at: usize) -> Result<(bool, usize), Fault>
     ensures forward { IfOk result (λ found. IsBehind words.now at found.1) }
     ensures refused { IfErr result (λ fault. Refuses a_program (words_from words.now at) fault.rule (words_from words.now fault.at)) }
 {
-    let kind = sign(words, at, Symbol::Extern)?;
-    let word = sign(words, kind, Symbol::Int)?;
-    let open = sign(words, word, Symbol::Nondeterministic)?;
-    let inner = sign(words, open, Symbol::OpenParenthesis)?;
+    let before = [
+        Symbol::Extern,
+        Symbol::Int,
+        Symbol::Nondeterministic,
+        Symbol::OpenParenthesis,
+    ];
+    let inner = signs(words, at, &before)?;
     let (written, end) = void(words, inner)?;
     let next = sign(words, end, Symbol::Semicolon)?;
     Ok((written, next))
@@ -77,15 +80,18 @@ fn typedef_bool(words: &[Lexeme<'_>], at: usize) -> Result<usize, Fault>
     ensures forward { IfOk result (IsBehind words.now at) }
     ensures refused { IfErr result (λ fault. Refuses a_program (words_from words.now at) fault.rule (words_from words.now fault.at)) }
 {
-    let kind = sign(words, at, Symbol::Typedef)?;
-    let open = sign(words, kind, Symbol::Enum)?;
-    let low = sign(words, open, Symbol::OpenBrace)?;
-    let comma = sign(words, low, Symbol::False)?;
-    let high = sign(words, comma, Symbol::Comma)?;
-    let close = sign(words, high, Symbol::True)?;
-    let word = sign(words, close, Symbol::CloseBrace)?;
-    let end = sign(words, word, Symbol::Bool)?;
-    let next = sign(words, end, Symbol::Semicolon)?;
+    let all = [
+        Symbol::Typedef,
+        Symbol::Enum,
+        Symbol::OpenBrace,
+        Symbol::False,
+        Symbol::Comma,
+        Symbol::True,
+        Symbol::CloseBrace,
+        Symbol::Bool,
+        Symbol::Semicolon,
+    ];
+    let next = signs(words, at, &all)?;
     Ok(next)
 }
 
@@ -100,9 +106,8 @@ fn main_function(
     ensures forward { IfOk result (λ found. IsBehind words.now at found.2) }
     ensures refused { IfFault result (λ fault. Refuses a_program (words_from words.now at) fault.rule (words_from words.now fault.at)) }
 {
-    let word = sign(words, at, Symbol::Int)?;
-    let open = sign(words, word, Symbol::Main)?;
-    let inner = sign(words, open, Symbol::OpenParenthesis)?;
+    let before = [Symbol::Int, Symbol::Main, Symbol::OpenParenthesis];
+    let inner = signs(words, at, &before)?;
     let (written, brace) = void(words, inner)?;
     let body = opening(words, brace, Symbol::OpenBrace, 1)?;
     let (all, next) = items(alloc, words, body, 1)?;
@@ -115,8 +120,7 @@ fn void(words: &[Lexeme<'_>], at: usize) -> Result<(bool, usize), Fault>
     ensures forward { IfOk result (λ found. IsBehind words.now at found.1) }
     ensures refused { IfErr result (λ fault. Refuses a_void (words_from words.now at) fault.rule (words_from words.now fault.at)) }
 {
-    if void_follows(words, at) {
-        let close = sign(words, at, Symbol::Void)?;
+    if let Some(close) = after(words, at, Symbol::Void) {
         let end = sign(words, close, Symbol::CloseParenthesis)?;
         return Ok((true, end));
     }

@@ -1,13 +1,13 @@
 //! Readers of single words. Each reads at a place of the list of words and answers the place behind.
 
-ghost use Rattle.std.specs.Prelude.{◌≡◌, ◌∷◌, ◌≤◌, IfOk, IfErr};
+ghost use Rattle.std.specs.Prelude.{◌≡◌, ◌∷◌, ◌+◌, ◌<◌, ◌≤◌, length, IfOk, IfErr};
 ghost use Rattle.derivation.specs.Word.{symbol, name as named};
 ghost use Rattle.derivation.specs.Spelled.{words_from, IsBehind};
 ghost use Rattle.source_syntax.specs.Failures.{IfFault};
-ghost use Rattle.source_syntax.specs.Reads.{MissesSign, MissesOpening, MissesName};
+ghost use Rattle.source_syntax.specs.Reads.{MissesSign, MissesOpening, MissesName, AreNext, MissesOne};
 
 use crate::fault::{Failure, Fault};
-use derivation::{Lexeme, Reading, Rule, Symbol, after};
+use derivation::{Lexeme, Rule, Symbol, after};
 use std::alloc::Global;
 
 /// How many levels of nesting may be open at a word.
@@ -26,6 +26,20 @@ pub fn sign(words: &[Lexeme<'_>], at: usize, wanted: Symbol) -> Result<usize, Fa
             at,
         }),
     }
+}
+
+/// The place behind signs and reserved words that have to stand here, one behind the other.
+pub fn signs(words: &[Lexeme<'_>], at: usize, wanted: &[Symbol]) -> Result<usize, Fault>
+    ensures read { IfOk result (λ next. AreNext wanted.now (words_from words.now at) (words_from words.now next)) }
+    ensures forward { IfOk result (λ next. at + length wanted.now ≤ next) }
+    ensures inside { IfOk result (λ next. 0 < length wanted.now → next ≤ length words.now) }
+    ensures missed { IfErr result (λ fault. MissesOne wanted.now (words_from words.now at) fault.rule (words_from words.now fault.at)) }
+{
+    let mut here = at;
+    for symbol in wanted {
+        here = sign(words, here, *symbol)?;
+    }
+    Ok(here)
 }
 
 /// The place behind a sign or reserved word that has to stand here and opens this level.
@@ -66,8 +80,8 @@ pub fn name<'t>(words: &[Lexeme<'t>], at: usize) -> Result<(&'t [u8], usize), Fa
     let Some(word) = words.get(at) else {
         return Err(missing);
     };
-    match word.reading {
-        Reading::Name(bytes) => Ok((bytes, at + 1)),
+    match *word {
+        Lexeme::Name(bytes) => Ok((bytes, at + 1)),
         _ => Err(missing),
     }
 }

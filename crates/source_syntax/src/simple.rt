@@ -3,7 +3,7 @@
 ghost use Rattle.std.specs.Prelude.{◌≡◌, ◌≤◌, IfOk};
 ghost use Rattle.derivation.specs.Spelled.{words_from, IsBehind};
 ghost use Rattle.concrete_syntax.specs.Mirror.{expression as expression_tree, optional as optional_tree, simple as simple_tree, action as action_tree, optional_simple as finish_tree};
-ghost use Rattle.source_syntax.specs.Openings.{opening_of_simple, opening_of_action, semicolon_follows, parenthesis_follows};
+ghost use Rattle.source_syntax.specs.Openings.{opening_of_simple, opening_of_action};
 ghost use Rattle.source_syntax.specs.Spelling.{assignment_sign, step_sign};
 ghost use Rattle.source_syntax.specs.Failures.{IfFault};
 ghost use Rattle.source_syntax.specs.Pending.{a_test, an_optional, an_action, a_simple, a_finish};
@@ -11,13 +11,10 @@ ghost use Rattle.source_syntax.specs.Reads.{Reads, Refuses, ReadsAfresh, Refuses
 
 use crate::expression::expression;
 use crate::fault::{Failure, Fault};
-use crate::opening::{
-    ActionOpening, SimpleOpening, opening_of_action, opening_of_simple, parenthesis_follows,
-    semicolon_follows,
-};
+use crate::opening::{ActionOpening, SimpleOpening, opening_of_action, opening_of_simple};
 use crate::reader::{opening, owned_name, sign};
 use concrete_syntax::{Action, Assignment, Expression, Simple, Step};
-use derivation::{Lexeme, Rule, Symbol};
+use derivation::{Lexeme, Rule, Symbol, after};
 use std::alloc::Global;
 
 /// Reads the test of an `if` or a loop, in its parentheses.
@@ -50,8 +47,7 @@ pub fn optional(
     ensures forward { IfOk result (λ found. IsBehind words.now at found.1) }
     ensures refused { IfFault result (λ fault. RefusesCounting 0 (an_optional levels) (words_from words.now at) fault.rule (words_from words.now fault.at)) }
 {
-    if semicolon_follows(words, at) {
-        let end = sign(words, at, Symbol::Semicolon)?;
+    if let Some(end) = after(words, at, Symbol::Semicolon) {
         return Ok((None, end));
     }
     let (value, behind, _) = expression(alloc, words, at, levels, 0)?;
@@ -130,8 +126,7 @@ pub fn finish(
     ensures forward { IfOk result (λ found. IsBehind words.now at found.1) }
     ensures refused { IfFault result (λ fault. Refuses (a_finish levels) (words_from words.now at) fault.rule (words_from words.now fault.at)) }
 {
-    if parenthesis_follows(words, at) {
-        let end = sign(words, at, Symbol::CloseParenthesis)?;
+    if let Some(end) = after(words, at, Symbol::CloseParenthesis) {
         return Ok((None, end));
     }
     let (last, behind) = simple(alloc, words, at, levels)?;

@@ -13,13 +13,11 @@ ghost use Rattle.source_syntax.specs.Reads.{Reads, Refuses};
 
 use crate::declaration::{declaration, start};
 use crate::fault::{Failure, Fault};
-use crate::opening::{
-    ItemOpening, StatementOpening, else_follows, opening_of_item, opening_of_statement,
-};
+use crate::opening::{ItemOpening, StatementOpening, opening_of_item, opening_of_statement};
 use crate::reader::{MOST_LEVELS, opening, sign};
 use crate::simple::{finish, optional, simple, test};
 use concrete_syntax::{Item, Items, Otherwise, Statement};
-use derivation::{Lexeme, Rule, Symbol};
+use derivation::{Lexeme, Rule, Symbol, after};
 use std::alloc::Global;
 
 // Reads a statement where `levels` levels are open.
@@ -201,16 +199,16 @@ fn otherwise(
     ensures inside { IfOk result (λ found. found.1 ≤ length words.now) }
     ensures refused { IfFault result (λ fault. Refuses (an_otherwise levels) (words_from words.now at) fault.rule (words_from words.now fault.at)) }
 {
-    if !else_follows(words, at) {
+    let Some(inner) = after(words, at, Symbol::Else) else {
         return Ok((Otherwise::Nothing, at));
-    }
+    };
     if levels + 1 > MOST_LEVELS {
         return Err(Failure::Fault(Fault {
             rule: Rule::Nesting,
             at,
         }));
     }
-    let (second, next) = statement(alloc, words, at + 1, levels + 1)?;
+    let (second, next) = statement(alloc, words, inner, levels + 1)?;
     let part = Box::new(alloc, second)?;
     Ok((Otherwise::Else(part), next))
 }

@@ -5,6 +5,7 @@ use concrete_syntax::{
     Action, Assignment, Expression, Items, Operand, Otherwise, Prefix, Prelude, Program, Simple,
     Statement, Step, Tail,
 };
+use derivation::Rule;
 use source_lex::LexFault;
 use std::process::Abort;
 use std::test::Fail;
@@ -86,21 +87,11 @@ fn fault_of(rt: &(impl Abort + AllocGlobal), text: &[u8]) -> (u32, u32) {
         Err(SyntaxFault::Lex(LexFault::BadByte { at })) => (1, at),
         Err(SyntaxFault::Lex(LexFault::BigNumber { at })) => (2, at),
         Err(SyntaxFault::Lex(LexFault::OpenComment { at })) => (3, at),
-        Err(SyntaxFault::Expected { at }) => (4, at),
-        Err(
-            SyntaxFault::Limit {
-                which: Which::Nesting,
-                at,
-                count: _,
-            },
-        ) => (10, at),
-        Err(
-            SyntaxFault::Limit {
-                which: Which::Operators,
-                at,
-                count: _,
-            },
-        ) => (11, at),
+        Err(SyntaxFault::Broken { rule, at }) => match rule {
+            Rule::Expected => (4, at),
+            Rule::Nesting => (10, at),
+            Rule::Operators => (11, at),
+        },
         Err(fault) => panic!(rt; "{text:?} gives {fault:?}"),
     }
 }

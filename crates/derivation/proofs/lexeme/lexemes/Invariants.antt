@@ -1,10 +1,7 @@
-use Rattle.std.proofs.Common.{◌≡◌, map, take}
+use Rattle.std.proofs.Common.{◌≡◌, take}
 use Rattle.derivation.specs.Word.{words}
 use Rattle.derivation.specs.Spelled.{all_spelled}
 use Rattle.derivation.proofs.lexeme.lexemes.Given as goal
 
 abbrev pub invariant-loop-token : goal.invariant-loop-token
-invariant-loop-token l = record {
-  spelled : all_spelled l.found.items ≡ words l.text (take l.token-index l.tokens);
-  places : map (λ lexeme. lexeme.at) l.found.items ≡ map (λ token. token.start) (take l.token-index l.tokens);
-}
+invariant-loop-token l = all_spelled l.found.items ≡ words l.text (take l.token-index l.tokens)

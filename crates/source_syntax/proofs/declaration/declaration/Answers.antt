@@ -1,9 +1,10 @@
-use Rattle.std.proofs.Common.{◌≡◌, [], ◌∷◌, ◌++◌, ◌∙◌, map, true, false, sym, ap, refl, arith, rules}
+use Rattle.std.proofs.Common.{◌≡◌, [], ◌∷◌, ◌++◌, map, ap, refl, arith, rules}
 use Rattle.derivation.specs.declared.symbol.Symbol.TheVariants as Sym
 use Rattle.concrete_syntax.specs.Mirror.{part}
 use Rattle.source_syntax.proofs.Calculus.{fails}
-use Rattle.source_syntax.proofs.Statements.{parts_goes, declaration_goes}
-use Rattle.source_syntax.proofs.Answering.{failed_on, passed_on, sign_reads, sign_refused, leading_refused}
+use Rattle.source_syntax.proofs.Choices.{not_next, taken, left_out}
+use Rattle.source_syntax.proofs.Statements.{further_parts, declaration_goes}
+use Rattle.source_syntax.proofs.Answering.{failed_on, passed_on, sign_refused, leading_refused}
 use Rattle.source_syntax.proofs.Loops.{one_part_more, parts_from, part_missing, parts_over, parts_close}
 use Rattle.source_syntax.proofs.declaration.declaration.Goals as goal
 
@@ -27,20 +28,20 @@ pub returns-in_err-further-clause-refused : goal.returns-in_err-further-clause-r
 returns-in_err-further-clause-refused c =
     passed_on _ _ _ _ c.from_residual-in_err-further.ensures c.in_err-further.ensures.refused
     (λ fault refused count behind. fails (c.parts.invariant.comes.comes count behind).1
-    (fails (parts_goes _ _ behind _ true (sym c.if-comma_follows.true ∙ c.comma_follows.ensures)) (fails (sign_reads Sym.Comma (refl, refl) c.in_ok-behind.ensures.read) (refused _ behind))))
+    (fails (taken (further_parts _ behind) c.in-Some.ensures.read (omega arith, tt)) (refused _ behind)))
 
 pub parts-preserved : goal.parts-preserved
 parts-preserved c =
     let pushed : c.push.new.self.items ≡ c.parts.more.items ++ c.in_ok-further.further ∷ [] = search rules in record {
-      forward = omega (arith, c.parts.invariant.forward, c.in_ok-behind.ensures.forward.forward, c.in_ok-further.ensures.forward.forward);
-      comes = parts_over _ _ _ _ _ _ _ _ _ (one_part_more _ _ _ pushed) c.parts.invariant.comes (sym c.if-comma_follows.true ∙ c.comma_follows.ensures) c.in_ok-behind.ensures.read c.in_ok-further.ensures.read;
+      forward = omega (arith, c.parts.invariant.forward, c.in-Some.ensures.forward.forward, c.in_ok-further.ensures.forward.forward);
+      comes = parts_over _ _ _ _ _ _ _ _ _ (one_part_more _ _ _ pushed) c.parts.invariant.comes c.in-Some.ensures.read c.in_ok-further.ensures.read;
     }
 
 pub returns-in_err-next-clause-refused : goal.returns-in_err-next-clause-refused
 returns-in_err-next-clause-refused c =
     failed_on _ _ _ c.from_residual-in_err-next.ensures
     (λ count behind. fails (c.parts.invariant.comes.comes count behind).1
-    (fails (parts_goes _ _ behind _ false (sym c.if-comma_follows.false ∙ c.comma_follows.ensures)) (leading_refused _ _ c.in_err-next.field-0.0 Sym.Semicolon (refl, refl) c.in_err-next.ensures.missed)))
+    (fails (left_out (further_parts _ behind) (not_next _ _ c.in_default.ensures.read)) (leading_refused _ _ c.in_err-next.field-0.0 Sym.Semicolon (refl, refl) c.in_err-next.ensures.missed)))
 
-pub returns-else-comma_follows-clause-read : goal.returns-else-comma_follows-clause-read
-returns-else-comma_follows-clause-read c = parts_close _ _ _ _ _ _ c.parts.invariant.comes (sym c.if-comma_follows.false ∙ c.comma_follows.ensures) c.in_ok-next.ensures.read
+pub returns-in_default-clause-read : goal.returns-in_default-clause-read
+returns-in_default-clause-read c = parts_close _ _ _ _ _ _ c.parts.invariant.comes c.in_default.ensures.read c.in_ok-next.ensures.read

@@ -8,7 +8,8 @@ use Rattle.source_syntax.specs.declared.opening.OperandOpening.TheVariants as Op
 use Rattle.concrete_syntax.specs.Mirror.{operand, tail, links}
 use Rattle.concrete_syntax.specs.Trees.{number, parentheses, signed}
 use Rattle.source_syntax.proofs.Calculus.{over, fails}
-use Rattle.source_syntax.proofs.Expressions.{operand_goes, operand_sticks, expression_goes}
+use Rattle.source_syntax.proofs.Choices.{goes, stuck}
+use Rattle.source_syntax.proofs.Expressions.{operands, expression_goes}
 use Rattle.source_syntax.proofs.Answering.{failed_on, passed_on, sign_reads, opening_reads, name_reads, sign_refused, opening_refused, name_refused}
 use Rattle.source_syntax.proofs.Reading.{operand_number, operand_truth, operand_unknown, behind_prefix, prefix_stops, behind_operator, operator_stops, tail_from, tail_over, tail_done, one_link_more, told}
 use Rattle.source_syntax.proofs.expression.+expressions.Goals as goal
@@ -62,11 +63,11 @@ operand-returns-in-Number-clause-read t c =
 pub operand-returns-in_err-name-in-Name-clause-refused : goal.operand-returns-in_err-name-in-Name-clause-refused
 operand-returns-in_err-name-in-Name-clause-refused t c =
     passed_on _ _ _ _ c.from_residual.ensures c.in_err-name-in-Name.ensures.missed
-    (λ fault missed behind. fails (operand_goes _ _ behind _ OperandOpening.Name (sym c.in-Name.is ∙ c.opening_of_operand.ensures)) (name_refused _ _ fault missed))
+    (λ fault missed behind. fails (goes (operands _ behind) _ _ OperandOpening.Name (sym c.in-Name.is ∙ c.opening_of_operand.ensures)) (name_refused _ _ fault missed))
 
 pub operand-returns-in_ok-name-in-Name-clause-read : goal.operand-returns-in_ok-name-in-Name-clause-read
 operand-returns-in_ok-name-in-Name-clause-read t c = record {
-  comes = λ behind. over (operand_goes _ _ behind _ OperandOpening.Name (sym c.in-Name.is ∙ c.opening_of_operand.ensures)) (name_reads c.in_ok-name-in-Name.ensures.read);
+  comes = λ behind. over (goes (operands _ behind) _ _ OperandOpening.Name (sym c.in-Name.is ∙ c.opening_of_operand.ensures)) (name_reads c.in_ok-name-in-Name.ensures.read);
 }
 
 pub operand-returns-in-Truth-clause-read : goal.operand-returns-in-Truth-clause-read
@@ -78,25 +79,25 @@ operand-returns-in-Unknown-clause-read t c =
     (operand_unknown c.args.words.now c.args.at _ (sym c.in-Unknown.is ∙ c.opening_of_operand.ensures)).0 _
 
 pub operand-returns-in-Nothing-clause-refused : goal.operand-returns-in-Nothing-clause-refused
-operand-returns-in-Nothing-clause-refused t c = λ behind. operand_sticks _ _ behind _ (sym c.in-Nothing.is ∙ c.opening_of_operand.ensures)
+operand-returns-in-Nothing-clause-refused t c = λ behind. stuck (operands _ behind) _ _ _ (λ shut. shut) (sym c.in-Nothing.is ∙ c.opening_of_operand.ensures)
 
 pub parentheses-returns-in_err-inner-clause-refused : goal.parentheses-returns-in_err-inner-clause-refused
 parentheses-returns-in_err-inner-clause-refused t c =
     failed_on _ _ _ c.from_residual.ensures
-    (λ behind. fails (operand_goes _ _ behind _ OperandOpening.Parenthesis c.requires.opens)
+    (λ behind. fails (goes (operands _ behind) _ _ OperandOpening.Parenthesis c.requires.opens)
     (opening_refused _ _ c.in_err-inner.field-0.0 Sym.OpenParenthesis _ (refl, refl) c.in_err-inner.ensures.missed))
 
 pub parentheses-returns-in_err-value-clause-refused : goal.parentheses-returns-in_err-value-clause-refused
 parentheses-returns-in_err-value-clause-refused t c =
     passed_on _ _ _ _ c.from_residual-in_err-value.ensures c.in_err-value.ensures.refused
-    (λ fault refused behind. fails (operand_goes _ _ behind _ OperandOpening.Parenthesis c.requires.opens)
+    (λ fault refused behind. fails (goes (operands _ behind) _ _ OperandOpening.Parenthesis c.requires.opens)
     (fails (opening_reads Sym.OpenParenthesis _ (refl, refl) c.in_ok-inner.ensures.read c.in_ok-inner.ensures.shallow)
     (refused _)))
 
 pub parentheses-returns-in_err-next-clause-refused : goal.parentheses-returns-in_err-next-clause-refused
 parentheses-returns-in_err-next-clause-refused t c =
     failed_on _ _ _ c.from_residual-in_err-next.ensures
-    (λ behind. fails (operand_goes _ _ behind _ OperandOpening.Parenthesis c.requires.opens)
+    (λ behind. fails (goes (operands _ behind) _ _ OperandOpening.Parenthesis c.requires.opens)
     (fails (opening_reads Sym.OpenParenthesis _ (refl, refl) c.in_ok-inner.ensures.read c.in_ok-inner.ensures.shallow)
     (fails (c.in_ok-value.ensures.read.comes _)
     (sign_refused _ _ c.in_err-next.field-0.0 Sym.CloseParenthesis (refl, refl) c.in_err-next.ensures.missed))))
@@ -106,7 +107,7 @@ parentheses-returns-clause-read t c =
     let operand_kept : c.in_ok-operand.operand.value ≡ c.in_ok-value.value.operand = search rules in
     let tail_kept : c.in_ok-tail.tail.value ≡ c.in_ok-value.value.tail = search rules in
     told (ap (λ e. parentheses (operand e) (tail c.in_ok-tail.tail.value)) operand_kept ∙ ap (λ more. parentheses (operand c.in_ok-value.value.operand) (tail more)) tail_kept) (record {
-      comes = λ behind. over (operand_goes _ _ behind _ OperandOpening.Parenthesis c.requires.opens)
+      comes = λ behind. over (goes (operands _ behind) _ _ OperandOpening.Parenthesis c.requires.opens)
           (over (opening_reads Sym.OpenParenthesis _ (refl, refl) c.in_ok-inner.ensures.read c.in_ok-inner.ensures.shallow)
           (over (c.in_ok-value.ensures.read.comes _) (sign_reads Sym.CloseParenthesis (refl, refl) c.in_ok-next.ensures.read)));
     })

@@ -1,26 +1,27 @@
-use Rattle.std.proofs.Common.{◌∙◌, true, false, sym, refl}
+use Rattle.std.proofs.Common.{refl, arith}
 use Rattle.derivation.specs.declared.symbol.Symbol.TheVariants as Sym
 use Rattle.source_syntax.proofs.Calculus.{over, fails}
-use Rattle.source_syntax.proofs.Statements.{void_goes}
+use Rattle.source_syntax.proofs.Choices.{not_next, taken, left_out}
+use Rattle.source_syntax.proofs.Statements.{voids}
 use Rattle.source_syntax.proofs.Answering.{handed_on, sign_reads, sign_refused}
 use Rattle.source_syntax.proofs.program.void.Goals as goal
 
 pub returns-in_err-end-clause-refused : goal.returns-in_err-end-clause-refused
 returns-in_err-end-clause-refused c =
-    handed_on _ _ _ c.from_residual-in_err-end.ensures
-    (λ count behind. fails (void_goes count behind _ true (sym c.if-void_follows.true ∙ c.void_follows.ensures)) (fails (sign_reads Sym.Void (refl, refl) c.in_ok-close.ensures.read) (sign_refused _ _ c.in_err-end.field-0.0 Sym.CloseParenthesis (refl, refl) c.in_err-end.ensures.missed)))
+    handed_on _ _ _ c.from_residual.ensures
+    (λ count behind. fails (taken (voids behind) c.in-Some.ensures.read (omega arith, tt)) (sign_refused _ _ c.in_err-end.field-0.0 Sym.CloseParenthesis (refl, refl) c.in_err-end.ensures.missed))
 
-pub returns-then-void_follows-clause-read : goal.returns-then-void_follows-clause-read
-returns-then-void_follows-clause-read c = record {
-  comes = λ count behind. (_, over (void_goes count behind _ true (sym c.if-void_follows.true ∙ c.void_follows.ensures)) (over (sign_reads Sym.Void (refl, refl) c.in_ok-close.ensures.read) (sign_reads Sym.CloseParenthesis (refl, refl) c.in_ok-end.ensures.read)));
+pub returns-in-Some-clause-read : goal.returns-in-Some-clause-read
+returns-in-Some-clause-read c = record {
+  comes = λ count behind. (_, over (taken (voids behind) c.in-Some.ensures.read (omega arith, tt)) (sign_reads Sym.CloseParenthesis (refl, refl) c.in_ok-end.ensures.read));
 }
 
 pub returns-in_err-next-clause-refused : goal.returns-in_err-next-clause-refused
 returns-in_err-next-clause-refused c =
     handed_on _ _ _ c.from_residual-in_err-next.ensures
-    (λ count behind. fails (void_goes count behind _ false (sym c.if-void_follows.false ∙ c.void_follows.ensures)) (sign_refused _ _ c.in_err-next.field-0.0 Sym.CloseParenthesis (refl, refl) c.in_err-next.ensures.missed))
+    (λ count behind. fails (left_out (voids behind) (not_next _ _ c.in_default.ensures.read)) (sign_refused _ _ c.in_err-next.field-0.0 Sym.CloseParenthesis (refl, refl) c.in_err-next.ensures.missed))
 
 pub returns-clause-read : goal.returns-clause-read
 returns-clause-read c = record {
-  comes = λ count behind. (_, over (void_goes count behind _ false (sym c.if-void_follows.false ∙ c.void_follows.ensures)) (sign_reads Sym.CloseParenthesis (refl, refl) c.in_ok-next.ensures.read));
+  comes = λ count behind. (_, over (left_out (voids behind) (not_next _ _ c.in_default.ensures.read)) (sign_reads Sym.CloseParenthesis (refl, refl) c.in_ok-next.ensures.read));
 }

@@ -6,155 +6,155 @@ use Rattle.concrete_syntax.specs.declared.statement.Item.TheVariants as Item
 use Rattle.concrete_syntax.specs.Mirror.{item, statement, expression, start, optional, optional_simple, otherwise as otherwise_tree}
 use Rattle.concrete_syntax.specs.Trees.{conditional, while_loop, do_loop, for_loop, otherwise}
 use Rattle.source_syntax.proofs.Calculus.{over, fails}
-use Rattle.source_syntax.proofs.Statements.{statement_goes, statement_sticks, items_goes, otherwise_ends}
+use Rattle.source_syntax.proofs.Choices.{goes, stuck}
+use Rattle.source_syntax.proofs.Statements.{statements, all_items, otherwise_ends, else_read, else_too_deep, not_else}
 use Rattle.source_syntax.proofs.Answering.{failed_on, passed_on, sign_reads, opening_reads, sign_refused, opening_refused}
-use Rattle.source_syntax.proofs.Loops.{told_reads, items_from, one_item_more, items_declaration, items_statement, items_close, behind_else, else_stops}
+use Rattle.source_syntax.proofs.Loops.{told_reads, items_from, one_item_more, items_declaration, items_statement, items_close}
 use Rattle.source_syntax.proofs.statement.+statements.Goals as goal
 
 pub braces-returns-in_err-inner-clause-refused : goal.braces-returns-in_err-inner-clause-refused
 braces-returns-in_err-inner-clause-refused t c =
     failed_on _ _ _ c.from_residual.ensures
-    (λ count behind. fails (statement_goes _ count behind _ StatementOpening.Braces c.requires.opens) (opening_refused _ _ c.in_err-inner.field-0.0 Sym.OpenBrace _ (refl, refl) c.in_err-inner.ensures.missed))
+    (λ count behind. fails (goes (statements _ behind) count _ StatementOpening.Braces c.requires.opens) (opening_refused _ _ c.in_err-inner.field-0.0 Sym.OpenBrace _ (refl, refl) c.in_err-inner.ensures.missed))
 
 pub braces-returns-in_err-all-clause-refused : goal.braces-returns-in_err-all-clause-refused
 braces-returns-in_err-all-clause-refused t c =
     passed_on _ _ _ _ c.from_residual-in_err-all.ensures c.in_err-all.ensures.refused
-    (λ fault refused count behind. fails (statement_goes _ count behind _ StatementOpening.Braces c.requires.opens) (fails (opening_reads Sym.OpenBrace _ (refl, refl) c.in_ok-inner.ensures.read c.in_ok-inner.ensures.shallow) (refused _ _)))
+    (λ fault refused count behind. fails (goes (statements _ behind) count _ StatementOpening.Braces c.requires.opens) (fails (opening_reads Sym.OpenBrace _ (refl, refl) c.in_ok-inner.ensures.read c.in_ok-inner.ensures.shallow) (refused _ _)))
 
 pub braces-returns-clause-read : goal.braces-returns-clause-read
 braces-returns-clause-read t c = record {
-  comes = λ count behind. (_, over (statement_goes _ count behind _ StatementOpening.Braces c.requires.opens) (over (opening_reads Sym.OpenBrace _ (refl, refl) c.in_ok-inner.ensures.read c.in_ok-inner.ensures.shallow) (c.in_ok-all.ensures.read.comes _ _).1));
+  comes = λ count behind. (_, over (goes (statements _ behind) count _ StatementOpening.Braces c.requires.opens) (over (opening_reads Sym.OpenBrace _ (refl, refl) c.in_ok-inner.ensures.read c.in_ok-inner.ensures.shallow) (c.in_ok-all.ensures.read.comes _ _).1));
 }
 
 pub conditional-returns-in_err-open-clause-refused : goal.conditional-returns-in_err-open-clause-refused
 conditional-returns-in_err-open-clause-refused t c =
     failed_on _ _ _ c.from_residual.ensures
-    (λ count behind. fails (statement_goes _ count behind _ StatementOpening.If c.requires.opens) (opening_refused _ _ c.in_err-open.field-0.0 Sym.If _ (refl, refl) c.in_err-open.ensures.missed))
+    (λ count behind. fails (goes (statements _ behind) count _ StatementOpening.If c.requires.opens) (opening_refused _ _ c.in_err-open.field-0.0 Sym.If _ (refl, refl) c.in_err-open.ensures.missed))
 
 pub conditional-returns-in_err-tested-clause-refused : goal.conditional-returns-in_err-tested-clause-refused
 conditional-returns-in_err-tested-clause-refused t c =
     passed_on _ _ _ _ c.from_residual-in_err-tested.ensures c.in_err-tested.ensures.refused
-    (λ fault refused count behind. fails (statement_goes _ count behind _ StatementOpening.If c.requires.opens) (fails (opening_reads Sym.If _ (refl, refl) c.in_ok-open.ensures.read c.in_ok-open.ensures.shallow) (refused _ _)))
+    (λ fault refused count behind. fails (goes (statements _ behind) count _ StatementOpening.If c.requires.opens) (fails (opening_reads Sym.If _ (refl, refl) c.in_ok-open.ensures.read c.in_ok-open.ensures.shallow) (refused _ _)))
 
 pub conditional-returns-in_err-first-clause-refused : goal.conditional-returns-in_err-first-clause-refused
 conditional-returns-in_err-first-clause-refused t c =
     passed_on _ _ _ _ c.from_residual-in_err-first.ensures c.in_err-first.ensures.refused
-    (λ fault refused count behind. fails (statement_goes _ count behind _ StatementOpening.If c.requires.opens) (fails (opening_reads Sym.If _ (refl, refl) c.in_ok-open.ensures.read c.in_ok-open.ensures.shallow) (fails (c.in_ok-tested.ensures.read.comes _ _).1 (refused _ _))))
+    (λ fault refused count behind. fails (goes (statements _ behind) count _ StatementOpening.If c.requires.opens) (fails (opening_reads Sym.If _ (refl, refl) c.in_ok-open.ensures.read c.in_ok-open.ensures.shallow) (fails (c.in_ok-tested.ensures.read.comes _ _).1 (refused _ _))))
 
 pub conditional-returns-in_err-other-clause-refused : goal.conditional-returns-in_err-other-clause-refused
 conditional-returns-in_err-other-clause-refused t c =
     passed_on _ _ _ _ c.from_residual-in_err-other.ensures c.in_err-other.ensures.refused
-    (λ fault refused count behind. fails (statement_goes _ count behind _ StatementOpening.If c.requires.opens) (fails (opening_reads Sym.If _ (refl, refl) c.in_ok-open.ensures.read c.in_ok-open.ensures.shallow) (fails (c.in_ok-tested.ensures.read.comes _ _).1 (fails (c.in_ok-first.ensures.read.comes _ _).1 (refused _ _)))))
+    (λ fault refused count behind. fails (goes (statements _ behind) count _ StatementOpening.If c.requires.opens) (fails (opening_reads Sym.If _ (refl, refl) c.in_ok-open.ensures.read c.in_ok-open.ensures.shallow) (fails (c.in_ok-tested.ensures.read.comes _ _).1 (fails (c.in_ok-first.ensures.read.comes _ _).1 (refused _ _)))))
 
 pub conditional-returns-clause-read : goal.conditional-returns-clause-read
 conditional-returns-clause-read t c =
     let kept : c.in_ok-part.part.value ≡ c.in_ok-first.first = search rules in
     told_reads (ap (λ s. conditional (expression c.in_ok-tested.tested) (statement s) (otherwise_tree c.in_ok-other.other)) kept) (record {
-      comes = λ count behind. (_, over (statement_goes _ count behind _ StatementOpening.If c.requires.opens) (over (opening_reads Sym.If _ (refl, refl) c.in_ok-open.ensures.read c.in_ok-open.ensures.shallow) (over (c.in_ok-tested.ensures.read.comes _ _).1 (over (c.in_ok-first.ensures.read.comes _ _).1 (c.in_ok-other.ensures.read.comes _ _).1))));
+      comes = λ count behind. (_, over (goes (statements _ behind) count _ StatementOpening.If c.requires.opens) (over (opening_reads Sym.If _ (refl, refl) c.in_ok-open.ensures.read c.in_ok-open.ensures.shallow) (over (c.in_ok-tested.ensures.read.comes _ _).1 (over (c.in_ok-first.ensures.read.comes _ _).1 (c.in_ok-other.ensures.read.comes _ _).1))));
     })
 
 pub while_loop-returns-in_err-open-clause-refused : goal.while_loop-returns-in_err-open-clause-refused
 while_loop-returns-in_err-open-clause-refused t c =
     failed_on _ _ _ c.from_residual.ensures
-    (λ count behind. fails (statement_goes _ count behind _ StatementOpening.While c.requires.opens) (opening_refused _ _ c.in_err-open.field-0.0 Sym.While _ (refl, refl) c.in_err-open.ensures.missed))
+    (λ count behind. fails (goes (statements _ behind) count _ StatementOpening.While c.requires.opens) (opening_refused _ _ c.in_err-open.field-0.0 Sym.While _ (refl, refl) c.in_err-open.ensures.missed))
 
 pub while_loop-returns-in_err-tested-clause-refused : goal.while_loop-returns-in_err-tested-clause-refused
 while_loop-returns-in_err-tested-clause-refused t c =
     passed_on _ _ _ _ c.from_residual-in_err-tested.ensures c.in_err-tested.ensures.refused
-    (λ fault refused count behind. fails (statement_goes _ count behind _ StatementOpening.While c.requires.opens) (fails (opening_reads Sym.While _ (refl, refl) c.in_ok-open.ensures.read c.in_ok-open.ensures.shallow) (refused _ _)))
+    (λ fault refused count behind. fails (goes (statements _ behind) count _ StatementOpening.While c.requires.opens) (fails (opening_reads Sym.While _ (refl, refl) c.in_ok-open.ensures.read c.in_ok-open.ensures.shallow) (refused _ _)))
 
 pub while_loop-returns-in_err-repeated-clause-refused : goal.while_loop-returns-in_err-repeated-clause-refused
 while_loop-returns-in_err-repeated-clause-refused t c =
     passed_on _ _ _ _ c.from_residual-in_err-repeated.ensures c.in_err-repeated.ensures.refused
-    (λ fault refused count behind. fails (statement_goes _ count behind _ StatementOpening.While c.requires.opens) (fails (opening_reads Sym.While _ (refl, refl) c.in_ok-open.ensures.read c.in_ok-open.ensures.shallow) (fails (c.in_ok-tested.ensures.read.comes _ _).1 (refused _ _))))
+    (λ fault refused count behind. fails (goes (statements _ behind) count _ StatementOpening.While c.requires.opens) (fails (opening_reads Sym.While _ (refl, refl) c.in_ok-open.ensures.read c.in_ok-open.ensures.shallow) (fails (c.in_ok-tested.ensures.read.comes _ _).1 (refused _ _))))
 
 pub while_loop-returns-clause-read : goal.while_loop-returns-clause-read
 while_loop-returns-clause-read t c =
     let kept : c.in_ok-body.body.value ≡ c.in_ok-repeated.repeated = search rules in
     told_reads (ap (λ s. while_loop (expression c.in_ok-tested.tested) (statement s)) kept) (record {
-      comes = λ count behind. (_, over (statement_goes _ count behind _ StatementOpening.While c.requires.opens) (over (opening_reads Sym.While _ (refl, refl) c.in_ok-open.ensures.read c.in_ok-open.ensures.shallow) (over (c.in_ok-tested.ensures.read.comes _ _).1 (c.in_ok-repeated.ensures.read.comes _ _).1)));
+      comes = λ count behind. (_, over (goes (statements _ behind) count _ StatementOpening.While c.requires.opens) (over (opening_reads Sym.While _ (refl, refl) c.in_ok-open.ensures.read c.in_ok-open.ensures.shallow) (over (c.in_ok-tested.ensures.read.comes _ _).1 (c.in_ok-repeated.ensures.read.comes _ _).1)));
     })
 
 pub do_loop-returns-in_err-inner-clause-refused : goal.do_loop-returns-in_err-inner-clause-refused
 do_loop-returns-in_err-inner-clause-refused t c =
     failed_on _ _ _ c.from_residual.ensures
-    (λ count behind. fails (statement_goes _ count behind _ StatementOpening.Do c.requires.opens) (opening_refused _ _ c.in_err-inner.field-0.0 Sym.Do _ (refl, refl) c.in_err-inner.ensures.missed))
+    (λ count behind. fails (goes (statements _ behind) count _ StatementOpening.Do c.requires.opens) (opening_refused _ _ c.in_err-inner.field-0.0 Sym.Do _ (refl, refl) c.in_err-inner.ensures.missed))
 
 pub do_loop-returns-in_err-repeated-clause-refused : goal.do_loop-returns-in_err-repeated-clause-refused
 do_loop-returns-in_err-repeated-clause-refused t c =
     passed_on _ _ _ _ c.from_residual-in_err-repeated.ensures c.in_err-repeated.ensures.refused
-    (λ fault refused count behind. fails (statement_goes _ count behind _ StatementOpening.Do c.requires.opens) (fails (opening_reads Sym.Do _ (refl, refl) c.in_ok-inner.ensures.read c.in_ok-inner.ensures.shallow) (refused _ _)))
+    (λ fault refused count behind. fails (goes (statements _ behind) count _ StatementOpening.Do c.requires.opens) (fails (opening_reads Sym.Do _ (refl, refl) c.in_ok-inner.ensures.read c.in_ok-inner.ensures.shallow) (refused _ _)))
 
 pub do_loop-returns-in_err-open-clause-refused : goal.do_loop-returns-in_err-open-clause-refused
 do_loop-returns-in_err-open-clause-refused t c =
     failed_on _ _ _ c.from_residual-in_err-open.ensures
-    (λ count behind. fails (statement_goes _ count behind _ StatementOpening.Do c.requires.opens) (fails (opening_reads Sym.Do _ (refl, refl) c.in_ok-inner.ensures.read c.in_ok-inner.ensures.shallow) (fails (c.in_ok-repeated.ensures.read.comes _ _).1 (sign_refused _ _ c.in_err-open.field-0.0 Sym.While (refl, refl) c.in_err-open.ensures.missed))))
+    (λ count behind. fails (goes (statements _ behind) count _ StatementOpening.Do c.requires.opens) (fails (opening_reads Sym.Do _ (refl, refl) c.in_ok-inner.ensures.read c.in_ok-inner.ensures.shallow) (fails (c.in_ok-repeated.ensures.read.comes _ _).1 (sign_refused _ _ c.in_err-open.field-0.0 Sym.While (refl, refl) c.in_err-open.ensures.missed))))
 
 pub do_loop-returns-in_err-tested-clause-refused : goal.do_loop-returns-in_err-tested-clause-refused
 do_loop-returns-in_err-tested-clause-refused t c =
     passed_on _ _ _ _ c.from_residual-in_err-tested.ensures c.in_err-tested.ensures.refused
-    (λ fault refused count behind. fails (statement_goes _ count behind _ StatementOpening.Do c.requires.opens) (fails (opening_reads Sym.Do _ (refl, refl) c.in_ok-inner.ensures.read c.in_ok-inner.ensures.shallow) (fails (c.in_ok-repeated.ensures.read.comes _ _).1 (fails (sign_reads Sym.While (refl, refl) c.in_ok-open.ensures.read) (refused _ _)))))
+    (λ fault refused count behind. fails (goes (statements _ behind) count _ StatementOpening.Do c.requires.opens) (fails (opening_reads Sym.Do _ (refl, refl) c.in_ok-inner.ensures.read c.in_ok-inner.ensures.shallow) (fails (c.in_ok-repeated.ensures.read.comes _ _).1 (fails (sign_reads Sym.While (refl, refl) c.in_ok-open.ensures.read) (refused _ _)))))
 
 pub do_loop-returns-in_err-next-clause-refused : goal.do_loop-returns-in_err-next-clause-refused
 do_loop-returns-in_err-next-clause-refused t c =
     failed_on _ _ _ c.from_residual-in_err-next.ensures
-    (λ count behind. fails (statement_goes _ count behind _ StatementOpening.Do c.requires.opens) (fails (opening_reads Sym.Do _ (refl, refl) c.in_ok-inner.ensures.read c.in_ok-inner.ensures.shallow) (fails (c.in_ok-repeated.ensures.read.comes _ _).1 (fails (sign_reads Sym.While (refl, refl) c.in_ok-open.ensures.read) (fails (c.in_ok-tested.ensures.read.comes _ _).1 (sign_refused _ _ c.in_err-next.field-0.0 Sym.Semicolon (refl, refl) c.in_err-next.ensures.missed))))))
+    (λ count behind. fails (goes (statements _ behind) count _ StatementOpening.Do c.requires.opens) (fails (opening_reads Sym.Do _ (refl, refl) c.in_ok-inner.ensures.read c.in_ok-inner.ensures.shallow) (fails (c.in_ok-repeated.ensures.read.comes _ _).1 (fails (sign_reads Sym.While (refl, refl) c.in_ok-open.ensures.read) (fails (c.in_ok-tested.ensures.read.comes _ _).1 (sign_refused _ _ c.in_err-next.field-0.0 Sym.Semicolon (refl, refl) c.in_err-next.ensures.missed))))))
 
 pub do_loop-returns-clause-read : goal.do_loop-returns-clause-read
 do_loop-returns-clause-read t c =
     let kept : c.in_ok-body.body.value ≡ c.in_ok-repeated.repeated = search rules in
     told_reads (ap (λ s. do_loop (statement s) (expression c.in_ok-tested.tested)) kept) (record {
-      comes = λ count behind. (_, over (statement_goes _ count behind _ StatementOpening.Do c.requires.opens) (over (opening_reads Sym.Do _ (refl, refl) c.in_ok-inner.ensures.read c.in_ok-inner.ensures.shallow) (over (c.in_ok-repeated.ensures.read.comes _ _).1 (over (sign_reads Sym.While (refl, refl) c.in_ok-open.ensures.read) (over (c.in_ok-tested.ensures.read.comes _ _).1 (sign_reads Sym.Semicolon (refl, refl) c.in_ok-next.ensures.read))))));
+      comes = λ count behind. (_, over (goes (statements _ behind) count _ StatementOpening.Do c.requires.opens) (over (opening_reads Sym.Do _ (refl, refl) c.in_ok-inner.ensures.read c.in_ok-inner.ensures.shallow) (over (c.in_ok-repeated.ensures.read.comes _ _).1 (over (sign_reads Sym.While (refl, refl) c.in_ok-open.ensures.read) (over (c.in_ok-tested.ensures.read.comes _ _).1 (sign_reads Sym.Semicolon (refl, refl) c.in_ok-next.ensures.read))))));
     })
 
 pub for_loop-returns-in_err-open-clause-refused : goal.for_loop-returns-in_err-open-clause-refused
 for_loop-returns-in_err-open-clause-refused t c =
     failed_on _ _ _ c.from_residual.ensures
-    (λ count behind. fails (statement_goes _ count behind _ StatementOpening.For c.requires.opens) (opening_refused _ _ c.in_err-open.field-0.0 Sym.For _ (refl, refl) c.in_err-open.ensures.missed))
+    (λ count behind. fails (goes (statements _ behind) count _ StatementOpening.For c.requires.opens) (opening_refused _ _ c.in_err-open.field-0.0 Sym.For _ (refl, refl) c.in_err-open.ensures.missed))
 
 pub for_loop-returns-in_err-first-clause-refused : goal.for_loop-returns-in_err-first-clause-refused
 for_loop-returns-in_err-first-clause-refused t c =
     failed_on _ _ _ c.from_residual-in_err-first.ensures
-    (λ count behind. fails (statement_goes _ count behind _ StatementOpening.For c.requires.opens) (fails (opening_reads Sym.For _ (refl, refl) c.in_ok-open.ensures.read c.in_ok-open.ensures.shallow) (sign_refused _ _ c.in_err-first.field-0.0 Sym.OpenParenthesis (refl, refl) c.in_err-first.ensures.missed)))
+    (λ count behind. fails (goes (statements _ behind) count _ StatementOpening.For c.requires.opens) (fails (opening_reads Sym.For _ (refl, refl) c.in_ok-open.ensures.read c.in_ok-open.ensures.shallow) (sign_refused _ _ c.in_err-first.field-0.0 Sym.OpenParenthesis (refl, refl) c.in_err-first.ensures.missed)))
 
 pub for_loop-returns-in_err-start-clause-refused : goal.for_loop-returns-in_err-start-clause-refused
 for_loop-returns-in_err-start-clause-refused t c =
     passed_on _ _ _ _ c.from_residual-in_err-start.ensures c.in_err-start.ensures.refused
-    (λ fault refused count behind. fails (statement_goes _ count behind _ StatementOpening.For c.requires.opens) (fails (opening_reads Sym.For _ (refl, refl) c.in_ok-open.ensures.read c.in_ok-open.ensures.shallow) (fails (sign_reads Sym.OpenParenthesis (refl, refl) c.in_ok-first.ensures.read) (refused _ _))))
+    (λ fault refused count behind. fails (goes (statements _ behind) count _ StatementOpening.For c.requires.opens) (fails (opening_reads Sym.For _ (refl, refl) c.in_ok-open.ensures.read c.in_ok-open.ensures.shallow) (fails (sign_reads Sym.OpenParenthesis (refl, refl) c.in_ok-first.ensures.read) (refused _ _))))
 
 pub for_loop-returns-in_err-test-clause-refused : goal.for_loop-returns-in_err-test-clause-refused
 for_loop-returns-in_err-test-clause-refused t c =
     passed_on _ _ _ _ c.from_residual-in_err-test.ensures c.in_err-test.ensures.refused
-    (λ fault refused count behind. fails (statement_goes _ count behind _ StatementOpening.For c.requires.opens) (fails (opening_reads Sym.For _ (refl, refl) c.in_ok-open.ensures.read c.in_ok-open.ensures.shallow) (fails (sign_reads Sym.OpenParenthesis (refl, refl) c.in_ok-first.ensures.read) (fails (c.in_ok-start.ensures.read.comes _ _) (refused _)))))
+    (λ fault refused count behind. fails (goes (statements _ behind) count _ StatementOpening.For c.requires.opens) (fails (opening_reads Sym.For _ (refl, refl) c.in_ok-open.ensures.read c.in_ok-open.ensures.shallow) (fails (sign_reads Sym.OpenParenthesis (refl, refl) c.in_ok-first.ensures.read) (fails (c.in_ok-start.ensures.read.comes _ _) (refused _)))))
 
 pub for_loop-returns-in_err-step-clause-refused : goal.for_loop-returns-in_err-step-clause-refused
 for_loop-returns-in_err-step-clause-refused t c =
     passed_on _ _ _ _ c.from_residual-in_err-step.ensures c.in_err-step.ensures.refused
-    (λ fault refused count behind. fails (statement_goes _ count behind _ StatementOpening.For c.requires.opens) (fails (opening_reads Sym.For _ (refl, refl) c.in_ok-open.ensures.read c.in_ok-open.ensures.shallow) (fails (sign_reads Sym.OpenParenthesis (refl, refl) c.in_ok-first.ensures.read) (fails (c.in_ok-start.ensures.read.comes _ _) (fails (c.in_ok-test.ensures.read.comes _).1 (refused _ _))))))
+    (λ fault refused count behind. fails (goes (statements _ behind) count _ StatementOpening.For c.requires.opens) (fails (opening_reads Sym.For _ (refl, refl) c.in_ok-open.ensures.read c.in_ok-open.ensures.shallow) (fails (sign_reads Sym.OpenParenthesis (refl, refl) c.in_ok-first.ensures.read) (fails (c.in_ok-start.ensures.read.comes _ _) (fails (c.in_ok-test.ensures.read.comes _).1 (refused _ _))))))
 
 pub for_loop-returns-in_err-repeated-clause-refused : goal.for_loop-returns-in_err-repeated-clause-refused
 for_loop-returns-in_err-repeated-clause-refused t c =
     passed_on _ _ _ _ c.from_residual-in_err-repeated.ensures c.in_err-repeated.ensures.refused
-    (λ fault refused count behind. fails (statement_goes _ count behind _ StatementOpening.For c.requires.opens) (fails (opening_reads Sym.For _ (refl, refl) c.in_ok-open.ensures.read c.in_ok-open.ensures.shallow) (fails (sign_reads Sym.OpenParenthesis (refl, refl) c.in_ok-first.ensures.read) (fails (c.in_ok-start.ensures.read.comes _ _) (fails (c.in_ok-test.ensures.read.comes _).1 (fails (c.in_ok-step.ensures.read.comes _ _).1 (refused _ _)))))))
+    (λ fault refused count behind. fails (goes (statements _ behind) count _ StatementOpening.For c.requires.opens) (fails (opening_reads Sym.For _ (refl, refl) c.in_ok-open.ensures.read c.in_ok-open.ensures.shallow) (fails (sign_reads Sym.OpenParenthesis (refl, refl) c.in_ok-first.ensures.read) (fails (c.in_ok-start.ensures.read.comes _ _) (fails (c.in_ok-test.ensures.read.comes _).1 (fails (c.in_ok-step.ensures.read.comes _ _).1 (refused _ _)))))))
 
 pub for_loop-returns-clause-read : goal.for_loop-returns-clause-read
 for_loop-returns-clause-read t c =
     let kept : c.in_ok-body.body.value ≡ c.in_ok-repeated.repeated = search rules in
     told_reads (ap (λ s. for_loop (start c.in_ok-start.start) (optional c.in_ok-test.test) (optional_simple c.in_ok-step.step) (statement s)) kept) (record {
-      comes = λ count behind. (_, over (statement_goes _ count behind _ StatementOpening.For c.requires.opens) (over (opening_reads Sym.For _ (refl, refl) c.in_ok-open.ensures.read c.in_ok-open.ensures.shallow) (over (sign_reads Sym.OpenParenthesis (refl, refl) c.in_ok-first.ensures.read) (over (c.in_ok-start.ensures.read.comes _ _) (over (c.in_ok-test.ensures.read.comes _).1 (over (c.in_ok-step.ensures.read.comes _ _).1 (c.in_ok-repeated.ensures.read.comes _ _).1))))));
+      comes = λ count behind. (_, over (goes (statements _ behind) count _ StatementOpening.For c.requires.opens) (over (opening_reads Sym.For _ (refl, refl) c.in_ok-open.ensures.read c.in_ok-open.ensures.shallow) (over (sign_reads Sym.OpenParenthesis (refl, refl) c.in_ok-first.ensures.read) (over (c.in_ok-start.ensures.read.comes _ _) (over (c.in_ok-test.ensures.read.comes _).1 (over (c.in_ok-step.ensures.read.comes _ _).1 (c.in_ok-repeated.ensures.read.comes _ _).1))))));
     })
 
 pub otherwise-returns-in_err-second-clause-refused : goal.otherwise-returns-in_err-second-clause-refused
 otherwise-returns-in_err-second-clause-refused t c =
     passed_on _ _ _ _ c.from_residual.ensures c.in_err-second.ensures.refused
-    (λ fault refused count behind. fails (behind_else c.args.words.now c.args.at _ count behind (sym (c.if-not-else_follows.false) ∙ c.else_follows.ensures) c.if-levels-gt-MOST_LEVELS.false)
-    (refused count behind))
+    (λ fault refused count behind. fails (else_read _ count behind _ _ c.in-Some.ensures.read c.if-levels-gt-MOST_LEVELS.false) (refused count behind))
 
 pub items-further-init : goal.items-further-init
 items-further-init t c = record { forward = omega arith; comes = items_from _ _ _ (let none : c.new-list.result.items ≡ [] = search rules in ap (map item) none) }
 
 pub statement-returns-in-Nothing-clause-refused : goal.statement-returns-in-Nothing-clause-refused
-statement-returns-in-Nothing-clause-refused t c = λ count behind. statement_sticks _ count behind _ (sym c.in-Nothing.is ∙ c.opening_of_statement.ensures)
+statement-returns-in-Nothing-clause-refused t c = λ count behind. stuck (statements _ behind) count _ _ (λ shut. shut) (sym c.in-Nothing.is ∙ c.opening_of_statement.ensures)
 
 pub items-further-preserved-in-Declaration : goal.items-further-preserved-in-Declaration
 items-further-preserved-in-Declaration t c =
@@ -177,26 +177,26 @@ pub items-returns-in_err-further-in-Declaration-clause-refused : goal.items-retu
 items-returns-in_err-further-in-Declaration-clause-refused t c =
     passed_on _ _ _ _ c.from_residual-in_err-further-in-Declaration.ensures c.in_err-further-in-Declaration.ensures.refused
     (λ fault refused count behind. fails (c.further.invariant.comes.comes count behind).1
-    (fails (items_goes _ _ behind _ ItemOpening.Declaration (sym c.in-Declaration.is ∙ c.opening_of_item.ensures)) (refused _ _)))
+    (fails (goes (all_items _ behind) _ _ ItemOpening.Declaration (sym c.in-Declaration.is ∙ c.opening_of_item.ensures)) (refused _ _)))
 
 pub items-returns-in_err-further-in-Statement-clause-refused : goal.items-returns-in_err-further-in-Statement-clause-refused
 items-returns-in_err-further-in-Statement-clause-refused t c =
     passed_on _ _ _ _ c.from_residual-in_err-further-in-Statement.ensures c.in_err-further-in-Statement.ensures.refused
     (λ fault refused count behind. fails (c.further.invariant.comes.comes count behind).1
-    (fails (items_goes _ _ behind _ ItemOpening.Statement (sym c.in-Statement.is ∙ c.opening_of_item.ensures)) (refused _ _)))
+    (fails (goes (all_items _ behind) _ _ ItemOpening.Statement (sym c.in-Statement.is ∙ c.opening_of_item.ensures)) (refused _ _)))
 
 pub otherwise-returns-clause-read : goal.otherwise-returns-clause-read
 otherwise-returns-clause-read t c =
     let kept : c.in_ok-part.part.value ≡ c.in_ok-second.second = search rules in
     told_reads (ap (λ s. otherwise (statement s)) kept) (record {
-      comes = λ count behind. (_, over (behind_else c.args.words.now c.args.at _ count behind (sym c.if-not-else_follows.false ∙ c.else_follows.ensures) c.if-levels-gt-MOST_LEVELS.false) (c.in_ok-second.ensures.read.comes count behind).1);
+      comes = λ count behind. (_, over (else_read _ count behind _ _ c.in-Some.ensures.read c.if-levels-gt-MOST_LEVELS.false) (c.in_ok-second.ensures.read.comes count behind).1);
     })
 
 pub otherwise-returns-then-levels-gt-MOST_LEVELS-clause-refused : goal.otherwise-returns-then-levels-gt-MOST_LEVELS-clause-refused
 otherwise-returns-then-levels-gt-MOST_LEVELS-clause-refused t c =
-    λ count behind. else_stops c.args.words.now c.args.at _ count behind (sym c.if-not-else_follows.false ∙ c.else_follows.ensures) c.if-levels-gt-MOST_LEVELS.true
+    λ count behind. else_too_deep _ count behind _ _ c.in-Some.ensures.read c.if-levels-gt-MOST_LEVELS.true
 
-pub otherwise-returns-then-not-else_follows-clause-read : goal.otherwise-returns-then-not-else_follows-clause-read
-otherwise-returns-then-not-else_follows-clause-read t c = record {
-  comes = λ count behind. (_, otherwise_ends _ count behind _ (sym c.if-not-else_follows.true ∙ c.else_follows.ensures));
+pub otherwise-returns-in_default-clause-read : goal.otherwise-returns-in_default-clause-read
+otherwise-returns-in_default-clause-read t c = record {
+  comes = λ count behind. (_, otherwise_ends _ count behind _ (not_else _ c.in_default.ensures.read));
 }

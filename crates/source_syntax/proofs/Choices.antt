@@ -1,0 +1,76 @@
+-- What the next word chooses: readings that go on in one of several ways.
+use Rattle.std.proofs.Common.{◌≡◌, ◌≢◌, ℕ, ◌⊎◌, inl, inr, List, [], ◌∷◌, Option, None, Some, refl, sym, ap, ◌∙◌, subst}
+use Rattle.derivation.specs.declared.rule.Rule.TheVariants.{Expected}
+use Rattle.derivation.specs.Word.{Word}
+use Rattle.derivation.specs.Pieces.{Token, token, first, first_before}
+use Rattle.derivation.specs.Limits.{IsWithin, count_on}
+use Rattle.source_syntax.specs.Pending.{Pending, Trees, pieces}
+use Rattle.source_syntax.specs.Leads.{Leads, Stops}
+use Rattle.source_syntax.proofs.Calculus.{opens, reads, sticks}
+use Rattle.source_syntax.proofs.Completions.{complete, completes}
+
+-- the first word of a tree
+abbrev pub begins : (A : List Pending) → Trees A → Option Word
+begins A f = first_before (pieces A f) None
+
+-- this opening lets the tree begin, and what is then left has a tree of which this one is made
+abbrev pub Way : {Opening : Type 0} (A : List Pending) (IsOpen : Opening → Type 0) (rest : Opening → List Pending)
+    (fill : (o : Opening) → Trees (rest o) → Trees A) → Opening → Trees A → Type 0
+Way A IsOpen rest fill o f = IsOpen o × (g : Trees (rest o)) × (f ≡ fill o g)
+
+-- Things to be read that open in several ways, told by their first word. Where that lets none begin, none of them has it.
+pub record Choice {Opening : Type 0} (A : List Pending) (classify : Option Word → Opening) (IsOpen : Opening → Type 0) (rest : Opening → List Pending)
+    (fill : (o : Opening) → Trees (rest o) → Trees A) : Type 0 where
+  pub spells : (o : Opening) (g : Trees (rest o)) → pieces A (fill o g) ≡ pieces (rest o) g
+  pub view : (f : Trees A) → Way A IsOpen rest fill (classify (begins A f)) f
+
+module _ {Opening : Type 0} {A : List Pending} {classify : Option Word → Opening} {IsOpen : Opening → Type 0} {rest : Opening → List Pending}
+    {fill : (o : Opening) → Trees (rest o) → Trees A} (x : Choice A classify IsOpen rest fill) (c : ℕ) (from : List Word) where
+  pub goes : (o : Opening) → o ≡ classify (first from) → Leads c A from c (rest o) from (fill o)
+  goes o e =
+      opens A (rest o) c from (λ next. classify next ≡ o) [] (fill o) refl tt refl tt (x.spells o)
+      (λ f fits is. let way = subst (λ o. Way A IsOpen rest fill o f) is (x.view f) in (way.1, way.2)) (sym e)
+
+  pub stuck : (o : Opening) → (IsOpen o → ⊥) → o ≡ classify (first from) → Stops c A from Expected from
+  stuck o closed e =
+      sticks A c from (λ next. classify next ≡ o) (complete A) (completes A).0 (completes A).1
+      (λ f fits is. closed (subst IsOpen is (x.view f).0)) (sym e)
+
+-- a tree that begins with a token, or is made as others are that don't begin with its word
+abbrev pub Sides : (A : List Pending) (t : Token) (B : List Pending) (fill : Trees B → Trees A) (C : List Pending) (other : Trees C → Trees A)
+    → Trees A → Type 0
+Sides A t B fill C other f = ((g : Trees B) × (f ≡ fill g)) ⊎ ((g : Trees C) × (f ≡ other g) × (begins A f ≢ Some t.word))
+
+-- things to be read of which each tree is so
+pub record Fork (A : List Pending) (t : Token) (B : List Pending) (fill : Trees B → Trees A) (C : List Pending) (other : Trees C → Trees A) : Type 0 where
+  pub spells : (g : Trees B) → pieces A (fill g) ≡ token t ∷ pieces B g
+  pub spells_other : (g : Trees C) → pieces A (other g) ≡ pieces C g
+  pub view : (f : Trees A) → Sides A t B fill C other f
+
+-- where a word isn't the first, it isn't the next
+pub not_next : (w : Word) (from : List Word) → ((to : List Word) → from ≢ w ∷ to) → first from ≢ Some w
+not_next w [] h e = cc
+not_next w (v ∷ ws) h e = h ws (let same : v ≡ w = cc in ap (λ x. x ∷ ws) same)
+
+module _ {A : List Pending} {t : Token} {B : List Pending} {fill : Trees B → Trees A} {C : List Pending} {other : Trees C → Trees A}
+    (x : Fork A t B fill C other) where
+  pub this_side : (f : Trees A) → begins A f ≡ Some t.word → (g : Trees B) × (f ≡ fill g)
+  this_side f next = by_way (x.view f)
+    where
+      by_way : Sides A t B fill C other f → (g : Trees B) × (f ≡ fill g)
+      by_way (inl h) = h
+      by_way (inr h) = absurd (h.2 next)
+
+  pub that_side : (f : Trees A) → begins A f ≢ Some t.word → (g : Trees C) × (f ≡ other g)
+  that_side f differs = by_way (x.view f)
+    where
+      by_way : Sides A t B fill C other f → (g : Trees C) × (f ≡ other g)
+      by_way (inl h) = absurd (differs (ap (begins A) h.1 ∙ ap (λ ps. first_before ps None) (x.spells h.0)))
+      by_way (inr h) = (h.0, h.1)
+
+  module _ {c : ℕ} {from : List Word} where
+    pub taken : {to : List Word} → from ≡ t.word ∷ to → IsWithin c t → Leads c A from (count_on c t.counting) B to fill
+    taken {to} e within = reads A B c from to t fill e within x.spells (λ f fits next. this_side f next)
+
+    pub left_out : first from ≢ Some t.word → Leads c A from c C from other
+    left_out differs = opens A C c from (λ next. next ≢ Some t.word) [] other refl tt refl tt x.spells_other (λ f fits other_word. that_side f other_word) differs

@@ -1,0 +1,16 @@
+use Rattle.std.proofs.Common.{◌+◌, ◌<◌, ◌≤◌, List, drop, length}
+use Rattle.derivation.specs.declared.rule.Rule.{Rule}
+use Rattle.derivation.specs.Word.{Word}
+use Rattle.derivation.specs.Spelled.{words_from}
+use Rattle.source_syntax.specs.Reads.{AreNext, MissesOne}
+use Rattle.source_syntax.proofs.reader.signs.Given as goal
+
+-- where the signs that are left stand here, all do; and where one of them is missed, one of all is
+abbrev pub invariant-loop-symbol : goal.invariant-loop-symbol
+invariant-loop-symbol l = record {
+  forward : l.at + l.symbol-index ≤ l.here;
+  inside : 0 < l.symbol-index → l.here ≤ length l.words;
+  stand : (to : List Word) → AreNext (drop l.symbol-index l.wanted) (words_from l.words l.here) to → AreNext l.wanted (words_from l.words l.at) to;
+  missed : (rule : Rule) (to : List Word) → MissesOne (drop l.symbol-index l.wanted) (words_from l.words l.here) rule to
+      → MissesOne l.wanted (words_from l.words l.at) rule to;
+}
