@@ -8,8 +8,6 @@
 mod action;
 mod moving;
 mod sweep;
-#[cfg(test)]
-mod tests;
 
 pub use action::{Action, Place, actions};
 pub use moving::{moved_back, or_given_up};

@@ -11,8 +11,6 @@ pub mod laws;
 mod ranging;
 mod stepping;
 mod testing;
-#[cfg(test)]
-mod tests;
 
 pub use assigning::back_assign;
 pub use ranging::back_range;

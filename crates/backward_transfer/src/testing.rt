@@ -73,7 +73,7 @@ struct Test<'a, R: Rank> {
 impl<'a, R: Rank> Test<'a, R> {
     /// What stands where the rows of a conjunction are left to ask, and behind them other conjunctions. Where
     /// it is settled whether the test may hold, they are those of its failure.
-    #[cycle(test)]
+    #[cycle(asking)]
     fn ask_rows(
         &self,
         alloc: Global,
@@ -132,7 +132,7 @@ impl<'a, R: Rank> Test<'a, R> {
     }
 
     /// What stands where the conjunctions are left to try.
-    #[cycle(test)]
+    #[cycle(asking)]
     fn ask_next(
         &self,
         alloc: Global,
@@ -167,7 +167,7 @@ impl<'a, R: Rank> Test<'a, R> {
     }
 
     /// What stands where a conjunction was found to hold, or all to fail.
-    #[cycle(test)]
+    #[cycle(asking)]
     fn settle(
         &self,
         alloc: Global,

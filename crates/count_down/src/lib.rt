@@ -10,7 +10,5 @@ mod family;
 mod label_counts;
 pub mod laws;
 mod loop_trees;
-#[cfg(test)]
-mod tests;
 
 pub use family::candidate;

@@ -14,8 +14,6 @@ pub mod laws;
 mod path;
 mod rank;
 mod reason;
-#[cfg(test)]
-mod tests;
 mod trail;
 mod tree;
 

@@ -8,7 +8,7 @@ ghost use Rattle.step_meaning.specs.Run.{IsInput};
 ghost use Rattle.step_meaning.specs.Valid.{IsBody};
 ghost use Rattle.control_flow.specs.Labels.{all_labels};
 ghost use Rattle.linear_cons.specs.declared.bounds.Bounds.{Bounds};
-ghost use Rattle.linear_forms.specs.Linearising.{form_of};
+ghost use Rattle.step_meaning.specs.Countdown.{form_of};
 ghost use Rattle.linear_forms.specs.Spreading.{spread_of};
 ghost use Rattle.forward_inv.specs.Behind.{IsInequality, compared};
 ghost use Rattle.forward_inv.specs.States.{IsReachedState};

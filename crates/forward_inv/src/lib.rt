@@ -8,7 +8,5 @@ mod behind;
 pub mod laws;
 mod sets;
 mod sweeps;
-#[cfg(test)]
-mod tests;
 
 pub use sets::{Inv, invariants};

@@ -10,8 +10,6 @@ mod facts;
 mod falls;
 mod proposing;
 mod raising;
-#[cfg(test)]
-mod tests;
 mod under;
 
 pub use facts::Facts;

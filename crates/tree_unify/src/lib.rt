@@ -13,8 +13,6 @@ mod joining;
 pub mod laws;
 mod pruning;
 mod sizes;
-#[cfg(test)]
-mod tests;
 mod trimming;
 mod walk;
 

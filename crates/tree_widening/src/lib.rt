@@ -9,8 +9,6 @@ mod against;
 mod extrapolation;
 pub mod laws;
 mod newer;
-#[cfg(test)]
-mod tests;
 mod walk;
 mod widening;
 

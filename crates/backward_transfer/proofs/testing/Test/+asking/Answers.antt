@@ -7,7 +7,7 @@ use Rattle.decision_tree.specs.Plans.{plan_of}
 use Rattle.tree_unify.proofs.Meeting.{on_err}
 use Rattle.backward_transfer.specs.Tests.{ComplementFits, EnabledFits, IsLaterSmall, SettledAsks, TriesAsk, settled_tree, tried}
 use Rattle.backward_transfer.proofs.Trying.{rows_left, asked_no_least, asked_shape, asked_too_large, asked_yes_least, asks_sides, asks_whole, settle_falls, settled_asks, settled_shape}
-use Rattle.backward_transfer.proofs.testing.Test.+test.Goals as goal
+use Rattle.backward_transfer.proofs.testing.Test.+asking.Goals as goal
 
 pub ask_next-returns-in-Some-clause-tree : goal.ask_next-returns-in-Some-clause-tree
 ask_next-returns-in-Some-clause-tree g t c =

@@ -1,6 +1,6 @@
 use Rattle.std.proofs.Common.{length, ◌+◌}
 use Rattle.backward_transfer.proofs.Trying.{rows_left, stage_left}
-use Rattle.backward_transfer.proofs.testing.Test.+test.Given as goal
+use Rattle.backward_transfer.proofs.testing.Test.+asking.Given as goal
 
 abbrev pub decreases-ask_next : goal.decreases-ask_next
 decreases-ask_next g l = rows_left l.rest.now + 1 + stage_left l.holds l.self.now.no_rows.now
