@@ -1,6 +1,5 @@
 -- Labels as a graph keeps them.
 use Rattle.std.specs.Prelude.{◌≡◌, ◌<◌, List, map}
-use Rattle.step_meaning.specs.declared.statement.Block.{Then'}
 use Rattle.step_meaning.specs.declared.statement.Block.TheVariants.{End}
 use Rattle.step_meaning.specs.declared.statement.StmtKind.TheVariants.{Assign}
 use Rattle.step_meaning.specs.Syntax.{Statements, expression, size_of}

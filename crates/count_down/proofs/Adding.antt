@@ -16,9 +16,10 @@ use Rattle.step_meaning.specs.declared.expression.Op2.{Op2}
 use Rattle.step_meaning.specs.declared.expression.Op2.TheVariants.{Add, Sub, Mul, Less, LessEqual, Greater, GreaterEqual, Equal, NotEqual, And, Or}
 use Rattle.step_meaning.specs.Syntax.{Expression, number, variable, pair}
 use Rattle.step_meaning.specs.AffineExpressions.{ExpressionFits, IsAffine, coefficient_in, constant_in}
-use Rattle.step_meaning.specs.Countdown.{IsShort, IsSmall, added, added_by, amount, change_by, form_of, sizes_below, total_size}
+use Rattle.step_meaning.specs.Countdown.{IsShort, IsSmall, added, added_by, amount, change_by, form_of}
+use Rattle.linear_cons.specs.Sizes.{sizes_below, total_size}
 use Rattle.step_meaning.specs.Turns.{MayAssign}
-use Rattle.step_meaning.proofs.SizeSums.{sizes_more, sizes_none}
+use Rattle.linear_cons.proofs.Sizes.{sizes_more, sizes_none}
 use Rattle.count_down.proofs.Moving.{short_form}
 
 -- coefficients of at most 1 in size sum to at most their number

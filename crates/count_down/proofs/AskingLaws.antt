@@ -7,7 +7,8 @@ use Rattle.linear_cons.specs.declared.row.RowKind.TheVariants.{Always, Never, Ro
 use Rattle.linear_cons.specs.Rows.{IsRowOf, row_kind_of}
 use Rattle.linear_cons.proofs.KindLaws.{row_kind_unique}
 use Rattle.linear_cons.specs.Ends.{exactly}
-use Rattle.linear_forms.specs.Linearising.{form_of, linear_of}
+use Rattle.linear_forms.specs.Linearising.{linear_of}
+use Rattle.step_meaning.specs.Countdown.{form_of, Asks, AsksByComparing}
 use Rattle.linear_forms.specs.Spreading.{Claim, all_rows_of, before, claims, kept_before, pairs, rows_of, spread_of, with_constraint}
 use Rattle.linear_forms.proofs.Exactness.{linear_exact}
 use Rattle.linear_forms.proofs.SpreadExactness.{claimed, exact_constraint}
@@ -15,7 +16,6 @@ use Rattle.step_meaning.specs.declared.expression.Op2.{Op2}
 use Rattle.step_meaning.specs.declared.expression.Op2.TheVariants.{Add, Sub, Mul, Less, LessEqual, Greater, GreaterEqual, Equal, NotEqual, And, Or}
 use Rattle.step_meaning.specs.Syntax.{Expression, number, variable, free, range, truth, negative, negation, pair}
 use Rattle.step_meaning.specs.AffineExpressions.{ComparisonFits, FunctionFits, IsAffine, less}
-use Rattle.step_meaning.specs.Countdown.{Asks, AsksByComparing}
 use Rattle.count_down.specs.Asking.{EachHas, Has}
 
 -- ---- conjunctions

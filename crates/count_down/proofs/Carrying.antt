@@ -7,9 +7,9 @@ use Rattle.linear_cons.specs.Functions.{coefficient, constant_of, substituted, v
 use Rattle.linear_cons.proofs.Forms.{form_unmentioned, value_constant, value_substituted, value_sum}
 use Rattle.linear_cons.proofs.Ring.{zero_mul}
 use Rattle.linear_cons.specs.Ends.{exactly}
-use Rattle.linear_forms.specs.Linearising.{form_of, is_exact, linear_of}
+use Rattle.linear_forms.specs.Linearising.{is_exact, linear_of}
+use Rattle.step_meaning.specs.Countdown.{form_of, added, amount, change_by}
 use Rattle.step_meaning.specs.Syntax.{Expression}
-use Rattle.step_meaning.specs.Countdown.{added, amount, change_by}
 use Rattle.step_meaning.specs.Turns.{MayAssign}
 use Rattle.tree_support.specs.Flow.{Arc, assigning}
 use Rattle.tree_support.proofs.Moving.{store_after}

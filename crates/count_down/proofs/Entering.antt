@@ -8,7 +8,8 @@ use Rattle.decision_tree.specs.Plans.{Plan, rank_of}
 use Rattle.step_meaning.specs.declared.count.Count.{Count}
 use Rattle.step_meaning.specs.declared.countdown.Countdown.TheVariants.{Straight, Loop}
 use Rattle.step_meaning.specs.Counts.{HasNoLoop, none}
-use Rattle.step_meaning.specs.Countdown.{CountsFrom, change_by, form_of, total_size}
+use Rattle.step_meaning.specs.Countdown.{CountsFrom, change_by, form_of}
+use Rattle.linear_cons.specs.Sizes.{total_size}
 use Rattle.step_meaning.specs.Syntax.{Statements, assign, skip, return, if_else, while_loop, do_while, empty, sequence}
 use Rattle.tree_support.specs.Setting.{Trees, trees_in}
 use Rattle.count_down.specs.Candidates.{IsCandidate, behind, candidate_without, last_steps, most_within, nothing}

@@ -6,22 +6,20 @@ use Rattle.linear_cons.specs.declared.row.RowKind.TheVariants.{Always, Never, Ro
 use Rattle.linear_cons.specs.Functions.{complement_of, constant_of, difference_of, sum_of}
 use Rattle.linear_cons.specs.Rows.{IsRowOf, row_kind_of}
 use Rattle.linear_cons.proofs.KindLaws.{row_kind_is}
-use Rattle.linear_cons.proofs.Sizes.{SizesAtMost, sizes_difference, sizes_fit, sizes_quotient, sizes_sum}
+use Rattle.linear_cons.proofs.Sizes.{sizes_difference, sizes_fit, sizes_quotient, sizes_sum, sizes_constant, sizes_grown, sizes_complement}
+use Rattle.linear_cons.specs.Sizes.{SizesAtMost}
 use Rattle.decision_tree.specs.AffineRanks.{excess_of}
 use Rattle.tree_support.specs.Certificates.{affine_ranks}
 use Rattle.tree_support.specs.Support.{ClaimFits, MoveFits, moved_rank}
 use Rattle.tree_support.specs.Systems.{exceeding, unnatural}
 use Rattle.count_down.specs.Building.{IsModest}
 use Rattle.count_down.specs.Trees.{bound, ranked}
-use Rattle.count_down.proofs.Modest.{bound_small, sizes_constant, sizes_grown}
+use Rattle.count_down.proofs.Modest.{bound_small}
 use Rattle.count_down.proofs.Stepping.{RowsFit, StepFits}
 
 -- how large the numbers of a bound are, and those of the steps elsewhere
 abbrev pub most_size : ℕ
 most_size = (2 ^ 91 + 1) * 1024 + 4096
-
-pub sizes_complement : (n : ℕ) (a : Affine) → SizesAtMost n a → SizesAtMost (1 + n) (complement_of a)
-sizes_complement n a own = sizes_difference 1 n (constant_of (negsuc 0)) a (sizes_constant (negsuc 0) 1 (omega arith)) own
 
 pub natural_fits : (a : Affine) → SizesAtMost most_size a → ClaimFits affine_ranks (unnatural (ranked a))
 natural_fits a own = sizes_fit (1 + most_size) (complement_of a) (omega arith) (sizes_complement most_size a own)

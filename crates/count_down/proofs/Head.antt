@@ -16,7 +16,8 @@ use Rattle.linear_forms.specs.Spreading.{spread_of}
 use Rattle.linear_forms.proofs.Exactness.{linear_exact}
 use Rattle.control_flow.specs.Labels.{assigns, tests}
 use Rattle.step_meaning.specs.declared.count.Count.{Count}
-use Rattle.step_meaning.specs.Countdown.{Asks, IsSmall, form_of, total_size}
+use Rattle.step_meaning.specs.Countdown.{Asks, IsSmall, form_of}
+use Rattle.linear_cons.specs.Sizes.{total_size}
 use Rattle.step_meaning.specs.Syntax.{Expression, Statements, assign, sequence}
 use Rattle.decision_tree.specs.declared.affine_rank.AffineRank.{AffineRank}
 use Rattle.tree_support.specs.Flow.{assigning, rows_given, testing}
@@ -40,7 +41,8 @@ use Rattle.count_down.proofs.Last.{IsLast, unset_claim}
 use Rattle.count_down.proofs.Leading.{below, led_modest, limit, size_before, sizes}
 use Rattle.count_down.proofs.Leads.{Blocks, IsGiven, LeadsDown, Passes, all_lead, tested, testing_all, testing_asked}
 use Rattle.count_down.proofs.Lining.{Natural, Negative}
-use Rattle.count_down.proofs.Modest.{modest_fits, sizes_grown, small_sizes}
+use Rattle.count_down.proofs.Modest.{modest_fits, small_sizes}
+use Rattle.linear_cons.proofs.Sizes.{sizes_grown}
 use Rattle.count_down.proofs.Putting.{put_fits}
 use Rattle.count_down.proofs.Stepping.{from_yes, more_natural, more_negative}
 

@@ -7,7 +7,7 @@ use Rattle.linear_cons.specs.declared.bounds.Bounds.{Bounds}
 use Rattle.linear_cons.specs.Functions.{coefficient, constant_of, value_at}
 use Rattle.linear_cons.proofs.Places.{number_at_places}
 use Rattle.linear_cons.proofs.Ring.{zero_mul}
-use Rattle.linear_cons.proofs.Sizes.{SizesAtMost}
+use Rattle.linear_cons.specs.Sizes.{SizesAtMost, total_size}
 use Rattle.linear_cons.specs.Ends.{exactly}
 use Rattle.linear_forms.specs.Linearising.{linear_of}
 use Rattle.linear_forms.specs.Spreading.{spread_of}
@@ -15,7 +15,7 @@ use Rattle.control_flow.specs.Actions.{IsSorted}
 use Rattle.control_flow.specs.Labels.{Action, ends, assigns, passes, tests}
 use Rattle.step_meaning.specs.declared.count.Count.{Count}
 use Rattle.step_meaning.specs.Counts.{either_of, none, step_by}
-use Rattle.step_meaning.specs.Countdown.{IsShort, IsSmall, added, amount, change_by, form_of, total_size}
+use Rattle.step_meaning.specs.Countdown.{IsShort, IsSmall, added, amount, change_by, form_of}
 use Rattle.step_meaning.specs.Syntax.{Expression, Statements}
 use Rattle.step_meaning.specs.Turns.{MayAssign}
 use Rattle.decision_tree.specs.declared.affine_rank.AffineRank.{AffineRank}
@@ -32,7 +32,8 @@ use Rattle.count_down.proofs.Carrying.{counted, shifted_value, unmentioned}
 use Rattle.count_down.proofs.CountingLaws.{Follows}
 use Rattle.count_down.proofs.Fitting.{unset_fits}
 use Rattle.count_down.proofs.Leads.{IsGiven, LeadsDown, Passes, all_lead, assigning_all, testing_all}
-use Rattle.count_down.proofs.Modest.{ahead_modest, sizes_grown, sizes_shifted, small_sizes}
+use Rattle.count_down.proofs.Modest.{ahead_modest, sizes_shifted, small_sizes}
+use Rattle.linear_cons.proofs.Sizes.{sizes_grown}
 use Rattle.count_down.proofs.Noughts.{nought_step}
 use Rattle.count_down.proofs.Putting.{put_fits}
 

@@ -29,7 +29,8 @@ use Rattle.tree_support.specs.Systems.{System, at_leaves, moved_by, of_leaf, reg
 use Rattle.tree_support.specs.Told.{Told, setting_of}
 use Rattle.tree_support.proofs.Lists.{all_none, contains_first, contains_later}
 use Rattle.count_down.specs.Blocking.{IsBlocked}
-use Rattle.count_down.specs.Trees.{IsWhole, bound, count_tree, ranked, split, within}
+use Rattle.count_down.specs.Trees.{bound, count_tree, ranked, split, within}
+use Rattle.decision_tree.specs.Extent.{IsWhole}
 use Rattle.count_down.proofs.Lining.{Natural, Negative, by_claim, by_fall}
 use Rattle.count_down.proofs.Stepping.{RowsFit, bound_value, falls_of, lower_of}
 

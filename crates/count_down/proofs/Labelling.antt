@@ -13,12 +13,14 @@ use Rattle.step_meaning.specs.declared.count.Count.{Count}
 use Rattle.step_meaning.specs.declared.countdown.Countdown.{Countdown}
 use Rattle.step_meaning.specs.declared.countdown.Countdown.TheVariants.{Straight, Loop}
 use Rattle.step_meaning.specs.Counts.{HasNoLoop, before, none}
-use Rattle.step_meaning.specs.Countdown.{CountsFrom, CountsDown, IsCountdownBy, change_by, form_of, total_size}
+use Rattle.step_meaning.specs.Countdown.{CountsFrom, CountsDown, IsCountdownBy, change_by, form_of}
+use Rattle.linear_cons.specs.Sizes.{total_size}
 use Rattle.step_meaning.specs.Syntax.{Expression, Statement, Statements, assign, skip, return, if_else, while_loop, do_while, empty, sequence, size_of, size_of_statement}
 use Rattle.count_down.specs.Building.{AreMeasured, IsMeasured, trees_by}
 use Rattle.count_down.specs.Candidates.{behind, candidate_by, counting, inner, inside, last_steps, most_within, nothing, turn_counts, turn_steps}
 use Rattle.count_down.specs.LabelCounts.{counts_of, counts_of_statement}
-use Rattle.count_down.specs.Trees.{IsWhole, count_tree, ended, split, within}
+use Rattle.count_down.specs.Trees.{count_tree, ended, split, within}
+use Rattle.decision_tree.specs.Extent.{IsWhole}
 use Rattle.count_down.proofs.Measured.{counting_measured, free_measured}
 
 -- label 0 stands before the others

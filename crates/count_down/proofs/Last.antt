@@ -29,7 +29,7 @@ use Rattle.count_down.specs.Trees.{ranked, within}
 use Rattle.count_down.proofs.CountingLaws.{Follows}
 use Rattle.count_down.proofs.Fitting.{claim_fits, most_size, steps_sizes}
 use Rattle.count_down.proofs.Leads.{Blocked, IsGiven, assigning_all, testing_all}
-use Rattle.count_down.proofs.Modest.{sizes_grown}
+use Rattle.linear_cons.proofs.Sizes.{sizes_grown}
 use Rattle.count_down.proofs.Noughts.{steps_claim}
 use Rattle.count_down.proofs.Straight.{IsStep, steps_blocked}
 

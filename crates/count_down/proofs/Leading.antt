@@ -3,16 +3,17 @@ use Rattle.std.proofs.Common.{◌≡◌, ℕ, ◌+◌, ◌*◌, ◌^◌, ◌<◌
 use Rattle.std.proofs.Math.Nat.{mul_assoc, mul_comm, mul-le-mul, le_refl, suc-mul}
 use Rattle.linear_cons.specs.declared.affine.Affine.{Affine}
 use Rattle.linear_cons.specs.declared.row.Row.{Row}
-use Rattle.linear_cons.specs.Functions.{coefficient, products_added, substituted, without}
-use Rattle.linear_cons.proofs.Sizes.{SizesAtMost, sizes_fit, sizes_multiple, sizes_sum}
+use Rattle.linear_cons.specs.Functions.{substituted}
+use Rattle.linear_cons.proofs.Sizes.{sizes_fit, sizes_grown, sizes_products, sizes_substituted}
+use Rattle.linear_cons.specs.Sizes.{SizesAtMost, total_size}
 use Rattle.step_meaning.specs.Counts.{before, none}
-use Rattle.step_meaning.specs.Countdown.{CountsFrom, change_by, form_of, total_size}
+use Rattle.step_meaning.specs.Countdown.{CountsFrom, change_by, form_of}
 use Rattle.step_meaning.specs.Syntax.{Expression, Statements, assign, skip, return, if_else, while_loop, do_while, empty, sequence, size_of}
 use Rattle.count_down.specs.Building.{AreShort, IsCarried, IsLed, IsModest, lead_of}
 use Rattle.count_down.specs.Candidates.{carried, last_of_loop, nothing, steps_before, turn_of_loop, turn_steps}
 use Rattle.step_meaning.specs.Valid.{IsBody}
 use Rattle.count_down.proofs.Measured.{most_before}
-use Rattle.count_down.proofs.Modest.{sizes_grown, sizes_without, small_sizes, total_sizes}
+use Rattle.count_down.proofs.Modest.{small_sizes}
 
 -- ---- sizes
 
@@ -31,14 +32,6 @@ factors_small row p (sequence return more) small counts = absurd counts
 factors_small row p (sequence (if_else test first second) more) small counts = absurd counts
 factors_small row p (sequence (do_while body test) more) small counts = absurd counts
 factors_small row p empty small counts = absurd counts
-
--- the products that a substitution adds up, and its result, have numbers at most so many times as large
-pub sizes_products : (m : ℕ) (e : Affine) (x : ℕ) (v : Affine) → x < 16 → SizesAtMost m e → SizesAtMost (total_size v * m) (products_added e x v)
-sizes_products m e x v low own = sizes_multiple (total_size v) m v (coefficient e x) (total_sizes v) (own.coefficients x low)
-
-pub sizes_substituted : (m : ℕ) (e : Affine) (x : ℕ) (v : Affine) → x < 16 → SizesAtMost m e → SizesAtMost (m + total_size v * m) (substituted e x v)
-sizes_substituted m e x v low own = sizes_sum m (total_size v * m) (without e x) (products_added e x v) (sizes_without m e x own)
-    (sizes_products m e x v low own)
 
 -- how large the function is before the assignments
 abbrev pub size_before : Statements → ℕ

@@ -25,7 +25,8 @@ use Rattle.tree_support.proofs.Moving.{store_after}
 use Rattle.count_down.specs.Asking.{EachHas, Has}
 use Rattle.count_down.specs.Blocking.{IsBlocked}
 use Rattle.count_down.specs.Building.{IsModest}
-use Rattle.count_down.specs.Trees.{IsWhole, bound, count_tree, ranked}
+use Rattle.count_down.specs.Trees.{bound, count_tree, ranked}
+use Rattle.decision_tree.specs.Extent.{IsWhole}
 use Rattle.count_down.proofs.Fitting.{bound_sizes, natural_fits, rows_fit, steps_sizes}
 use Rattle.count_down.proofs.Labelled.{label_blocked}
 use Rattle.count_down.proofs.Lining.{Natural, Negative}

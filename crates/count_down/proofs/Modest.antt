@@ -1,28 +1,13 @@
 -- Sizes of the functions in a candidate.
-use Rattle.std.proofs.Common.{◌≡◌, ◌≢◌, ℕ, zero, suc, ◌+◌, ◌*◌, ◌^◌, ◌<◌, ◌≤◌, true, false, eqb, ℤ, pos, unsigned_abs, ⊎_elim, add-one, arith}
-use Rattle.std.proofs.lemmas.Bool.{cases_lt}
-use Rattle.std.proofs.lemmas.Bool.Decides.{eqb_tells}
+use Rattle.std.proofs.Common.{ℕ, ◌+◌, ◌*◌, ◌^◌, ◌≤◌, ℤ, pos, unsigned_abs, arith}
 use Rattle.std.proofs.Math.Nat.{le_refl}
 use Rattle.linear_cons.specs.declared.affine.Affine.{Affine}
-use Rattle.linear_cons.specs.Functions.{NumbersFit, coefficient, constant_of, multiple_of, without}
-use Rattle.linear_cons.proofs.Places.{number_at-clear, number_at_places}
-use Rattle.linear_cons.proofs.Sizes.{SizesAtMost, sizes_fit, sizes_multiple, sizes_sum}
-use Rattle.step_meaning.specs.Countdown.{IsSmall, sizes_below, total_size}
-use Rattle.step_meaning.proofs.SizeSums.{sizes_more}
+use Rattle.linear_cons.specs.Functions.{NumbersFit, coefficient, constant_of, multiple_of}
+use Rattle.linear_cons.proofs.Sizes.{sizes_constant, sizes_fit, sizes_grown, sizes_multiple, sizes_sum}
+use Rattle.linear_cons.specs.Sizes.{SizesAtMost}
+use Rattle.step_meaning.specs.Countdown.{IsSmall}
 use Rattle.count_down.specs.Trees.{bound, shifted}
 use Rattle.count_down.specs.Building.{IsModest}
-
-pub sizes_grown : (m n : ℕ) (a : Affine) → m ≤ n → SizesAtMost m a → SizesAtMost n a
-sizes_grown m n a le sizes = record {
-  coefficients = λ i h. let size = sizes.coefficients i h in omega arith;
-  constants = let size = sizes.constants in omega arith;
-}
-
-pub sizes_constant : (z : ℤ) (n : ℕ) → unsigned_abs z ≤ n → SizesAtMost n (constant_of z)
-sizes_constant z n small = record {
-  coefficients = λ i h. rw number_at_places (omega arith);
-  constants = small;
-}
 
 pub sizes_shifted : (m n : ℕ) (e : Affine) (z : ℤ) → SizesAtMost m e → unsigned_abs z ≤ n → SizesAtMost (m + n) (shifted e z)
 sizes_shifted m n e z own small = sizes_sum m n e (constant_of z) own (sizes_constant z n small)
@@ -61,27 +46,3 @@ ahead_modest e most z small few moderate =
 
 pub modest_fits : (e : Affine) → IsModest e → NumbersFit e
 modest_fits e modest = sizes_fit (2 ^ 91) e (omega arith) modest
-
--- ---- substitutions
-
-below_sum : (e : Affine) (n i : ℕ) → i < n → unsigned_abs (coefficient e i) ≤ sizes_below n e
-below_sum e zero i low = absurd (omega arith)
-below_sum e (suc n) i low = rw (← add-one n) (rw (sizes_more n e) (⊎_elim
-    (λ (less : i < n). let before = below_sum e n i less in omega arith)
-    (λ (last : n ≤ i). let same : i ≡ n = omega arith in rw same (omega arith))
-    (cases_lt i n)))
-
-pub total_sizes : (e : Affine) → SizesAtMost (total_size e) e
-total_sizes e = record {
-  coefficients = λ i h. let below = below_sum e 16 i h in omega arith;
-  constants = omega arith;
-}
-
-pub sizes_without : (m : ℕ) (a : Affine) (place : ℕ) → SizesAtMost m a → SizesAtMost m (without a place)
-sizes_without m a place own = record {
-  coefficients = λ i h. rw (number_at-clear a.coef place i) (⊎_elim
-      (λ (same : (eqb i place ≡ true) × (i ≡ place)). rw same.0 (omega arith))
-      (λ (apart : (eqb i place ≡ false) × (i ≢ place)). rw apart.0 (own.coefficients i h))
-      (eqb_tells i place));
-  constants = own.constants;
-}

@@ -1,6 +1,6 @@
 -- An assignment of a variable that a function doesn't mention leaves all numbers of the function as they are, whatever is assigned.
 use Rattle.std.proofs.Common.{◌≡◌, ℕ, ◌+◌, ◌*◌, ◌^◌, ◌<◌, ◌≤◌, ℤ, pos, ◌+ℤ◌, ◌*ℤ◌, Some, refl, ap, sym, ◌∙◌, arith}
-use Rattle.std.proofs.lemmas.Int.{by_lt_z, ints}
+use Rattle.std.proofs.lemmas.Int.{ints}
 use Rattle.linear_cons.specs.declared.affine.Affine.{Affine}
 use Rattle.linear_cons.specs.declared.row.RowKind.{RowKind}
 use Rattle.linear_cons.specs.declared.row.RowKind.TheVariants.{Always, Never, Row as Kept}
@@ -8,26 +8,17 @@ use Rattle.linear_cons.specs.Functions.{IsQuotient, SubstitutionFits, coefficien
 use Rattle.linear_cons.specs.Rows.{IsRowOf, row_kind_of}
 use Rattle.linear_cons.proofs.KindLaws.{row_kind_is}
 use Rattle.linear_cons.proofs.Places.{number_at_places}
-use Rattle.linear_cons.proofs.Ring.{mul_lt, mul_zero, zero_mul}
-use Rattle.linear_cons.proofs.Sizes.{SizesAtMost, sizes_fit, sizes_quotient, sizes_sum}
+use Rattle.linear_cons.proofs.Ring.{mul_zero, zero_mul}
+use Rattle.linear_cons.proofs.Sizes.{sizes_fit, sizes_quotient, sizes_sum, sizes_complement, sizes_grown, sizes_without}
+use Rattle.linear_cons.specs.Sizes.{SizesAtMost}
 use Rattle.tree_support.specs.Certificates.{affine_ranks}
 use Rattle.tree_support.specs.Support.{ClaimFits}
 use Rattle.tree_support.specs.Systems.{exceeding}
 use Rattle.count_down.specs.Building.{IsModest}
 use Rattle.count_down.specs.Trees.{bound, ranked, shifted}
-use Rattle.count_down.proofs.Fitting.{bound_sizes, claim_fits, most_size, sizes_complement, steps_sizes}
-use Rattle.count_down.proofs.Modest.{sizes_grown, sizes_without}
+use Rattle.count_down.proofs.Fitting.{bound_sizes, claim_fits, most_size, steps_sizes}
 use Rattle.count_down.proofs.Stepping.{RowsFit, StepFits}
-
--- a product is 0 where the one factor is positive and the result is 0
-pub other_zero : (d : ℕ) (z : ℤ) → 0 < d → pos d *ℤ z ≡ pos 0 → z ≡ pos 0
-other_zero d z some is =
-    let nothing = mul_zero (pos d) in
-    by_lt_z z (pos 0)
-    (λ less. absurd (let below = mul_lt (pos d) z (pos 0) (omega (arith, ints)) less in omega (arith, ints)))
-    (λ from. by_lt_z (pos 0) z
-    (λ more. absurd (let above = mul_lt (pos d) (pos 0) z (omega (arith, ints)) more in omega (arith, ints)))
-    (λ at_most. omega (arith, ints)))
+use Rattle.linear_cons.proofs.Over.{other_zero}
 
 module _ (x : ℕ) (low : x < 16) where
   constant_spares : (z : ℤ) → coefficient (constant_of z) x ≡ pos 0

@@ -1,28 +1,24 @@
 -- The trees of a candidate are over the variables of its program, and the complements of their rows fit 128 bits.
-use Rattle.std.proofs.Common.{◌≡◌, ◌≢◌, ℕ, ◌+◌, ◌-◌, ◌*◌, ◌^◌, ◌<◌, ◌≤◌, true, false, eqb, nat_lt, Bool, ℤ, pos, ◌+ℤ◌, ◌*ℤ◌, inl, inr, ⊎_elim, List, [], ◌∷◌, ◌++◌, map, length, All, refl, sym, subst, ◌∙◌, arith}
+use Rattle.std.proofs.Common.{◌≡◌, ℕ, ◌+◌, ◌-◌, ◌*◌, ◌^◌, ◌<◌, ◌≤◌, true, false, nat_lt, Bool, ℤ, pos, inl, inr, ⊎_elim, List, [], ◌∷◌, ◌++◌, map, length, All, refl, sym, subst, arith}
 use Rattle.std.proofs.lemmas.Bool.{cases_lt}
-use Rattle.std.proofs.lemmas.Bool.Decides.{eqb_tells}
-use Rattle.std.proofs.lemmas.Int.{ints}
 use Rattle.std.proofs.lemmas.List.{get_or_past}
 use Rattle.std.proofs.lemmas.List.Elements.{All-append, All-cons}
 use Rattle.linear_cons.specs.declared.affine.Affine.{Affine}
 use Rattle.linear_cons.specs.declared.row.Row.{Row}
 use Rattle.linear_cons.specs.declared.row.RowKind.{RowKind}
 use Rattle.linear_cons.specs.declared.row.RowKind.TheVariants.{Always, Never, Row as Kept}
-use Rattle.linear_cons.specs.Functions.{IsQuotient, NumbersFit, coefficient, complement_of, constant_of, multiple_of, products_added, substituted, sum_of, without}
-use Rattle.linear_cons.specs.Numbers.{at_places}
+use Rattle.linear_cons.specs.Functions.{NumbersFit, complement_of, constant_of, multiple_of, IsOver}
 use Rattle.linear_cons.specs.Rows.{IsRowOf, row_kind_of}
 use Rattle.linear_cons.proofs.KindLaws.{row_kind_is}
-use Rattle.linear_cons.proofs.Places.{eqb_apart, length-at_places, number_at-clear, number_at_places}
-use Rattle.linear_cons.proofs.Ring.{zero_mul}
-use Rattle.linear_cons.proofs.Sizes.{sizes_fit, sizes_quotient}
+use Rattle.linear_cons.proofs.Sizes.{sizes_fit, sizes_quotient, sizes_complement, sizes_grown}
 use Rattle.step_meaning.specs.declared.count.Count.{Count}
 use Rattle.step_meaning.specs.declared.countdown.Countdown.{Countdown}
 use Rattle.step_meaning.specs.declared.countdown.Countdown.TheVariants.{Straight, Loop}
 use Rattle.step_meaning.specs.declared.expression.Op2.{Op2}
 use Rattle.step_meaning.specs.declared.expression.Op2.TheVariants.{Add, Sub, Mul, Less, LessEqual, Greater, GreaterEqual, Equal, NotEqual, And, Or}
-use Rattle.step_meaning.specs.AffineExpressions.{coefficient_in, constant_in, less, strictly_less}
-use Rattle.step_meaning.specs.Countdown.{Asks, AsksByComparing, CountsFrom, IsCountdownBy, form_of, total_size}
+use Rattle.step_meaning.specs.AffineExpressions.{less, strictly_less}
+use Rattle.step_meaning.specs.Countdown.{Asks, AsksByComparing, CountsFrom, IsCountdownBy, form_of}
+use Rattle.linear_cons.specs.Sizes.{total_size}
 use Rattle.step_meaning.specs.Syntax.{Expression, Statements, number, variable, free, range, truth, negative, negation, pair, assign, skip, return, if_else, while_loop, do_while, empty, sequence, size_of}
 use Rattle.step_meaning.specs.Valid.{IsBody, IsNumber, IsTest}
 use Rattle.decision_tree.specs.Paths.{PathFits, complements_on}
@@ -33,100 +29,35 @@ use Rattle.tree_support.specs.Setting.{trees_in}
 use Rattle.tree_support.proofs.Lists.{all_none}
 use Rattle.count_down.specs.Building.{IsFew, IsLed, IsModest}
 use Rattle.count_down.specs.Candidates.{IsCandidate, behind, candidate_by, carried, counting, inner, inside, last_of_loop, last_steps, most_within, steps_before, turn_counts, turn_of_loop, turn_steps}
-use Rattle.count_down.specs.Trees.{ComplementsFit, IsOver, IsTreeOver, bound, count_tree, ended, shifted, split, within}
+use Rattle.count_down.specs.Trees.{bound, count_tree, ended, shifted, split, within}
+use Rattle.decision_tree.specs.Extent.{ComplementsFit, IsTreeOver}
 use Rattle.count_down.proofs.CountingLaws.{EachIs, few_turn_counts}
-use Rattle.count_down.proofs.Fitting.{sizes_complement}
 use Rattle.count_down.proofs.Leading.{led_behind, led_modest}
-use Rattle.count_down.proofs.Modest.{ahead_modest, sizes_grown, small_sizes}
-use Rattle.count_down.proofs.Noughts.{other_zero}
+use Rattle.count_down.proofs.Modest.{ahead_modest, small_sizes}
+use Rattle.linear_cons.proofs.Over.{over_constant, over_sum, over_multiple, over_put, over_quotient}
+use Rattle.step_meaning.proofs.OverVariables.{over_form}
 
 -- ---- functions
 module _ (vars : ℕ) where
-  pub over_places : (f : ℕ → ℤ) (c : ℤ) → ((place : ℕ) → place < 16 → vars ≤ place → f place ≡ pos 0)
-      → IsOver vars (record { coef = at_places f; constant = c })
-  over_places f c none = record {
-    places = length-at_places f;
-    past = λ place high. ⊎_elim
-        (λ (low : place < 16). number_at_places f place low ∙ none place low high)
-        (λ (outside : 16 ≤ place). get_or_past (at_places f) place (pos 0) (let long = length-at_places f in omega arith))
-        (cases_lt place 16);
-  }
-
-  pub over_constant : (z : ℤ) → IsOver vars (constant_of z)
-  over_constant z = over_places (λ i. pos 0) z (λ place low high. refl)
-
-  pub over_sum : (a b : Affine) → IsOver vars a → IsOver vars b → IsOver vars (sum_of a b)
-  over_sum a b own other =
-      over_places (λ i. coefficient a i +ℤ coefficient b i) (a.constant +ℤ b.constant)
-      (λ place low high. rw (own.past place high, other.past place high) refl)
-
-  over_multiple : (a : Affine) (by : ℤ) → IsOver vars a → IsOver vars (multiple_of a by)
-  over_multiple a by own = over_places (λ i. coefficient a i *ℤ by) (a.constant *ℤ by) (λ place low high. rw (own.past place high) (zero_mul by))
-
-  pub over_put : (a : Affine) (x : ℕ) (v : Affine) → IsOver vars a → IsOver vars v → IsOver vars (substituted a x v)
-  over_put a x v own other =
-      over_places (λ i. coefficient (without a x) i +ℤ coefficient (products_added a x v) i)
-      ((without a x).constant +ℤ (products_added a x v).constant)
-      (λ place low high.
-      let products = (over_multiple v (coefficient a x) other).past place high in
-      let rest : coefficient (without a x) place ≡ pos 0 = number_at-clear a.coef x place ∙ ⊎_elim
-      (λ (same : (eqb place x ≡ true) × (place ≡ x)). rw same.0 refl)
-      (λ (apart : (eqb place x ≡ false) × (place ≢ x)). rw apart.0 (own.past place high))
-      (eqb_tells place x) in
-      omega (arith, ints))
-
-  pub over_quotient : (a q : Affine) → IsQuotient a q → IsOver vars a → IsOver vars q
-  over_quotient a q by own = record {
-    places = by.places;
-    past = λ place high. ⊎_elim
-        (λ (low : place < 16). other_zero by.divisor (coefficient q place) by.positive (sym (by.coefficients place low) ∙ own.past place high))
-        (λ (outside : 16 ≤ place). get_or_past q.coef place (pos 0) (let long = by.places in omega arith))
-        (cases_lt place 16);
-  }
-
   over_shifted : (e : Affine) (z : ℤ) → IsOver vars e → IsOver vars (shifted e z)
-  over_shifted e z own = over_sum e (constant_of z) own (over_constant z)
+  over_shifted e z own = over_sum vars e (constant_of z) own (over_constant vars z)
 
   over_bound : (m s : ℕ) (e : Affine) (k : ℕ) → IsOver vars e → IsOver vars (bound m s e k)
   over_bound m s e k own =
-      over_sum (multiple_of (shifted e (pos 1)) (pos m)) (constant_of (pos (k + 1 + s)))
-      (over_multiple (shifted e (pos 1)) (pos m) (over_shifted e (pos 1) own)) (over_constant (pos (k + 1 + s)))
+      over_sum vars (multiple_of (shifted e (pos 1)) (pos m)) (constant_of (pos (k + 1 + s)))
+      (over_multiple vars (shifted e (pos 1)) (pos m) (over_shifted e (pos 1) own)) (over_constant vars (pos (k + 1 + s)))
 
   -- ---- expressions
 
-  number_spares : (v : Expression) → IsNumber vars v → (place : ℕ) → vars ≤ place → coefficient_in v place ≡ pos 0
-  number_spares (number z) sorted place high = refl
-  number_spares (variable x) sorted place high = rw (eqb_apart place x (omega arith)) refl
-  number_spares free sorted place high = refl
-  number_spares (range lo hi) sorted place high = refl
-  number_spares (truth b) sorted place high = refl
-  number_spares (negative e) sorted place high = rw (number_spares e sorted place high) refl
-  number_spares (negation c) sorted place high = refl
-  number_spares (pair Add l r) sorted place high = rw (number_spares l sorted.0 place high, number_spares r sorted.1 place high) refl
-  number_spares (pair Sub l r) sorted place high = rw (number_spares l sorted.0 place high, number_spares r sorted.1 place high) refl
-  number_spares (pair Mul l r) sorted place high =
-      rw (number_spares l sorted.0 place high, number_spares r sorted.1 place high, zero_mul (constant_in r), zero_mul (constant_in l)) refl
-  number_spares (pair Less l r) sorted place high = absurd sorted
-  number_spares (pair LessEqual l r) sorted place high = absurd sorted
-  number_spares (pair Greater l r) sorted place high = absurd sorted
-  number_spares (pair GreaterEqual l r) sorted place high = absurd sorted
-  number_spares (pair Equal l r) sorted place high = absurd sorted
-  number_spares (pair NotEqual l r) sorted place high = absurd sorted
-  number_spares (pair And l r) sorted place high = absurd sorted
-  number_spares (pair Or l r) sorted place high = absurd sorted
-
-  pub over_form : (v : Expression) → IsNumber vars v → IsOver vars (form_of v)
-  over_form v sorted = over_places (λ place. coefficient_in v place) (constant_in v) (λ place low high. number_spares v sorted place high)
-
   compared_over : (op : Op2) (a b : Expression) (row : Row) → IsNumber vars a → IsNumber vars b → AsksByComparing op a b row → IsOver vars row.affine
-  compared_over GreaterEqual a b row one two asks = over_quotient (form_of (less a b)) row.affine asks (over_form (less a b) (one, two))
-  compared_over Greater a b row one two asks = over_quotient (form_of (strictly_less a b)) row.affine asks
-      (over_form (strictly_less a b) ((one, two), tt))
-  compared_over LessEqual a b row one two asks = over_quotient (form_of (less b a)) row.affine asks (over_form (less b a) (two, one))
-  compared_over Less a b row one two asks = over_quotient (form_of (strictly_less b a)) row.affine asks
-      (over_form (strictly_less b a) ((two, one), tt))
-  compared_over Equal a b row one two (inl asks) = over_quotient (form_of (less a b)) row.affine asks (over_form (less a b) (one, two))
-  compared_over Equal a b row one two (inr asks) = over_quotient (form_of (less b a)) row.affine asks (over_form (less b a) (two, one))
+  compared_over GreaterEqual a b row one two asks = over_quotient vars (form_of (less a b)) row.affine asks (over_form vars (less a b) (one, two))
+  compared_over Greater a b row one two asks = over_quotient vars (form_of (strictly_less a b)) row.affine asks
+      (over_form vars (strictly_less a b) ((one, two), tt))
+  compared_over LessEqual a b row one two asks = over_quotient vars (form_of (less b a)) row.affine asks (over_form vars (less b a) (two, one))
+  compared_over Less a b row one two asks = over_quotient vars (form_of (strictly_less b a)) row.affine asks
+      (over_form vars (strictly_less b a) ((two, one), tt))
+  compared_over Equal a b row one two (inl asks) = over_quotient vars (form_of (less a b)) row.affine asks (over_form vars (less a b) (one, two))
+  compared_over Equal a b row one two (inr asks) = over_quotient vars (form_of (less b a)) row.affine asks (over_form vars (less b a) (two, one))
   compared_over NotEqual a b row one two asks = absurd asks
   compared_over Add a b row one two asks = absurd asks
   compared_over Sub a b row one two asks = absurd asks
@@ -160,7 +91,7 @@ module _ (vars : ℕ) where
       → IsOver vars row.affine × IsOver vars (carried row.affine s)
   over_carried row p (sequence (assign x v) more) sorted counts =
       let later = over_carried row (p * (1 + total_size (form_of v))) more sorted.1 counts.3 in
-      (later.0, over_put (carried row.affine more) x (form_of v) later.1 (over_form v sorted.0.1))
+      (later.0, over_put vars (carried row.affine more) x (form_of v) later.1 (over_form vars v sorted.0.1))
   over_carried row p (sequence (while_loop test body step) more) sorted counts = let own = asked_over test row sorted.0.0 counts.0 in (own, own)
   over_carried row p (sequence skip more) sorted counts = absurd counts
   over_carried row p (sequence return more) sorted counts = absurd counts
@@ -178,7 +109,7 @@ module _ (vars : ℕ) where
   split_fine f a b Always is modest own one two = (one, tt, omega arith)
   split_fine f a b Never is modest own one two = (two, tt, omega arith)
   split_fine f a b (Kept row) is modest own one two = (
-    (over_quotient f row.affine is own, one, two),
+    (over_quotient vars f row.affine is own, one, two),
     (
       sizes_fit (1 + 2 ^ 91) (complement_of row.affine) (omega arith)
           (sizes_complement (2 ^ 91) row.affine (sizes_quotient (2 ^ 91) f row.affine is modest)),
@@ -191,7 +122,7 @@ module _ (vars : ℕ) where
   tree_fine : (m s : ℕ) (f : Affine) (k : ℕ) → IsModest f → IsOver vars f → IsFine (count_tree m s f k)
   tree_fine m s f k modest own =
       split_fine f (bound m s f k) (constant_of (pos (k + 1 + s))) (row_kind_of f) (row_kind_is f) modest own (over_bound m s f k own)
-      (over_constant (pos (k + 1 + s)))
+      (over_constant vars (pos (k + 1 + s)))
 
   mapped_fine : (Q : Count → Type 0) (f : Count → Plan AffineRank) → ((c : Count) → Q c → IsFine (f c)) → (counts : List Count) → EachIs Q counts
       → All IsFine (map f counts)
@@ -200,7 +131,7 @@ module _ (vars : ℕ) where
 
   last_fine : (counts : List Count) → All IsFine (map most_within counts)
   last_fine [] = all_none IsFine
-  last_fine (c ∷ counts) = All-cons IsFine (most_within c) (map most_within counts) (over_constant (pos c.most), tt, omega arith) (last_fine counts)
+  last_fine (c ∷ counts) = All-cons IsFine (most_within c) (map most_within counts) (over_constant vars (pos c.most), tt, omega arith) (last_fine counts)
 
   module _ (few_vars : vars ≤ 15) where
     counting_fine : (row : Row) (s : Statements) → IsBody vars s → IsLed row s → size_of s < 1024 → All IsFine (counting row.affine s)
@@ -232,7 +163,7 @@ module _ (vars : ℕ) where
 
     candidate_fine : (countdown : Countdown) (body : Statements) → IsBody vars body → size_of body < 1024 → IsCountdownBy countdown body
         → All IsFine (candidate_by countdown body)
-    candidate_fine Straight body sorted few holds = All-cons IsFine ended (behind body) (over_constant (pos 0), tt, omega arith) (last_fine _)
+    candidate_fine Straight body sorted few holds = All-cons IsFine ended (behind body) (over_constant vars (pos 0), tt, omega arith) (last_fine _)
     candidate_fine (Loop row) body sorted few counts =
         let led : IsLed row body = record {
           vars = vars;
@@ -244,7 +175,7 @@ module _ (vars : ℕ) where
               omega arith;
           counts = counts;
         } in
-        All-cons IsFine ended (counting row.affine body) (over_constant (pos 0), tt, omega arith) (counting_fine row body sorted led few)
+        All-cons IsFine ended (counting row.affine body) (over_constant vars (pos 0), tt, omega arith) (counting_fine row body sorted led few)
 
     tree_at : (trees : List (Plan AffineRank)) → All IsFine trees → (label : ℕ) → IsFine (trees_in trees label)
     tree_at trees all label = ⊎_elim

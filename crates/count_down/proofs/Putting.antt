@@ -4,26 +4,18 @@ use Rattle.std.proofs.Math.Nat.{le_refl, mul-le-mul, mul_assoc, mul_comm, suc-mu
 use Rattle.linear_cons.specs.declared.affine.Affine.{Affine}
 use Rattle.linear_cons.specs.declared.row.RowKind.{RowKind}
 use Rattle.linear_cons.specs.declared.row.RowKind.TheVariants.{Always, Never, Row as Kept}
-use Rattle.linear_cons.specs.Functions.{constant_of, SubstitutionFits, complement_of, products_added, substituted}
+use Rattle.linear_cons.specs.Functions.{constant_of, complement_of, substituted}
 use Rattle.linear_cons.specs.Rows.{IsRowOf, row_kind_of}
 use Rattle.linear_cons.proofs.KindLaws.{row_kind_is}
 use Rattle.count_down.specs.Building.{IsModest}
 use Rattle.count_down.specs.Trees.{bound}
-use Rattle.count_down.proofs.Modest.{bound_small, sizes_constant, sizes_grown}
-use Rattle.linear_cons.proofs.Sizes.{SizesAtMost, sizes_fit, sizes_quotient}
-use Rattle.step_meaning.specs.Countdown.{total_size}
-use Rattle.count_down.proofs.Fitting.{bound_sizes, claim_fits, most_size, sizes_complement, steps_sizes}
-use Rattle.count_down.proofs.Leading.{sizes_products, sizes_substituted}
+use Rattle.count_down.proofs.Modest.{bound_small}
+use Rattle.linear_cons.proofs.Sizes.{sizes_constant, sizes_grown, sizes_fit, sizes_quotient, sizes_complement, sizes_substituted, substitution_fits}
+use Rattle.linear_cons.specs.Sizes.{SizesAtMost, total_size}
+use Rattle.count_down.proofs.Fitting.{bound_sizes, claim_fits, most_size, steps_sizes}
 use Rattle.count_down.proofs.Stepping.{RowsFit, StepFits}
 
--- a function of at most this size may have a value of a total size t put in, where 1 + t times the size is below 2^127
 module _ (x : ℕ) (low : x < 16) (v : Affine) where
-  pub substitution_fits : (n : ℕ) (a : Affine) → SizesAtMost n a → n + total_size v * n < 2 ^ 127 → SubstitutionFits a x v
-  substitution_fits n a own small = record {
-    products = sizes_fit (total_size v * n) (products_added a x v) (omega arith) (sizes_products n a x v low own);
-    sums = sizes_fit (n + total_size v * n) (substituted a x v) small (sizes_substituted n a x v low own);
-  }
-
   pub rows_put : (n : ℕ) (f : Affine) (kind : RowKind) → IsRowOf f kind → SizesAtMost n f → (1 + n) + total_size v * (1 + n) < 2 ^ 127
       → RowsFit (Some (x, v)) low kind
   rows_put n f Always is own small = tt
@@ -32,8 +24,8 @@ module _ (x : ℕ) (low : x < 16) (v : Affine) where
       let sizes = sizes_quotient n f row.affine is own in
       let turned = sizes_complement n row.affine sizes in
       let less : total_size v * n ≤ total_size v * (1 + n) = mul-le-mul (le_refl (total_size v)) (omega arith) in (
-        (sizes_fit n row.affine (omega arith) sizes, substitution_fits n row.affine sizes (omega arith)),
-        (sizes_fit (1 + n) (complement_of row.affine) (omega arith) turned, substitution_fits (1 + n) (complement_of row.affine) turned small),
+        (sizes_fit n row.affine (omega arith) sizes, substitution_fits x low v n row.affine sizes (omega arith)),
+        (sizes_fit (1 + n) (complement_of row.affine) (omega arith) turned, substitution_fits x low v (1 + n) (complement_of row.affine) turned small),
       )
 
   -- over the assignment the numbers of a step fit
@@ -56,10 +48,10 @@ module _ (x : ℕ) (low : x < 16) (v : Affine) where
       record {
         place = low;
         rows = rows_put n f (row_kind_of f) (row_kind_is f) other (omega arith);
-        bounds = claim_fits (Some (x, v)) (bound m s f j) (bound m s e k) (substitution_fits own_size (bound m s f j) there (omega arith))
+        bounds = claim_fits (Some (x, v)) (bound m s f j) (bound m s e k) (substitution_fits x low v own_size (bound m s f j) there (omega arith))
             (moved own_size (bound m s f j) there (omega arith)) here;
-        last = claim_fits (Some (x, v)) (constant_of (pos (j + 1 + s))) (bound m s e k) (substitution_fits 4096 _ last (omega arith))
+        last = claim_fits (Some (x, v)) (constant_of (pos (j + 1 + s))) (bound m s e k) (substitution_fits x low v 4096 _ last (omega arith))
             (moved 4096 _ last (omega arith)) here;
-        lasts = claim_fits (Some (x, v)) (constant_of (pos (j + 1 + s))) (constant_of (pos (k + 1 + s))) (substitution_fits 4096 _ last (omega arith))
+        lasts = claim_fits (Some (x, v)) (constant_of (pos (j + 1 + s))) (constant_of (pos (k + 1 + s))) (substitution_fits x low v 4096 _ last (omega arith))
             (moved 4096 _ last (omega arith)) (steps_sizes (k + 1 + s) few);
       }

@@ -15,7 +15,8 @@ use Rattle.step_meaning.specs.declared.count.Count.{Count}
 use Rattle.step_meaning.specs.declared.countdown.Countdown.{Countdown}
 use Rattle.step_meaning.specs.declared.countdown.Countdown.TheVariants.{Straight, Loop}
 use Rattle.step_meaning.specs.Counts.{HasNoLoop, before, none}
-use Rattle.step_meaning.specs.Countdown.{Asks, CountsDown, CountsFrom, IsCountdownBy, change_by, form_of, total_size}
+use Rattle.step_meaning.specs.Countdown.{Asks, CountsDown, CountsFrom, IsCountdownBy, change_by, form_of}
+use Rattle.linear_cons.specs.Sizes.{total_size}
 use Rattle.step_meaning.specs.Step.{Todo, behind_body}
 use Rattle.step_meaning.specs.Syntax.{Expression, Statements, list_of, statements, assign, skip, return, if_else, while_loop, do_while, empty, sequence, size_of}
 use Rattle.step_meaning.specs.Valid.{IsBody}
@@ -42,7 +43,8 @@ use Rattle.count_down.proofs.Last.{IsBehind, IsLast, Steps, last, steps_done, la
 use Rattle.count_down.proofs.Leading.{last_short, led_behind, most_turn, steps_short, turn_short}
 use Rattle.count_down.proofs.Leads.{Blocked, IsGiven, Passes, passes_blocked}
 use Rattle.count_down.proofs.Measured.{counting_measured, free_measured, most_before, nothing_small}
-use Rattle.count_down.proofs.Modest.{sizes_grown, small_sizes}
+use Rattle.count_down.proofs.Modest.{small_sizes}
+use Rattle.linear_cons.proofs.Sizes.{sizes_grown}
 use Rattle.count_down.proofs.Over.{asked_over}
 use Rattle.count_down.proofs.Straight.{end_blocked}
 

@@ -18,7 +18,8 @@ use Rattle.tree_support.specs.Systems.{at_leaves, exceeding, moved_by, of_leaf, 
 use Rattle.tree_support.specs.Told.{Told}
 use Rattle.tree_support.proofs.Lists.{all_one}
 use Rattle.count_down.specs.Blocking.{IsBlocked}
-use Rattle.count_down.specs.Trees.{IsWhole, ended, ranked, within}
+use Rattle.count_down.specs.Trees.{ended, ranked, within}
+use Rattle.decision_tree.specs.Extent.{IsWhole}
 use Rattle.count_down.proofs.Fitting.{natural_fits, steps_sizes}
 use Rattle.count_down.proofs.Heading.{steps_less}
 use Rattle.count_down.proofs.Labelled.{at, leaf_blocked, not_natural, where_alive}

@@ -15,7 +15,7 @@ use Rattle.tree_support.specs.Setting.{Setting, Trees}
 use Rattle.tree_support.specs.Support.{ClaimFits, moved_rank}
 use Rattle.tree_support.specs.Systems.{Claim, nothing, unnatural, exceeding, System, systems}
 use Rattle.count_down.specs.Cancelling.{Cancel}
-use Rattle.count_down.specs.Trees.{IsWhole}
+use Rattle.decision_tree.specs.Extent.{IsWhole}
 
 -- the claim asks the function to be at least 0
 abbrev pub ClaimAsks : Claim AffineRank → Affine → Type 0

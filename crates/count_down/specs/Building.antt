@@ -3,7 +3,7 @@ use Rattle.std.specs.Prelude.{ℕ, ◌+◌, ◌^◌, ◌≤◌, ◌<◌, List, m
 use Rattle.linear_cons.specs.declared.affine.Affine.{Affine}
 use Rattle.linear_cons.specs.declared.row.Row.{Row}
 use Rattle.linear_cons.specs.Functions.{SubstitutionFits, substituted}
-use Rattle.linear_cons.proofs.Sizes.{SizesAtMost}
+use Rattle.linear_cons.specs.Sizes.{SizesAtMost}
 use Rattle.decision_tree.specs.Plans.{Plan, plan_of}
 use Rattle.decision_tree.specs.declared.affine_rank.AffineRank.{AffineRank}
 use Rattle.decision_tree.specs.declared.tree.Tree.{Tree}

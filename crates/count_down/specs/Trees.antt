@@ -1,11 +1,11 @@
 -- The trees of a candidate: a bound of steps where a function is at least 0, and another where it isn't.
-use Rattle.std.specs.Prelude.{◌≡◌, ℕ, ◌+◌, ◌≤◌, ℤ, pos, length, ⊤}
+use Rattle.std.specs.Prelude.{ℕ, ◌+◌, ℤ, pos}
 use Rattle.linear_cons.specs.declared.affine.Affine.{Affine}
 use Rattle.linear_cons.specs.declared.row.RowKind.{RowKind}
 use Rattle.linear_cons.specs.declared.row.RowKind.TheVariants.{Always, Never, Row as Kept}
-use Rattle.linear_cons.specs.Functions.{NumbersFit, coefficient, complement_of, constant_of, multiple_of, sum_of}
+use Rattle.linear_cons.specs.Functions.{constant_of, multiple_of, sum_of}
 use Rattle.linear_cons.specs.Rows.{row_kind_of}
-use Rattle.decision_tree.specs.Plans.{Plan, bottom, branch, leaf, top}
+use Rattle.decision_tree.specs.Plans.{Plan, branch, leaf}
 use Rattle.decision_tree.specs.declared.affine_rank.AffineRank.{AffineRank}
 use Rattle.decision_tree.specs.declared.reason.Pick.TheVariants.{All as Every}
 use Rattle.decision_tree.specs.declared.reason.Why.TheVariants.{End, Step}
@@ -39,29 +39,3 @@ bound m s e k = sum_of (multiple_of (shifted e (pos 1)) (pos m)) (constant_of (p
 -- within that bound where e is at least 0, and within k + 1 + s steps elsewhere
 abbrev pub count_tree : ℕ → ℕ → Affine → ℕ → Plan AffineRank
 count_tree m s e k = split (row_kind_of e) (within (bound m s e k)) (within (constant_of (pos (k + 1 + s))))
-
--- no leaf is undefined
-abbrev pub IsWhole : {R : Type 0} → Plan R → Type 0
-IsWhole bottom = ⊥
-IsWhole (top cause) = ⊥
-IsWhole (leaf why rank) = ⊤
-IsWhole (branch row this that) = IsWhole this × IsWhole that
-
--- the function has sixteen coefficients, and those from the place `vars` on are 0
-pub record IsOver (vars : ℕ) (a : Affine) : Type 0 where
-  pub places : length a.coef ≡ 16
-  pub past : (place : ℕ) → vars ≤ place → coefficient a place ≡ pos 0
-
--- so are all rows and ranks of the tree
-abbrev pub IsTreeOver : ℕ → Plan AffineRank → Type 0
-IsTreeOver vars (branch row this that) = IsOver vars row.affine × IsTreeOver vars this × IsTreeOver vars that
-IsTreeOver vars (leaf why rank) = IsOver vars rank.value
-IsTreeOver vars bottom = ⊤
-IsTreeOver vars (top cause) = ⊤
-
--- the numbers of each row's complement fit 128 bits
-abbrev pub ComplementsFit : {R : Type 0} → Plan R → Type 0
-ComplementsFit (branch row this that) = NumbersFit (complement_of row.affine) × ComplementsFit this × ComplementsFit that
-ComplementsFit (leaf why rank) = ⊤
-ComplementsFit bottom = ⊤
-ComplementsFit (top cause) = ⊤

@@ -7,7 +7,7 @@ ghost use Rattle.control_flow.specs.Labels.{all_labels, entry_of};
 ghost use Rattle.decision_tree.specs.Plans.{bottom};
 ghost use Rattle.count_down.specs.Building as building;
 ghost use Rattle.count_down.specs.Candidates as candidates;
-ghost use Rattle.count_down.specs.Trees as trees;
+ghost use Rattle.decision_tree.specs.Extent.{IsWhole};
 
 use crate::loop_trees::{add_all, add_behind, ended};
 use control_flow::Graph;
@@ -26,7 +26,7 @@ pub fn candidate(
     ensures countdown { IfOk result (λ found. IsSome found ↔ IsCountdown (statements program.now.body)) }
     ensures trees { IfOk result (λ found. IfSome found (λ family. candidates.IsCandidate family.trees (statements program.now.body))) }
     ensures labels { IfOk result (λ found. IfSome found (λ family. length family.trees ≡ length (all_labels (statements graph.now.body)))) }
-    ensures entry { IfOk result (λ found. IfSome found (λ family. trees.IsWhole (slice_index_or family.trees (entry_of (statements graph.now.body)) bottom))) }
+    ensures entry { IfOk result (λ found. IfSome found (λ family. IsWhole (slice_index_or family.trees (entry_of (statements graph.now.body)) bottom))) }
 {
     let labels = graph.labels();
     match program.countdown() {

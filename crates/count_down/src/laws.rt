@@ -19,7 +19,8 @@ ghost use Rattle.tree_support.specs.Support.{IsSupported};
 ghost use Rattle.tree_support.specs.Told.{Told, setting_of};
 ghost use Rattle.count_down.specs.Blocking.{AllBlocked, IsGround};
 ghost use Rattle.count_down.specs.Candidates.{IsCandidate, last_steps};
-ghost use Rattle.count_down.specs.Trees.{ComplementsFit, IsTreeOver, ranked};
+ghost use Rattle.count_down.specs.Trees.{ranked};
+ghost use Rattle.decision_tree.specs.Extent.{ComplementsFit, IsTreeOver};
 
 /// A family all of whose systems are blocked is supported, and no legal elimination gives up a leaf of it.
 pub fn blocked_families_are_kept()

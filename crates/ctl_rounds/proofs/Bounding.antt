@@ -8,7 +8,7 @@ use Rattle.count_down.specs.Blocking.{IsGround}
 use Rattle.decision_tree.specs.declared.affine_rank.AffineRank.{AffineRank}
 use Rattle.decision_tree.specs.Plans.{Plan}
 use Rattle.ctl_formula.specs.Formulas.{af_exit}
-use Rattle.count_down.specs.Trees.{ComplementsFit, IsTreeOver}
+use Rattle.decision_tree.specs.Extent.{ComplementsFit, IsTreeOver}
 use Rattle.tree_support.specs.Certificates.{ShowsEnding, SparesPlace, affine_ranks}
 use Rattle.tree_support.specs.declared.dropped.Dropped.{Dropped}
 use Rattle.tree_support.specs.Elimination.{Eliminates}

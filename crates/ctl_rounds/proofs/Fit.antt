@@ -4,7 +4,7 @@ use Rattle.std.proofs.lemmas.Bool.{cases_lt}
 use Rattle.std.proofs.lemmas.List.{get_or-map, get_or_past}
 use Rattle.std.proofs.lemmas.List.Elements.{All-from_get_or, All-get_or}
 use Rattle.linear_cons.specs.declared.affine.Affine.{Affine}
-use Rattle.count_down.specs.Trees as trees
+use Rattle.linear_cons.specs.Functions as functions
 use Rattle.decision_tree.specs.declared.affine_rank.AffineRank.{AffineRank}
 use Rattle.decision_tree.specs.declared.tree.Tree.{Tree}
 use Rattle.decision_tree.specs.Plans.{Plan, bottom, plan_of}
@@ -13,7 +13,7 @@ use Rattle.tree_support.specs.Setting.{trees_in}
 use Rattle.ctl_rounds.specs.Fitting.{IsFit}
 
 -- a function over names is one over so many places
-pub number_over : (names : List (List ℕ)) (a : Affine) → IsOver names a → trees.IsOver (length names) a
+pub number_over : (names : List (List ℕ)) (a : Affine) → IsOver names a → functions.IsOver (length names) a
 number_over names a over = record { places = over.places; past = over.past }
 
 bottom_fit : (vars : ℕ) → IsFit vars bottom

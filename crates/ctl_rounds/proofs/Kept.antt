@@ -1,7 +1,7 @@
 -- What legal eliminations keep of each tree.
 use Rattle.std.proofs.Common.{ℕ, ◌==◌, Bool, true, false, if◌then◌else◌, nat_lt, ◌-◌, List, [], ◌∷◌, sym, subst}
 use Rattle.linear_cons.specs.declared.row.Row.{Row}
-use Rattle.count_down.specs.Trees.{ComplementsFit, IsTreeOver}
+use Rattle.decision_tree.specs.Extent.{ComplementsFit, IsTreeOver}
 use Rattle.decision_tree.specs.declared.affine_rank.AffineRank.{AffineRank}
 use Rattle.decision_tree.specs.declared.rank.Rank.{Ghosts as Ranks}
 use Rattle.decision_tree.specs.declared.reason.Cause.{Cause}

@@ -8,7 +8,7 @@ use Rattle.decision_tree.specs.declared.family.Family.{Family}
 use Rattle.decision_tree.specs.declared.reason.Why.TheVariants.{Atom}
 use Rattle.decision_tree.specs.Plans.{Plan, bottom}
 use Rattle.decision_tree.specs.Paths.{leaf_numbered}
-use Rattle.count_down.specs.Trees.{IsWhole}
+use Rattle.decision_tree.specs.Extent.{IsWhole}
 use Rattle.ctl_formula.specs.Formulas.{exit}
 use Rattle.tree_check.specs.Checking.{families_of}
 use Rattle.tree_support.specs.Certificates.{affine_ranks}

@@ -6,7 +6,7 @@ use Rattle.step_meaning.specs.Syntax.{Statements}
 use Rattle.linear_cons.specs.Functions.{value_at}
 use Rattle.control_flow.specs.Edges.{configuration}
 use Rattle.control_flow.specs.Labels.{all_labels, entry_of}
-use Rattle.count_down.specs.Trees.{ComplementsFit, IsTreeOver}
+use Rattle.decision_tree.specs.Extent.{ComplementsFit, IsTreeOver}
 use Rattle.decision_tree.specs.declared.affine_rank.AffineRank.{AffineRank}
 use Rattle.decision_tree.specs.declared.family.Family.{Family}
 use Rattle.decision_tree.specs.declared.reason.Why.{Why}

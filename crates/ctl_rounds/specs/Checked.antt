@@ -2,7 +2,7 @@
 use Rattle.std.specs.Prelude.{◌≡◌, ℕ, ◌<◌, List, length}
 use Rattle.step_meaning.specs.Syntax.{Statements}
 use Rattle.control_flow.specs.Labels.{all_labels}
-use Rattle.count_down.specs.Trees.{IsWhole}
+use Rattle.decision_tree.specs.Extent.{IsWhole}
 use Rattle.ctl_formula.specs.Formulas.{af_exit, exit}
 use Rattle.decision_tree.specs.declared.affine_rank.AffineRank.{AffineRank}
 use Rattle.decision_tree.specs.Plans.{Plan}

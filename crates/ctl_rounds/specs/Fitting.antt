@@ -1,6 +1,6 @@
 -- Trees that may be checked and printed.
 use Rattle.std.specs.Prelude.{ℕ, ◌<◌, ◌-◌, ◌^◌}
-use Rattle.count_down.specs.Trees.{ComplementsFit, IsTreeOver}
+use Rattle.decision_tree.specs.Extent.{ComplementsFit, IsTreeOver}
 use Rattle.decision_tree.specs.declared.affine_rank.AffineRank.{AffineRank}
 use Rattle.decision_tree.specs.Plans.{Plan, leaves_of}
 

@@ -2,7 +2,7 @@
 ghost use Rattle.std.specs.Prelude.{◌≡◌, IfOk, IfSome, IsTrue, ◌↔◌, length};
 ghost use Rattle.step_meaning.specs.Outcome.{Store};
 ghost use Rattle.step_meaning.specs.Syntax.{Statements};
-ghost use Rattle.count_down.specs.Trees.{IsWhole};
+ghost use Rattle.decision_tree.specs.Extent.{IsWhole};
 ghost use Rattle.decision_tree.specs.Evaluation.{eval};
 ghost use Rattle.decision_tree.specs.Plans.{plan_of};
 ghost use Rattle.ctl_rounds.specs.Bounds.{IsBounding, first_defined};

@@ -1,6 +1,6 @@
 //! Families that may be checked and printed.
 ghost use Rattle.std.specs.Prelude.{◌≡◌, All, IfOk, IsTrue, length};
-ghost use Rattle.count_down.specs.Trees.{ComplementsFit, IsTreeOver};
+ghost use Rattle.decision_tree.specs.Extent.{ComplementsFit, IsTreeOver};
 ghost use Rattle.decision_tree.specs.Plans.{plan_of};
 ghost use Rattle.ctl_rounds.specs.Fitting.{IsFit};
 

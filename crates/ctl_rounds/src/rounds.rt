@@ -2,7 +2,7 @@
 ghost use Rattle.std.specs.Prelude.{◌≡◌, ◌≤◌, ℕ, ◌^◌, ◌⊎◌, All, IfOk, IfSome, OnOk, length};
 ghost use Rattle.step_meaning.specs.Syntax.{statements};
 ghost use Rattle.control_flow.specs.Labels.{all_labels};
-ghost use Rattle.count_down.specs.Trees.{IsWhole};
+ghost use Rattle.decision_tree.specs.Extent.{IsWhole};
 ghost use Rattle.decision_tree.specs.Plans.{plan_of};
 ghost use Rattle.ctl_rounds.specs.Asked.{RoseBy};
 ghost use Rattle.ctl_rounds.specs.Bounds.{AreBounding, AreFound};

@@ -2,6 +2,7 @@ pub mod Trend
 pub mod Alternatives
 pub mod AffineRanks
 pub mod Plans
+pub mod Extent
 pub mod Equality
 pub mod Nodes
 pub mod Evaluation

@@ -28,11 +28,7 @@ abbrev pub is_defined : {R : Type 0} → Plan R → Bool
 is_defined (leaf why rank) = true
 is_defined _ = false
 
--- the reason and the rank of a claim
-abbrev pub why_of : {R : Type 0} → Plan R → Option Why
-why_of (leaf why rank) = Some why
-why_of _ = None
-
+-- the rank of a claim
 abbrev pub rank_of : {R : Type 0} → Plan R → Option R
 rank_of (leaf why rank) = Some rank
 rank_of _ = None

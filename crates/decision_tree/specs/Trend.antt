@@ -1,5 +1,5 @@
 -- How a rank moves with the number at a place, and what it becomes at most over a range.
-use Rattle.std.specs.Prelude.{◌≢◌, ℤ, ◌≤ℤ◌, Option, None, Some, ⊤}
+use Rattle.std.specs.Prelude.{ℤ, ◌≤ℤ◌, Option, None, Some, ⊤}
 use Rattle.linear_cons.specs.declared.affine.Affine.{Affine}
 use Rattle.linear_cons.specs.declared.bounds.Linear.{Linear}
 use Rattle.linear_cons.specs.Bounds.{end_of}
@@ -11,21 +11,11 @@ pub data Trend : Type 0 where
   rising : Trend
   falling : Trend
 
--- the rank mentions the place
-abbrev pub IsMentioned : Trend → Type 0
-IsMentioned trend = trend ≢ unmentioned
-
 -- a rank that moves so doesn't fall as the number goes from z to w
 abbrev pub RunsWith : Trend → ℤ → ℤ → Type 0
 RunsWith unmentioned z w = ⊤
 RunsWith rising z w = z ≤ℤ w
 RunsWith falling z w = w ≤ℤ z
-
--- the end of the range at which a rank that moves so is greatest
-abbrev pub best_end : Trend → Linear → Option ℤ
-best_end unmentioned range = None
-best_end rising range = range.hi
-best_end falling range = range.lo
 
 -- what putting the end in gives; without an end nothing
 abbrev pub put_end : {R : Type 0} → Linear → (Affine → R) → Option ℤ → Option R

@@ -7,7 +7,8 @@ use Rattle.step_meaning.specs.Syntax.{Expression, pair}
 use Rattle.linear_cons.specs.declared.bounds.Bounds.{Bounds}
 use Rattle.linear_cons.specs.declared.bounds.Linear.{Linear}
 use Rattle.linear_cons.specs.Ends.{exactly}
-use Rattle.linear_forms.specs.Linearising.{form_of, linear_of}
+use Rattle.linear_forms.specs.Linearising.{linear_of}
+use Rattle.step_meaning.specs.Countdown.{form_of}
 use Rattle.linear_forms.specs.Spreading.{all_rows_of, claims, comparison_for, spread_of}
 use Rattle.linear_forms.proofs.Exactness.{linear_exact}
 use Rattle.forward_inv.specs.Behind.{IsInequality, compared}

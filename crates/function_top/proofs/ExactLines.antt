@@ -26,16 +26,15 @@ use Rattle.report_text.specs.declared.report.Header.{Header}
 use Rattle.report_text.specs.declared.report.Header.TheVariants.{Stopped}
 use Rattle.report_text.specs.declared.report.Stop.{Stop}
 use Rattle.report_text.specs.declared.report.Stop.TheVariants.{WideNumbers}
-use Rattle.report_text.specs.Leaves.{AreLinesOf, ComplementsFit, HasConstantRanks, OneOf, claim_at, claiming, is_unknown}
+use Rattle.report_text.specs.Leaves.{AreLinesOf, HasConstantRanks, OneOf, claim_at, claiming, is_unknown}
+use Rattle.decision_tree.specs.Extent.{IsTreeOver}
 use Rattle.report_text.specs.Printed.{IsLineOver}
 use Rattle.report_text.proofs.Standing.{one_line_met}
-use Rattle.count_down.specs.Trees.{IsTreeOver}
 use Rattle.control_flow.specs.Edges.{configuration}
 use Rattle.control_flow.specs.Labels.{all_labels, entry_of}
 use Rattle.control_flow.proofs.LabelLaws.{entry_is_a_label}
 use Rattle.control_flow.proofs.Steps.{entry_is_start}
 use Rattle.unroll.specs.Levels.{Claims, IsLevel, RanksCount, counted, tree_at}
-use Rattle.unroll.specs.Levels as levels
 use Rattle.unroll.specs.Measures.{IsLight}
 use Rattle.unroll.specs.Plain.{IsPlain}
 use Rattle.unroll.specs.Stopping.{IsCause}
@@ -205,12 +204,6 @@ ranks_constant (top cause) ranks = tt
 ranks_constant (leaf why rank) ranks =
     subst (λ (r : AffineRank). IsConstant r.value) (sym ranks.1) (λ i low. number_at_places (λ place. pos 0) i low)
 ranks_constant (branch row this that) ranks = (ranks_constant this ranks.0, ranks_constant that ranks.1)
-
-pub complements_fit : (plan : Plan AffineRank) → levels.ComplementsFit plan → ComplementsFit plan
-complements_fit bottom fits = tt
-complements_fit (top cause) fits = tt
-complements_fit (leaf why rank) fits = tt
-complements_fit (branch row this that) fits = (fits.0, complements_fit this fits.1, complements_fit that fits.2)
 
 -- what a found thing is held to
 pub some_at : {A : Type 0} (P : A → Type 0) (found : Option A) (one : A) → IfSome found P → found ≡ Some one → P one

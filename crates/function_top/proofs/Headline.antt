@@ -14,7 +14,7 @@ use Rattle.linear_cons.specs.declared.affine.Affine.{Affine}
 use Rattle.linear_cons.specs.Functions.{complement_of}
 use Rattle.decision_tree.specs.declared.affine_rank.AffineRank.{AffineRank}
 use Rattle.decision_tree.specs.Plans.{Plan, bottom, branch, leaf, top}
-use Rattle.count_down.specs.Trees.{IsWhole}
+use Rattle.decision_tree.specs.Extent.{IsWhole}
 use Rattle.line_text.specs.declared.claim.Claim.{Claim}
 use Rattle.line_text.specs.declared.claim.Claim.TheVariants.{Within}
 use Rattle.line_text.specs.Names.{AreNames}

@@ -12,7 +12,7 @@ use Rattle.linear_cons.proofs.Places.{length-at_places, number_at_places}
 use Rattle.linear_solve.proofs.Lists.{member_of}
 use Rattle.decision_tree.specs.declared.affine_rank.AffineRank.{AffineRank}
 use Rattle.decision_tree.specs.Plans.{Plan, bottom, branch, leaf, top}
-use Rattle.count_down.specs.Trees as trees
+use Rattle.decision_tree.specs.Extent as trees
 use Rattle.line_text.specs.declared.claim.Claim.{Claim}
 use Rattle.decision_tree.specs.declared.reason.Why.{Why}
 use Rattle.line_text.specs.declared.claim.Claim.TheVariants.{Unknown}

@@ -8,7 +8,8 @@ use Rattle.linear_cons.specs.Functions.{constant_of}
 use Rattle.decision_tree.specs.declared.affine_rank.AffineRank.{AffineRank}
 use Rattle.decision_tree.specs.Plans.{Plan, rank_of}
 use Rattle.count_down.specs.Candidates.{last_steps}
-use Rattle.count_down.specs.Trees.{IsWhole, ranked}
+use Rattle.count_down.specs.Trees.{ranked}
+use Rattle.decision_tree.specs.Extent.{IsWhole}
 use Rattle.ctl_rounds.specs.Bounds.{BoundsInputs}
 use Rattle.report_text.specs.declared.line.Line.{Line}
 use Rattle.report_text.specs.declared.line.Top.TheVariants.{Bound}

@@ -5,7 +5,8 @@ ghost use Rattle.step_meaning.specs.Syntax.{statements};
 ghost use Rattle.decision_tree.specs.Plans.{plan_of};
 ghost use Rattle.unroll.specs.Levels.{RanksCount};
 ghost use Rattle.report_text.specs.declared.line.Line.{Line};
-ghost use Rattle.report_text.specs.Leaves.{AreLinesOf, ComplementsFit, claiming};
+ghost use Rattle.report_text.specs.Leaves.{AreLinesOf, claiming};
+ghost use Rattle.decision_tree.specs.Extent.{ComplementsFit};
 ghost use Rattle.report_text.specs.Printed.{IsLineOver};
 ghost use Rattle.function_top.specs.Exact.{IsExact, header_of, stop_of};
 

@@ -7,6 +7,7 @@ pub mod RowKinds
 pub mod KindLaws
 pub mod RowLaws
 pub mod Sizes
+pub mod Over
 pub mod Sums
 pub mod Telling
 pub mod Parts

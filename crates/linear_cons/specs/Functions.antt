@@ -100,9 +100,10 @@ Mentions place a = coefficient a place ≢ pos 0
 abbrev pub MentionsOnly : ℕ → Affine → Type 0
 MentionsOnly place a = (i : ℕ) → i < 16 → i ≢ place → coefficient a i ≡ pos 0
 
--- no variable at the place or past it occurs
-abbrev pub MentionsOnlyBelow : ℕ → Affine → Type 0
-MentionsOnlyBelow place a = (i : ℕ) → i < 16 → place ≤ i → coefficient a i ≡ pos 0
+-- the function has sixteen coefficients, and no variable at the place `vars` or past it occurs
+pub record IsOver (vars : ℕ) (a : Affine) : Type 0 where
+  pub places : length a.coef ≡ 16
+  pub past : (place : ℕ) → vars ≤ place → coefficient a place ≡ pos 0
 
 -- the function divided by a positive number, each of its numbers rounded down
 abbrev pub quotient_by : ℕ → Affine → Affine

@@ -2,6 +2,7 @@ pub mod Numbers
 pub mod Exact
 pub mod LinearForm
 pub mod Functions
+pub mod Sizes
 pub mod Divisor
 pub mod Laws
 pub mod Rows

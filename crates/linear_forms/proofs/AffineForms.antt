@@ -14,7 +14,8 @@ use Rattle.linear_cons.proofs.Forms.{affine_of_parts}
 use Rattle.linear_cons.proofs.Outcomes.{ok_iff_same}
 use Rattle.linear_cons.proofs.Places.{fit_places, length-at_places, number_at_places, places-ext, places_fit}
 use Rattle.linear_cons.proofs.Ring.{add_zero, mul_commutes, zero_add, zero_mul}
-use Rattle.linear_forms.specs.Linearising.{form_of, is_constant}
+use Rattle.linear_forms.specs.Linearising.{is_constant}
+use Rattle.step_meaning.specs.Countdown.{form_of}
 use Rattle.linear_forms.proofs.Known.{constant_form_is, is_same_decides}
 
 -- a function with the expression's numbers is the expression's function

@@ -14,7 +14,8 @@ use Rattle.linear_cons.specs.Rows.{row_kind_of}
 use Rattle.linear_cons.proofs.Places.{number_at_places}
 use Rattle.linear_forms.specs.Duality.{AreDual}
 use Rattle.linear_cons.specs.Ends.{exactly}
-use Rattle.linear_forms.specs.Linearising.{form_of, linear_of}
+use Rattle.linear_forms.specs.Linearising.{linear_of}
+use Rattle.step_meaning.specs.Countdown.{form_of}
 use Rattle.linear_forms.specs.Spreading.{Claim, all_rows_of, claims, comparison_for, constraint, kept_before, opposite, spread_of, with_constraint}
 use Rattle.linear_forms.proofs.AffineForms.{coefficient_of_form, is_form}
 use Rattle.linear_forms.proofs.Counts.{IsComparison}

@@ -15,7 +15,8 @@ use Rattle.linear_cons.proofs.Forms.{value_constant, value_difference, value_mul
 use Rattle.linear_cons.proofs.Places.{eqb_apart, number_at_places}
 use Rattle.linear_cons.proofs.Ring.{mul_commutes, zero_mul}
 use Rattle.linear_cons.specs.Ends.{exact_end, exactly, fits, greatest_value, least_value, scaled_end}
-use Rattle.linear_forms.specs.Linearising.{are_equal, combined_by, corners, form_of, is_constant, is_number, linear_of, numbers_fit, product, scaled, unknown, with_ends}
+use Rattle.linear_forms.specs.Linearising.{are_equal, combined_by, corners, is_constant, is_number, linear_of, numbers_fit, product, scaled, unknown, with_ends}
+use Rattle.step_meaning.specs.Countdown.{form_of}
 use Rattle.linear_forms.proofs.AffineForms.{form_fits, form_of_difference, form_of_negative, form_of_sum, form_without_names, product_with_left, product_with_right, scaled_left, scaled_right}
 use Rattle.linear_forms.proofs.Known.{constant_form_is, is_same_decides, with_ends_fit}
 use Rattle.linear_cons.proofs.KnownEnds.{when_not, when_so}

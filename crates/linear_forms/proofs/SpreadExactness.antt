@@ -18,7 +18,8 @@ use Rattle.linear_cons.specs.Rows.{row_kind_of}
 use Rattle.linear_cons.proofs.Places.{number_at_places}
 use Rattle.linear_cons.proofs.Ring.{add_zero}
 use Rattle.linear_cons.specs.Ends.{ends_from, exactly, fits}
-use Rattle.linear_forms.specs.Linearising.{form_of, linear_of, numbers_fit}
+use Rattle.linear_forms.specs.Linearising.{linear_of, numbers_fit}
+use Rattle.step_meaning.specs.Countdown.{form_of}
 use Rattle.linear_forms.specs.Meeting.{MeetsOne}
 use Rattle.linear_forms.specs.Spreading.{Claim, above, all_rows_of, at_least, claims, comparison_for, constraint, favoured, fitting, less_one, rows_of, spread_of, with_constraint}
 use Rattle.linear_forms.proofs.AffineForms.{coefficient_of_form, form_fits, form_of_difference, form_of_strict_difference, is_form}

@@ -7,17 +7,11 @@ use Rattle.step_meaning.specs.declared.expression.Op2.{Op2}
 use Rattle.step_meaning.specs.declared.expression.Op2.TheVariants.{Add, Sub, Mul, Less, LessEqual, Greater, GreaterEqual, Equal, NotEqual}
 use Rattle.step_meaning.specs.declared.expression.Op2.TheVariants.{And, Or}
 use Rattle.step_meaning.specs.Syntax.{Expression, number, variable, range, negative, pair, free, truth, negation}
-use Rattle.step_meaning.specs.AffineExpressions.{coefficient_in, constant_in}
 use Rattle.linear_cons.specs.declared.affine.Affine.{Affine}
 use Rattle.linear_cons.specs.declared.bounds.Bounds.{Bounds}
 use Rattle.linear_cons.specs.declared.bounds.Linear.{Linear}
 use Rattle.linear_cons.specs.Functions.{coefficient, constant_of, variable_at, sum_of, difference_of, multiple_of}
-use Rattle.linear_cons.specs.Numbers.{at_places}
 use Rattle.linear_cons.specs.Ends.{ends_from, exact_end, exactly, fits, greatest_value, least_value, scaled_end}
-
--- the function that an affine expression is
-abbrev pub form_of : Expression → Affine
-form_of e = record { coef = at_places (λ place. coefficient_in e place); constant = constant_in e }
 
 -- nothing but a number between two ends
 abbrev pub between : Option ℤ → Option ℤ → Linear

@@ -12,7 +12,8 @@ ghost use Rattle.linear_cons.specs.Functions.{coefficient, value_at};
 ghost use Rattle.linear_forms.specs.Counting.{conjunctions};
 ghost use Rattle.linear_forms.specs.Duality.{AreDual};
 ghost use Rattle.linear_cons.specs.Ends.{exactly};
-ghost use Rattle.linear_forms.specs.Linearising.{form_of, linear_of};
+ghost use Rattle.linear_forms.specs.Linearising.{linear_of};
+ghost use Rattle.step_meaning.specs.Countdown.{form_of};
 ghost use Rattle.linear_forms.specs.Meeting.{MeetsOne};
 ghost use Rattle.linear_forms.specs.Spreading.{spread_of};
 

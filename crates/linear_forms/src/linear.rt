@@ -8,6 +8,7 @@ ghost use Rattle.linear_cons.specs.declared.affine.Affine.{Affine as AffineFunct
 ghost use Rattle.linear_cons.specs.Exact.{IsOutside};
 ghost use Rattle.linear_cons.specs.Functions.{NumbersFit};
 ghost use Rattle.linear_forms.specs.Linearising as forms;
+ghost use Rattle.step_meaning.specs.Countdown.{form_of};
 
 use crate::product::{between_corners, square_between};
 use linear_cons::{Affine, Bounds, Linear, Wide, end_difference, end_multiple, end_sum};
@@ -19,7 +20,7 @@ use step_meaning::{Expr, Op2};
 pub fn affine_of(expr: &Expr) -> Result<Affine, Wide>
     requires affine { IsAffine (expression expr.now) }
     requires names { NamesBelow 16 (expression expr.now) }
-    ensures exact { OkIff result (ExpressionFits (expression expr.now)) (forms.form_of (expression expr.now)) }
+    ensures exact { OkIff result (ExpressionFits (expression expr.now)) (form_of (expression expr.now)) }
     ensures wide { IfErr result IsOutside }
 {
     match expr {

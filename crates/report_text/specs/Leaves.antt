@@ -2,7 +2,7 @@
 use Rattle.std.specs.Prelude.{◌≡◌, ◌⊎◌, ◌<◌, ℤ, List, [], ◌∷◌, ◌++◌, length, filter, Bool, true, false, not, ⊤}
 use Rattle.linear_cons.specs.declared.affine.Affine.{Affine}
 use Rattle.linear_cons.specs.declared.row.Row.{Row}
-use Rattle.linear_cons.specs.Functions.{IsConstant, NumbersFit, complement_of}
+use Rattle.linear_cons.specs.Functions.{IsConstant, complement_of}
 use Rattle.linear_cons.specs.Rows.{MeetsAll}
 use Rattle.linear_solve.specs.Answers.{IsAnswerTo, IsEmpty}
 use Rattle.linear_solve.specs.declared.answer.Answer.{Answer}
@@ -80,11 +80,6 @@ pub data AreLines : List (List Affine × Claim) → List Line → Type 0 where
 -- the lines of all leaves of the tree
 abbrev pub AreLinesOf : Top → Plan AffineRank → List Line → Type 0
 AreLinesOf claims plan lines = AreLines (leaves_below claims [] plan) lines
-
--- no complement of a row at a node, and so none on a path, has a number outside 128 bits
-abbrev pub ComplementsFit : {R : Type 0} → Plan R → Type 0
-ComplementsFit (branch row this that) = NumbersFit (complement_of row.affine) × ComplementsFit this × ComplementsFit that
-ComplementsFit _ = ⊤
 
 -- each rank is a constant, which is asked where a number of steps is to be exact
 abbrev pub HasConstantRanks : Plan AffineRank → Type 0

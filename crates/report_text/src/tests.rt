@@ -1,7 +1,8 @@
 //! Tables of trees with their lines and of reports with their texts, worked out by hand.
 ghost use Rattle.std.specs.Prelude.{All, IsTrue, IfOk};
 ghost use Rattle.decision_tree.specs.Plans.{plan_of};
-ghost use Rattle.report_text.specs.Leaves.{ComplementsFit, HasConstantRanks};
+ghost use Rattle.report_text.specs.Leaves.{HasConstantRanks};
+ghost use Rattle.decision_tree.specs.Extent.{ComplementsFit};
 ghost use Rattle.report_text.specs.Printed.{IsLineOver};
 
 use crate::{Counts, Explain, Header, Line, Lines, Report, Stop, Top, lines, print};

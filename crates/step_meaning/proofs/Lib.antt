@@ -5,7 +5,7 @@ mod Examples
 pub mod Lists
 pub mod Turning
 pub mod FunctionLaws
-pub mod SizeSums
+pub mod OverVariables
 pub mod Differences
 pub mod Finding
 mod CountdownExamples

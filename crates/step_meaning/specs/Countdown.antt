@@ -1,11 +1,12 @@
 -- Countdown programs: those without loops, and those with one loop that counts an affine function down.
-use Rattle.std.specs.Prelude.{◌≡◌, ℕ, zero, suc, ◌+◌, ◌*◌, ◌^◌, ◌<◌, ◌≤◌, ◌==◌, ℤ, pos, neg_ℤ, ◌*ℤ◌, ◌<ℤ◌, unsigned_abs, Bool, false, if◌then◌else◌, Option, None, Some, ◌⊎◌, ⊤}
+use Rattle.std.specs.Prelude.{◌≡◌, ℕ, suc, ◌+◌, ◌*◌, ◌^◌, ◌<◌, ◌≤◌, ◌==◌, ℤ, pos, neg_ℤ, ◌*ℤ◌, ◌<ℤ◌, unsigned_abs, Bool, false, if◌then◌else◌, Option, None, Some, ◌⊎◌, ⊤}
 use Rattle.linear_cons.specs.declared.affine.Affine.{Affine}
 use Rattle.linear_cons.specs.declared.row.Row.{Row}
 use Rattle.linear_cons.specs.declared.row.RowKind.TheVariants.{Row as Kept}
 use Rattle.linear_cons.specs.Functions.{coefficient}
 use Rattle.linear_cons.specs.Numbers.{at_places}
 use Rattle.linear_cons.specs.Rows.{IsRowOf}
+use Rattle.linear_cons.specs.Sizes.{total_size}
 use Rattle.step_meaning.specs.declared.countdown.Countdown.{Countdown}
 use Rattle.step_meaning.specs.declared.countdown.Countdown.TheVariants.{Straight, Loop}
 use Rattle.step_meaning.specs.declared.expression.Op2.{Op2}
@@ -19,15 +20,6 @@ use Rattle.step_meaning.specs.Counts.{HasNoLoop, before, none}
 -- the function that an affine expression is
 abbrev pub form_of : Expression → Affine
 form_of e = record { coef = at_places (λ place. coefficient_in e place); constant = constant_in e }
-
--- the sizes of the coefficients at the places below n, summed
-unfoldable pub sizes_below : ℕ → Affine → ℕ
-sizes_below zero e = 0
-sizes_below (suc n) e = sizes_below n e + unsigned_abs (coefficient e n)
-
--- the sum of the sizes of the coefficients and the constant
-abbrev pub total_size : Affine → ℕ
-total_size e = sizes_below 16 e + unsigned_abs e.constant
 
 -- each number is at most 2^31 in size
 pub record IsSmall (e : Affine) : Type 0 where

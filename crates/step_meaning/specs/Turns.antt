@@ -9,7 +9,8 @@ use Rattle.step_meaning.specs.Counts.{before, before_statement, none}
 use Rattle.step_meaning.specs.declared.countdown.Differences.{Differences}
 use Rattle.step_meaning.specs.declared.expression.Op2.{Op2}
 use Rattle.step_meaning.specs.AffineExpressions.{ComparisonFits, ExpressionFits, IsAffine, less, strictly_less}
-use Rattle.step_meaning.specs.Countdown.{AsksByComparing, form_of, total_size, IsShort, IsCounting, AreCounting, added, change_by}
+use Rattle.step_meaning.specs.Countdown.{AsksByComparing, form_of, IsShort, IsCounting, AreCounting, added, change_by}
+use Rattle.linear_cons.specs.Sizes.{total_size}
 
 -- each step changes by at most 2^62
 abbrev pub IsModerate : Count → Type 0

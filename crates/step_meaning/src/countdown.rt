@@ -3,6 +3,7 @@
 ghost use Rattle.std.specs.Prelude.{◌+◌, ◌*◌, ◌^◌, ◌<◌, ◌≤◌, ◌↔◌, IsTrue, IfSome, IfNone, SomeIff, pos, ◌<ℤ◌};
 ghost use Rattle.linear_cons.specs.Functions.{constant_of, difference_of};
 ghost use Rattle.linear_cons.specs.Rows.{IsRowOf};
+ghost use Rattle.linear_cons.specs.Sizes as sizes;
 ghost use Rattle.linear_cons.specs.declared.row.RowKind.TheVariants.{Row as Kept};
 ghost use Rattle.step_meaning.specs.Syntax.{expression, statement, statements};
 ghost use Rattle.step_meaning.specs.Counts.{HasNoLoop, IsLoopFree};
@@ -112,7 +113,7 @@ fn loop_row(block: &Block) -> Option<Row>
 fn with_factor(product: u128, value: &Expr) -> Option<u128>
     requires some { 0 < product }
     requires small { product ≤ 2 ^ 60 }
-    ensures { SomeIff result (turns.MayPrecede product (expression value.now)) (product * (1 + definition.total_size (definition.form_of (expression value.now)))) }
+    ensures { SomeIff result (turns.MayPrecede product (expression value.now)) (product * (1 + sizes.total_size (definition.form_of (expression value.now)))) }
 {
     let function = function_of(value)?;
     let size = total_size(&function);

@@ -6,7 +6,8 @@ ghost use Rattle.linear_cons.specs.Functions.{NumbersFit, variable_at};
 ghost use Rattle.step_meaning.specs.Syntax.{expression};
 ghost use Rattle.step_meaning.specs.Naming.{HasNoName};
 ghost use Rattle.step_meaning.specs.AffineExpressions.{ExpressionFits, IsAffine};
-ghost use Rattle.step_meaning.specs.Countdown.{form_of, total_size};
+ghost use Rattle.step_meaning.specs.Countdown.{form_of};
+ghost use Rattle.linear_cons.specs.Sizes.{total_size};
 
 use crate::expression::{Expr, Op2};
 use linear_cons::{Affine, Wide};
@@ -73,7 +74,7 @@ fn has_no_name(expr: &Expr) -> bool
 }
 
 /// The sum of the sizes of the coefficients and the constant, or the type's last value where that is less.
-pub(crate) fn total_size(function: &Affine) -> u128
+pub fn total_size(function: &Affine) -> u128
     ensures { result ≡ min (total_size function.now) (2 ^ 128 - 1) }
 {
     let mut sum = 0u128;

@@ -15,7 +15,7 @@ mod statement;
 pub use count::{Count, assigned_change};
 pub use countdown::Countdown;
 pub use expression::{Expr, Op2};
-pub use function::function_of;
+pub use function::{function_of, total_size};
 pub use laws::{
     no_configuration_is_stuck, runs_begin_at_valid_statements, steps_keep_configurations_valid,
 };

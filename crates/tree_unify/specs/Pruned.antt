@@ -1,6 +1,5 @@
 -- What is asked of a tree that is made of another by leaving sides out.
-use Rattle.std.specs.Prelude.{◌≡◌, ◌⊎◌, ◌≤◌, ℤ, List, ⊤}
-use Rattle.linear_cons.specs.Functions.{NumbersFit, complement_of}
+use Rattle.std.specs.Prelude.{◌≡◌, ◌⊎◌, ◌≤◌, ℤ, List}
 use Rattle.linear_cons.specs.declared.row.Row.{Row}
 use Rattle.num_domain.specs.Domain.{IsStore}
 use Rattle.decision_tree.specs.Evaluation.{eval}
@@ -24,8 +23,3 @@ pub record IsPartOf {R : Type 0} (made plan : Plan R) : Type 0 where
 -- the two trees have the same leaf at each store of the set
 abbrev pub SameLeaves : {R : Type 0} → (List ℤ → Type 0) → Plan R → Plan R → Type 0
 SameLeaves has made plan = (store : List ℤ) → IsStore store → has store → eval made store ≡ eval plan store
-
--- no complement of a row of the tree has a number outside 128 bits
-abbrev pub ComplementsFit : {R : Type 0} → Plan R → Type 0
-ComplementsFit (branch row this that) = NumbersFit (complement_of row.affine) × ComplementsFit this × ComplementsFit that
-ComplementsFit end = ⊤

@@ -6,7 +6,8 @@ ghost use Rattle.linear_cons.specs.Rows.{complement};
 ghost use Rattle.linear_cons.specs.declared.exact.Wide.{Wide};
 ghost use Rattle.num_domain.specs.Domain.{KeepsMeeting, SameMembers};
 ghost use Rattle.decision_tree.specs.Plans.{plan_of, size_of};
-ghost use Rattle.tree_unify.specs.Pruned.{ComplementsFit, IsPartOf, SameLeaves};
+ghost use Rattle.tree_unify.specs.Pruned.{IsPartOf, SameLeaves};
+ghost use Rattle.decision_tree.specs.Extent.{ComplementsFit};
 ghost use Rattle.tree_unify.specs.declared.fault.TreeFault.TheVariants.{Full as TooFull, Wide as TooWide};
 
 use crate::fault::TreeFault;

@@ -4,17 +4,17 @@ use Rattle.std.specs.Prelude.{IfSome, IsSome}
 use Rattle.step_meaning.specs.Syntax.{statements}
 use Rattle.control_flow.specs.Labels.{entry_of}
 use Rattle.control_flow.proofs.LabelLaws.{entry_is_a_label}
+use Rattle.decision_tree.specs.Extent.{ComplementsFit}
 use Rattle.decision_tree.specs.Plans.{plan_of}
 use Rattle.decision_tree.specs.declared.affine_rank.AffineRank.{AffineRank}
 use Rattle.decision_tree.specs.declared.family.Family.{Family}
 use Rattle.unroll.specs.Levels.{IsLevel, RanksCount, tree_at}
-use Rattle.unroll.specs.Levels as levels
 use Rattle.unroll.specs.Measures.{IsLight}
 use Rattle.unroll.specs.Stopping.{IsCause, IsMade}
 use Rattle.report_text.specs.declared.report.Header.TheVariants.{Stopped}
 use Rattle.report_text.specs.declared.report.Stop.TheVariants.{WideNumbers}
 use Rattle.function_top.specs.Exact.{IsExact, header_of, stop_of}
-use Rattle.function_top.proofs.ExactLines.{complements_fit, entry_inside, entry_tree, exact_by, exact_level, level_over, none_by, some_at, some_stop, stopped_by, unmade_by}
+use Rattle.function_top.proofs.ExactLines.{entry_inside, entry_tree, exact_by, exact_level, level_over, none_by, some_at, some_stop, stopped_by, unmade_by}
 use Rattle.function_top.proofs.exact.exact.Goals as goal
 
 pub bounds-items-entry : goal.bounds-items-entry
@@ -41,7 +41,7 @@ claims-requires-clause-fits c =
     let entry : c.entry.result ≡ entry_of body = c.entry.ensures ∙ ap entry_of c.requires.body in
     let tree = c.index-items-entry.result in
     let at : plan_of tree ≡ tree_at trees (entry_of body) = entry_tree tests body c.items.result.now trees c.items.ensures level c.entry.result entry tree c.index-items-entry.is in
-    complements_fit (plan_of tree) (subst levels.ComplementsFit (sym at) (level.complements (entry_of body) (entry_is_a_label body)))
+    subst ComplementsFit (sym at) (level.complements (entry_of body) (entry_is_a_label body))
 
 pub claims-requires-clause-ranks : goal.claims-requires-clause-ranks
 claims-requires-clause-ranks c =

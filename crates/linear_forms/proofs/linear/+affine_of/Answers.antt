@@ -3,7 +3,7 @@ use Rattle.step_meaning.specs.declared.expression.Op2.TheVariants.{Add, Sub, Mul
 use Rattle.step_meaning.specs.Syntax.{expression, negative, pair}
 use Rattle.std.specs.Int.{w128}
 use Rattle.linear_cons.specs.Functions.{difference_of, multiple_of, sum_of}
-use Rattle.linear_forms.specs.Linearising.{form_of}
+use Rattle.step_meaning.specs.Countdown.{form_of}
 use Rattle.linear_forms.proofs.AffineForms.{form_of_difference, form_of_negative, form_of_sum, scaled_left, scaled_right, whole_of_one, whole_of_two}
 use Rattle.linear_forms.proofs.linear.+affine_of.Goals as goal
 

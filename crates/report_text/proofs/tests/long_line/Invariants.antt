@@ -1,5 +1,6 @@
 use Rattle.decision_tree.specs.Plans.{plan_of}
-use Rattle.report_text.specs.Leaves.{ComplementsFit, HasConstantRanks}
+use Rattle.report_text.specs.Leaves.{HasConstantRanks}
+use Rattle.decision_tree.specs.Extent.{ComplementsFit}
 use Rattle.report_text.proofs.tests.long_line.Given as goal
 
 abbrev pub invariant-loop : goal.invariant-loop

@@ -1,7 +1,7 @@
 use Rattle.std.proofs.Common.{rules, ◌≡◌, unsigned_abs, SFits, to_z-of_z, arith}
 use Rattle.std.specs.Int.{w128}
 use Rattle.linear_cons.specs.Functions.{coefficient}
-use Rattle.step_meaning.proofs.SizeSums.{sizes_none, sizes_more}
+use Rattle.linear_cons.proofs.Sizes.{sizes_none, sizes_more}
 use Rattle.step_meaning.proofs.function.total_size.Goals as goal
 
 pub loop-place-init : goal.loop-place-init

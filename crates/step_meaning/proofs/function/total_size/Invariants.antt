@@ -1,5 +1,5 @@
 use Rattle.std.proofs.Common.{◌≡◌, ◌-◌, ◌^◌, min}
-use Rattle.step_meaning.specs.Countdown.{sizes_below}
+use Rattle.linear_cons.specs.Sizes.{sizes_below}
 use Rattle.step_meaning.proofs.function.total_size.Given as goal
 
 -- the sum so far is that of the sizes below the place

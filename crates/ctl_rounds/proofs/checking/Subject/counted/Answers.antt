@@ -1,7 +1,7 @@
 use Rattle.std.proofs.Common.{◌≡◌, [], length, ap, subst, sym, ◌∙◌, arith}
 use Rattle.step_meaning.specs.Syntax.{statements}
 use Rattle.control_flow.specs.Labels.{entry_of}
-use Rattle.count_down.specs.Trees.{IsWhole}
+use Rattle.decision_tree.specs.Extent.{IsWhole}
 use Rattle.decision_tree.specs.Plans.{plan_of, rank_of}
 use Rattle.tree_support.specs.Setting.{trees_in}
 use Rattle.tree_support.specs.Told.{told_by}
