@@ -3,7 +3,7 @@ use Rattle.std.proofs.Common.{◌≡◌, pos, Result, Ok, Err, sym, ap, subst, �
 use Rattle.std.specs.Result.{OnErr}
 use Rattle.linear_cons.specs.Functions.{NumbersFit, constant_of, difference_of}
 use Rattle.linear_cons.specs.declared.affine.Affine.{Affine}
-use Rattle.linear_forms.specs.Linearising.{form_of}
+use Rattle.step_meaning.specs.Countdown.{form_of}
 use Rattle.linear_forms.proofs.AffineForms.{fits_form, form_fits, form_of_difference, form_of_strict_difference}
 use Rattle.step_meaning.specs.AffineExpressions.{ComparisonFits, ExpressionFits, less, strictly_less}
 use Rattle.step_meaning.specs.Syntax.{Expression}

@@ -12,7 +12,7 @@ use Rattle.linear_cons.proofs.Forms.{affine_same}
 use Rattle.linear_cons.proofs.Parts.{kept_fits, kept_is}
 use Rattle.linear_cons.proofs.Places.{length-at_places, number_at_places}
 use Rattle.linear_cons.proofs.RowKinds.{row_kind_unique}
-use Rattle.linear_cons.proofs.Sizes.{sizes_difference, sizes_fit, sizes_sum}
+use Rattle.linear_cons.proofs.Sizes.{sizes_difference, sizes_fit, sizes_sum, sizes_constant}
 use Rattle.decision_tree.specs.AffineRanks.{ExcessFits, excess_of}
 use Rattle.decision_tree.specs.Plans.{Plan, leaf}
 use Rattle.decision_tree.specs.declared.affine_rank.AffineRank.{AffineRank}
@@ -20,10 +20,13 @@ use Rattle.decision_tree.specs.declared.reason.Why.{Why}
 use Rattle.tree_unify.specs.Choosing.{ChosenFits, chosen}
 use Rattle.tree_unify.specs.Shapes.{MetFits, leaf_met}
 use Rattle.tree_unify.specs.declared.join.Join.TheVariants.{Later}
-use Rattle.count_down.proofs.Modest.{sizes_constant}
 use Rattle.unroll.specs.Levels.{counted}
 use Rattle.unroll.specs.Shapes.{affine_ranks, same_rank}
 use Rattle.unroll.specs.Within.{EachIs, IsSteps}
+
+-- the rank is a number of steps
+abbrev pub Counts : AffineRank → Type 0
+Counts rank = (n : ℕ) × (rank ≡ counted n)
 
 nought_at : (z : ℤ) (i : ℕ) → i < 16 → coefficient (constant_of z) i ≡ pos 0
 nought_at z i low = number_at_places (λ j. pos 0) i low
@@ -31,7 +34,7 @@ nought_at z i low = number_at_places (λ j. pos 0) i low
 ranked : (a b : Affine) → a ≡ b → ◌≡◌ {A = AffineRank} (record { value = a }) (record { value = b })
 ranked a b same = ap (λ (t : Affine). let r : AffineRank = record { value = t } in r) same
 
-more_counted : (n : ℕ) → affine_ranks.one_more (counted n) ≡ counted (suc n)
+pub more_counted : (n : ℕ) → affine_ranks.one_more (counted n) ≡ counted (suc n)
 more_counted n =
     let sum : Affine = sum_of (constant_of (pos n)) (constant_of (pos 1)) in
     ranked sum (constant_of (pos (suc n)))
@@ -43,7 +46,10 @@ more_counted n =
     let whole = number_at_places (λ j. coefficient (constant_of (pos n)) j +ℤ coefficient (constant_of (pos 1)) j) i low in
     omega (arith, ints, first, second, both, whole)) (omega (arith, ints)))
 
--- a step more
+-- a step more, of a number of steps
+pub more_counts : (rank : AffineRank) → Counts rank → Counts (affine_ranks.one_more rank)
+more_counts rank own = (suc own.0, ap affine_ranks.one_more own.1 ∙ more_counted own.0)
+
 pub more_steps : (most : ℕ) (rank : AffineRank) → IsSteps most rank → IsSteps (suc most) (affine_ranks.one_more rank)
 more_steps most rank own = record {
   steps = suc own.steps;
@@ -61,8 +67,11 @@ more_fits most small rank own =
 
 -- a function put in leaves it as it is
 module _ (x : ℕ) (by : Affine) (low : x < 16) where
-  put_counted : (n : ℕ) → affine_ranks.substituted (counted n) x by ≡ counted n
+  pub put_counted : (n : ℕ) → affine_ranks.substituted (counted n) x by ≡ counted n
   put_counted n = ranked _ (constant_of (pos n)) (sym (kept_is (constant_of (pos n)) x by (nought_at (pos n) x low) (length-at_places _)))
+
+  pub put_counts : (rank : AffineRank) → Counts rank → Counts (affine_ranks.substituted rank x by)
+  put_counts rank own = (own.0, ap (λ (r : AffineRank). affine_ranks.substituted r x by) own.1 ∙ put_counted own.0)
 
   pub put_steps : (most : ℕ) (rank : AffineRank) → IsSteps most rank → IsSteps most (affine_ranks.substituted rank x by)
   put_steps most rank own = record {
@@ -81,11 +90,11 @@ module _ (x : ℕ) (by : Affine) (low : x < 16) where
 -- ---- the greater of two
 
 -- a function without variables makes no row
-constant_kind : (a : Affine) → IsConstant a → (row_kind_of a ≡ Always) ⊎ (row_kind_of a ≡ Never)
+pub constant_kind : (a : Affine) → IsConstant a → (row_kind_of a ≡ Always) ⊎ (row_kind_of a ≡ Never)
 constant_kind a constant =
     by_lt_z a.constant (pos 0) (λ below. inr (sym (row_kind_unique a Never (constant, below)))) (λ from. inl (sym (row_kind_unique a Always (constant, from))))
 
-constant_excess : (m n : ℕ) → IsConstant (excess_of (constant_of (pos m)) (constant_of (pos n)))
+pub constant_excess : (m n : ℕ) → IsConstant (excess_of (constant_of (pos m)) (constant_of (pos n)))
 constant_excess m n i low =
     let first = nought_at (pos m) i low in
     let second = nought_at (pos n) i low in
@@ -94,12 +103,12 @@ constant_excess m n i low =
     let sum = number_at_places (λ j. number_at (difference_of (constant_of (pos m)) (constant_of (pos n))).coef j +ℤ coefficient (constant_of (negsuc 0)) j) i low in
     omega (arith, ints, first, second, third, difference, sum)
 
-excess_kind : (most : ℕ) (rank next : AffineRank) → IsSteps most rank → IsSteps most next
+excess_kind : (rank next : AffineRank) → Counts rank → Counts next
     → (row_kind_of (excess_of next.value rank.value) ≡ Always) ⊎ (row_kind_of (excess_of next.value rank.value) ≡ Never)
-excess_kind most rank next one two =
-    let is : excess_of next.value rank.value ≡ excess_of (constant_of (pos two.steps)) (constant_of (pos one.steps)) =
-    ap (λ (r : AffineRank). excess_of r.value rank.value) two.is ∙ ap (λ (r : AffineRank). excess_of (constant_of (pos two.steps)) r.value) one.is in
-    constant_kind (excess_of next.value rank.value) (subst IsConstant (sym is) (constant_excess two.steps one.steps))
+excess_kind rank next one two =
+    let is : excess_of next.value rank.value ≡ excess_of (constant_of (pos two.0)) (constant_of (pos one.0)) =
+    ap (λ (r : AffineRank). excess_of r.value rank.value) two.1 ∙ ap (λ (r : AffineRank). excess_of (constant_of (pos two.0)) r.value) one.1 in
+    constant_kind (excess_of next.value rank.value) (subst IsConstant (sym is) (constant_excess two.0 one.0))
 
 chosen_each : (P : Row → Type 0) (Q : AffineRank → Type 0) (kind : RowKind) (greater other : Plan AffineRank) → (kind ≡ Always) ⊎ (kind ≡ Never)
     → EachIs P Q greater → EachIs P Q other → EachIs P Q (chosen same_rank ((kind ∷ []) ∷ []) greater other)
@@ -108,10 +117,18 @@ chosen_each P Q Never greater other known first second = second
 chosen_each P Q (Kept row) greater other known first second = ⊎_elim (λ is. absurd (cc)) (λ is. absurd (cc)) known
 
 -- the later of two leaves is one of them
+met_each : (P : Row → Type 0) (Q : AffineRank → Type 0) (why other : Why) (rank next : AffineRank) → Counts rank → Counts next → Q rank → Q next
+    → EachIs P Q (leaf_met same_rank affine_ranks.where_greater affine_ranks.greater_fits Later (leaf why rank) (leaf other next))
+met_each P Q why other rank next one two first second =
+    chosen_each P Q (row_kind_of (excess_of next.value rank.value)) (leaf other next) (leaf why rank) (excess_kind rank next one two) second first
+
+pub met_counts : (P : Row → Type 0) (why other : Why) (rank next : AffineRank) → Counts rank → Counts next
+    → EachIs P Counts (leaf_met same_rank affine_ranks.where_greater affine_ranks.greater_fits Later (leaf why rank) (leaf other next))
+met_counts P why other rank next one two = met_each P Counts why other rank next one two one two
+
 pub met_steps : (P : Row → Type 0) (most : ℕ) (why other : Why) (rank next : AffineRank) → IsSteps most rank → IsSteps most next
     → EachIs P (IsSteps most) (leaf_met same_rank affine_ranks.where_greater affine_ranks.greater_fits Later (leaf why rank) (leaf other next))
-met_steps P most why other rank next one two =
-    chosen_each P (IsSteps most) (row_kind_of (excess_of next.value rank.value)) (leaf other next) (leaf why rank) (excess_kind most rank next one two) two one
+met_steps P most why other rank next one two = met_each P (IsSteps most) why other rank next (one.steps, one.is) (two.steps, two.is) one two
 
 chosen_fits : (kind : RowKind) → (kind ≡ Always) ⊎ (kind ≡ Never) → ChosenFits ((kind ∷ []) ∷ [])
 chosen_fits Always known = tt
@@ -138,4 +155,4 @@ met_fits most small why other rank next one two =
     subst (λ (r : AffineRank). ExcessFits r.value rank.value) (sym two.is)
     (subst (λ (r : AffineRank). ExcessFits (constant_of (pos two.steps)) r.value) (sym one.is)
     (excess_fits two.steps one.steps (omega (arith, also, small)) (omega (arith, few, small)))) in
-    (fits, chosen_fits (row_kind_of (excess_of next.value rank.value)) (excess_kind most rank next one two))
+    (fits, chosen_fits (row_kind_of (excess_of next.value rank.value)) (excess_kind rank next (one.steps, one.is) (two.steps, two.is)))

@@ -2,13 +2,13 @@
 use Rattle.std.proofs.Common.{◌≡◌, inl, inr, ⊎_elim, ℕ, suc, ◌+◌, ◌-◌, ◌*◌, ◌^◌, ◌<◌, ◌≤◌, Bool, true, false, List, Some, length, refl, sym, ap, subst, ◌∙◌, arith}
 use Rattle.std.proofs.lemmas.Bool.{cases_lt}
 use Rattle.std.proofs.Math.Nat.{le_refl, mul-le-mul, one-mul}
-use Rattle.linear_forms.specs.Linearising.{form_of}
+use Rattle.step_meaning.specs.Countdown.{form_of}
 use Rattle.linear_forms.specs.Spreading.{spread_of}
 use Rattle.linear_forms.proofs.Dual.{spread_dual}
 use Rattle.decision_tree.specs.Plans.{Plan}
 use Rattle.decision_tree.specs.declared.affine_rank.AffineRank.{AffineRank}
 use Rattle.step_meaning.specs.AffineExpressions.{IsAffineTest}
-use Rattle.step_meaning.specs.Countdown.{total_size}
+use Rattle.linear_cons.specs.Sizes.{total_size}
 use Rattle.step_meaning.specs.Syntax.{Expression, Statements, free}
 use Rattle.control_flow.specs.Edges.{is_head_by}
 use Rattle.control_flow.specs.Labels.{Action, ends, assigns, passes, tests, action_at, all_labels}

@@ -1,18 +1,14 @@
 -- How large the later of two trees is, whose ranks are numbers of steps, and a tree before a test.
 use Rattle.std.specs.Bool.{⊤}
-use Rattle.std.proofs.Common.{◌≡◌, ◌⊎◌, inl, inr, ⊎_elim, ℕ, zero, suc, ◌+◌, ◌*◌, ◌<◌, ◌≤◌, ℤ, pos, negsuc, ◌+ℤ◌, ◌-ℤ◌, Bool, true, false, List, [], ◌∷◌, ◌++◌, refl, sym, ap, subst, ◌∙◌, arith}
+use Rattle.std.proofs.Common.{◌≡◌, ◌⊎◌, ⊎_elim, ℕ, zero, suc, ◌+◌, ◌*◌, ◌<◌, ◌≤◌, pos, Bool, true, false, List, [], ◌∷◌, ◌++◌, refl, sym, ap, subst, ◌∙◌, arith}
 use Rattle.std.proofs.Math.Nat.{add-mul, le_refl, mul-le-mul, mul-suc, suc-mul}
-use Rattle.std.proofs.lemmas.Int.{by_lt_z, ints}
-use Rattle.linear_cons.specs.Functions.{IsConstant, coefficient, constant_of, difference_of}
-use Rattle.linear_cons.specs.Numbers.{number_at}
+use Rattle.linear_cons.specs.Functions.{IsConstant, constant_of}
 use Rattle.linear_cons.specs.Rows.{complement, row_kind_of}
 use Rattle.linear_cons.specs.Settling.{settles}
 use Rattle.linear_cons.specs.declared.affine.Affine.{Affine}
 use Rattle.linear_cons.specs.declared.row.Row.{Row}
 use Rattle.linear_cons.specs.declared.row.RowKind.{RowKind}
 use Rattle.linear_cons.specs.declared.row.RowKind.TheVariants.{Always, Never, Row as Kept}
-use Rattle.linear_cons.proofs.Places.{number_at_places}
-use Rattle.linear_cons.proofs.RowKinds.{row_kind_unique}
 use Rattle.decision_tree.specs.AffineRanks.{excess_of}
 use Rattle.decision_tree.specs.Nodes.{node}
 use Rattle.decision_tree.specs.Plans.{IsEnd, Plan, bottom, branch, leaf, size_of, top}
@@ -34,26 +30,10 @@ use Rattle.unroll.specs.Measures.{anywhere, leaves_of_test, size_of_test}
 use Rattle.unroll.specs.Plain.{IsFittingTest}
 use Rattle.unroll.specs.Shapes.{affine_ranks, same_rank, tested_shape}
 use Rattle.unroll.proofs.Bounding.{dual_later, dual_size, node_bound, stepped_size}
+use Rattle.unroll.proofs.CountedRanks.{constant_excess, constant_kind}
 use Rattle.unroll.proofs.DualAsks.{side_by}
 use Rattle.unroll.proofs.Lifting.{plain_test}
 use Rattle.unroll.proofs.SpreadRows.{spread_long}
-
--- a function without variables makes no row
-constant_kind : (a : Affine) → IsConstant a → (row_kind_of a ≡ Always) ⊎ (row_kind_of a ≡ Never)
-constant_kind a constant =
-    by_lt_z a.constant (pos 0) (λ below. inr (sym (row_kind_unique a Never (constant, below)))) (λ from. inl (sym (row_kind_unique a Always (constant, from))))
-
-nought_at : (z : ℤ) (i : ℕ) → i < 16 → coefficient (constant_of z) i ≡ pos 0
-nought_at z i low = number_at_places (λ j. pos 0) i low
-
-constant_excess : (m n : ℕ) → IsConstant (excess_of (constant_of (pos m)) (constant_of (pos n)))
-constant_excess m n i low =
-    let first = nought_at (pos m) i low in
-    let second = nought_at (pos n) i low in
-    let third = nought_at (negsuc 0) i low in
-    let difference = number_at_places (λ j. coefficient (constant_of (pos m)) j -ℤ coefficient (constant_of (pos n)) j) i low in
-    let sum = number_at_places (λ j. number_at (difference_of (constant_of (pos m)) (constant_of (pos n))).coef j +ℤ coefficient (constant_of (negsuc 0)) j) i low in
-    omega (arith, ints, first, second, third, difference, sum)
 
 chosen_size : (kind : RowKind) (greater other : Plan AffineRank) → (kind ≡ Always) ⊎ (kind ≡ Never) → size_of greater ≡ 1 → size_of other ≡ 1
     → size_of (chosen same_rank ((kind ∷ []) ∷ []) greater other) ≡ 1

@@ -43,7 +43,7 @@ before_or zero (suc n) low = inl (omega arith)
 before_or (suc l) zero low = absurd (omega arith)
 before_or (suc l) (suc n) low = ⊎_elim (λ before. inl (omega arith)) (λ last. inr (omega arith)) (before_or l n (omega arith))
 
-at_most_greatest : (f : ℕ → ℕ) (n l : ℕ) → l < n → f l ≤ greatest_below f n
+pub at_most_greatest : (f : ℕ → ℕ) (n l : ℕ) → l < n → f l ≤ greatest_below f n
 at_most_greatest f zero l low = absurd (omega arith)
 at_most_greatest f (suc n) l low =
     ⊎_elim (λ before. let most = at_most_greatest f n l before in omega (arith, most)) (λ last. let same : f l ≡ f n = ap f last in omega (arith, same)) (before_or l n low)

@@ -1,4 +1,3 @@
-pub mod Rows
 pub mod Variables
 pub mod LevelLaws
 pub mod Ordering
@@ -24,6 +23,7 @@ pub mod LaterSizes
 pub mod LevelSizes
 pub mod Refusing
 pub mod Keeping
+pub mod Every
 pub mod KeptFits
 pub mod DualAsks
 pub mod CountedRanks

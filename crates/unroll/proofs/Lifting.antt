@@ -7,7 +7,7 @@ use Rattle.linear_cons.specs.Functions.{value_at}
 use Rattle.linear_cons.specs.Numbers.{number_at}
 use Rattle.linear_cons.specs.Rows.{Meets}
 use Rattle.linear_cons.specs.declared.row.Row.{Row}
-use Rattle.linear_forms.specs.Linearising.{form_of}
+use Rattle.step_meaning.specs.Countdown.{form_of}
 use Rattle.linear_forms.specs.Meeting.{MeetsEach, MeetsOne}
 use Rattle.linear_forms.specs.Spreading.{spread_of}
 use Rattle.linear_forms.proofs.Exactness.{may_have_value, only_value}
@@ -23,13 +23,13 @@ use Rattle.step_meaning.specs.Outcome.{MayTest, Store}
 use Rattle.step_meaning.specs.Step.{front}
 use Rattle.step_meaning.specs.Syntax.{Expression, Statements, number, variable, free, range, truth, negative, negation, pair}
 use Rattle.step_meaning.specs.Valid.{IsBody, IsNumber, IsTest}
-use Rattle.count_down.specs.Trees.{IsTreeOver}
-use Rattle.count_down.proofs.Over.{over_constant}
+use Rattle.decision_tree.specs.Extent.{IsTreeOver, ComplementsFit}
+use Rattle.linear_cons.proofs.Over.{over_constant}
 use Rattle.step_meaning.proofs.Progress.{test_has_outcome}
 use Rattle.control_flow.specs.Edges.{configuration}
 use Rattle.control_flow.specs.Labels.{assigns, passes, tests, action_at, all_labels, rest}
 use Rattle.unroll.specs.Building.{ClaimsAt, IsBefore, IsBeforeBoth, Tells, TellsTree, left_by}
-use Rattle.unroll.specs.Levels.{ComplementsFit, RanksCount, counted}
+use Rattle.unroll.specs.Levels.{RanksCount, counted}
 use Rattle.unroll.specs.Measures.{AreSizes, anywhere}
 use Rattle.unroll.specs.Within.{TellsNumbers}
 use Rattle.unroll.specs.Plain.{IsPlainTest}

@@ -1,14 +1,12 @@
 -- At which leaves stores stand in the trees before a step, and what ranks and complements these have.
-use Rattle.std.proofs.Common.{◌≡◌, ◌↔◌, ◌⊎◌, inl, inr, ℕ, zero, suc, ◌<◌, ◌≤◌, max, ℤ, pos, ◌+ℤ◌, ◌<ℤ◌, Bool, true, false, List, [], ◌∷◌, ◌++◌, cond, Option, None, Some, IsTrue, length, set, refl, sym, ap, ◌∙◌, arith, ⊎_elim}
+use Rattle.std.proofs.Common.{◌≡◌, ◌↔◌, ◌⊎◌, inl, inr, ℕ, zero, suc, ◌<◌, ◌≤◌, max, ℤ, pos, ◌<ℤ◌, Bool, true, false, List, [], ◌∷◌, ◌++◌, cond, Option, None, Some, IsTrue, length, set, refl, ap, ◌∙◌, arith, ⊎_elim}
 use Rattle.std.proofs.lemmas.Int.{ints}
-use Rattle.linear_cons.specs.Functions.{NumbersFit, coefficient, complement_of, constant_of, sum_of, value_at}
+use Rattle.linear_cons.specs.Functions.{NumbersFit, complement_of, constant_of, value_at}
 use Rattle.linear_cons.specs.Rows.{complement}
 use Rattle.linear_cons.specs.Settling.{settles}
 use Rattle.linear_cons.specs.declared.affine.Affine.{Affine}
 use Rattle.linear_cons.specs.declared.row.Row.{Row}
-use Rattle.linear_cons.proofs.Forms.{affine_same, value_constant}
-use Rattle.linear_cons.proofs.Parts.{kept_is}
-use Rattle.linear_cons.proofs.Places.{length-at_places, number_at_places}
+use Rattle.linear_cons.proofs.Forms.{value_constant}
 use Rattle.linear_forms.specs.Meeting.{MeetsOne}
 use Rattle.decision_tree.specs.Evaluation.{eval}
 use Rattle.decision_tree.specs.Laws.AffineLaws.{equal_is, excess_is}
@@ -26,29 +24,15 @@ use Rattle.backward_transfer.proofs.Standing.{assign_defined, assign_none, cut_e
 use Rattle.backward_transfer.proofs.Trying.{test_stands}
 use Rattle.step_meaning.specs.Outcome.{Store}
 use Rattle.unroll.specs.Building.{ClaimsAt, IsBefore, IsBeforeBoth}
-use Rattle.unroll.specs.Levels.{ComplementsFit, RanksCount, counted}
+use Rattle.unroll.specs.Levels.{counted}
+use Rattle.decision_tree.specs.Extent.{ComplementsFit}
 use Rattle.unroll.specs.Shapes.{affine_ranks, assigned_shape, cut, same_rank, stepped_shape, tested_shape}
-use Rattle.unroll.proofs.Ranking.{assigned_ranks, stepped_ranks, tested_ranks, trimmed_ranks}
+use Rattle.unroll.proofs.CountedRanks.{more_counted, put_counted}
 
 -- ---- affine ranks
 
 alike : (rank other : AffineRank) → IsTrue (same_rank rank other) ↔ (rank ≡ other)
 alike rank other = equal_is rank other
-
-ranked : (a b : Affine) → a ≡ b → ◌≡◌ {A = AffineRank} (record { value = a }) (record { value = b })
-ranked a b same = ap (λ (t : Affine). let r : AffineRank = record { value = t } in r) same
-
-more_counted : (n : ℕ) → affine_ranks.one_more (counted n) ≡ counted (suc n)
-more_counted n =
-    let nought : (z : ℤ) (i : ℕ) → i < 16 → coefficient (constant_of z) i ≡ pos 0 = λ z i h. number_at_places (λ i. pos 0) i h in
-    ranked (sum_of (constant_of (pos n)) (constant_of (pos 1))) (constant_of (pos (suc n)))
-    (affine_same (sum_of (constant_of (pos n)) (constant_of (pos 1))) (constant_of (pos (suc n))) (length-at_places _) (length-at_places _)
-    (λ i h. number_at_places (λ i. coefficient (constant_of (pos n)) i +ℤ coefficient (constant_of (pos 1)) i) i h
-    ∙ ap (λ t. t +ℤ coefficient (constant_of (pos 1)) i) (nought (pos n) i h) ∙ ap (λ t. pos 0 +ℤ t) (nought (pos 1) i h) ∙ sym (nought (pos (suc n)) i h)) (omega (arith, ints)))
-
-put_counted : (n x : ℕ) (by : Affine) → x < 16 → affine_ranks.substituted (counted n) x by ≡ counted n
-put_counted n x by low =
-    ranked _ (constant_of (pos n)) (sym (kept_is (constant_of (pos n)) x by (number_at_places (λ i. pos 0) x low) (length-at_places _)))
 
 -- ---- the trees before a step
 
@@ -59,7 +43,7 @@ module _ (x : ℕ) (by : Affine) (plan : Plan AffineRank) (store : Store) (low :
       _,
       cut_eval same_rank alike (assigned_shape x by plan) store
           ∙ assign_defined same_rank alike affine_ranks.one_more affine_ranks.substituted x by store low long plan claim.0 (counted n) claim.1
-          ∙ ap (λ (r : AffineRank). step_to (affine_ranks.one_more r)) (put_counted n x by low)
+          ∙ ap (λ (r : AffineRank). step_to (affine_ranks.one_more r)) (put_counted x by low n)
           ∙ ap (λ (r : AffineRank). step_to r) (more_counted n),
     );
     none = λ none. ap is_defined (cut_eval same_rank alike (assigned_shape x by plan) store
@@ -176,17 +160,3 @@ trimmed_complements path (branch row this that) fits =
     (λ both. node_complements (same_plan same_rank (trimmed same_rank (path ++ row ∷ []) this) (trimmed same_rank (path ++ complement row ∷ []) that)) row
     (trimmed same_rank (path ++ row ∷ []) this) (trimmed same_rank (path ++ complement row ∷ []) that)
     (trimmed_complements (path ++ row ∷ []) this both.0) both.1 (trimmed_complements (path ++ complement row ∷ []) that both.2)) fits
-
--- ---- ranks
-
-pub assigned_count : (x : ℕ) (by : Affine) (plan : Plan AffineRank) → x < 16 → RanksCount plan → RanksCount (cut (assigned_shape x by plan))
-assigned_count x by plan low ranks =
-    trimmed_ranks same_rank [] (assigned_shape x by plan) (assigned_ranks same_rank affine_ranks.one_more more_counted affine_ranks.substituted x by (λ n. put_counted n x by low) plan ranks)
-
-pub stepped_count : (plan : Plan AffineRank) → RanksCount plan → RanksCount (cut (stepped_shape plan))
-stepped_count plan ranks = trimmed_ranks same_rank [] (stepped_shape plan) (stepped_ranks same_rank affine_ranks.one_more more_counted plan ranks)
-
-pub tested_count : (this that : Plan AffineRank) (holds fails : List (List Row)) → RanksCount this → RanksCount that → RanksCount (cut (tested_shape this that holds fails))
-tested_count this that holds fails first second =
-    trimmed_ranks same_rank [] (tested_shape this that holds fails)
-    (tested_ranks same_rank affine_ranks.one_more more_counted affine_ranks.where_greater affine_ranks.greater_fits this that first second holds fails)

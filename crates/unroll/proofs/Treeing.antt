@@ -1,6 +1,6 @@
 -- What is known of a label whose tree is made, and that the tree tells.
 use Rattle.std.proofs.Common.{◌≡◌, ℕ, ◌<◌, ◌≤◌, Bool, true, false, Some, List, length, set, sym, ap, subst, ◌∙◌, arith}
-use Rattle.linear_forms.specs.Linearising.{form_of}
+use Rattle.step_meaning.specs.Countdown.{form_of}
 use Rattle.linear_cons.specs.Functions.{value_at}
 use Rattle.linear_forms.specs.Meeting.{MeetsOne}
 use Rattle.linear_forms.specs.Spreading.{spread_of}
@@ -18,9 +18,9 @@ use Rattle.control_flow.specs.Actions.{IsSorted, LeadsBelow}
 use Rattle.control_flow.specs.Edges.{is_head_by}
 use Rattle.control_flow.specs.Labels.{Action, ends, assigns, passes, tests, action_at, all_labels, rest}
 use Rattle.control_flow.proofs.LabelLaws.{edges_lead_to_labels, labels_are_sorted}
-use Rattle.count_down.specs.Trees.{IsTreeOver}
+use Rattle.decision_tree.specs.Extent.{IsTreeOver, ComplementsFit}
 use Rattle.unroll.specs.Building.{AtNext, IsBefore, IsBeforeBoth, TellsAt, TellsTree, left_by}
-use Rattle.unroll.specs.Levels.{ComplementsFit, RanksCount, tree_at}
+use Rattle.unroll.specs.Levels.{RanksCount, tree_at}
 use Rattle.unroll.specs.Measures.{AreSizes, anywhere, size_before, size_of_test}
 use Rattle.unroll.specs.Plain.{ActionFits, IsFittingTest, IsPlain, IsPlainAction, IsPlainTest}
 use Rattle.unroll.specs.Within.{TellsNumbers}

@@ -1,5 +1,5 @@
 -- The trees before a step speak of the program's variables alone, where those behind it do.
-use Rattle.std.proofs.Common.{ℕ, ◌==◌, if◌then◌else◌, ◌<◌, Bool, true, false, cond, not, ℤ, pos, negsuc, ◌-ℤ◌, ◌*ℤ◌, List, [], ◌∷◌, ◌++◌, map, Option, None, Some, All, refl, arith}
+use Rattle.std.proofs.Common.{ℕ, ◌==◌, if◌then◌else◌, ◌<◌, Bool, true, false, cond, not, ℤ, pos, negsuc, ◌-ℤ◌, List, [], ◌∷◌, ◌++◌, map, Option, None, Some, All, refl, arith, subst, sym}
 use Rattle.std.specs.Prelude.{⊤}
 use Rattle.std.proofs.lemmas.List.Elements.{All-append, All-cons, All-head, All-nil, All-tail}
 use Rattle.linear_cons.specs.declared.affine.Affine.{Affine}
@@ -9,56 +9,46 @@ use Rattle.linear_cons.specs.declared.row.Row.{Row}
 use Rattle.linear_cons.specs.declared.row.RowKind.{RowKind}
 use Rattle.linear_cons.specs.declared.row.RowKind.TheVariants.{Always, Never, Row as Kept}
 use Rattle.linear_cons.specs.Ends.{ends_from, greatest_value, least_value, scaled_end}
-use Rattle.linear_cons.specs.Functions.{coefficient, complement_of, constant_of, difference_of, multiple_of, substituted, sum_of, variable_at}
+use Rattle.linear_cons.specs.Functions.{constant_of, difference_of, multiple_of, substituted, sum_of, variable_at, IsOver}
 use Rattle.linear_cons.specs.Rows.{IsRowOf, row_kind_of}
 use Rattle.linear_cons.proofs.KindLaws.{row_kind_is}
 use Rattle.linear_cons.proofs.Places.{eqb_apart}
-use Rattle.linear_cons.proofs.Ring.{zero_mul}
 use Rattle.step_meaning.specs.declared.expression.Op2.{Op2}
 use Rattle.step_meaning.specs.declared.expression.Op2.TheVariants.{Add, And, Equal, Greater, GreaterEqual, Less, LessEqual, Mul, NotEqual, Or, Sub}
 use Rattle.step_meaning.specs.Syntax.{Expression, free, negation, negative, number, pair, range, truth, variable}
 use Rattle.step_meaning.specs.Valid.{IsNumber, IsTest}
 use Rattle.linear_forms.specs.Linearising.{are_equal, between, corners, is_number, linear_of, numbers_fit, product, scaled, square, unknown, with_ends}
 use Rattle.linear_forms.specs.Spreading.{Claim, above, all_rows_of, at_least, before, claims, comparison_for, constraint, favoured, fitting, kept_before, less_one, pairs, rows_of, spread_of, with_constraint}
-use Rattle.decision_tree.specs.AffineRanks.{excess_of, only}
-use Rattle.tree_unify.specs.Choosing.{alternatives_of}
 use Rattle.decision_tree.specs.Plans.{Plan, bottom, branch, leaf, top}
 use Rattle.decision_tree.specs.declared.affine_rank.AffineRank.{AffineRank}
-use Rattle.count_down.specs.Trees.{IsOver, IsTreeOver}
-use Rattle.count_down.proofs.Over.{over_constant, over_places, over_put, over_quotient, over_sum}
+use Rattle.decision_tree.specs.Extent.{IsTreeOver}
+use Rattle.linear_cons.proofs.Over.{over_constant, over_difference, over_multiple, over_places, over_put, over_quotient, over_sum}
 use Rattle.unroll.specs.Measures.{anywhere}
 use Rattle.unroll.specs.Shapes.{affine_ranks, assigned_shape, cut, same_rank, stepped_shape, tested_shape}
-use Rattle.unroll.proofs.Rows.{AreGood, AreGoodRows, IsGoodKind, assigned_good, stepped_good, tested_good, trimmed_good}
+use Rattle.linear_forms.specs.Duality.{EachOf}
+use Rattle.backward_transfer.specs.Tests.{enabled}
+use Rattle.unroll.specs.Levels.{RanksCount}
+use Rattle.unroll.specs.Within.{EachIs}
+use Rattle.unroll.proofs.CountedRanks.{Counts, met_counts, more_counts, put_counts}
+use Rattle.unroll.proofs.Every.{every_ask}
+use Rattle.unroll.proofs.Keeping.{KindIs, assigned_each, enabled_each, stepped_each, tested_each, trimmed_each}
 
 module _ (vars : ℕ) where
   -- ---- functions
 
-  over_difference : (a b : Affine) → IsOver vars a → IsOver vars b → IsOver vars (difference_of a b)
-  over_difference a b own other =
-      over_places vars (λ i. coefficient a i -ℤ coefficient b i) (a.constant -ℤ b.constant)
-      (λ place low high. rw (own.past place high, other.past place high) refl)
+  abbrev RowIs : Row → Type 0
+  RowIs row = IsOver vars row.affine
 
-  pub over_complement : (a : Affine) → IsOver vars a → IsOver vars (complement_of a)
-  over_complement a own = over_difference (constant_of (negsuc 0)) a (over_constant vars (negsuc 0)) own
-
-  kind_by : (a : Affine) (kind : RowKind) → IsRowOf a kind → IsOver vars a → IsGoodKind (IsOver vars) kind
+  kind_by : (a : Affine) (kind : RowKind) → IsRowOf a kind → IsOver vars a → KindIs RowIs kind
   kind_by a Always is own = tt
   kind_by a Never is own = tt
   kind_by a (Kept row) is own = over_quotient vars a row.affine is own
 
-  pub kind_over : (a : Affine) → IsOver vars a → IsGoodKind (IsOver vars) (row_kind_of a)
+  pub kind_over : (a : Affine) → IsOver vars a → KindIs RowIs (row_kind_of a)
   kind_over a own = kind_by a (row_kind_of a) (row_kind_is a) own
 
-  pub put_over : (a : Affine) (place : ℕ) (by : Affine) → IsOver vars a → IsOver vars by → IsGoodKind (IsOver vars) (row_kind_of (substituted a place by))
+  pub put_over : (a : Affine) (place : ℕ) (by : Affine) → IsOver vars a → IsOver vars by → KindIs RowIs (row_kind_of (substituted a place by))
   put_over a place by own other = kind_over (substituted a place by) (over_put vars a place by own other)
-
-  pub excess_over : (a b : Affine) → IsOver vars a → IsOver vars b → All (All (IsGoodKind (IsOver vars))) (alternatives_of (only (excess_of a b)).list)
-  excess_over a b own other =
-      let P = IsGoodKind (IsOver vars) in
-      let kind = row_kind_of (excess_of a b) in
-      All-cons (All P) (kind ∷ []) []
-      (All-cons P kind [] (kind_over (excess_of a b) (over_sum vars (difference_of a b) (constant_of (negsuc 0)) (over_difference a b own other) (over_constant vars (negsuc 0))))
-      (All-nil P)) (All-nil (All P))
 
   -- ---- linear forms
 
@@ -76,7 +66,7 @@ module _ (vars : ℕ) where
   with_ends_over a lo hi own = either_over (numbers_fit a) (record { affine = a; lo = lo; hi = hi }) unknown own (between_over None None)
 
   scaled_over : (x : Linear) (z : ℤ) → IsLinearOver x → IsLinearOver (scaled x z)
-  scaled_over x z own = with_ends_over (multiple_of x.affine z) (scaled_end z x.lo x.hi) (scaled_end z x.hi x.lo) (over_places vars (λ i. coefficient x.affine i *ℤ z) (x.affine.constant *ℤ z) (λ place low high. rw (own.past place high) (zero_mul z)))
+  scaled_over x z own = with_ends_over (multiple_of x.affine z) (scaled_end z x.lo x.hi) (scaled_end z x.hi x.lo) (over_multiple vars x.affine z own)
 
   corners_over : (a b c d : Option ℤ) → IsLinearOver (corners a b c d)
   corners_over None b c d = between_over None None
@@ -116,7 +106,7 @@ module _ (vars : ℕ) where
   linear_over bounds (pair Sub l r) sorted =
       let x = linear_of bounds l in
       let y = linear_of bounds r in
-      with_ends_over (difference_of x.affine y.affine) _ _ (over_difference x.affine y.affine (linear_over bounds l sorted.0) (linear_over bounds r sorted.1))
+      with_ends_over (difference_of x.affine y.affine) _ _ (over_difference vars x.affine y.affine (linear_over bounds l sorted.0) (linear_over bounds r sorted.1))
   linear_over bounds (pair Mul l r) sorted =
       product_over bounds (linear_of bounds l) (linear_of bounds r) (linear_over bounds l sorted.0) (linear_over bounds r sorted.1)
   linear_over bounds (pair Less l r) sorted = absurd sorted
@@ -143,7 +133,7 @@ module _ (vars : ℕ) where
 
   less_one_over : (t : Bool) (found : Option Affine) → IsFoundOver found → IsFoundOver (less_one t found)
   less_one_over t None own = tt
-  less_one_over true (Some a) own = fitting_over (difference_of a (constant_of (pos 1))) (over_difference a (constant_of (pos 1)) own (over_constant vars (pos 1)))
+  less_one_over true (Some a) own = fitting_over (difference_of a (constant_of (pos 1))) (over_difference vars a (constant_of (pos 1)) own (over_constant vars (pos 1)))
   less_one_over false (Some a) own = own
 
   favoured_over : (end : Option ℤ) (found : Option Affine) → IsFoundOver found → IsFoundOver (favoured end found)
@@ -159,27 +149,27 @@ module _ (vars : ℕ) where
       let difference = difference_of claim.greater.affine claim.smaller.affine in
       favoured_over (ends_from (λ high low. high -ℤ low) claim.greater.hi claim.smaller.lo) (less_one claim.is_strict (fitting difference))
       (less_one_over claim.is_strict (fitting difference)
-      (fitting_over difference (over_difference claim.greater.affine claim.smaller.affine own.0 own.1)))
+      (fitting_over difference (over_difference vars claim.greater.affine claim.smaller.affine own.0 own.1)))
 
   abbrev Rows : List Row → Type 0
-  Rows = AreGoodRows (IsOver vars)
+  Rows rows = All RowIs rows
 
   abbrev AreKeptOver : Option (List Row) → Type 0
   AreKeptOver None = ⊤
   AreKeptOver (Some rows) = Rows rows
 
-  before_over : (kind : RowKind) (rows : Option (List Row)) → IsGoodKind (IsOver vars) kind → AreKeptOver rows → AreKeptOver (before kind rows)
+  before_over : (kind : RowKind) (rows : Option (List Row)) → KindIs RowIs kind → AreKeptOver rows → AreKeptOver (before kind rows)
   before_over Always rows own others = others
   before_over Never rows own others = tt
   before_over (Kept row) None own others = tt
-  before_over (Kept row) (Some rows) own others = All-cons (λ (r : Row). IsOver vars r.affine) row rows own others
+  before_over (Kept row) (Some rows) own others = All-cons RowIs row rows own others
 
   with_constraint_over : (found : Option Affine) (rows : Option (List Row)) → IsFoundOver found → AreKeptOver rows → AreKeptOver (with_constraint found rows)
   with_constraint_over None rows own others = others
   with_constraint_over (Some a) rows own others = before_over (row_kind_of a) rows (kind_over a own) others
 
   rows_of_over : (list : List Claim) → All IsClaimOver list → AreKeptOver (rows_of list)
-  rows_of_over [] own = All-nil (λ (r : Row). IsOver vars r.affine)
+  rows_of_over [] own = All-nil RowIs
   rows_of_over (claim ∷ more) own =
       with_constraint_over (constraint claim) (rows_of more) (constraint_over claim (All-head IsClaimOver claim more own))
       (rows_of_over more (All-tail IsClaimOver claim more own))
@@ -220,7 +210,7 @@ module _ (vars : ℕ) where
   each_with rows [] own others = All-nil Rows
   each_with rows (other ∷ list) own others =
       All-cons Rows (rows ++ other) (map (λ next. rows ++ next) list)
-      (All-append (λ (r : Row). IsOver vars r.affine) rows other own (All-head Rows other list others))
+      (All-append RowIs rows other own (All-head Rows other list others))
       (each_with rows list own (All-tail Rows other list others))
 
   pairs_over : (xs ys : List (List Row)) → All Rows xs → All Rows ys → All Rows (pairs xs ys)
@@ -230,7 +220,7 @@ module _ (vars : ℕ) where
       (pairs_over xs ys (All-tail Rows rows xs own) others)
 
   empty_rows : All Rows ([] ∷ [])
-  empty_rows = All-cons Rows [] [] (All-nil (λ (r : Row). IsOver vars r.affine)) (All-nil Rows)
+  empty_rows = All-cons Rows [] [] (All-nil RowIs) (All-nil Rows)
 
   truth_over : (t : Bool) → All Rows (cond t ([] ∷ []) [])
   truth_over true = empty_rows
@@ -275,41 +265,49 @@ module _ (vars : ℕ) where
 
   -- ---- trees
 
-  to_good : (plan : Plan AffineRank) → IsTreeOver vars plan → AreGood (IsOver vars) plan
-  to_good bottom over = tt
-  to_good (top cause) over = tt
-  to_good (leaf why rank) over = over
-  to_good (branch row this that) over = (over.0, to_good this over.1, to_good that over.2)
+  rows_each : (rows : List Row) → Rows rows → EachOf RowIs rows
+  rows_each [] own = tt
+  rows_each (row ∷ rest) own = (All-head RowIs row rest own, rows_each rest (All-tail RowIs row rest own))
 
-  of_good : (plan : Plan AffineRank) → AreGood (IsOver vars) plan → IsTreeOver vars plan
-  of_good bottom good = tt
-  of_good (top cause) good = tt
-  of_good (leaf why rank) good = good
-  of_good (branch row this that) good = (good.0, of_good this good.1, of_good that good.2)
+  conjunctions_each : (list : List (List Row)) → All Rows list → EachOf (EachOf RowIs) list
+  conjunctions_each [] own = tt
+  conjunctions_each (rows ∷ rest) own = (rows_each rows (All-head Rows rows rest own), conjunctions_each rest (All-tail Rows rows rest own))
 
-  one_more_over : (rank : AffineRank) → IsOver vars rank.value → IsOver vars (affine_ranks.one_more rank).value
-  one_more_over rank own = over_sum vars rank.value (constant_of (pos 1)) own (over_constant vars (pos 1))
+  -- with ranks that are numbers of steps, which speak of no variable
+  to_each : (plan : Plan AffineRank) → RanksCount plan → IsTreeOver vars plan → EachIs RowIs Counts plan
+  to_each bottom ranks over = tt
+  to_each (top cause) ranks over = tt
+  to_each (leaf why rank) ranks over = ranks
+  to_each (branch row this that) ranks over = (over.0, to_each this ranks.0 over.1, to_each that ranks.1 over.2)
 
-  pub assigned_over : (place : ℕ) (by : Affine) (plan : Plan AffineRank) → IsOver vars by → IsTreeOver vars plan → IsTreeOver vars (cut (assigned_shape place by plan))
-  assigned_over place by plan own over =
-      of_good (cut (assigned_shape place by plan))
-      (trimmed_good (IsOver vars) same_rank [] (assigned_shape place by plan)
-      (assigned_good (IsOver vars) same_rank affine_ranks.one_more one_more_over affine_ranks.substituted place by
-      (λ rank mine. over_put vars rank.value place by mine own) (λ row mine. put_over row.affine place by mine own) plan (to_good plan over)))
+  of_each : (plan : Plan AffineRank) → EachIs RowIs Counts plan → IsTreeOver vars plan
+  of_each bottom each = tt
+  of_each (top cause) each = tt
+  of_each (leaf why rank) each = subst (λ (r : AffineRank). IsOver vars r.value) (sym each.1) (over_constant vars (pos each.0))
+  of_each (branch row this that) each = (each.0, of_each this each.1, of_each that each.2)
 
-  pub stepped_over : (plan : Plan AffineRank) → IsTreeOver vars plan → IsTreeOver vars (cut (stepped_shape plan))
-  stepped_over plan over =
-      of_good (cut (stepped_shape plan))
-      (trimmed_good (IsOver vars) same_rank [] (stepped_shape plan)
-      (stepped_good (IsOver vars) same_rank affine_ranks.one_more one_more_over plan (to_good plan over)))
+  trimmed_over : (plan : Plan AffineRank) → EachIs RowIs Counts plan → IsTreeOver vars (cut plan)
+  trimmed_over plan each = of_each (cut plan) (trimmed_each same_rank RowIs Counts [] plan each)
 
-  pub tested_over : (this that : Plan AffineRank) (c : Expression) → IsTest vars c → IsTreeOver vars this → IsTreeOver vars that
+  pub assigned_over : (place : ℕ) (by : Affine) (plan : Plan AffineRank) → place < 16 → IsOver vars by → RanksCount plan → IsTreeOver vars plan
+      → IsTreeOver vars (cut (assigned_shape place by plan))
+  assigned_over place by plan low own ranks over =
+      trimmed_over (assigned_shape place by plan)
+      (assigned_each same_rank RowIs RowIs Counts Counts affine_ranks.substituted affine_ranks.one_more place by (λ row mine. put_over row.affine place by mine own)
+      (λ rank one. more_counts (affine_ranks.substituted rank place by) (put_counts place by low rank one)) plan (to_each plan ranks over))
+
+  pub stepped_over : (plan : Plan AffineRank) → RanksCount plan → IsTreeOver vars plan → IsTreeOver vars (cut (stepped_shape plan))
+  stepped_over plan ranks over =
+      trimmed_over (stepped_shape plan) (stepped_each same_rank RowIs Counts Counts affine_ranks.one_more more_counts plan (to_each plan ranks over))
+
+  pub tested_over : (this that : Plan AffineRank) (c : Expression) → IsTest vars c → RanksCount this → RanksCount that → IsTreeOver vars this → IsTreeOver vars that
       → IsTreeOver vars (cut (tested_shape this that (spread_of anywhere c true) (spread_of anywhere c false)))
-  tested_over this that c sorted first second =
+  tested_over this that c sorted one two first second =
       let holds = spread_of anywhere c true in
       let fails = spread_of anywhere c false in
-      of_good (cut (tested_shape this that holds fails))
-      (trimmed_good (IsOver vars) same_rank [] (tested_shape this that holds fails)
-      (tested_good (IsOver vars) same_rank affine_ranks.one_more one_more_over (λ row own. over_complement row.affine own) affine_ranks.where_greater
-      affine_ranks.greater_fits (λ rank other own mine. excess_over rank.value other.value own mine) this that (to_good this first) (to_good that second)
-      holds fails (spread_over anywhere c true sorted) (spread_over anywhere c false sorted)))
+      let ends = enabled_each same_rank RowIs Counts Counts affine_ranks.one_more more_counts affine_ranks.where_greater affine_ranks.greater_fits (met_counts RowIs) this that
+      (to_each this one first) (to_each that two second) in
+      trimmed_over (tested_shape this that holds fails)
+      (tested_each same_rank RowIs Counts affine_ranks.where_greater affine_ranks.greater_fits affine_ranks.one_more this that fails holds
+      (every_ask RowIs (λ t u. EachIs RowIs Counts (enabled same_rank affine_ranks.where_greater affine_ranks.greater_fits affine_ranks.one_more this that t u)) ends fails
+      (conjunctions_each fails (spread_over anywhere c false sorted)) holds (conjunctions_each holds (spread_over anywhere c true sorted))))

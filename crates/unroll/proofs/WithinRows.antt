@@ -1,5 +1,5 @@
 -- How large the numbers of rows are: with a function put in, of complements, and in tests.
-use Rattle.std.proofs.Common.{◌≡◌, ◌⊎◌, inl, inr, ⊎_elim, ℕ, zero, suc, ◌+◌, ◌*◌, ◌^◌, ◌<◌, ◌≤◌, max, List, [], ◌∷◌, length, unsigned_abs, refl, ap, ◌∙◌, arith}
+use Rattle.std.proofs.Common.{◌≡◌, ℕ, ◌+◌, ◌*◌, ◌^◌, ◌<◌, ◌≤◌, max, List, [], ◌∷◌, length, unsigned_abs, refl, ap, ◌∙◌, arith}
 use Rattle.std.proofs.Math.Nat.{add-mul, le_refl, le_trans, mul-add, mul-le-mul, mul_assoc, mul_comm, one-mul}
 use Rattle.linear_cons.specs.Functions.{NumbersFit, SubstitutionFits, coefficient, complement_of, substituted}
 use Rattle.linear_cons.specs.Rows.{IsRowOf, row_kind_of}
@@ -8,19 +8,16 @@ use Rattle.linear_cons.specs.declared.row.Row.{Row}
 use Rattle.linear_cons.specs.declared.row.RowKind.{RowKind}
 use Rattle.linear_cons.specs.declared.row.RowKind.TheVariants.{Always, Never, Row as Kept}
 use Rattle.linear_cons.proofs.KindLaws.{row_kind_is}
-use Rattle.linear_cons.proofs.Sizes.{SizesAtMost, sizes_fit, sizes_quotient}
+use Rattle.linear_cons.proofs.Sizes.{sizes_fit, sizes_quotient, sizes_complement, sizes_substituted, sizes_grown, substitution_fits}
+use Rattle.linear_cons.specs.Sizes.{SizesAtMost, total_size}
 use Rattle.linear_forms.specs.Duality.{EachOf}
-use Rattle.step_meaning.specs.Countdown.{total_size}
 use Rattle.step_meaning.specs.Syntax.{Statements}
 use Rattle.control_flow.specs.Labels.{action_at, all_labels}
-use Rattle.count_down.proofs.Fitting.{sizes_complement}
-use Rattle.count_down.proofs.Leading.{sizes_substituted}
-use Rattle.count_down.proofs.Modest.{sizes_grown}
-use Rattle.count_down.proofs.Putting.{substitution_fits}
 use Rattle.unroll.specs.Growth.{greatest_of_conjunctions, greatest_of_rows, greatest_size, row_size, test_size}
 use Rattle.unroll.specs.Measures.{greatest_below}
 use Rattle.unroll.specs.Within.{IsWithin}
 use Rattle.unroll.proofs.Keeping.{KindIs}
+use Rattle.unroll.proofs.LevelSizes.{at_most_greatest}
 
 -- ---- a row moved over an assignment
 
@@ -69,17 +66,6 @@ more_left m n = omega arith
 
 more_right : (m n : ℕ) → n ≤ max m n
 more_right m n = omega arith
-
-at_most_greatest : (f : ℕ → ℕ) (n l : ℕ) → l < n → f l ≤ greatest_below f n
-at_most_greatest f zero l low = absurd (omega arith)
-at_most_greatest f (suc n) l low =
-    ⊎_elim (λ before. let most = at_most_greatest f n l before in omega (arith, most)) (λ last. let same : f l ≡ f n = ap f last in omega (arith, same)) (before_or l n low)
-  where
-    before_or : (l n : ℕ) → l < suc n → (l < n) ⊎ (l ≡ n)
-    before_or zero zero low = inr refl
-    before_or zero (suc n) low = inl (omega arith)
-    before_or (suc l) zero low = absurd (omega arith)
-    before_or (suc l) (suc n) low = ⊎_elim (λ before. inl (omega (arith, before))) (λ last. inr (ap suc last)) (before_or l n (omega arith))
 
 pub greatest_sizes : (a : Affine) → SizesAtMost (greatest_size a) a
 unfolding greatest_size

@@ -5,7 +5,7 @@ use Rattle.linear_cons.specs.declared.row.Row.{Row}
 use Rattle.decision_tree.specs.Plans.{Plan, bottom, leaf}
 use Rattle.decision_tree.specs.declared.affine_rank.AffineRank.{AffineRank}
 use Rattle.decision_tree.specs.declared.reason.Why.TheVariants.{End}
-use Rattle.step_meaning.specs.Countdown.{total_size}
+use Rattle.linear_cons.specs.Sizes.{total_size}
 use Rattle.step_meaning.specs.Syntax.{Statements}
 use Rattle.backward_transfer.specs.Steps.{AssignFits, StepFits}
 use Rattle.backward_transfer.specs.Tests.{ComplementFits, EnabledFits, TestAsks, enabled}

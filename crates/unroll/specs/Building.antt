@@ -12,8 +12,8 @@ use Rattle.step_meaning.specs.Syntax.{Statements}
 use Rattle.control_flow.specs.Edges.{configuration, is_head_by}
 use Rattle.control_flow.specs.Labels.{Action, ends, assigns, passes, tests, action_at, all_labels}
 use Rattle.step_meaning.specs.Valid.{IsBody}
-use Rattle.count_down.specs.Trees.{IsTreeOver}
-use Rattle.unroll.specs.Levels.{ComplementsFit, RanksCount, counted, tree_at}
+use Rattle.decision_tree.specs.Extent.{IsTreeOver, ComplementsFit}
+use Rattle.unroll.specs.Levels.{RanksCount, counted, tree_at}
 use Rattle.unroll.specs.Measures.{AreSizes}
 use Rattle.unroll.specs.Plain.{ActionFits, IsPlain}
 use Rattle.unroll.specs.Within.{TellsNumbers}

@@ -3,9 +3,9 @@ use Rattle.std.specs.Prelude.{ℕ, zero, suc, ◌+◌, ◌*◌, ◌^◌, max, un
 use Rattle.linear_cons.specs.Functions.{coefficient}
 use Rattle.linear_cons.specs.declared.affine.Affine.{Affine}
 use Rattle.linear_cons.specs.declared.row.Row.{Row}
-use Rattle.linear_forms.specs.Linearising.{form_of}
+use Rattle.step_meaning.specs.Countdown.{form_of}
 use Rattle.linear_forms.specs.Spreading.{spread_of}
-use Rattle.step_meaning.specs.Countdown.{total_size}
+use Rattle.linear_cons.specs.Sizes.{total_size}
 use Rattle.step_meaning.specs.Syntax.{Statements}
 use Rattle.control_flow.specs.Labels.{Action, ends, assigns, passes, tests, action_at, all_labels}
 use Rattle.unroll.specs.Measures.{anywhere, greatest_below}

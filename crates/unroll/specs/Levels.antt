@@ -1,7 +1,8 @@
 -- What the trees of a level tell of the runs from a label.
 use Rattle.std.specs.Prelude.{◌≡◌, ℕ, ◌<◌, ◌≤◌, pos, ◌↔◌, List, length, slice_index_or, ⊤}
-use Rattle.linear_cons.specs.Functions.{NumbersFit, complement_of, constant_of}
+use Rattle.linear_cons.specs.Functions.{constant_of}
 use Rattle.decision_tree.specs.Evaluation.{eval}
+use Rattle.decision_tree.specs.Extent.{ComplementsFit, IsTreeOver}
 use Rattle.decision_tree.specs.Plans.{Plan, bottom, branch, leaf, size_of}
 use Rattle.decision_tree.specs.declared.affine_rank.AffineRank.{AffineRank}
 use Rattle.decision_tree.specs.declared.reason.Why.{Why}
@@ -9,7 +10,6 @@ use Rattle.step_meaning.specs.Outcome.{Store}
 use Rattle.step_meaning.specs.Run.{EndsInTests, Longest}
 use Rattle.step_meaning.specs.Syntax.{Statements}
 use Rattle.step_meaning.specs.Valid.{IsBody}
-use Rattle.count_down.specs.Trees.{IsTreeOver}
 use Rattle.control_flow.specs.Edges.{configuration}
 use Rattle.control_flow.specs.Labels.{all_labels}
 use Rattle.unroll.specs.Measures.{AreSizes}
@@ -31,11 +31,6 @@ abbrev pub RanksCount : Plan AffineRank → Type 0
 RanksCount (branch row this that) = RanksCount this × RanksCount that
 RanksCount (leaf why rank) = (n : ℕ) × (rank ≡ counted n)
 RanksCount end = ⊤
-
--- no number of a complement of the tree's rows is outside 128 bits
-abbrev pub ComplementsFit : Plan AffineRank → Type 0
-ComplementsFit (branch row this that) = NumbersFit (complement_of row.affine) × ComplementsFit this × ComplementsFit that
-ComplementsFit end = ⊤
 
 -- The trees tell exactly from where all runs end with so many tests of a loop, and how long the longest one is. A number of steps is claimed
 -- exactly where the longest run has so many and all runs end with at most so many tests; so it is where all runs end in any number of steps

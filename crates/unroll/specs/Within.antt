@@ -1,7 +1,7 @@
 -- How large the numbers in the trees of a level are, while the trees are made.
 use Rattle.std.specs.Prelude.{◌≡◌, ℕ, zero, suc, ◌+◌, ◌-◌, ◌*◌, ◌^◌, ◌≤◌, Bool, true, false, length, ⊤}
 use Rattle.linear_cons.specs.declared.row.Row.{Row}
-use Rattle.linear_cons.proofs.Sizes.{SizesAtMost}
+use Rattle.linear_cons.specs.Sizes.{SizesAtMost}
 use Rattle.decision_tree.specs.Plans.{Plan, bottom, branch, leaf, top}
 use Rattle.decision_tree.specs.declared.affine_rank.AffineRank.{AffineRank}
 use Rattle.step_meaning.specs.Syntax.{Statements}

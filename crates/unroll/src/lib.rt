@@ -10,12 +10,12 @@ mod fitting;
 pub mod laws;
 mod levels;
 mod moving;
+mod numbers;
 mod plain;
 mod sizes;
-#[cfg(test)]
-mod tests;
 mod trees;
 
 pub use levels::{Unrolled, unroll};
+pub use numbers::growth;
 pub use plain::is_plain;
 pub use sizes::weight;

@@ -2,21 +2,21 @@
 ghost use Rattle.std.specs.Prelude.{◌≡◌, ℕ, suc, ◌+◌, ◌*◌, ◌<◌, ◌≤◌, true, false, Err, IfErr, IfOk, length, slice_set};
 ghost use Rattle.linear_cons.specs.Functions.{value_at};
 ghost use Rattle.linear_cons.specs.declared.exact.Wide.{Wide as Operands};
-ghost use Rattle.linear_forms.specs.Linearising.{form_of};
+ghost use Rattle.step_meaning.specs.Countdown.{form_of};
 ghost use Rattle.linear_forms.specs.Meeting.{MeetsOne};
 ghost use Rattle.linear_forms.specs.Spreading.{spread_of};
 ghost use Rattle.decision_tree.specs.Evaluation.{eval};
 ghost use Rattle.decision_tree.specs.Plans.{plan_of, size_of};
 ghost use Rattle.step_meaning.specs.AffineExpressions.{ExpressionFits, IsAffine};
-ghost use Rattle.step_meaning.specs.Countdown.{total_size};
+ghost use Rattle.linear_cons.specs.Sizes.{total_size};
 ghost use Rattle.step_meaning.specs.Naming.{NamesBelow};
 ghost use Rattle.step_meaning.specs.Outcome.{Store};
 ghost use Rattle.step_meaning.specs.Syntax.{expression};
 ghost use Rattle.step_meaning.specs.Valid.{IsNumber, IsTest};
-ghost use Rattle.count_down.specs.Trees.{IsTreeOver};
+ghost use Rattle.decision_tree.specs.Extent.{IsTreeOver, ComplementsFit};
 ghost use Rattle.unroll.specs.Building.{IsBefore, IsBeforeBoth};
 ghost use Rattle.unroll.specs.Growth.{greatest_of_conjunctions};
-ghost use Rattle.unroll.specs.Levels.{ComplementsFit, RanksCount};
+ghost use Rattle.unroll.specs.Levels.{RanksCount};
 ghost use Rattle.unroll.specs.Measures.{anywhere, size_of_test};
 ghost use Rattle.unroll.specs.Plain.{IsFittingTest};
 ghost use Rattle.unroll.specs.Within.{AreWithin, IsNarrow};
@@ -64,7 +64,7 @@ pub(crate) fn assigned(
     requires place { place < 16 }
     requires affine { IsAffine (expression value.now) }
     requires names { NamesBelow 16 (expression value.now) }
-    ensures variables { (vars : ℕ) → IsNumber vars (expression value.now) → IsTreeOver vars (plan_of behind.now)
+    ensures variables { (vars : ℕ) → IsNumber vars (expression value.now) → RanksCount (plan_of behind.now) → IsTreeOver vars (plan_of behind.now)
         → IfOk result (λ tree. IsTreeOver vars (plan_of tree)) }
     ensures before { IfOk result (λ tree. (s : Store) → length s ≡ 16
         → IsBefore (eval (plan_of behind.now) (slice_set s place (value_at (form_of (expression value.now)) s))) (eval (plan_of tree) s)) }
@@ -87,7 +87,8 @@ pub(crate) fn assigned(
 
 /// The tree before a step that changes nothing: a step more.
 pub(crate) fn passed(alloc: Global, behind: &Tree<AffineRank>) -> Result<Tree<AffineRank>, Refusal>
-    ensures variables { (vars : ℕ) → IsTreeOver vars (plan_of behind.now) → IfOk result (λ tree. IsTreeOver vars (plan_of tree)) }
+    ensures variables { (vars : ℕ) → RanksCount (plan_of behind.now) → IsTreeOver vars (plan_of behind.now)
+        → IfOk result (λ tree. IsTreeOver vars (plan_of tree)) }
     ensures before { IfOk result (λ tree. (s : Store) → IsBefore (eval (plan_of behind.now) s) (eval (plan_of tree) s)) }
     ensures ranks { RanksCount (plan_of behind.now) → IfOk result (λ tree. RanksCount (plan_of tree)) }
     ensures complements { IfOk result (λ tree. ComplementsFit (plan_of tree)) }
@@ -113,8 +114,8 @@ pub(crate) fn tested(
     no: &Tree<AffineRank>,
 ) -> Result<Tree<AffineRank>, Refusal>
     requires { NamesBelow 16 (expression test.now) }
-    ensures variables { (vars : ℕ) → IsTest vars (expression test.now) → IsTreeOver vars (plan_of yes.now) → IsTreeOver vars (plan_of no.now)
-        → IfOk result (λ tree. IsTreeOver vars (plan_of tree)) }
+    ensures variables { (vars : ℕ) → IsTest vars (expression test.now) → RanksCount (plan_of yes.now) → RanksCount (plan_of no.now)
+        → IsTreeOver vars (plan_of yes.now) → IsTreeOver vars (plan_of no.now) → IfOk result (λ tree. IsTreeOver vars (plan_of tree)) }
     ensures both { IfOk result (λ tree. (s : Store) → MeetsOne s (spread_of anywhere (expression test.now) true)
         → MeetsOne s (spread_of anywhere (expression test.now) false)
         → IsBeforeBoth (eval (plan_of yes.now) s) (eval (plan_of no.now) s) (eval (plan_of tree) s)) }

@@ -1,20 +1,21 @@
 use Rattle.std.proofs.Common.{◌≡◌, ℕ, suc, ◌+◌, ◌*◌, [], Err, slice_set, sym, ap, subst, arith}
-use Rattle.linear_cons.specs.Functions.{value_at}
+use Rattle.linear_cons.specs.Functions.{value_at, IsOver}
 use Rattle.linear_cons.specs.declared.affine.Affine.{Affine}
 use Rattle.decision_tree.specs.Evaluation.{eval}
 use Rattle.decision_tree.specs.Plans.{Plan, plan_of, size_of}
 use Rattle.decision_tree.specs.declared.affine_rank.AffineRank.{AffineRank}
 use Rattle.unroll.specs.Building.{IsBefore}
-use Rattle.unroll.specs.Levels.{ComplementsFit, RanksCount}
+use Rattle.unroll.specs.Levels.{RanksCount}
+use Rattle.decision_tree.specs.Extent.{ComplementsFit, IsTreeOver}
 use Rattle.unroll.specs.Shapes.{affine_ranks, assigned_shape, cut, same_rank}
 use Rattle.backward_transfer.proofs.Making.{trimmed_size}
 use Rattle.unroll.proofs.Bounding.{assigned_size}
-use Rattle.unroll.proofs.Standing.{assigned_before, assigned_count, trimmed_complements}
+use Rattle.unroll.proofs.Ranking.{assigned_count}
+use Rattle.unroll.proofs.Standing.{assigned_before, trimmed_complements}
 use Rattle.step_meaning.specs.Syntax.{expression}
-use Rattle.count_down.specs.Trees.{IsOver, IsTreeOver}
-use Rattle.count_down.proofs.Over.{over_form}
-use Rattle.linear_forms.specs.Linearising.{form_of}
-use Rattle.step_meaning.specs.Countdown.{total_size}
+use Rattle.step_meaning.proofs.OverVariables.{over_form}
+use Rattle.step_meaning.specs.Countdown.{form_of}
+use Rattle.linear_cons.specs.Sizes.{total_size}
 use Rattle.unroll.specs.Within.{AreWithin}
 use Rattle.unroll.proofs.Variables.{assigned_over}
 use Rattle.unroll.proofs.WithinTrees.{assigned_fits, assigned_within}
@@ -47,12 +48,12 @@ returns-in-Ok-clause-complements c =
     subst ComplementsFit (sym is) (trimmed_complements [] shape c.in-Ok.ensures.rows)
 
 pub returns-in-Ok-clause-variables : goal.returns-in-Ok-clause-variables
-returns-in-Ok-clause-variables c vars sorted over =
+returns-in-Ok-clause-variables c vars sorted ranks over =
     let by = c.in_ok-function.function in
     let plan = plan_of c.args.behind.now in
     let is : plan_of c.in-Ok.tree ≡ cut (assigned_shape c.args.place by plan) = c.in-Ok.ensures.tree in
     let own = subst (IsOver vars) (sym c.in_ok-function.ensures.function) (over_form vars (expression c.args.value.now) sorted) in
-    subst (IsTreeOver vars) (sym is) (assigned_over vars c.args.place by plan own over)
+    subst (IsTreeOver vars) (sym is) (assigned_over vars c.args.place by plan c.requires.place own ranks over)
 
 pub returns-in-Ok-clause-small : goal.returns-in-Ok-clause-small
 returns-in-Ok-clause-small c =

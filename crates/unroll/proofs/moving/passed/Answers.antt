@@ -3,12 +3,13 @@ use Rattle.decision_tree.specs.Evaluation.{eval}
 use Rattle.decision_tree.specs.Plans.{Plan, plan_of, size_of}
 use Rattle.decision_tree.specs.declared.affine_rank.AffineRank.{AffineRank}
 use Rattle.unroll.specs.Building.{IsBefore}
-use Rattle.unroll.specs.Levels.{ComplementsFit, RanksCount}
+use Rattle.unroll.specs.Levels.{RanksCount}
+use Rattle.decision_tree.specs.Extent.{ComplementsFit, IsTreeOver}
 use Rattle.unroll.specs.Shapes.{affine_ranks, cut, same_rank, stepped_shape}
 use Rattle.backward_transfer.proofs.Making.{trimmed_size}
 use Rattle.unroll.proofs.Bounding.{stepped_size}
-use Rattle.unroll.proofs.Standing.{stepped_before, stepped_count, trimmed_complements}
-use Rattle.count_down.specs.Trees.{IsTreeOver}
+use Rattle.unroll.proofs.Ranking.{stepped_count}
+use Rattle.unroll.proofs.Standing.{stepped_before, trimmed_complements}
 use Rattle.unroll.specs.Within.{AreWithin}
 use Rattle.unroll.proofs.Variables.{stepped_over}
 use Rattle.unroll.proofs.WithinTrees.{stepped_fits, stepped_within}
@@ -33,10 +34,10 @@ returns-in-Ok-clause-complements c =
     subst ComplementsFit (sym is) (trimmed_complements [] shape c.in-Ok.ensures.rows)
 
 pub returns-in-Ok-clause-variables : goal.returns-in-Ok-clause-variables
-returns-in-Ok-clause-variables c vars over =
+returns-in-Ok-clause-variables c vars ranks over =
     let plan = plan_of c.args.behind.now in
     let is : plan_of c.in-Ok.tree ≡ cut (stepped_shape plan) = c.in-Ok.ensures.tree in
-    subst (IsTreeOver vars) (sym is) (stepped_over vars plan over)
+    subst (IsTreeOver vars) (sym is) (stepped_over vars plan ranks over)
 
 pub returns-in-Ok-clause-small : goal.returns-in-Ok-clause-small
 returns-in-Ok-clause-small c =

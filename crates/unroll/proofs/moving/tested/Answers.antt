@@ -7,13 +7,14 @@ use Rattle.decision_tree.specs.Plans.{Plan, plan_of, size_of}
 use Rattle.decision_tree.specs.declared.affine_rank.AffineRank.{AffineRank}
 use Rattle.step_meaning.specs.Syntax.{Expression, expression}
 use Rattle.unroll.specs.Building.{IsBefore, IsBeforeBoth}
-use Rattle.unroll.specs.Levels.{ComplementsFit, RanksCount}
+use Rattle.unroll.specs.Levels.{RanksCount}
+use Rattle.decision_tree.specs.Extent.{ComplementsFit, IsTreeOver}
 use Rattle.unroll.specs.Measures.{anywhere}
 use Rattle.unroll.specs.Shapes.{CutFits, affine_ranks, cut, same_rank, tested_shape}
 use Rattle.backward_transfer.proofs.Making.{trimmed_size}
 use Rattle.unroll.proofs.LaterSizes.{shape_full, shape_size}
-use Rattle.unroll.proofs.Standing.{both_before, first_before, second_before, tested_count, trimmed_complements}
-use Rattle.count_down.specs.Trees.{IsTreeOver}
+use Rattle.unroll.proofs.Ranking.{tested_count}
+use Rattle.unroll.proofs.Standing.{both_before, first_before, second_before, trimmed_complements}
 use Rattle.backward_transfer.specs.Tests.{ComplementFits, EnabledFits, TestAsks}
 use Rattle.unroll.specs.Growth.{greatest_of_conjunctions}
 use Rattle.unroll.specs.Plain.{IsFittingTest}
@@ -80,14 +81,14 @@ returns-in-Ok-clause-complements c =
     subst ComplementsFit (sym is) (trimmed_complements [] shape c.in-Ok.ensures.rows)
 
 pub returns-in-Ok-clause-variables : goal.returns-in-Ok-clause-variables
-returns-in-Ok-clause-variables c vars sorted first second =
+returns-in-Ok-clause-variables c vars sorted one two first second =
     let this = plan_of c.args.yes.now in
     let that = plan_of c.args.no.now in
     let e = expression c.args.test.now in
     let is = made_is this that (plan_of c.in-Ok.tree) e c.deref.result.now c.deref-2.result.now
     (rows_are e true c.anywhere.result _ _ c.deref.ensures.value c.in_ok-holds.ensures c.anywhere.ensures)
     (rows_are e false c.anywhere-2.result _ _ c.deref-2.ensures.value c.in_ok-fails.ensures c.anywhere-2.ensures) c.in-Ok.ensures.tree in
-    subst (IsTreeOver vars) (sym is) (tested_over vars this that e sorted first second)
+    subst (IsTreeOver vars) (sym is) (tested_over vars this that e sorted one two first second)
 
 pub returns-in-Ok-clause-small : goal.returns-in-Ok-clause-small
 returns-in-Ok-clause-small c fits first second =

@@ -1,6 +1,6 @@
 use Rattle.std.proofs.Common.{◌≡◌, ◌+◌, ◌*◌, ◌<◌, ◌≤◌, length, slice_set, sym, ap, subst, ◌∙◌, arith}
 use Rattle.linear_cons.specs.Functions.{value_at}
-use Rattle.linear_forms.specs.Linearising.{form_of}
+use Rattle.step_meaning.specs.Countdown.{form_of}
 use Rattle.decision_tree.specs.Evaluation.{eval}
 use Rattle.decision_tree.specs.Plans.{plan_of, size_of}
 use Rattle.step_meaning.specs.Syntax.{expression, statements}
@@ -9,10 +9,10 @@ use Rattle.unroll.specs.Levels.{RanksCount, tree_at}
 use Rattle.unroll.specs.Measures.{size_of_test}
 use Rattle.unroll.proofs.Passing.{passed_on}
 use Rattle.unroll.proofs.Putting.{plan_at}
-use Rattle.count_down.specs.Trees.{IsTreeOver}
+use Rattle.decision_tree.specs.Extent.{IsTreeOver}
 use Rattle.unroll.proofs.Treeing.{assigned_full, assigned_ranks_behind, assigned_tells, assigned_variables, is_assigned, is_passed, is_tested, never_ends, passed_full, passed_ranks_behind, passed_tells, passed_variables, numbers_behind, tested_fits, tested_full, tested_ranks_behind, tested_tells, tested_variables}
 use Rattle.step_meaning.specs.AffineExpressions.{ExpressionFits}
-use Rattle.step_meaning.specs.Countdown.{total_size}
+use Rattle.linear_cons.specs.Sizes.{total_size}
 use Rattle.unroll.specs.Plain.{ActionFits}
 use Rattle.unroll.specs.Within.{AreWithin}
 use Rattle.unroll.proofs.GrownLabels.{assigned_numbers, assigned_wide, passed_numbers, passed_wide, tested_numbers, tested_wide}
@@ -84,13 +84,14 @@ returns-in_ok-tree-in-Assign-clause-tells c limit left allows behind =
     let count = c.requires.count in
     let at : plan_of c.index-behind-next.result ≡ tree_at (plans c.args.behind.now) c.in-Assign.next =
     ap plan_of c.index-behind-next.is ∙ plan_at c.args.behind.now c.in-Assign.next c.index-behind-next.result (omega (arith, inside, count)) in
+    let ranks = subst RanksCount (sym at)
+    (assigned_ranks_behind body vars valid.few valid.well_sorted c.requires.fitting.plain c.args.label c.requires.within c.requires.some (c.requires.fitting.fit c.args.label c.requires.within) (plans c.args.behind.now) limit left allows behind _ _ _ c.in-Assign.ensures) in
     assigned_tells body vars valid.few valid.well_sorted c.requires.fitting.plain c.args.label c.requires.within c.requires.some (c.requires.fitting.fit c.args.label c.requires.within) (plans c.args.behind.now) limit left allows behind
-    (plan_of c.in_ok-tree-in-Assign.tree) (c.in_ok-tree-in-Assign.ensures.ranks (subst RanksCount (sym at)
-    (assigned_ranks_behind body vars valid.few valid.well_sorted c.requires.fitting.plain c.args.label c.requires.within c.requires.some (c.requires.fitting.fit c.args.label c.requires.within) (plans c.args.behind.now) limit left allows behind _ _ _ c.in-Assign.ensures)))
+    (plan_of c.in_ok-tree-in-Assign.tree) (c.in_ok-tree-in-Assign.ensures.ranks ranks)
     c.in_ok-tree-in-Assign.ensures.complements
     (assigned_variables body vars valid.few valid.well_sorted c.requires.fitting.plain c.args.label c.requires.within c.requires.some (c.requires.fitting.fit c.args.label c.requires.within) (plans c.args.behind.now) limit left allows behind
     (plan_of c.in_ok-tree-in-Assign.tree) _ _ _ c.in-Assign.ensures
-    (λ other sorted over. c.in_ok-tree-in-Assign.ensures.variables other sorted (subst (IsTreeOver other) (sym at) over)))
+    (λ other sorted over. c.in_ok-tree-in-Assign.ensures.variables other sorted ranks (subst (IsTreeOver other) (sym at) over)))
     (assigned_numbers body c.args.label c.requires.some c.requires.within limit left allows (plans c.args.behind.now)
     (numbers_behind body vars valid.few valid.well_sorted c.requires.fitting.plain c.args.label c.requires.within c.requires.some (c.requires.fitting.fit c.args.label c.requires.within) (plans c.args.behind.now) limit left allows behind)
     (plan_of c.in_ok-tree-in-Assign.tree) _ _ _ c.in-Assign.ensures
@@ -109,13 +110,14 @@ returns-in_ok-tree-in-Pass-clause-tells c limit left allows behind =
     let count = c.requires.count in
     let at : plan_of c.index-behind-next-in-Pass.result ≡ tree_at (plans c.args.behind.now) c.in-Pass.next =
     ap plan_of c.index-behind-next-in-Pass.is ∙ plan_at c.args.behind.now c.in-Pass.next c.index-behind-next-in-Pass.result (omega (arith, inside, count)) in
+    let ranks = subst RanksCount (sym at)
+    (passed_ranks_behind body vars valid.few valid.well_sorted c.requires.fitting.plain c.args.label c.requires.within c.requires.some (c.requires.fitting.fit c.args.label c.requires.within) (plans c.args.behind.now) limit left allows behind _ c.in-Pass.ensures) in
     passed_tells body vars valid.few valid.well_sorted c.requires.fitting.plain c.args.label c.requires.within c.requires.some (c.requires.fitting.fit c.args.label c.requires.within) (plans c.args.behind.now) limit left allows behind
-    (plan_of c.in_ok-tree-in-Pass.tree) (c.in_ok-tree-in-Pass.ensures.ranks (subst RanksCount (sym at)
-    (passed_ranks_behind body vars valid.few valid.well_sorted c.requires.fitting.plain c.args.label c.requires.within c.requires.some (c.requires.fitting.fit c.args.label c.requires.within) (plans c.args.behind.now) limit left allows behind _ c.in-Pass.ensures)))
+    (plan_of c.in_ok-tree-in-Pass.tree) (c.in_ok-tree-in-Pass.ensures.ranks ranks)
     c.in_ok-tree-in-Pass.ensures.complements
     (passed_variables body vars valid.few valid.well_sorted c.requires.fitting.plain c.args.label c.requires.within c.requires.some (c.requires.fitting.fit c.args.label c.requires.within) (plans c.args.behind.now) limit left allows behind
     (plan_of c.in_ok-tree-in-Pass.tree) _ c.in-Pass.ensures
-    (λ other over. c.in_ok-tree-in-Pass.ensures.variables other (subst (IsTreeOver other) (sym at) over)))
+    (λ other over. c.in_ok-tree-in-Pass.ensures.variables other ranks (subst (IsTreeOver other) (sym at) over)))
     (passed_numbers body c.args.label c.requires.some c.requires.within limit left allows (plans c.args.behind.now)
     (numbers_behind body vars valid.few valid.well_sorted c.requires.fitting.plain c.args.label c.requires.within c.requires.some (c.requires.fitting.fit c.args.label c.requires.within) (plans c.args.behind.now) limit left allows behind)
     (plan_of c.in_ok-tree-in-Pass.tree) _ c.in-Pass.ensures
@@ -139,12 +141,14 @@ returns-in_ok-tree-in-Test-clause-tells c limit left allows behind =
     ap plan_of c.index-behind-no.is ∙ plan_at c.args.behind.now c.in-Test.no c.index-behind-no.result (omega (arith, also, count)) in
     let fits = tested_fits body vars valid.few valid.well_sorted c.requires.fitting.plain c.args.label c.requires.within c.requires.some (c.requires.fitting.fit c.args.label c.requires.within) (plans c.args.behind.now) limit left allows behind _ _ _ _ c.in-Test.ensures in
     let two = tested_ranks_behind body vars valid.few valid.well_sorted c.requires.fitting.plain c.args.label c.requires.within c.requires.some (c.requires.fitting.fit c.args.label c.requires.within) (plans c.args.behind.now) limit left allows behind _ _ _ _ c.in-Test.ensures in
+    let first_ranks = subst RanksCount (sym then_at) two.0 in
+    let second_ranks = subst RanksCount (sym else_at) two.1 in
     tested_tells body vars valid.few valid.well_sorted c.requires.fitting.plain c.args.label c.requires.within c.requires.some (c.requires.fitting.fit c.args.label c.requires.within) (plans c.args.behind.now) limit left allows behind
-    (plan_of c.in_ok-tree-in-Test.tree) (c.in_ok-tree-in-Test.ensures.ranks (subst RanksCount (sym then_at) two.0) (subst RanksCount (sym else_at) two.1))
+    (plan_of c.in_ok-tree-in-Test.tree) (c.in_ok-tree-in-Test.ensures.ranks first_ranks second_ranks)
     c.in_ok-tree-in-Test.ensures.complements
     (tested_variables body vars valid.few valid.well_sorted c.requires.fitting.plain c.args.label c.requires.within c.requires.some (c.requires.fitting.fit c.args.label c.requires.within) (plans c.args.behind.now) limit left allows behind
     (plan_of c.in_ok-tree-in-Test.tree) _ _ _ _ c.in-Test.ensures
-    (λ other sorted first second. c.in_ok-tree-in-Test.ensures.variables other sorted (subst (IsTreeOver other) (sym then_at) first)
+    (λ other sorted first second. c.in_ok-tree-in-Test.ensures.variables other sorted first_ranks second_ranks (subst (IsTreeOver other) (sym then_at) first)
     (subst (IsTreeOver other) (sym else_at) second)))
     (tested_numbers body c.args.label c.requires.some c.requires.within limit left allows (plans c.args.behind.now)
     (numbers_behind body vars valid.few valid.well_sorted c.requires.fitting.plain c.args.label c.requires.within c.requires.some (c.requires.fitting.fit c.args.label c.requires.within) (plans c.args.behind.now) limit left allows behind)
@@ -154,7 +158,7 @@ returns-in_ok-tree-in-Test-clause-tells c limit left allows behind =
     _ _ _ _ c.in-Test.ensures
     (subst (λ p. size_of (plan_of c.in_ok-tree-in-Test.tree) ≤ size_of_test (expression c.in-Test.test.now) (size_of p) (size_of (tree_at (plans c.args.behind.now) c.in-Test.no))) then_at
     (subst (λ p. size_of (plan_of c.in_ok-tree-in-Test.tree) ≤ size_of_test (expression c.in-Test.test.now) (size_of (plan_of c.index-behind-yes.result)) (size_of p)) else_at
-    (c.in_ok-tree-in-Test.ensures.small fits (subst RanksCount (sym then_at) two.0) (subst RanksCount (sym else_at) two.1))))
+    (c.in_ok-tree-in-Test.ensures.small fits first_ranks second_ranks)))
     (λ s met also. subst (λ p. IsBeforeBoth (eval p s) (eval (tree_at (plans c.args.behind.now) c.in-Test.no) s) (eval (plan_of c.in_ok-tree-in-Test.tree) s)) then_at
     (subst (λ p. IsBeforeBoth (eval (plan_of c.index-behind-yes.result) s) (eval p s) (eval (plan_of c.in_ok-tree-in-Test.tree) s)) else_at (c.in_ok-tree-in-Test.ensures.both s met also)))
     (λ s met missed. subst (λ p. IsBefore (eval p s) (eval (plan_of c.in_ok-tree-in-Test.tree) s)) then_at (c.in_ok-tree-in-Test.ensures.holds s met missed))
