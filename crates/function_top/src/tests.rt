@@ -6,6 +6,7 @@ mod domains;
 mod ends;
 mod families;
 mod faults;
+mod hints;
 mod limits;
 mod pruning;
 mod reports;
@@ -113,4 +114,11 @@ fn outcome_by<S: Source>(
     let mut sink = MemorySink::new(alloc, 1000, Vec::new(alloc))?;
     let status = run(alloc, words, source, &mut sink, advisers);
     Ok((status, sink.taken().to_vec(alloc)?))
+}
+
+// The status and the bytes of a run without advisers.
+fn unadvised(alloc: Global, text: &str) -> Result<(Status, Vec<u8>), AllocError> {
+    let mut source = MemorySource::new(text.as_bytes().to_vec(alloc)?, Vec::new(alloc));
+    let mut nobody: Vec<Box<dyn Adviser>> = Vec::new(alloc);
+    outcome_by(alloc, NO_OPTIONS, &mut source, &mut nobody)
 }

@@ -54,13 +54,6 @@ fn advisers_find_where_a_step_falls(rt: HostRuntime) -> Result<(), Fail> {
     Ok(())
 }
 
-// The status and the bytes of a run without advisers.
-fn unadvised(alloc: Global, text: &str) -> Result<(Status, Vec<u8>), AllocError> {
-    let mut source = MemorySource::new(text.as_bytes().to_vec(alloc)?, Vec::new(alloc));
-    let mut nobody: Vec<Box<dyn Adviser>> = Vec::new(alloc);
-    outcome_by(alloc, NO_OPTIONS, &mut source, &mut nobody)
-}
-
 // What is proved and unknown of the loop that counts down to k. At x = k + 1000000 the bound is 2000001.
 fn down_to(alloc: Global, k: u8) -> Result<String, AllocError> {
     let k = i64::from(k);
