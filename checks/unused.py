@@ -15,6 +15,8 @@ DEFINITION = re.compile(rf"^(\s*){HEAD}([\w◌'-]+)(?: \([^=]*)? : ")
 CALL = re.compile(r"^(\s*)pub (?:const )?fn (\w+)")
 IMPORT = re.compile(r"^\s*(?:pub )?(?:ghost )?use (.*?)(?:(?:\.|::)\{([^}]*)\})?;?\s*$")
 WORD = re.compile(r"[\w◌≡≢≤<+\-*^ℤ∷⊎↔|&×/%∣¬⊤⊥ℕ']+")
+# A name before the `<` of its type parameters.
+PLAIN_WORD = re.compile(r"\w+")
 # What is syntax, and traits whose methods are called without their name.
 SILENT = {"if◌then◌else◌", "self", "*", "NumDomain", "Rank", "Write", "Read", "Source", "Sink", "Adviser"}
 
@@ -58,7 +60,7 @@ def main():
     named = defaultdict(int)
     for lines in texts.values():
         for line in lines:
-            for word in set(WORD.findall(line)):
+            for word in set(WORD.findall(line)) | set(PLAIN_WORD.findall(line)):
                 named[word] += 1
     waiting = set(re.findall(r"`([\w']+)`", (TOP / "docs/WORKING.md").read_text(encoding="utf-8")))
     found = []
