@@ -1,16 +1,11 @@
 -- The chains of links that tails and items are, from lists.
 use Rattle.std.specs.Prelude.{List, [], ◌∷◌}
-use Rattle.step_meaning.specs.declared.expression.Op2.{Op2}
-use Rattle.concrete_syntax.specs.Trees.{Operand, Tail, further, Declaration, Statement, Items, declaration, statement}
+use Rattle.concrete_syntax.specs.Trees.{Link, Tail, further, Declaration, Statement, Items, declaration, statement}
 
--- an operator and the operand behind it
-abbrev pub Link : Type 0
-Link = Op2 × Operand
-
--- these operators and operands, and behind them a tail
+-- these links, and behind them a tail
 abbrev pub tail_of : List Link → Tail → Tail
 tail_of [] rest = rest
-tail_of (link ∷ more) rest = further link.0 link.1 (tail_of more rest)
+tail_of (link ∷ more) rest = further link (tail_of more rest)
 
 -- a declaration or a statement
 pub data Item : Type 0 where

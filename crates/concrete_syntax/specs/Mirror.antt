@@ -1,10 +1,10 @@
--- Which tree of `Trees` each tree of this crate is: the same without its pointers. So two trees are equal there exactly where they are
--- the same text, but for blanks and comments.
+-- Which tree of `Trees` each tree of this crate is: the same without its pointers.
 use Rattle.std.specs.Prelude.{Option, Some, None, List, map}
-use Rattle.step_meaning.specs.declared.expression.Op2.{Op2}
 use Rattle.concrete_syntax.specs.declared.expression.End.{End}
-use Rattle.concrete_syntax.specs.declared.expression.Operand.{Operand, Signed', Parentheses'}
-use Rattle.concrete_syntax.specs.declared.expression.Operand.TheVariants.{Number, Name, Truth, Unknown, Call, Range}
+use Rattle.concrete_syntax.specs.declared.expression.Operand.{Operand}
+use Rattle.concrete_syntax.specs.declared.expression.OperandKind.{OperandKind, Signed', Parentheses'}
+use Rattle.concrete_syntax.specs.declared.expression.OperandKind.TheVariants.{Number, Name, Truth, Unknown, Call, Range}
+use Rattle.concrete_syntax.specs.declared.expression.Link.{Link, Operation'}
 use Rattle.concrete_syntax.specs.declared.expression.Tail.{Tail, Further'}
 use Rattle.concrete_syntax.specs.declared.expression.Tail.TheVariants as T
 use Rattle.concrete_syntax.specs.declared.expression.Expression.{Expression}
@@ -12,12 +12,14 @@ use Rattle.concrete_syntax.specs.declared.simple.Action.{Action}
 use Rattle.concrete_syntax.specs.declared.simple.Action.TheVariants.{Assigns, Steps}
 use Rattle.concrete_syntax.specs.declared.simple.Simple.{Simple}
 use Rattle.concrete_syntax.specs.declared.simple.Simple.TheVariants.{Acts, StepsBefore}
+use Rattle.concrete_syntax.specs.declared.simple.Name.{Name as Named}
 use Rattle.concrete_syntax.specs.declared.simple.Part.{Part}
 use Rattle.concrete_syntax.specs.declared.simple.Declaration.{Declaration}
 use Rattle.concrete_syntax.specs.declared.simple.Start.{Start}
 use Rattle.concrete_syntax.specs.declared.simple.Start.TheVariants as S
-use Rattle.concrete_syntax.specs.declared.statement.Statement.{Statement, Conditional', While', Do', For'}
-use Rattle.concrete_syntax.specs.declared.statement.Statement.TheVariants as V
+use Rattle.concrete_syntax.specs.declared.statement.Statement.{Statement}
+use Rattle.concrete_syntax.specs.declared.statement.StatementKind.{StatementKind, Conditional', While', Do', For'}
+use Rattle.concrete_syntax.specs.declared.statement.StatementKind.TheVariants as V
 use Rattle.concrete_syntax.specs.declared.statement.Otherwise.{Otherwise, Else'}
 use Rattle.concrete_syntax.specs.declared.statement.Otherwise.TheVariants as O
 use Rattle.concrete_syntax.specs.declared.statement.Items.{Items, Declaration', Statement'}
@@ -28,34 +30,36 @@ use Rattle.concrete_syntax.specs.declared.program.Prelude.{Prelude}
 use Rattle.concrete_syntax.specs.declared.program.Prelude.TheVariants.{ExternCall, TypedefBool}
 use Rattle.concrete_syntax.specs.declared.program.Program.{Program}
 use Rattle.concrete_syntax.specs.Trees as tree
-use Rattle.concrete_syntax.specs.Chains.{Link, declared, stated}
+use Rattle.concrete_syntax.specs.Chains.{declared, stated}
 use Rattle.concrete_syntax.specs.Chains as chain
 
 abbrev pub range_end : End → tree.End
 range_end end = record { negative = end.negative; size = end.size }
 
--- operands and tails
+-- operands, links and tails
 abbrev mutual
-  pub operand : Operand → tree.Operand
-  operand (Number z) = tree.number z
-  operand (Name x) = tree.name x.items
-  operand (Truth b) = tree.truth b
-  operand Unknown = tree.unknown
-  operand Call = tree.call
-  operand (Signed' prefix p e) = tree.signed prefix (operand e)
-  operand (Parentheses' p e q more) = tree.parentheses (operand e) (tail more)
-  operand (Range low high) = tree.range (range_end low) (range_end high)
+  pub operand_kind : OperandKind → tree.OperandKind
+  operand_kind (Number z) = tree.number z
+  operand_kind (Name x) = tree.name x.items
+  operand_kind (Truth b) = tree.truth b
+  operand_kind Unknown = tree.unknown
+  operand_kind Call = tree.call
+  operand_kind (Signed' prefix p at e) = tree.signed prefix (tree.operand_at at (operand_kind e))
+  operand_kind (Parentheses' p at e q more) = tree.parentheses (tree.operand_at at (operand_kind e)) (tail more)
+  operand_kind (Range low high) = tree.range (range_end low) (range_end high)
+
+  pub link : Link → tree.Link
+  link (Operation' op at e) = tree.operation op (tree.operand_at at (operand_kind e))
 
   pub tail : Tail → tree.Tail
   tail T.Ended = tree.ended
-  tail (Further' op p e q rest) = tree.further op (operand e) (tail rest)
+  tail (Further' l p rest) = tree.further (link l) (tail rest)
 
--- operators, each with the operand behind it
-abbrev pub link : Op2 × Operand → Link
-link pair = (pair.0, operand pair.1)
+abbrev pub operand : Operand → tree.Operand
+operand e = tree.operand_at e.at (operand_kind e.kind)
 
-abbrev pub links : List (Op2 × Operand) → List Link
-links pairs = map link pairs
+abbrev pub links : List Link → List tree.Link
+links list = map link list
 
 abbrev pub expression : Expression → tree.Expression
 expression e = record { operand = operand e.operand; tail = tail e.tail }
@@ -68,16 +72,19 @@ abbrev pub action : Action → tree.Action
 action (Assigns assignment value) = tree.assigns assignment (expression value)
 action (Steps step) = tree.steps step
 
+abbrev pub name : Named → tree.Name
+name x = record { at = x.at; bytes = x.bytes.items }
+
 abbrev pub simple : Simple → tree.Simple
-simple (Acts x does) = tree.acts x.items (action does)
-simple (StepsBefore step x) = tree.steps_before step x.items
+simple (Acts x does) = tree.acts (name x) (action does)
+simple (StepsBefore at step x) = tree.steps_before at step (name x)
 
 abbrev pub optional_simple : Option Simple → Option tree.Simple
 optional_simple (Some s) = Some (simple s)
 optional_simple None = None
 
 abbrev pub part : Part → tree.Part
-part p = record { declared = p.declared.items; initialiser = optional p.initialiser }
+part p = record { declared = name p.declared; initialiser = optional p.initialiser }
 
 abbrev pub parts : List Part → List tree.Part
 parts list = map part list
@@ -92,24 +99,29 @@ start (S.Declaration d) = tree.declares (declaration d)
 
 -- statements and items
 abbrev mutual
-  pub statement : Statement → tree.Statement
-  statement (V.Simple s) = tree.simple (simple s)
-  statement V.Skip = tree.skip
-  statement (V.Braces all) = tree.braces (items all)
-  statement (Conditional' test p first other) = tree.conditional (expression test) (statement first) (otherwise other)
-  statement (While' test p body) = tree.while_loop (expression test) (statement body)
-  statement (Do' p body test) = tree.do_loop (statement body) (expression test)
-  statement (For' first test step p body) = tree.for_loop (start first) (optional test) (optional_simple step) (statement body)
-  statement (V.Return value) = tree.return (optional value)
+  pub statement_kind : StatementKind → tree.StatementKind
+  statement_kind (V.Simple s) = tree.simple (simple s)
+  statement_kind V.Skip = tree.skip
+  statement_kind (V.Braces all) = tree.braces (items all)
+  statement_kind (Conditional' test p at first other) =
+      tree.conditional (expression test) (tree.statement_at at (statement_kind first)) (otherwise other)
+  statement_kind (While' test p at body) = tree.while_loop (expression test) (tree.statement_at at (statement_kind body))
+  statement_kind (Do' p at body end test) = tree.do_loop (tree.statement_at at (statement_kind body)) end (expression test)
+  statement_kind (For' first test step p at body) =
+      tree.for_loop (start first) (optional test) (optional_simple step) (tree.statement_at at (statement_kind body))
+  statement_kind (V.Return value) = tree.return (optional value)
 
   pub otherwise : Otherwise → tree.Otherwise
   otherwise O.Nothing = tree.without
-  otherwise (Else' p s) = tree.otherwise (statement s)
+  otherwise (Else' p at s) = tree.otherwise (tree.statement_at at (statement_kind s))
 
   pub items : Items → tree.Items
   items I.Ended = tree.none
   items (Declaration' d p rest) = tree.declaration (declaration d) (items rest)
-  items (Statement' p s q rest) = tree.statement (statement s) (items rest)
+  items (Statement' p at s q rest) = tree.statement (tree.statement_at at (statement_kind s)) (items rest)
+
+abbrev pub statement : Statement → tree.Statement
+statement s = tree.statement_at s.at (statement_kind s.kind)
 
 abbrev pub item : Item → chain.Item
 item (One.Declaration d) = declared (declaration d)

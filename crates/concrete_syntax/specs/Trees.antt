@@ -1,4 +1,4 @@
--- The concrete trees of programs: one constructor for each production of the grammar.
+-- The concrete trees of programs: one constructor for each alternative of this grammar.
 --
 --     program     = prelude* "int" "main" "(" ["void"] ")" "{" item* "}"
 --     prelude     = "extern" "int" "__VERIFIER_nondet_int" "(" ["void"] ")" ";"
@@ -13,16 +13,18 @@
 --                 | "for" "(" [simple | declaration] ";" [expression] ";" [simple] ")" statement
 --                 | "return" [expression] ";"
 --     simple      = NAME ("=" | "+=" | "-=" | "*=") expression | NAME ("++" | "--") | ("++" | "--") NAME
---     expression  = operand (operator operand)*
+--     expression  = operand link*
+--     link        = operator operand
 --     operand     = ("-" | "+" | "!") operand | NUMBER | NAME | "true" | "false" | "?" | "__VERIFIER_nondet_int" "(" ")"
 --                 | "(" expression ")" | "[" end "," end "]"
 --     operator    = "||" | "&&" | "==" | "!=" | "<" | "<=" | ">" | ">=" | "+" | "-" | "*"
 --     end         = ["-"] (NUMBER | "inf")
 --
 -- An expression is written here as its operands with the operators between them. How they group is said elsewhere: it has no part in
--- which tokens are an expression.
+-- which tokens are an expression. What may have to be found again in the text holds the number of a token of its, counted from 0:
+-- operands, statements, names and signs before a name that of their first token, and a `do` that of the `while` that ends it.
 use Rattle.std.specs.Prelude.{ℕ, ℤ, Bool, Option, List}
-use Rattle.step_meaning.specs.declared.expression.Op2.{Op2}
+use Rattle.concrete_syntax.specs.declared.sign.Operator.{Operator}
 use Rattle.concrete_syntax.specs.declared.sign.Prefix.{Prefix}
 use Rattle.concrete_syntax.specs.declared.sign.Assignment.{Assignment}
 use Rattle.concrete_syntax.specs.declared.sign.Step.{Step}
@@ -32,25 +34,36 @@ pub record End : Type 0 where
   pub negative : Bool
   pub size : Option ℤ
 
--- an operand, and the operators and operands behind the first one of an expression
+-- an operand, and the links behind the first one of an expression
 mutual
   pub data Operand : Type 0 where
-    number : ℤ → Operand
-    name : List ℕ → Operand
-    truth : Bool → Operand
-    unknown : Operand
-    call : Operand
-    signed : Prefix → Operand → Operand
-    parentheses : Operand → Tail → Operand
-    range : End → End → Operand
+    operand_at : ℕ → OperandKind → Operand
+
+  pub data OperandKind : Type 0 where
+    number : ℤ → OperandKind
+    name : List ℕ → OperandKind
+    truth : Bool → OperandKind
+    unknown : OperandKind
+    call : OperandKind
+    signed : Prefix → Operand → OperandKind
+    parentheses : Operand → Tail → OperandKind
+    range : End → End → OperandKind
+
+  -- an operator and what stands at its right
+  pub data Link : Type 0 where
+    operation : Operator → Operand → Link
 
   pub data Tail : Type 0 where
     ended : Tail
-    further : Op2 → Operand → Tail → Tail
+    further : Link → Tail → Tail
 
 pub record Expression : Type 0 where
   pub operand : Operand
   pub tail : Tail
+
+pub record Name : Type 0 where
+  pub at : ℕ
+  pub bytes : List ℕ
 
 -- what a simple statement does to the name that it begins with
 pub data Action : Type 0 where
@@ -58,12 +71,12 @@ pub data Action : Type 0 where
   steps : Step → Action
 
 pub data Simple : Type 0 where
-  acts : List ℕ → Action → Simple
-  steps_before : Step → List ℕ → Simple
+  acts : Name → Action → Simple
+  steps_before : ℕ → Step → Name → Simple
 
 -- a declared name, and its initialiser if it has one
 pub record Part : Type 0 where
-  pub declared : List ℕ
+  pub declared : Name
   pub initialiser : Option Expression
 
 pub record Declaration : Type 0 where
@@ -78,14 +91,17 @@ pub data Start : Type 0 where
 
 mutual
   pub data Statement : Type 0 where
-    simple : Simple → Statement
-    skip : Statement
-    braces : Items → Statement
-    conditional : Expression → Statement → Otherwise → Statement
-    while_loop : Expression → Statement → Statement
-    do_loop : Statement → Expression → Statement
-    for_loop : Start → Option Expression → Option Simple → Statement → Statement
-    return : Option Expression → Statement
+    statement_at : ℕ → StatementKind → Statement
+
+  pub data StatementKind : Type 0 where
+    simple : Simple → StatementKind
+    skip : StatementKind
+    braces : Items → StatementKind
+    conditional : Expression → Statement → Otherwise → StatementKind
+    while_loop : Expression → Statement → StatementKind
+    do_loop : Statement → ℕ → Expression → StatementKind
+    for_loop : Start → Option Expression → Option Simple → Statement → StatementKind
+    return : Option Expression → StatementKind
 
   -- the second part of an `if`, where it has one
   pub data Otherwise : Type 0 where

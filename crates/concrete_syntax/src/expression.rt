@@ -1,8 +1,7 @@
 //! Expressions, as they are written: operands with the operators between them. How they group has no part in the tree.
 
-use crate::sign::Prefix;
+use crate::sign::{Operator, Prefix};
 use std::alloc::{AllocError, Global};
-use step_meaning::Op2;
 
 /// The end of a range.
 #[derive(Clone, Copy)]
@@ -13,10 +12,18 @@ pub struct End {
     pub size: Option<i64>,
 }
 
-/// An operand.
+/// An operand, and the number of its first token.
 #[cycle(operands)]
 #[derive(Drop)]
-pub enum Operand {
+pub struct Operand {
+    pub at: usize,
+    pub kind: OperandKind,
+}
+
+/// What an operand is.
+#[cycle(operands)]
+#[derive(Drop)]
+pub enum OperandKind {
     Number(i64),
     /// A variable, by its bytes in the text.
     Name(Vec<u8>),
@@ -41,15 +48,18 @@ pub enum Operand {
     },
 }
 
-/// The operators and operands behind the first operand of an expression, in the order of the text.
+/// An operator, and what stands at its right.
+#[cycle(operands)]
+#[derive(Drop)]
+pub enum Link {
+    Operation { op: Operator, operand: Operand },
+}
+
+/// What stands behind the first operand of an expression, in the order of the text.
 #[cycle(operands)]
 pub enum Tail {
     Ended,
-    Further {
-        op: Op2,
-        operand: Box<Operand>,
-        rest: Box<Tail>,
-    },
+    Further { link: Link, rest: Box<Tail> },
 }
 
 /// An expression.
@@ -65,15 +75,14 @@ impl Tail {
     ghost use Rattle.concrete_syntax.specs.Mirror.{tail, links};
     ghost use Rattle.concrete_syntax.specs.Chains.{tail_of};
 
-    /// The tail of these operators, each with the operand behind it, in their order. `AllocError` where a link finds no room.
-    pub fn of(alloc: Global, mut list: Vec<(Op2, Operand)>) -> Result<Tail, AllocError>
+    /// The tail of these links, in their order. `AllocError` where one finds no room.
+    pub fn of(alloc: Global, mut list: Vec<Link>) -> Result<Tail, AllocError>
         ensures { IfOk result (λ made. tail made ≡ tail_of (links list.items) ended) }
     {
         let mut made = Tail::Ended;
-        while let Some((op, operand)) = list.pop() {
+        while let Some(link) = list.pop() {
             made = Tail::Further {
-                op,
-                operand: Box::new(alloc, operand)?,
+                link,
                 rest: Box::new(alloc, made)?,
             };
         }
@@ -87,11 +96,7 @@ impl Drop for Tail {
         loop {
             match self {
                 Tail::Ended => return,
-                Tail::Further {
-                    op: _,
-                    operand: _,
-                    rest,
-                } => self = Box::into_inner(rest),
+                Tail::Further { link: _, rest } => self = Box::into_inner(rest),
             }
         }
     }

@@ -1,7 +1,6 @@
-//! Concrete syntax trees of programs: one variant for each production of the grammar. In `specs/`: the grammar and its trees as pure
+//! Concrete syntax trees of programs: one variant for each alternative of the grammar. In `specs/`: the grammar and its trees as pure
 //! data (Trees), and which of them each tree of this crate is (Mirror). Lists are chains of links, so what walks along one is a loop:
-//! only nesting may recurse. Trees hold no places in the text: tokens are counted as one walks. Below it stands only `step_meaning`,
-//! for the binary operators.
+//! only nesting may recurse. What may have to be found again in the text holds the number of its first token, counted from 0.
 #![tactic(auto)]
 
 mod expression;
@@ -12,8 +11,8 @@ mod statement;
 #[cfg(test)]
 mod tests;
 
-pub use expression::{End, Expression, Operand, Tail};
+pub use expression::{End, Expression, Link, Operand, OperandKind, Tail};
 pub use program::{Prelude, Program};
-pub use sign::{Assignment, Prefix, Step};
-pub use simple::{Action, Declaration, Part, Simple, Start};
-pub use statement::{Item, Items, Otherwise, Statement};
+pub use sign::{Assignment, Operator, Prefix, Step};
+pub use simple::{Action, Declaration, Name, Part, Simple, Start};
+pub use statement::{Item, Items, Otherwise, Statement, StatementKind};

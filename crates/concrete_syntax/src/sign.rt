@@ -1,4 +1,20 @@
-//! Signs that are no binary operators.
+//! Signs that have a part in trees.
+
+/// A sign between two operands.
+#[derive(Clone, Copy)]
+pub enum Operator {
+    Or,
+    And,
+    Equal,
+    NotEqual,
+    Less,
+    LessEqual,
+    Greater,
+    GreaterEqual,
+    Add,
+    Subtract,
+    Multiply,
+}
 
 /// A sign before an operand.
 #[derive(Clone, Copy)]

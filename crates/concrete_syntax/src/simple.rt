@@ -3,6 +3,13 @@
 use crate::expression::Expression;
 use crate::sign::{Assignment, Step};
 
+/// A name by its bytes in the text, and the number of its token.
+#[derive(Drop)]
+pub struct Name {
+    pub at: usize,
+    pub bytes: Vec<u8>,
+}
+
 /// What a simple statement does to the name that it begins with.
 #[derive(Drop)]
 pub enum Action {
@@ -16,14 +23,15 @@ pub enum Action {
 /// A statement that gives a variable a value, without its `;`.
 #[derive(Drop)]
 pub enum Simple {
-    Acts { name: Vec<u8>, action: Action },
-    StepsBefore { step: Step, name: Vec<u8> },
+    Acts { name: Name, action: Action },
+    /// `++x` or `--x`, with the number of the sign's token.
+    StepsBefore { at: usize, step: Step, name: Name },
 }
 
 /// A declared name, and its initialiser if it has one.
 #[derive(Drop)]
 pub struct Part {
-    pub declared: Vec<u8>,
+    pub declared: Name,
     pub initialiser: Option<Expression>,
 }
 

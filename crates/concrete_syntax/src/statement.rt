@@ -8,10 +8,18 @@ use crate::expression::Expression;
 use crate::simple::{Declaration, Simple, Start};
 use std::alloc::{AllocError, Global};
 
-/// A statement.
+/// A statement, and the number of its first token.
 #[cycle(statements)]
 #[derive(Drop)]
-pub enum Statement {
+pub struct Statement {
+    pub at: usize,
+    pub kind: StatementKind,
+}
+
+/// What a statement is.
+#[cycle(statements)]
+#[derive(Drop)]
+pub enum StatementKind {
     Simple(Simple),
     /// `;` alone.
     Skip,
@@ -27,6 +35,8 @@ pub enum Statement {
     },
     Do {
         body: Box<Statement>,
+        /// The number of the token of the `while` that ends it.
+        end: usize,
         test: Expression,
     },
     For {

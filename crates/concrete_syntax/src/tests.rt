@@ -2,22 +2,49 @@
 
 use super::*;
 use std::test::Fail;
-use step_meaning::Op2;
+
+/// A `;` that is the token of this number.
+fn empty(at: usize) -> Statement {
+    Statement {
+        at,
+        kind: StatementKind::Skip,
+    }
+}
 
 #[test]
 fn tails(rt: HostRuntime) -> Result<(), Fail> {
     let mut list = Vec::new(rt.alloc());
-    list.push((Op2::Add, Operand::Number(1)))?;
-    list.push((Op2::Mul, Operand::Unknown))?;
+    list.push(Link::Operation {
+        op: Operator::Add,
+        operand: Operand {
+            at: 2,
+            kind: OperandKind::Number(1),
+        },
+    })?;
+    list.push(Link::Operation {
+        op: Operator::Multiply,
+        operand: Operand {
+            at: 4,
+            kind: OperandKind::Unknown,
+        },
+    })?;
     let tail = Tail::of(rt.alloc(), list)?;
-    let Tail::Further { op, operand, rest } = &tail else {
+    let Tail::Further {
+        link: Link::Operation { op, operand },
+        rest,
+    } = &tail
+    else {
         panic!(rt; "no first link")
     };
-    assert!(rt; matches!(op, Op2::Add) && matches!(**operand, Operand::Number(1)));
-    let Tail::Further { op, operand, rest } = &**rest else {
+    assert!(rt; matches!(op, Operator::Add) && matches!(operand.kind, OperandKind::Number(1)));
+    let Tail::Further {
+        link: Link::Operation { op, operand },
+        rest,
+    } = &**rest
+    else {
         panic!(rt; "no second link")
     };
-    assert!(rt; matches!(op, Op2::Mul) && matches!(**operand, Operand::Unknown));
+    assert!(rt; matches!(op, Operator::Multiply) && matches!(operand.kind, OperandKind::Unknown));
     assert!(rt; matches!(**rest, Tail::Ended));
     Ok(())
 }
@@ -26,21 +53,24 @@ fn tails(rt: HostRuntime) -> Result<(), Fail> {
 fn items(rt: HostRuntime) -> Result<(), Fail> {
     let mut list = Vec::new(rt.alloc());
     let part = Part {
-        declared: b"x".to_vec(rt.alloc())?,
+        declared: Name {
+            at: 1,
+            bytes: b"x".to_vec(rt.alloc())?,
+        },
         initialiser: None,
     };
     let more = Vec::new(rt.alloc());
     list.push(Item::Declaration(Declaration { part, more }))?;
-    list.push(Item::Statement(Statement::Skip))?;
+    list.push(Item::Statement(empty(4)))?;
     let items = Items::of(rt.alloc(), list)?;
     let Items::Declaration { first, rest } = &items else {
         panic!(rt; "no declaration")
     };
-    assert_eq!(rt; first.part.declared.as_slice(), b"x".as_slice());
+    assert_eq!(rt; first.part.declared.bytes.as_slice(), b"x".as_slice());
     let Items::Statement { first, rest } = &**rest else {
         panic!(rt; "no statement")
     };
-    assert!(rt; matches!(**first, Statement::Skip) && matches!(**rest, Items::Ended));
+    assert!(rt; matches!(first.kind, StatementKind::Skip) && matches!(**rest, Items::Ended));
     Ok(())
 }
 
@@ -49,7 +79,7 @@ fn items(rt: HostRuntime) -> Result<(), Fail> {
 fn long_chains(rt: HostRuntime) -> Result<(), Fail> {
     let mut list = Vec::new(rt.alloc());
     for _ in 0..65536 {
-        list.push(Item::Statement(Statement::Skip))?;
+        list.push(Item::Statement(empty(4)))?;
     }
     let items = Items::of(rt.alloc(), list)?;
     assert!(rt; !matches!(&items, Items::Ended));

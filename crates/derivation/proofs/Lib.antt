@@ -1,2 +1,4 @@
 pub mod Calculus
 pub mod Faults
+mod Known
+mod Formulas

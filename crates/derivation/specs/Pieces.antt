@@ -1,9 +1,6 @@
--- The pieces that a concrete tree spells: its tokens, each with what the limits ask of it, and between them what must not follow.
-use Rattle.std.specs.Prelude.{ℕ, Bool, true, false, List, [], ◌∷◌, Option, None, Some, ⊤}
-use Rattle.std.specs.Bool.{IsFalse}
-use Rattle.derivation.specs.declared.symbol.Symbol.{Symbol}
-use Rattle.derivation.specs.declared.symbol.Symbol.TheVariants.{Else, Plus, Minus, Times, Less, Greater, LessEqual, GreaterEqual, Equal, NotEqual, And, Or}
-use Rattle.derivation.specs.Word.{Word, symbol}
+-- The pieces that a concrete tree spells: its tokens, each with what the limits ask of it, and between them what is asked of the next one.
+use Rattle.std.specs.Prelude.{ℕ, ◌+◌, List, [], ◌∷◌, Option, None, Some, ⊤}
+use Rattle.derivation.specs.Languages.{Language}
 
 -- how a token counts among the operators of one expression: not at all; as one more; or it is one behind which an expression may
 -- begin, so that the count begins anew
@@ -13,68 +10,49 @@ pub data Counting : Type 0 where
   anew : Counting
 
 -- a token with the level of nesting that it opens (0: it opens none), and how it counts
-pub record Token : Type 0 where
-  pub word : Word
+pub record Token (L : Language) : Type 0 where
+  pub word : L.Word
   pub level : ℕ
   pub counting : Counting
 
--- what must not follow: a binary operator where an expression has ended, an `else` where an `if` has ended without one
-pub data Look : Type 0 where
-  no_operator : Look
-  no_else : Look
+pub data Piece (L : Language) : Type 0 where
+  token : Token L → Piece L
+  look : L.Look → Piece L
 
-pub data Piece : Type 0 where
-  token : Token → Piece
-  look : Look → Piece
+-- what is still to be read: the number of its first token, counted from 0, and its words
+pub record Rest (L : Language) : Type 0 where
+  pub number : ℕ
+  pub words : List L.Word
 
 -- the words of the pieces
-abbrev pub spelling : List Piece → List Word
+abbrev pub spelling : {L : Language} → List (Piece L) → List L.Word
 spelling [] = []
 spelling (token t ∷ more) = t.word ∷ spelling more
 spelling (look l ∷ more) = spelling more
 
 -- the next word, if there is one
-abbrev pub first : List Word → Option Word
+abbrev pub first : {W : Type 0} → List W → Option W
 first [] = None
 first (next ∷ more) = Some next
 
 -- the first word of the pieces, or where they have none the one behind them
-abbrev pub first_before : List Piece → Option Word → Option Word
+abbrev pub first_before : {L : Language} → List (Piece L) → Option L.Word → Option L.Word
 first_before [] behind = behind
 first_before (token t ∷ more) behind = Some t.word
 first_before (look l ∷ more) behind = first_before more behind
 
--- the signs between two operands
-abbrev pub is_operator : Symbol → Bool
-is_operator Plus = true
-is_operator Minus = true
-is_operator Times = true
-is_operator Less = true
-is_operator Greater = true
-is_operator LessEqual = true
-is_operator GreaterEqual = true
-is_operator Equal = true
-is_operator NotEqual = true
-is_operator And = true
-is_operator Or = true
-is_operator _ = false
+-- the number of the token behind the pieces, from that of their first
+abbrev pub number_behind : {L : Language} → ℕ → List (Piece L) → ℕ
+number_behind n [] = n
+number_behind n (token t ∷ more) = number_behind (n + 1) more
+number_behind n (look l ∷ more) = number_behind n more
 
-abbrev pub is_else : Symbol → Bool
-is_else Else = true
-is_else _ = false
-
--- the next word is one that must not follow
-abbrev pub sees : Look → Option Word → Bool
-sees no_operator (Some (symbol s)) = is_operator s
-sees no_else (Some (symbol s)) = is_else s
-sees _ _ = false
-
--- before this next word, nothing follows the pieces or one of them that must not
-abbrev pub FitsBefore : List Piece → Option Word → Type 0
-FitsBefore [] behind = ⊤
-FitsBefore (token t ∷ more) behind = FitsBefore more behind
-FitsBefore (look l ∷ more) behind = IsFalse (sees l (first_before more behind)) × FitsBefore more behind
+-- from the token of the number `n` on and before this next word, each token is as it is asked for
+abbrev pub FitsBefore : {L : Language} → ℕ → List (Piece L) → Option L.Word → Type 0
+FitsBefore n [] behind = ⊤
+FitsBefore n (token t ∷ more) behind = FitsBefore (n + 1) more behind
+FitsBefore {L} n (look l ∷ more) behind = L.Meets l n (first_before more behind) × FitsBefore n more behind
 
 -- the same where nothing stands behind the pieces
-abbrev pub Fits : List Piece → Type 0
-Fits pieces = FitsBefore pieces None
+abbrev pub Fits : {L : Language} → ℕ → List (Piece L) → Type 0
+Fits n pieces = FitsBefore n pieces None

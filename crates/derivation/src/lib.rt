@@ -1,13 +1,15 @@
-//! The words of a text, and the calculus of reading them: from what is still to be read and the next word, what is to be read next.
-//! Stands on the tokens of `source_lex`. The front door for parsers are `lexemes`, `after`, which reads a symbol, and in `specs/` the
+//! The words of a text, and a calculus of reading for any language: from what is still to be read and the next word, what is to be read
+//! next. Stands on the tokens of `source_lex`. The front door for parsers are `lexemes`, `after`, which reads a symbol, and in `specs/` the
 //! relations `Comes` and `Breaks`.
 #![tactic(auto)]
 
+mod laws;
 mod lexeme;
 mod rule;
 mod symbol;
 mod words;
 
+pub use laws::tokens_are_words;
 pub use lexeme::{Lexeme, lexemes};
 pub use rule::Rule;
 pub use symbol::{Symbol, reserved_word, sign};

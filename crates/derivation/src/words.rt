@@ -1,6 +1,6 @@
 //! The reader of a symbol.
 
-ghost use Rattle.std.specs.Prelude.{◌≡◌, ◌≢◌, ◌∷◌, ◌<◌, List, MatchOption, IfSome};
+ghost use Rattle.std.specs.Prelude.{◌≡◌, ◌≢◌, ◌∷◌, ◌+◌, List, MatchOption, IfSome};
 ghost use Rattle.derivation.specs.Word.{Word, symbol};
 ghost use Rattle.derivation.specs.Spelled.{words_from, IsBehind};
 
@@ -11,7 +11,7 @@ use crate::symbol::Symbol;
 pub fn after(words: &[Lexeme<'_>], at: usize, wanted: Symbol) -> Option<usize>
     ensures read { MatchOption result
         ((rest : List Word) → words_from words.now at ≢ symbol wanted ∷ rest)
-        (λ next. (words_from words.now at ≡ symbol wanted ∷ words_from words.now next)) }
+        (λ next. (words_from words.now at ≡ symbol wanted ∷ words_from words.now next) × (next ≡ at + 1)) }
     ensures forward { IfSome result (IsBehind words.now at) }
 {
     match *words.get(at)? {

@@ -1,17 +1,16 @@
 -- Without faults, statements are valid.
-use Rattle.std.proofs.Common.{◌≡◌, ℕ, ◌<◌, ◌≤◌, ◌+◌, Bool, true, false, nat_lt, List, [], ◌∷◌, ◌++◌, Option, None, Some, length, refl, subst, arith, if◌then◌else◌, ◌⊎◌, inl, inr}
+use Rattle.std.proofs.Common.{◌≡◌, ℕ, ◌<◌, ◌≤◌, Bool, true, false, nat_lt, List, [], ◌∷◌, ◌++◌, Option, None, Some, length, refl, subst, arith, if◌then◌else◌, ◌⊎◌, inl, inr}
 use Rattle.step_meaning.specs.Syntax as syntax
 use Rattle.step_meaning.specs.Valid.{IsNumber, IsTest, IsBody}
 use Rattle.concrete_syntax.specs.declared.sign.Assignment.{Assignment}
 use Rattle.concrete_syntax.specs.declared.sign.Step.{Step}
 use Rattle.concrete_syntax.specs.declared.sign.Step.TheVariants.{Increment, Decrement}
-use Rattle.concrete_syntax.specs.Trees.{Expression, Action, assigns, steps, Simple, acts, steps_before, Part, Declaration, Start, starts_with_nothing, starts_with, declares, Statement, simple, skip, braces, conditional, while_loop, do_loop, for_loop, return, Otherwise, without, otherwise, Items, none, declaration, statement}
+use Rattle.concrete_syntax.specs.Trees.{Expression, Name, Action, assigns, steps, Simple, acts, steps_before, Part, Declaration, Start, starts_with_nothing, starts_with, declares, Statement, statement_at, simple, skip, braces, conditional, while_loop, do_loop, for_loop, return, Otherwise, without, otherwise, Items, none, declaration, statement}
 use Rattle.elaboration.specs.declared.fault.Rule.TheVariants.{Twice, Variables}
-use Rattle.elaboration.specs.Widths.{part_width, declaration_width, start_width, optional_width, optional_simple_width, statement_width}
-use Rattle.elaboration.specs.Scopes.{Scope, Name, is_among, place_of, with_variable, most_variables, declare}
+use Rattle.elaboration.specs.Scopes.{Scope, is_among, place_of, with_variable, most_variables, declare}
 use Rattle.elaboration.specs.Faults.{fault}
 use Rattle.elaboration.specs.Expressions.{unknown_name, expression_typed, expression_faults}
-use Rattle.elaboration.specs.Statements.{assigned, stepped, action_meaning, action_faults, simple_meaning, simple_faults, optional_simple_meaning, optional_simple_faults, name_faults, again_faults, initialiser_faults, initialiser_meaning, part_faults, part_meaning, parts_scope, parts_faults, parts_meaning, declaration_scope, declaration_faults, declaration_meaning, start_scope, start_faults, start_meaning, optional_faults, optional_test, behind_test, statement_scope, otherwise_scope, items_scope, statement_faults, otherwise_faults, items_faults, statement_meaning, otherwise_meaning, items_meaning}
+use Rattle.elaboration.specs.Statements.{assigned, stepped, action_meaning, action_faults, simple_meaning, simple_faults, optional_simple_meaning, optional_simple_faults, name_faults, again_faults, initialiser_faults, initialiser_meaning, part_faults, part_meaning, part_scope, parts_scope, parts_faults, parts_meaning, declaration_scope, declaration_faults, declaration_meaning, start_scope, start_faults, start_meaning, optional_faults, optional_test, statement_scope, otherwise_scope, items_scope, statement_faults, otherwise_faults, items_faults, statement_meaning, otherwise_meaning, items_meaning}
 use Rattle.elaboration.proofs.Names.{among_last, among_cases, place_below}
 use Rattle.elaboration.proofs.Scoping.{statement_visible}
 use Rattle.elaboration.proofs.Declared.{among_kept, no_fewer, parts_keep, statement_keeps, otherwise_keeps, items_keep}
@@ -37,52 +36,53 @@ stepped_number : (vars x : ℕ) (step : Step) → x < vars → IsNumber vars (st
 stepped_number vars x Increment below = (below, tt)
 stepped_number vars x Decrement below = (below, tt)
 
-action_number : (vars : ℕ) (scope : Scope) → IsSound scope → length scope.declared ≤ vars → (n x : ℕ) (action : Action)
-    → x < vars → action_faults scope n action ≡ [] → IsNumber vars (action_meaning scope n x action)
-action_number vars scope sound room n x (assigns assignment e) below clean =
-    assigned_number vars x assignment (expression_typed scope (n + 1) e).meaning below (expression_is_number vars scope sound room (n + 1) e clean)
-action_number vars scope sound room n x (steps step) below clean = stepped_number vars x step below
+action_number : (vars : ℕ) (scope : Scope) → IsSound scope → length scope.declared ≤ vars → (x : ℕ) (action : Action)
+    → x < vars → action_faults scope action ≡ [] → IsNumber vars (action_meaning scope x action)
+action_number vars scope sound room x (assigns assignment e) below clean =
+    assigned_number vars x assignment (expression_typed scope e).meaning below (expression_is_number vars scope sound room e clean)
+action_number vars scope sound room x (steps step) below clean = stepped_number vars x step below
 
-simple_valid : (vars : ℕ) (scope : Scope) → IsSound scope → length scope.declared ≤ vars → (n : ℕ) (s : Simple)
-    → simple_faults scope n s ≡ [] → AllValid vars (simple_meaning scope n s)
-simple_valid vars scope sound room n (acts x action) clean =
-    let parts = both_none (unknown_name scope n x) (action_faults scope (n + 1) action) clean in
-    let named = name_typed vars scope n x sound room parts.0 in
-    ((named.1, action_number vars scope sound room (n + 1) (place_of scope.declared x) action named.1 parts.1), tt)
-simple_valid vars scope sound room n (steps_before step x) clean =
-    let named = name_typed vars scope (n + 1) x sound room clean in
-    ((named.1, stepped_number vars (place_of scope.declared x) step named.1), tt)
+simple_valid : (vars : ℕ) (scope : Scope) → IsSound scope → length scope.declared ≤ vars → (s : Simple)
+    → simple_faults scope s ≡ [] → AllValid vars (simple_meaning scope s)
+simple_valid vars scope sound room (acts x action) clean =
+    let parts = both_none (unknown_name scope x.at x.bytes) (action_faults scope action) clean in
+    let named = name_typed vars scope x.at x.bytes sound room parts.0 in
+    ((named.1, action_number vars scope sound room (place_of scope.declared x.bytes) action named.1 parts.1), tt)
+simple_valid vars scope sound room (steps_before at step x) clean =
+    let named = name_typed vars scope x.at x.bytes sound room clean in
+    ((named.1, stepped_number vars (place_of scope.declared x.bytes) step named.1), tt)
 
-optional_simple_valid : (vars : ℕ) (scope : Scope) → IsSound scope → length scope.declared ≤ vars → (n : ℕ) (s : Option Simple)
-    → optional_simple_faults scope n s ≡ [] → AllValid vars (optional_simple_meaning scope n s)
-optional_simple_valid vars scope sound room n (Some s) clean = simple_valid vars scope sound room n s clean
-optional_simple_valid vars scope sound room n None clean = tt
+optional_simple_valid : (vars : ℕ) (scope : Scope) → IsSound scope → length scope.declared ≤ vars → (s : Option Simple)
+    → optional_simple_faults scope s ≡ [] → AllValid vars (optional_simple_meaning scope s)
+optional_simple_valid vars scope sound room (Some s) clean = simple_valid vars scope sound room s clean
+optional_simple_valid vars scope sound room None clean = tt
 
 -- ── Declarations ──
 
 -- a name that is declared without a fault is a variable
-declared_known : (scope : Scope) (n : ℕ) (x : Name) (initialiser : Option Expression)
-    → name_faults scope n x initialiser ≡ [] → is_among (with_variable scope.declared x) x ≡ true
-declared_known scope n x initialiser clean = by_visible (is_among scope.visible x) clean
+declared_known : (scope : Scope) (x : Name) (initialiser : Option Expression)
+    → name_faults scope x initialiser ≡ [] → is_among (with_variable scope.declared x.bytes) x.bytes ≡ true
+declared_known scope x initialiser clean = by_visible (is_among scope.visible x.bytes) clean
   where
-    by_room : (room : Bool) → (if room then [] else fault Variables n ∷ []) ≡ [] → is_among (if room then scope.declared ++ x ∷ [] else scope.declared) x ≡ true
-    by_room true h = among_last scope.declared x
+    by_room : (room : Bool) → (if room then [] else fault Variables x.at ∷ []) ≡ []
+        → is_among (if room then scope.declared ++ x.bytes ∷ [] else scope.declared) x.bytes ≡ true
+    by_room true h = among_last scope.declared x.bytes
     by_room false h = absurd (some_is_not_none _ [] h)
 
-    by_known : (known : Bool) → is_among scope.declared x ≡ known
-        → (if known then again_faults n initialiser else if nat_lt (length scope.declared) most_variables then [] else fault Variables n ∷ []) ≡ []
-        → is_among (if known then scope.declared else if nat_lt (length scope.declared) most_variables then scope.declared ++ x ∷ [] else scope.declared) x ≡ true
+    by_known : (known : Bool) → is_among scope.declared x.bytes ≡ known
+        → (if known then again_faults x.at initialiser else if nat_lt (length scope.declared) most_variables then [] else fault Variables x.at ∷ []) ≡ []
+        → is_among (if known then scope.declared else if nat_lt (length scope.declared) most_variables then scope.declared ++ x.bytes ∷ [] else scope.declared) x.bytes ≡ true
     by_known true e h = e
     by_known false e h = by_room (nat_lt (length scope.declared) most_variables) h
 
     by_visible : (seen : Bool)
-        → (if seen then fault Twice n ∷ [] else if is_among scope.declared x then again_faults n initialiser
-        else if nat_lt (length scope.declared) most_variables then [] else fault Variables n ∷ []) ≡ []
-        → is_among (with_variable scope.declared x) x ≡ true
+        → (if seen then fault Twice x.at ∷ [] else if is_among scope.declared x.bytes then again_faults x.at initialiser
+        else if nat_lt (length scope.declared) most_variables then [] else fault Variables x.at ∷ []) ≡ []
+        → is_among (with_variable scope.declared x.bytes) x.bytes ≡ true
     by_visible true h = absurd (some_is_not_none _ [] h)
-    by_visible false h = by_known (is_among scope.declared x) refl h
+    by_visible false h = by_known (is_among scope.declared x.bytes) refl h
 
-sound_behind : (scope : Scope) (x : Name) → IsSound scope → is_among (with_variable scope.declared x) x ≡ true → IsSound (declare scope x)
+sound_behind : (scope : Scope) (x : List ℕ) → IsSound scope → is_among (with_variable scope.declared x) x ≡ true → IsSound (declare scope x)
 sound_behind scope x sound known y seen =
     by_case (among_cases scope.visible x y seen)
   where
@@ -90,56 +90,51 @@ sound_behind scope x sound known y seen =
     by_case (inl before) = among_kept y scope.declared x (sound y before)
     by_case (inr same) = subst (λ z. is_among (with_variable scope.declared x) z ≡ true) same known
 
-initialiser_valid : (vars : ℕ) (scope : Scope) → IsSound scope → length scope.declared ≤ vars → (n : ℕ) (x : Name) (e : Option Expression)
-    → length (with_variable scope.declared x) ≤ vars → is_among (with_variable scope.declared x) x ≡ true
-    → initialiser_faults scope n e ≡ [] → AllValid vars (initialiser_meaning scope n x e)
-initialiser_valid vars scope sound room n x (Some e) later known clean =
-    let below = place_below (with_variable scope.declared x) x known in
-    ((omega arith, expression_is_number vars scope sound room (n + 2) e clean), tt)
-initialiser_valid vars scope sound room n x None later known clean = tt
+initialiser_valid : (vars : ℕ) (scope : Scope) → IsSound scope → length scope.declared ≤ vars → (x : Name) (e : Option Expression)
+    → length (with_variable scope.declared x.bytes) ≤ vars → is_among (with_variable scope.declared x.bytes) x.bytes ≡ true
+    → initialiser_faults scope e ≡ [] → AllValid vars (initialiser_meaning scope x e)
+initialiser_valid vars scope sound room x (Some e) later known clean =
+    let below = place_below (with_variable scope.declared x.bytes) x.bytes known in
+    ((omega arith, expression_is_number vars scope sound room e clean), tt)
+initialiser_valid vars scope sound room x None later known clean = tt
 
 -- a declared name, where the names behind it are at most so many
-part_valid : (vars : ℕ) (scope : Scope) → IsSound scope → (n : ℕ) (part : Part) → length (with_variable scope.declared part.declared) ≤ vars
-    → part_faults scope n part ≡ [] → AllValid vars (part_meaning scope n part) × IsSound (declare scope part.declared)
-part_valid vars scope sound n part later clean =
-    let faultless = both_none (name_faults scope n part.declared part.initialiser) (initialiser_faults scope n part.initialiser) clean in
-    let known = declared_known scope n part.declared part.initialiser faultless.0 in
-    let grown = no_fewer (length scope.declared) scope.declared part.declared (omega arith) in (
-      initialiser_valid vars scope sound (omega (arith, grown, later)) n part.declared part.initialiser later known faultless.1,
-      sound_behind scope part.declared sound known,
+part_valid : (vars : ℕ) (scope : Scope) → IsSound scope → (part : Part) → length (part_scope scope part).declared ≤ vars
+    → part_faults scope part ≡ [] → AllValid vars (part_meaning scope part) × IsSound (part_scope scope part)
+part_valid vars scope sound part later clean =
+    let x = part.declared in
+    let faultless = both_none (name_faults scope x part.initialiser) (initialiser_faults scope part.initialiser) clean in
+    let known = declared_known scope x part.initialiser faultless.0 in
+    let grown = no_fewer (length scope.declared) scope.declared x.bytes (omega arith) in (
+      initialiser_valid vars scope sound (omega (arith, grown, later)) x part.initialiser later known faultless.1,
+      sound_behind scope x.bytes sound known,
     )
 
-parts_valid : (vars : ℕ) (scope : Scope) → IsSound scope → (n : ℕ) (parts : List Part) → length (parts_scope scope parts).declared ≤ vars
-    → parts_faults scope n parts ≡ [] → AllValid vars (parts_meaning scope n parts) × IsSound (parts_scope scope parts)
-parts_valid vars scope sound n [] later clean = (tt, sound)
-parts_valid vars scope sound n (part ∷ more) later clean =
-    let behind = declare scope part.declared in
-    let faultless = both_none (part_faults scope (n + 1) part) (parts_faults behind (n + 1 + part_width part) more) clean in
+parts_valid : (vars : ℕ) (scope : Scope) → IsSound scope → (parts : List Part) → length (parts_scope scope parts).declared ≤ vars
+    → parts_faults scope parts ≡ [] → AllValid vars (parts_meaning scope parts) × IsSound (parts_scope scope parts)
+parts_valid vars scope sound [] later clean = (tt, sound)
+parts_valid vars scope sound (part ∷ more) later clean =
+    let behind = part_scope scope part in
+    let faultless = both_none (part_faults scope part) (parts_faults behind more) clean in
     let grown = parts_keep (λ names. length behind.declared ≤ length names) (no_fewer (length behind.declared)) behind more (omega arith) in
-    let first = part_valid vars scope sound (n + 1) part (omega (arith, grown, later)) faultless.0 in
-    let rest = parts_valid vars behind first.1 (n + 1 + part_width part) more later faultless.1 in
-    (valid_append vars (part_meaning scope (n + 1) part) (parts_meaning behind (n + 1 + part_width part) more) first.0 rest.0, rest.1)
+    let first = part_valid vars scope sound part (omega (arith, grown, later)) faultless.0 in
+    let rest = parts_valid vars behind first.1 more later faultless.1 in
+    (valid_append vars (part_meaning scope part) (parts_meaning behind more) first.0 rest.0, rest.1)
 
-declaration_valid : (vars : ℕ) (scope : Scope) → IsSound scope → (n : ℕ) (d : Declaration) → length (declaration_scope scope d).declared ≤ vars
-    → declaration_faults scope n d ≡ [] → AllValid vars (declaration_meaning scope n d) × IsSound (declaration_scope scope d)
-declaration_valid vars scope sound n d later clean =
-    let behind = declare scope d.part.declared in
-    let faultless = both_none (part_faults scope (n + 1) d.part) (parts_faults behind (n + 1 + part_width d.part) d.more) clean in
-    let grown = parts_keep (λ names. length behind.declared ≤ length names) (no_fewer (length behind.declared)) behind d.more (omega arith) in
-    let first = part_valid vars scope sound (n + 1) d.part (omega (arith, grown, later)) faultless.0 in
-    let rest = parts_valid vars behind first.1 (n + 1 + part_width d.part) d.more later faultless.1 in
-    (valid_append vars (part_meaning scope (n + 1) d.part) (parts_meaning behind (n + 1 + part_width d.part) d.more) first.0 rest.0, rest.1)
+declaration_valid : (vars : ℕ) (scope : Scope) → IsSound scope → (d : Declaration) → length (declaration_scope scope d).declared ≤ vars
+    → declaration_faults scope d ≡ [] → AllValid vars (declaration_meaning scope d) × IsSound (declaration_scope scope d)
+declaration_valid vars scope sound d later clean = parts_valid vars scope sound (d.part ∷ d.more) later clean
 
-start_valid : (vars : ℕ) (scope : Scope) → IsSound scope → (n : ℕ) (start : Start) → length (start_scope scope start).declared ≤ vars
-    → start_faults scope n start ≡ [] → AllValid vars (start_meaning scope n start) × IsSound (start_scope scope start)
-start_valid vars scope sound n starts_with_nothing later clean = (tt, sound)
-start_valid vars scope sound n (starts_with s) later clean = (simple_valid vars scope sound later n s clean, sound)
-start_valid vars scope sound n (declares d) later clean = declaration_valid vars scope sound n d later clean
+start_valid : (vars : ℕ) (scope : Scope) → IsSound scope → (start : Start) → length (start_scope scope start).declared ≤ vars
+    → start_faults scope start ≡ [] → AllValid vars (start_meaning scope start) × IsSound (start_scope scope start)
+start_valid vars scope sound starts_with_nothing later clean = (tt, sound)
+start_valid vars scope sound (starts_with s) later clean = (simple_valid vars scope sound later s clean, sound)
+start_valid vars scope sound (declares d) later clean = declaration_valid vars scope sound d later clean
 
-optional_valid : (vars : ℕ) (scope : Scope) → IsSound scope → length scope.declared ≤ vars → (n : ℕ) (test : Option Expression)
-    → optional_faults scope n test ≡ [] → IsTest vars (optional_test scope n test)
-optional_valid vars scope sound room n (Some e) clean = expression_is_test vars scope sound room n e clean
-optional_valid vars scope sound room n None clean = tt
+optional_valid : (vars : ℕ) (scope : Scope) → IsSound scope → length scope.declared ≤ vars → (test : Option Expression)
+    → optional_faults scope test ≡ [] → IsTest vars (optional_test scope test)
+optional_valid vars scope sound room (Some e) clean = expression_is_test vars scope sound room e clean
+optional_valid vars scope sound room None clean = tt
 
 -- ── Statements ──
 
@@ -153,81 +148,73 @@ statement_grows : (scope : Scope) (s : Statement) → length scope.declared ≤ 
 statement_grows scope s = statement_keeps (λ names. length scope.declared ≤ length names) (no_fewer (length scope.declared)) scope s (omega arith)
 
 mutual
-  pub statement_valid : (vars : ℕ) (scope : Scope) → IsSound scope → (n : ℕ) (s : Statement) → length (statement_scope scope s).declared ≤ vars
-      → statement_faults scope n s ≡ [] → AllValid vars (statement_meaning scope n s)
-  statement_valid vars scope sound n (simple s) later clean = simple_valid vars scope sound later n s clean
-  statement_valid vars scope sound n skip later clean = (tt, tt)
-  statement_valid vars scope sound n (braces all) later clean = items_valid vars scope sound (n + 1) all later clean
-  statement_valid vars scope sound n (conditional test part other) later clean =
+  pub statement_valid : (vars : ℕ) (scope : Scope) → IsSound scope → (s : Statement) → length (statement_scope scope s).declared ≤ vars
+      → statement_faults scope s ≡ [] → AllValid vars (statement_meaning scope s)
+  statement_valid vars scope sound (statement_at at (simple s)) later clean = simple_valid vars scope sound later s clean
+  statement_valid vars scope sound (statement_at at skip) later clean = (tt, tt)
+  statement_valid vars scope sound (statement_at at (braces all)) later clean = items_valid vars scope sound all later clean
+  statement_valid vars scope sound (statement_at at (conditional test part other)) later clean =
       let middle = statement_scope scope part in
-      let outer = both_none (expression_faults scope (n + 2) test) (statement_faults scope (behind_test n test) part ++ otherwise_faults middle (behind_test n test + statement_width part) other) clean in
-      let inner = both_none (statement_faults scope (behind_test n test) part) (otherwise_faults middle (behind_test n test + statement_width part) other) outer.1 in
+      let outer = both_none (expression_faults scope test) (statement_faults scope part ++ otherwise_faults middle other) clean in
+      let inner = both_none (statement_faults scope part) (otherwise_faults middle other) outer.1 in
       let first = statement_grows scope part in
       let second = otherwise_keeps (λ names. length middle.declared ≤ length names) (no_fewer (length middle.declared)) middle other (omega arith) in (
         (
-          expression_is_test vars scope sound (omega (arith, first, second, later)) (n + 2) test outer.0,
-          statement_valid vars scope sound (behind_test n test) part (omega (arith, second, later)) inner.0,
-          otherwise_valid vars middle (statement_sound scope part sound) (behind_test n test + statement_width part) other later inner.1,
+          expression_is_test vars scope sound (omega (arith, first, second, later)) test outer.0,
+          statement_valid vars scope sound part (omega (arith, second, later)) inner.0,
+          otherwise_valid vars middle (statement_sound scope part sound) other later inner.1,
         ),
         tt,
       )
-  statement_valid vars scope sound n (while_loop test body) later clean =
-      let faultless = both_none (expression_faults scope (n + 2) test) (statement_faults scope (behind_test n test) body) clean in
-      let grown = statement_grows scope body in (
-        (
-          expression_is_test vars scope sound (omega (arith, grown, later)) (n + 2) test faultless.0,
-          statement_valid vars scope sound (behind_test n test) body later faultless.1,
-          tt,
-        ),
-        tt,
-      )
-  statement_valid vars scope sound n (do_loop body test) later clean =
+  statement_valid vars scope sound (statement_at at (while_loop test body)) later clean =
+      let faultless = both_none (expression_faults scope test) (statement_faults scope body) clean in
+      let grown = statement_grows scope body in
+      ((expression_is_test vars scope sound (omega (arith, grown, later)) test faultless.0, statement_valid vars scope sound body later faultless.1, tt), tt)
+  statement_valid vars scope sound (statement_at at (do_loop body end test)) later clean =
       let middle = statement_scope scope body in
-      let faultless = both_none (statement_faults scope (n + 1) body) (expression_faults middle (n + 1 + statement_width body + 2) test) clean in (
+      let faultless = both_none (statement_faults scope body) (expression_faults middle test) clean in (
         (
-          statement_valid vars scope sound (n + 1) body later faultless.0,
-          expression_is_test vars middle (statement_sound scope body sound) later (n + 1 + statement_width body + 2) test faultless.1,
+          statement_valid vars scope sound body later faultless.0,
+          expression_is_test vars middle (statement_sound scope body sound) later test faultless.1,
         ),
         tt,
       )
-  statement_valid vars scope sound n (for_loop start test step body) later clean =
+  statement_valid vars scope sound (statement_at at (for_loop start test step body)) later clean =
       let inside = start_scope scope start in
-      let at = n + 2 + start_width start in
-      let outer = both_none (start_faults scope (n + 2) start) (optional_faults inside at test ++ (optional_simple_faults inside (at + optional_width test + 1) step ++ statement_faults inside (at + optional_width test + 1 + optional_simple_width step + 1) body)) clean in
-      let inner = both_none (optional_faults inside at test) (optional_simple_faults inside (at + optional_width test + 1) step ++ statement_faults inside (at + optional_width test + 1 + optional_simple_width step + 1) body) outer.1 in
-      let last = both_none (optional_simple_faults inside (at + optional_width test + 1) step) (statement_faults inside (at + optional_width test + 1 + optional_simple_width step + 1) body) inner.1 in
+      let outer = both_none (start_faults scope start) (optional_faults inside test ++ (optional_simple_faults inside step ++ statement_faults inside body)) clean in
+      let inner = both_none (optional_faults inside test) (optional_simple_faults inside step ++ statement_faults inside body) outer.1 in
+      let last = both_none (optional_simple_faults inside step) (statement_faults inside body) inner.1 in
       let grown = statement_grows inside body in
       let room : length inside.declared ≤ vars = omega (arith, grown, later) in
-      let first = start_valid vars scope sound (n + 2) start room outer.0 in
-      valid_append vars (start_meaning scope (n + 2) start) (syntax.while_loop _ _ _ ∷ []) first.0 (
+      let first = start_valid vars scope sound start room outer.0 in
+      valid_append vars (start_meaning scope start) (syntax.while_loop _ _ _ ∷ []) first.0 (
         (
-          optional_valid vars inside first.1 room at test inner.0,
-          statement_valid vars inside first.1 (at + optional_width test + 1 + optional_simple_width step + 1) body later last.1,
-          optional_simple_valid vars inside first.1 room (at + optional_width test + 1) step last.0,
+          optional_valid vars inside first.1 room test inner.0,
+          statement_valid vars inside first.1 body later last.1,
+          optional_simple_valid vars inside first.1 room step last.0,
         ),
         tt,
       )
-  statement_valid vars scope sound n (return value) later clean = (tt, tt)
+  statement_valid vars scope sound (statement_at at (return value)) later clean = (tt, tt)
 
-  otherwise_valid : (vars : ℕ) (scope : Scope) → IsSound scope → (n : ℕ) (other : Otherwise) → length (otherwise_scope scope other).declared ≤ vars
-      → otherwise_faults scope n other ≡ [] → AllValid vars (otherwise_meaning scope n other)
-  otherwise_valid vars scope sound n without later clean = tt
-  otherwise_valid vars scope sound n (otherwise s) later clean = statement_valid vars scope sound (n + 1) s later clean
+  otherwise_valid : (vars : ℕ) (scope : Scope) → IsSound scope → (other : Otherwise) → length (otherwise_scope scope other).declared ≤ vars
+      → otherwise_faults scope other ≡ [] → AllValid vars (otherwise_meaning scope other)
+  otherwise_valid vars scope sound without later clean = tt
+  otherwise_valid vars scope sound (otherwise s) later clean = statement_valid vars scope sound s later clean
 
-  pub items_valid : (vars : ℕ) (scope : Scope) → IsSound scope → (n : ℕ) (all : Items) → length (items_scope scope all).declared ≤ vars
-      → items_faults scope n all ≡ [] → AllValid vars (items_meaning scope n all)
-  items_valid vars scope sound n none later faultless = tt
-  items_valid vars scope sound n (declaration d more) later faultless =
+  pub items_valid : (vars : ℕ) (scope : Scope) → IsSound scope → (all : Items) → length (items_scope scope all).declared ≤ vars
+      → items_faults scope all ≡ [] → AllValid vars (items_meaning scope all)
+  items_valid vars scope sound none later faultless = tt
+  items_valid vars scope sound (declaration d more) later faultless =
       let behind = declaration_scope scope d in
-      let parts = both_none (declaration_faults scope n d) (items_faults behind (n + declaration_width d) more) faultless in
+      let parts = both_none (declaration_faults scope d) (items_faults behind more) faultless in
       let grown = items_keep (λ names. length behind.declared ≤ length names) (no_fewer (length behind.declared)) behind more (omega arith) in
-      let first = declaration_valid vars scope sound n d (omega (arith, grown, later)) parts.0 in
-      valid_append vars (declaration_meaning scope n d) (items_meaning behind (n + declaration_width d) more) first.0
-      (items_valid vars behind first.1 (n + declaration_width d) more later parts.1)
-  items_valid vars scope sound n (statement s more) later faultless =
+      let first = declaration_valid vars scope sound d (omega (arith, grown, later)) parts.0 in
+      valid_append vars (declaration_meaning scope d) (items_meaning behind more) first.0 (items_valid vars behind first.1 more later parts.1)
+  items_valid vars scope sound (statement s more) later faultless =
       let behind = statement_scope scope s in
-      let parts = both_none (statement_faults scope n s) (items_faults behind (n + statement_width s) more) faultless in
+      let parts = both_none (statement_faults scope s) (items_faults behind more) faultless in
       let grown = items_keep (λ names. length behind.declared ≤ length names) (no_fewer (length behind.declared)) behind more (omega arith) in
-      valid_append vars (statement_meaning scope n s) (items_meaning behind (n + statement_width s) more)
-      (statement_valid vars scope sound n s (omega (arith, grown, later)) parts.0)
-      (items_valid vars behind (statement_sound scope s sound) (n + statement_width s) more later parts.1)
+      valid_append vars (statement_meaning scope s) (items_meaning behind more)
+      (statement_valid vars scope sound s (omega (arith, grown, later)) parts.0)
+      (items_valid vars behind (statement_sound scope s sound) more later parts.1)

@@ -3,9 +3,9 @@ use Rattle.std.proofs.Common.{◌≡◌, ◌≢◌, ℕ, ◌≤◌, Bool, true, 
 use Rattle.std.proofs.lemmas.Bool.{ltb-true}
 use Rattle.std.proofs.lemmas.List.{length-append}
 use Rattle.std.proofs.lemmas.List.Quantifiers.{all_pairs_push}
-use Rattle.concrete_syntax.specs.Trees.{Part, Declaration, Statement, simple, skip, braces, conditional, while_loop, do_loop, for_loop, return, Otherwise, without, otherwise, Items, none, declaration, statement, Start, starts_with_nothing, starts_with, declares}
-use Rattle.elaboration.specs.Scopes.{Scope, Name, declare, is_among, with_variable, most_variables}
-use Rattle.elaboration.specs.Statements.{parts_scope, declaration_scope, statement_scope, otherwise_scope, items_scope, start_scope}
+use Rattle.concrete_syntax.specs.Trees.{Part, Declaration, Statement, statement_at, simple, skip, braces, conditional, while_loop, do_loop, for_loop, return, Otherwise, without, otherwise, Items, none, declaration, statement, Start, starts_with_nothing, starts_with, declares}
+use Rattle.elaboration.specs.Scopes.{Scope, Name, is_among, with_variable, most_variables}
+use Rattle.elaboration.specs.Statements.{part_scope, parts_scope, declaration_scope, statement_scope, otherwise_scope, items_scope, start_scope}
 use Rattle.elaboration.proofs.Names.{among_front, differs}
 
 -- a predicate that one more variable keeps
@@ -15,10 +15,10 @@ IsKept P = (names : List Name) (x : Name) → P names → P (with_variable names
 -- is kept by all that declares
 pub parts_keep : (P : List Name → Type 0) → IsKept P → (scope : Scope) (parts : List Part) → P scope.declared → P (parts_scope scope parts).declared
 parts_keep P kept scope [] h = h
-parts_keep P kept scope (part ∷ more) h = parts_keep P kept (declare scope part.declared) more (kept scope.declared part.declared h)
+parts_keep P kept scope (part ∷ more) h = parts_keep P kept (part_scope scope part) more (kept scope.declared part.declared.bytes h)
 
 pub declaration_keeps : (P : List Name → Type 0) → IsKept P → (scope : Scope) (d : Declaration) → P scope.declared → P (declaration_scope scope d).declared
-declaration_keeps P kept scope d h = parts_keep P kept (declare scope d.part.declared) d.more (kept scope.declared d.part.declared h)
+declaration_keeps P kept scope d h = parts_keep P kept scope (d.part ∷ d.more) h
 
 pub start_keeps : (P : List Name → Type 0) → IsKept P → (scope : Scope) (start : Start) → P scope.declared → P (start_scope scope start).declared
 start_keeps P kept scope starts_with_nothing h = h
@@ -27,16 +27,16 @@ start_keeps P kept scope (declares d) h = declaration_keeps P kept scope d h
 
 mutual
   pub statement_keeps : (P : List Name → Type 0) → IsKept P → (scope : Scope) (s : Statement) → P scope.declared → P (statement_scope scope s).declared
-  statement_keeps P kept scope (simple s) h = h
-  statement_keeps P kept scope skip h = h
-  statement_keeps P kept scope (braces all) h = items_keep P kept scope all h
-  statement_keeps P kept scope (conditional test part other) h =
+  statement_keeps P kept scope (statement_at at (simple s)) h = h
+  statement_keeps P kept scope (statement_at at skip) h = h
+  statement_keeps P kept scope (statement_at at (braces all)) h = items_keep P kept scope all h
+  statement_keeps P kept scope (statement_at at (conditional test part other)) h =
       otherwise_keeps P kept (statement_scope scope part) other (statement_keeps P kept scope part h)
-  statement_keeps P kept scope (while_loop test body) h = statement_keeps P kept scope body h
-  statement_keeps P kept scope (do_loop body test) h = statement_keeps P kept scope body h
-  statement_keeps P kept scope (for_loop start test step body) h =
+  statement_keeps P kept scope (statement_at at (while_loop test body)) h = statement_keeps P kept scope body h
+  statement_keeps P kept scope (statement_at at (do_loop body end test)) h = statement_keeps P kept scope body h
+  statement_keeps P kept scope (statement_at at (for_loop start test step body)) h =
       statement_keeps P kept (start_scope scope start) body (start_keeps P kept scope start h)
-  statement_keeps P kept scope (return value) h = h
+  statement_keeps P kept scope (statement_at at (return value)) h = h
 
   pub otherwise_keeps : (P : List Name → Type 0) → IsKept P → (scope : Scope) (other : Otherwise) → P scope.declared → P (otherwise_scope scope other).declared
   otherwise_keeps P kept scope without h = h

@@ -1,4 +1,5 @@
 pub mod Firsts
+pub mod Weights
 pub mod Ladder
 pub mod Names
 pub mod Scoping

@@ -2,21 +2,21 @@
 use Rattle.std.proofs.Common.{◌≡◌, ℕ, List, [], ◌∷◌, ◌++◌, length, take, refl, ap, sym, ◌∙◌}
 use Rattle.std.proofs.lemmas.List.{append-nil, append_assoc}
 use Rattle.std.proofs.Math.Seq.{take-append_seam}
-use Rattle.concrete_syntax.specs.Trees.{Part, Declaration, Statement, simple, skip, braces, conditional, while_loop, do_loop, for_loop, return, Otherwise, without, otherwise, Items, none, declaration, statement, Start, starts_with_nothing, starts_with, declares}
-use Rattle.elaboration.specs.Scopes.{Scope, Name, declare, close}
-use Rattle.elaboration.specs.Statements.{parts_scope, declaration_scope, statement_scope, otherwise_scope, items_scope, start_scope}
+use Rattle.concrete_syntax.specs.Trees.{Part, Declaration, Statement, statement_at, simple, skip, braces, conditional, while_loop, do_loop, for_loop, return, Otherwise, without, otherwise, Items, none, declaration, statement, Start, starts_with_nothing, starts_with, declares}
+use Rattle.elaboration.specs.Scopes.{Scope, Name, close}
+use Rattle.elaboration.specs.Statements.{part_scope, parts_scope, declaration_scope, statement_scope, otherwise_scope, items_scope, start_scope}
 
 -- a statement leaves what may be used as it is
 mutual
   pub statement_visible : (scope : Scope) (s : Statement) → (statement_scope scope s).visible ≡ scope.visible
-  statement_visible scope (simple s) = refl
-  statement_visible scope skip = refl
-  statement_visible scope (braces all) = refl
-  statement_visible scope (conditional test part other) = otherwise_visible (statement_scope scope part) other ∙ statement_visible scope part
-  statement_visible scope (while_loop test body) = statement_visible scope body
-  statement_visible scope (do_loop body test) = statement_visible scope body
-  statement_visible scope (for_loop start test step body) = refl
-  statement_visible scope (return value) = refl
+  statement_visible scope (statement_at at (simple s)) = refl
+  statement_visible scope (statement_at at skip) = refl
+  statement_visible scope (statement_at at (braces all)) = refl
+  statement_visible scope (statement_at at (conditional test part other)) = otherwise_visible (statement_scope scope part) other ∙ statement_visible scope part
+  statement_visible scope (statement_at at (while_loop test body)) = statement_visible scope body
+  statement_visible scope (statement_at at (do_loop body end test)) = statement_visible scope body
+  statement_visible scope (statement_at at (for_loop start test step body)) = refl
+  statement_visible scope (statement_at at (return value)) = refl
 
   otherwise_visible : (scope : Scope) (other : Otherwise) → (otherwise_scope scope other).visible ≡ scope.visible
   otherwise_visible scope without = refl
@@ -35,13 +35,11 @@ extends_on xs ys zs (more, is) (further, then_is) = (more ++ further, then_is �
 parts_extend : (scope : Scope) (parts : List Part) → Extends scope.visible (parts_scope scope parts).visible
 parts_extend scope [] = extends_same scope.visible
 parts_extend scope (part ∷ more) =
-    extends_on scope.visible (scope.visible ++ part.declared ∷ []) (parts_scope (declare scope part.declared) more).visible
-    (part.declared ∷ [], refl) (parts_extend (declare scope part.declared) more)
+    extends_on scope.visible (part_scope scope part).visible (parts_scope (part_scope scope part) more).visible
+    (part.declared.bytes ∷ [], refl) (parts_extend (part_scope scope part) more)
 
 declaration_extends : (scope : Scope) (d : Declaration) → Extends scope.visible (declaration_scope scope d).visible
-declaration_extends scope d =
-    extends_on scope.visible (scope.visible ++ d.part.declared ∷ []) (declaration_scope scope d).visible
-    (d.part.declared ∷ [], refl) (parts_extend (declare scope d.part.declared) d.more)
+declaration_extends scope d = parts_extend scope (d.part ∷ d.more)
 
 items_extend : (scope : Scope) (all : Items) → Extends scope.visible (items_scope scope all).visible
 items_extend scope none = extends_same scope.visible

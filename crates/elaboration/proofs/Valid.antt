@@ -1,5 +1,5 @@
 -- Without faults, expressions have the sorts that their places need.
-use Rattle.std.proofs.Common.{◌≡◌, ℕ, ℤ, ◌<◌, ◌≤◌, ◌+◌, Bool, true, false, nat_lt, ◌&&◌, List, [], ◌∷◌, ◌++◌, Option, None, Some, length, refl, sym, subst, arith, if◌then◌else◌}
+use Rattle.std.proofs.Common.{◌≡◌, ℕ, ℤ, ◌<◌, ◌≤◌, Bool, true, false, nat_lt, ◌&&◌, List, [], ◌∷◌, ◌++◌, Option, None, Some, length, refl, sym, subst, arith, if◌then◌else◌}
 use Rattle.std.proofs.lemmas.Bool.{false≢true}
 use Rattle.std.proofs.lemmas.Int.{ints}
 use Rattle.step_meaning.specs.declared.expression.Op2.{Op2}
@@ -7,14 +7,13 @@ use Rattle.step_meaning.specs.declared.expression.Op2.TheVariants.{Add, Sub, Mul
 use Rattle.step_meaning.specs.Syntax as syntax
 use Rattle.step_meaning.specs.Valid.{IsInOrder, IsNumber, IsTest}
 use Rattle.concrete_syntax.specs.declared.sign.Prefix.{Prefix}
-use Rattle.concrete_syntax.specs.Trees.{End, Operand, number, name, truth, unknown, call, signed, parentheses, range, Tail, ended, further, Expression}
+use Rattle.concrete_syntax.specs.Trees.{End, Operand, operand_at, number, name, truth, unknown, call, signed, parentheses, range, operation, Tail, ended, further, Expression}
 use Rattle.elaboration.specs.declared.fault.Rule.TheVariants.{Unknown, BadRange}
 use Rattle.elaboration.specs.Faults.{fault}
 use Rattle.elaboration.specs.declared.typed.Sort.{Sort}
-use Rattle.elaboration.specs.Widths.{operand_width}
 use Rattle.elaboration.specs.Grouping.{Grouped, leaf, node, attach, tightness}
 use Rattle.elaboration.specs.Scopes.{Scope, Name, is_among, place_of}
-use Rattle.elaboration.specs.Expressions.{Typed, as_test, test_of_sort, mixed_sort, mixed, pair_of, mixed_operands, value, mixed_in, end_value, is_range, is_infinite_as, in_order, range_faults, signed_typed, signed_faults, operand_typed, tail_grouped, grouped, unknown_name, operand_faults, tail_faults, expression_typed, expression_faults, number_faults}
+use Rattle.elaboration.specs.Expressions.{Typed, op_of, as_test, test_of_sort, mixed_sort, mixed, pair_of, mixed_operands, value, mixed_in, end_value, is_range, is_infinite_as, in_order, range_faults, signed_typed, signed_faults, operand_typed, tail_grouped, grouped, unknown_name, operand_faults, tail_faults, expression_typed, expression_faults, number_faults}
 use Rattle.elaboration.proofs.Names.{place_below}
 
 -- two lists that make none are none
@@ -101,21 +100,21 @@ both_true : (a b : Bool) → (a && b) ≡ true → (a ≡ true) × (b ≡ true)
 both_true true b is = (refl, is)
 both_true false b is = absurd (false≢true is)
 
-range_ordered : (n : ℕ) (lo hi : End) → range_faults n lo hi ≡ [] → IsInOrder (end_value lo) (end_value hi)
-range_ordered n lo hi none = by_range (is_range lo hi) refl none
+range_ordered : (at : ℕ) (lo hi : End) → range_faults at lo hi ≡ [] → IsInOrder (end_value lo) (end_value hi)
+range_ordered at lo hi none = by_range (is_range lo hi) refl none
   where
-    by_range : (ok : Bool) → is_range lo hi ≡ ok → (if ok then [] else fault BadRange n ∷ []) ≡ [] → IsInOrder (end_value lo) (end_value hi)
+    by_range : (ok : Bool) → is_range lo hi ≡ ok → (if ok then [] else fault BadRange at ∷ []) ≡ [] → IsInOrder (end_value lo) (end_value hi)
     by_range true e h =
         let all = both_true (is_infinite_as true lo.negative lo.size && is_infinite_as false hi.negative hi.size) (in_order (end_value lo) (end_value hi)) e in
         ordered (end_value lo) (end_value hi) all.1
     by_range false e h = absurd (some_is_not_none _ [] h)
 
 -- a name that may be used is a variable
-pub name_typed : (vars : ℕ) (scope : Scope) (n : ℕ) (x : List ℕ) → IsSound scope → length scope.declared ≤ vars → unknown_name scope n x ≡ []
+pub name_typed : (vars : ℕ) (scope : Scope) (at : ℕ) (x : List ℕ) → IsSound scope → length scope.declared ≤ vars → unknown_name scope at x ≡ []
     → (is_among scope.declared x ≡ true) × (place_of scope.declared x < vars)
-name_typed vars scope n x sound room none = by_visible (is_among scope.visible x) refl none
+name_typed vars scope at x sound room none = by_visible (is_among scope.visible x) refl none
   where
-    by_visible : (seen : Bool) → is_among scope.visible x ≡ seen → (if seen then [] else fault Unknown n ∷ []) ≡ []
+    by_visible : (seen : Bool) → is_among scope.visible x ≡ seen → (if seen then [] else fault Unknown at ∷ []) ≡ []
         → (is_among scope.declared x ≡ true) × (place_of scope.declared x < vars)
     by_visible true e h =
         let known = sound x e in
@@ -123,57 +122,51 @@ name_typed vars scope n x sound room none = by_visible (is_among scope.visible x
         (known, omega arith)
     by_visible false e h = absurd (some_is_not_none _ [] h)
 
-signed_is_typed : (vars n : ℕ) (prefix : Prefix) (t : Typed) → IsTyped vars t → signed_faults prefix t ≡ [] → IsTyped vars (signed_typed prefix n t)
-signed_is_typed vars n Prefix.Plus t is none = number_typed vars t is none
-signed_is_typed vars n Prefix.Minus t is none = number_typed vars t is none
-signed_is_typed vars n Prefix.Not t is none = test_typed vars t is
+signed_is_typed : (vars at : ℕ) (prefix : Prefix) (t : Typed) → IsTyped vars t → signed_faults prefix t ≡ [] → IsTyped vars (signed_typed prefix at t)
+signed_is_typed vars at Prefix.Plus t is none = number_typed vars t is none
+signed_is_typed vars at Prefix.Minus t is none = number_typed vars t is none
+signed_is_typed vars at Prefix.Not t is none = test_typed vars t is
 
 mutual
-  pub operand_is_typed : (vars : ℕ) (scope : Scope) → IsSound scope → length scope.declared ≤ vars → (n : ℕ) (e : Operand)
-      → operand_faults scope n e ≡ [] → IsTyped vars (operand_typed scope n e)
-  operand_is_typed vars scope sound room n (number z) none = tt
-  operand_is_typed vars scope sound room n (name x) none = (name_typed vars scope n x sound room none).1
-  operand_is_typed vars scope sound room n (truth b) none = tt
-  operand_is_typed vars scope sound room n unknown none = refl
-  operand_is_typed vars scope sound room n call none = refl
-  operand_is_typed vars scope sound room n (signed prefix e) none =
-      let parts = both_none (operand_faults scope (n + 1) e) (signed_faults prefix (operand_typed scope (n + 1) e)) none in
-      signed_is_typed vars n prefix (operand_typed scope (n + 1) e) (operand_is_typed vars scope sound room (n + 1) e parts.0) parts.1
-  operand_is_typed vars scope sound room n (parentheses e more) none =
-      let outer = both_none (operand_faults scope (n + 1) e) (tail_faults scope (n + 1 + operand_width e) more ++ mixed_in (grouped scope (n + 1) e more)) none in
-      let inner = both_none (tail_faults scope (n + 1 + operand_width e) more) (mixed_in (grouped scope (n + 1) e more)) outer.1 in
-      value_typed vars (grouped scope (n + 1) e more)
-      (tail_is_typed vars scope sound room (n + 1 + operand_width e) (leaf (operand_typed scope (n + 1) e)) more
-      (operand_is_typed vars scope sound room (n + 1) e outer.0) inner.0)
+  pub operand_is_typed : (vars : ℕ) (scope : Scope) → IsSound scope → length scope.declared ≤ vars → (e : Operand)
+      → operand_faults scope e ≡ [] → IsTyped vars (operand_typed scope e)
+  operand_is_typed vars scope sound room (operand_at at (number z)) none = tt
+  operand_is_typed vars scope sound room (operand_at at (name x)) none = (name_typed vars scope at x sound room none).1
+  operand_is_typed vars scope sound room (operand_at at (truth b)) none = tt
+  operand_is_typed vars scope sound room (operand_at at unknown) none = refl
+  operand_is_typed vars scope sound room (operand_at at call) none = refl
+  operand_is_typed vars scope sound room (operand_at at (signed prefix e)) none =
+      let parts = both_none (operand_faults scope e) (signed_faults prefix (operand_typed scope e)) none in
+      signed_is_typed vars at prefix (operand_typed scope e) (operand_is_typed vars scope sound room e parts.0) parts.1
+  operand_is_typed vars scope sound room (operand_at at (parentheses e more)) none =
+      let outer = both_none (operand_faults scope e) (tail_faults scope more ++ mixed_in (grouped scope e more)) none in
+      let inner = both_none (tail_faults scope more) (mixed_in (grouped scope e more)) outer.1 in
+      value_typed vars (grouped scope e more)
+      (tail_is_typed vars scope sound room (leaf (operand_typed scope e)) more (operand_is_typed vars scope sound room e outer.0) inner.0)
       inner.1
-  operand_is_typed vars scope sound room n (range lo hi) none = range_ordered n lo hi none
+  operand_is_typed vars scope sound room (operand_at at (range lo hi)) none = range_ordered at lo hi none
 
-  pub tail_is_typed : (vars : ℕ) (scope : Scope) → IsSound scope → length scope.declared ≤ vars → (n : ℕ) (so_far : Grouped Typed) (more : Tail)
-      → AllTyped vars so_far → tail_faults scope n more ≡ [] → AllTyped vars (tail_grouped scope n so_far more)
-  tail_is_typed vars scope sound room n so_far ended all none = all
-  tail_is_typed vars scope sound room n so_far (further op e more) all none =
-      let parts = both_none (operand_faults scope (n + 1) e) (tail_faults scope (n + 1 + operand_width e) more) none in
-      tail_is_typed vars scope sound room (n + 1 + operand_width e) (attach so_far op (operand_typed scope (n + 1) e)) more
-      (attach_typed vars so_far op (operand_typed scope (n + 1) e) all (operand_is_typed vars scope sound room (n + 1) e parts.0))
+  pub tail_is_typed : (vars : ℕ) (scope : Scope) → IsSound scope → length scope.declared ≤ vars → (so_far : Grouped Typed) (more : Tail)
+      → AllTyped vars so_far → tail_faults scope more ≡ [] → AllTyped vars (tail_grouped scope so_far more)
+  tail_is_typed vars scope sound room so_far ended all none = all
+  tail_is_typed vars scope sound room so_far (further (operation op e) more) all none =
+      let parts = both_none (operand_faults scope e) (tail_faults scope more) none in
+      tail_is_typed vars scope sound room (attach so_far (op_of op) (operand_typed scope e)) more
+      (attach_typed vars so_far (op_of op) (operand_typed scope e) all (operand_is_typed vars scope sound room e parts.0))
       parts.1
 
-expression_is_typed : (vars : ℕ) (scope : Scope) → IsSound scope → length scope.declared ≤ vars → (n : ℕ) (e : Expression)
-    → expression_faults scope n e ≡ [] → IsTyped vars (expression_typed scope n e)
-expression_is_typed vars scope sound room n e none =
-    let outer = both_none (operand_faults scope n e.operand) (tail_faults scope (n + operand_width e.operand) e.tail ++ mixed_in (grouped scope n e.operand e.tail)) none in
-    let inner = both_none (tail_faults scope (n + operand_width e.operand) e.tail) (mixed_in (grouped scope n e.operand e.tail)) outer.1 in
-    value_typed vars (grouped scope n e.operand e.tail)
-    (tail_is_typed vars scope sound room (n + operand_width e.operand) (leaf (operand_typed scope n e.operand)) e.tail
-    (operand_is_typed vars scope sound room n e.operand outer.0) inner.0)
-    inner.1
+-- an expression is typed as it is in parentheses
+expression_is_typed : (vars : ℕ) (scope : Scope) → IsSound scope → length scope.declared ≤ vars → (e : Expression)
+    → expression_faults scope e ≡ [] → IsTyped vars (expression_typed scope e)
+expression_is_typed vars scope sound room e none = operand_is_typed vars scope sound room (operand_at 0 (parentheses e.operand e.tail)) none
 
-pub expression_is_number : (vars : ℕ) (scope : Scope) → IsSound scope → length scope.declared ≤ vars → (n : ℕ) (e : Expression)
-    → number_faults scope n e ≡ [] → IsNumber vars (expression_typed scope n e).meaning
-expression_is_number vars scope sound room n e none =
-    let parts = both_none (expression_faults scope n e) (mixed (expression_typed scope n e)) none in
-    number_typed vars (expression_typed scope n e) (expression_is_typed vars scope sound room n e parts.0) parts.1
+pub expression_is_number : (vars : ℕ) (scope : Scope) → IsSound scope → length scope.declared ≤ vars → (e : Expression)
+    → number_faults scope e ≡ [] → IsNumber vars (expression_typed scope e).meaning
+expression_is_number vars scope sound room e none =
+    let parts = both_none (expression_faults scope e) (mixed (expression_typed scope e)) none in
+    number_typed vars (expression_typed scope e) (expression_is_typed vars scope sound room e parts.0) parts.1
 
-pub expression_is_test : (vars : ℕ) (scope : Scope) → IsSound scope → length scope.declared ≤ vars → (n : ℕ) (e : Expression)
-    → expression_faults scope n e ≡ [] → IsTest vars (as_test (expression_typed scope n e))
-expression_is_test vars scope sound room n e none =
-    test_typed vars (expression_typed scope n e) (expression_is_typed vars scope sound room n e none)
+pub expression_is_test : (vars : ℕ) (scope : Scope) → IsSound scope → length scope.declared ≤ vars → (e : Expression)
+    → expression_faults scope e ≡ [] → IsTest vars (as_test (expression_typed scope e))
+expression_is_test vars scope sound room e none =
+    test_typed vars (expression_typed scope e) (expression_is_typed vars scope sound room e none)

@@ -5,7 +5,6 @@ use Rattle.concrete_syntax.specs.Trees.{Program}
 use Rattle.elaboration.specs.declared.fault.Fault as faults
 use Rattle.elaboration.specs.declared.front.Refusal.{Refusal}
 use Rattle.elaboration.specs.declared.front.Refusal.TheVariants.{Fault, Memory}
-use Rattle.elaboration.specs.Widths.{head_width}
 use Rattle.elaboration.specs.Scopes.{Scope, Name}
 use Rattle.elaboration.specs.Faults.{IsFirstOf}
 use Rattle.elaboration.specs.Statements.{items_scope, items_faults, items_meaning}
@@ -16,14 +15,14 @@ no_names = record { declared = []; visible = [] }
 
 -- all faults of names and sorts of a program
 abbrev pub faults_of : Program → List faults.Fault
-faults_of p = items_faults no_names (head_width p) p.items
+faults_of p = items_faults no_names p.items
 
 -- the program's names and body
 abbrev pub names_of : Program → List Name
 names_of p = (items_scope no_names p.items).declared
 
 abbrev pub body_of : Program → Statements
-body_of p = of_list (items_meaning no_names (head_width p) p.items)
+body_of p = of_list (items_meaning no_names p.items)
 
 -- the tree has no such fault, and stands for the program of these names and this body
 pub record StandsFor (p : Program) (names : List Name) (body : Statements) : Type 0 where

@@ -3,16 +3,16 @@
 -- Comparisons, `&&`, `||`, `!`, `true` and `false` are truth values. The operands of `&&`, `||` and `!` are tests, those of comparisons
 -- and of arithmetic are numbers, a sign `+` among it. A number as a test means that it isn't 0. `?` takes the sort of its place, and
 -- `__VERIFIER_nondet_int()` is the same.
-use Rattle.std.specs.Prelude.{ℕ, ◌+◌, ℤ, neg_ℤ, int_le, pos, Bool, true, false, ◌&&◌, not, if◌then◌else◌, List, [], ◌∷◌, ◌++◌, Option, None, Some}
+use Rattle.std.specs.Prelude.{ℕ, ℤ, neg_ℤ, int_le, pos, Bool, true, false, ◌&&◌, not, if◌then◌else◌, List, [], ◌∷◌, ◌++◌, Option, None, Some}
 use Rattle.step_meaning.specs.declared.expression.Op2.{Op2}
-use Rattle.step_meaning.specs.declared.expression.Op2.TheVariants.{Add, Sub, Mul, NotEqual, And, Or}
+use Rattle.step_meaning.specs.declared.expression.Op2.TheVariants.{Add, Sub, Mul, Less, LessEqual, Greater, GreaterEqual, Equal, NotEqual, And, Or}
 use Rattle.step_meaning.specs.Syntax as syntax
+use Rattle.concrete_syntax.specs.declared.sign.Operator.{Operator}
 use Rattle.concrete_syntax.specs.declared.sign.Prefix.{Prefix}
-use Rattle.concrete_syntax.specs.Trees.{End, Operand, number, name, truth, unknown, call, signed, parentheses, range, Tail, ended, further, Expression}
+use Rattle.concrete_syntax.specs.Trees.{End, Operand, operand_at, OperandKind, number, name, truth, unknown, call, signed, parentheses, range, operation, Tail, ended, further, Expression}
 use Rattle.elaboration.specs.declared.fault.Fault.{Fault}
 use Rattle.elaboration.specs.declared.fault.Rule.TheVariants.{Unknown, Mixed, BadRange}
 use Rattle.elaboration.specs.declared.typed.Sort.{Sort}
-use Rattle.elaboration.specs.Widths.{operand_width}
 use Rattle.elaboration.specs.Grouping.{Grouped, leaf, node, attach}
 use Rattle.elaboration.specs.Scopes.{Scope, is_among, place_of}
 use Rattle.elaboration.specs.Faults.{fault}
@@ -86,74 +86,87 @@ in_order _ _ = true
 abbrev pub is_range : End → End → Bool
 is_range lo hi = is_infinite_as true lo.negative lo.size && is_infinite_as false hi.negative hi.size && in_order (end_value lo) (end_value hi)
 
--- a sign at the token `n` and the operand behind it, and the operand's faults in its place
+-- a sign and the operand behind it, and the operand's faults in its place
 abbrev pub signed_typed : Prefix → ℕ → Typed → Typed
-signed_typed Prefix.Plus n t = typed n Sort.Number t.meaning
-signed_typed Prefix.Minus n t = typed n Sort.Number (syntax.negative t.meaning)
-signed_typed Prefix.Not n t = typed n Sort.Truth (syntax.negation (as_test t))
+signed_typed Prefix.Plus at t = typed at Sort.Number t.meaning
+signed_typed Prefix.Minus at t = typed at Sort.Number (syntax.negative t.meaning)
+signed_typed Prefix.Not at t = typed at Sort.Truth (syntax.negation (as_test t))
 
 abbrev pub signed_faults : Prefix → Typed → List Fault
 signed_faults Prefix.Not t = []
 signed_faults prefix t = mixed t
 
 abbrev pub range_faults : ℕ → End → End → List Fault
-range_faults n lo hi = if is_range lo hi then [] else fault BadRange n ∷ []
+range_faults at lo hi = if is_range lo hi then [] else fault BadRange at ∷ []
+
+-- what a written operator means
+abbrev pub op_of : Operator → Op2
+op_of Operator.Or = Or
+op_of Operator.And = And
+op_of Operator.Equal = Equal
+op_of Operator.NotEqual = NotEqual
+op_of Operator.Less = Less
+op_of Operator.LessEqual = LessEqual
+op_of Operator.Greater = Greater
+op_of Operator.GreaterEqual = GreaterEqual
+op_of Operator.Add = Add
+op_of Operator.Subtract = Sub
+op_of Operator.Multiply = Mul
 
 -- what stands in parentheses begins with their `(`
 abbrev pub from_token : ℕ → Typed → Typed
-from_token n t = typed n t.sort t.meaning
+from_token at t = typed at t.sort t.meaning
 
--- operands, and tails behind what is grouped already, from the token of the number `n` on
+-- operands, and tails behind what is grouped already
 abbrev mutual
-  pub operand_typed : Scope → ℕ → Operand → Typed
-  operand_typed scope n (number z) = typed n Sort.Number (syntax.number z)
-  operand_typed scope n (name x) = typed n Sort.Number (syntax.variable (place_of scope.declared x))
-  operand_typed scope n (truth b) = typed n Sort.Truth (syntax.truth b)
-  operand_typed scope n unknown = typed n Sort.Either syntax.free
-  operand_typed scope n call = typed n Sort.Either syntax.free
-  operand_typed scope n (signed prefix e) = signed_typed prefix n (operand_typed scope (n + 1) e)
-  operand_typed scope n (parentheses e more) =
-      from_token n (value (tail_grouped scope (n + 1 + operand_width e) (leaf (operand_typed scope (n + 1) e)) more))
-  operand_typed scope n (range lo hi) = typed n Sort.Number (syntax.range (end_value lo) (end_value hi))
+  pub operand_typed : Scope → Operand → Typed
+  operand_typed scope (operand_at at kind) = kind_typed scope at kind
 
-  pub tail_grouped : Scope → ℕ → Grouped Typed → Tail → Grouped Typed
-  tail_grouped scope n so_far ended = so_far
-  tail_grouped scope n so_far (further op e more) =
-      tail_grouped scope (n + 1 + operand_width e) (attach so_far op (operand_typed scope (n + 1) e)) more
+  pub kind_typed : Scope → ℕ → OperandKind → Typed
+  kind_typed scope at (number z) = typed at Sort.Number (syntax.number z)
+  kind_typed scope at (name x) = typed at Sort.Number (syntax.variable (place_of scope.declared x))
+  kind_typed scope at (truth b) = typed at Sort.Truth (syntax.truth b)
+  kind_typed scope at unknown = typed at Sort.Either syntax.free
+  kind_typed scope at call = typed at Sort.Either syntax.free
+  kind_typed scope at (signed prefix e) = signed_typed prefix at (operand_typed scope e)
+  kind_typed scope at (parentheses e more) = from_token at (value (tail_grouped scope (leaf (operand_typed scope e)) more))
+  kind_typed scope at (range lo hi) = typed at Sort.Number (syntax.range (end_value lo) (end_value hi))
+
+  pub tail_grouped : Scope → Grouped Typed → Tail → Grouped Typed
+  tail_grouped scope so_far ended = so_far
+  tail_grouped scope so_far (further (operation op e) more) =
+      tail_grouped scope (attach so_far (op_of op) (operand_typed scope e)) more
 
 -- an expression is what its grouped operands are together
-abbrev pub grouped : Scope → ℕ → Operand → Tail → Grouped Typed
-grouped scope n e more = tail_grouped scope (n + operand_width e) (leaf (operand_typed scope n e)) more
+abbrev pub grouped : Scope → Operand → Tail → Grouped Typed
+grouped scope e more = tail_grouped scope (leaf (operand_typed scope e)) more
 
-abbrev pub expression_typed : Scope → ℕ → Expression → Typed
-expression_typed scope n e = value (grouped scope n e.operand e.tail)
+abbrev pub expression_typed : Scope → Expression → Typed
+expression_typed scope e = value (grouped scope e.operand e.tail)
 
 -- a name that may not be used here
 abbrev pub unknown_name : Scope → ℕ → List ℕ → List Fault
-unknown_name scope n x = if is_among scope.visible x then [] else fault Unknown n ∷ []
+unknown_name scope at x = if is_among scope.visible x then [] else fault Unknown at ∷ []
 
 abbrev mutual
-  pub operand_faults : Scope → ℕ → Operand → List Fault
-  operand_faults scope n (name x) = unknown_name scope n x
-  operand_faults scope n (signed prefix e) = operand_faults scope (n + 1) e ++ signed_faults prefix (operand_typed scope (n + 1) e)
-  operand_faults scope n (parentheses e more) =
-      operand_faults scope (n + 1) e
-      ++ (tail_faults scope (n + 1 + operand_width e) more ++ mixed_in (grouped scope (n + 1) e more))
-  operand_faults scope n (range lo hi) = range_faults n lo hi
-  operand_faults scope n _ = []
+  pub operand_faults : Scope → Operand → List Fault
+  operand_faults scope (operand_at at kind) = kind_faults scope at kind
 
-  pub tail_faults : Scope → ℕ → Tail → List Fault
-  tail_faults scope n ended = []
-  tail_faults scope n (further op e more) =
-      operand_faults scope (n + 1) e ++ tail_faults scope (n + 1 + operand_width e) more
+  pub kind_faults : Scope → ℕ → OperandKind → List Fault
+  kind_faults scope at (name x) = unknown_name scope at x
+  kind_faults scope at (signed prefix e) = operand_faults scope e ++ signed_faults prefix (operand_typed scope e)
+  kind_faults scope at (parentheses e more) = operand_faults scope e ++ (tail_faults scope more ++ mixed_in (grouped scope e more))
+  kind_faults scope at (range lo hi) = range_faults at lo hi
+  kind_faults scope at _ = []
 
--- the faults of an expression by its first operand and its tail; and of one in the place of a number
-abbrev pub whole_faults : Scope → ℕ → Operand → Tail → List Fault
-whole_faults scope n e more =
-    operand_faults scope n e ++ (tail_faults scope (n + operand_width e) more ++ mixed_in (grouped scope n e more))
+  pub tail_faults : Scope → Tail → List Fault
+  tail_faults scope ended = []
+  tail_faults scope (further (operation op e) more) = operand_faults scope e ++ tail_faults scope more
 
-abbrev pub expression_faults : Scope → ℕ → Expression → List Fault
-expression_faults scope n e = whole_faults scope n e.operand e.tail
+-- the faults of an expression, and of one in the place of a number
+abbrev pub expression_faults : Scope → Expression → List Fault
+expression_faults scope e =
+    operand_faults scope e.operand ++ (tail_faults scope e.tail ++ mixed_in (grouped scope e.operand e.tail))
 
-abbrev pub number_faults : Scope → ℕ → Expression → List Fault
-number_faults scope n e = expression_faults scope n e ++ mixed (expression_typed scope n e)
+abbrev pub number_faults : Scope → Expression → List Fault
+number_faults scope e = expression_faults scope e ++ mixed (expression_typed scope e)

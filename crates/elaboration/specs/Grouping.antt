@@ -37,7 +37,7 @@ abbrev pub further_operands : {A : Type 0} → Grouped A → List (Op2 × A)
 further_operands (leaf a) = []
 further_operands (node op l r) = further_operands l ++ (op, first_operand r) ∷ further_operands r
 
--- every operator of the group binds at least so tightly, or more tightly
+-- the outermost operator of the group binds at least so tightly, or more tightly; in a group by the ladder so does every other
 abbrev pub BindsAtLeast : {A : Type 0} → ℕ → Grouped A → Type 0
 BindsAtLeast k (leaf a) = ⊤
 BindsAtLeast k (node op l r) = k ≤ tightness op

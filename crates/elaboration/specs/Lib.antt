@@ -1,4 +1,3 @@
-pub mod Widths
 pub mod Grouping
 pub mod Scopes
 pub mod Faults

@@ -1,105 +1,109 @@
 //! Expressions. Only nesting recurses: the operators and operands of one expression are walked by a loop.
 
-ghost use Rattle.std.specs.Prelude.{◌≡◌, ◌+◌, ◌<◌, ◌^◌, IfOk};
+ghost use Rattle.std.specs.Prelude.{◌≡◌, ◌++◌, IfOk, OnOk};
 ghost use Rattle.concrete_syntax.specs.Mirror.{operand as operand_of, tail as tail_of, expression as expression_of, range_end};
 ghost use Rattle.step_meaning.specs.Syntax as syntax;
-ghost use Rattle.elaboration.specs.Expressions.{value, grouped, operand_typed, operand_faults, expression_typed, expression_faults, number_faults, as_test, end_value, range_faults, is_infinite_as, in_order, signed_typed, signed_faults, whole_faults};
+ghost use Rattle.elaboration.specs.Expressions.{value, mixed_in, op_of, operand_typed, operand_faults, tail_grouped, tail_faults, expression_typed, expression_faults, number_faults, as_test, end_value, range_faults, is_infinite_as, in_order, signed_typed, signed_faults};
+ghost use Rattle.elaboration.specs.Grouping.{leaf};
 ghost use Rattle.elaboration.specs.Faults.{earliest};
 ghost use Rattle.elaboration.specs.Typing.{typed_of};
-ghost use Rattle.elaboration.specs.Widths.{operand_width, tail_width, expression_width, end_width};
 
 use crate::fault::{Fault, Rule, report};
 use crate::grouping::Grouping;
 use crate::scope::Scope;
 use crate::typed::{Sort, Typed};
-use concrete_syntax::{End, Expression, Operand, Prefix, Tail};
+use concrete_syntax::{End, Expression, Link, Operand, OperandKind, Operator, Prefix, Tail};
 use std::alloc::{AllocError, Global};
-use step_meaning::Expr;
+use step_meaning::{Expr, Op2};
 
-/// An expression in the place of a number, from the token `at` on, and the number of the token behind it. Faults are reported.
+/// An expression in the place of a number. Faults are reported.
 #[tactic(auto, using(crate::proofs::Firsts::earliest_more))]
 pub fn number(
     alloc: Global,
     scope: &Scope,
     tree: &Expression,
-    at: usize,
     least: &mut Option<Fault>,
-) -> Result<(Expr, usize), AllocError>
-    requires { at + expression_width (expression_of tree.now) < 2 ^ 64 }
-    ensures meaning { IfOk result (λ found. syntax.expression found.0 ≡ (expression_typed scope.now at (expression_of tree.now)).meaning) }
-    ensures faults { IfOk result (λ _. least.new ≡ earliest least.old (number_faults scope.now at (expression_of tree.now))) }
-    ensures next { IfOk result (λ found. found.1 ≡ at + expression_width (expression_of tree.now)) }
+) -> Result<Expr, AllocError>
+    ensures meaning { IfOk result (λ made. syntax.expression made ≡ (expression_typed scope.now (expression_of tree.now)).meaning) }
+    ensures faults { OnOk result (least.new ≡ earliest least.old (number_faults scope.now (expression_of tree.now))) }
 {
-    let (typed, next) = expression(alloc, scope, &tree.operand, &tree.tail, at, least)?;
-    Ok((typed.into_number(least), next))
+    let typed = expression(alloc, scope, tree, least)?;
+    Ok(typed.into_number(least))
 }
 
-/// An expression in the place of a test.
+/// An expression in the place of a test. Faults are reported.
 pub fn test(
     alloc: Global,
     scope: &Scope,
     tree: &Expression,
-    at: usize,
     least: &mut Option<Fault>,
-) -> Result<(Expr, usize), AllocError>
-    requires { at + expression_width (expression_of tree.now) < 2 ^ 64 }
-    ensures meaning { IfOk result (λ found. syntax.expression found.0 ≡ as_test (expression_typed scope.now at (expression_of tree.now))) }
-    ensures faults { IfOk result (λ _. least.new ≡ earliest least.old (expression_faults scope.now at (expression_of tree.now))) }
-    ensures next { IfOk result (λ found. found.1 ≡ at + expression_width (expression_of tree.now)) }
+) -> Result<Expr, AllocError>
+    ensures meaning { IfOk result (λ made. syntax.expression made ≡ as_test (expression_typed scope.now (expression_of tree.now))) }
+    ensures faults { OnOk result (least.new ≡ earliest least.old (expression_faults scope.now (expression_of tree.now))) }
 {
-    let (typed, next) = expression(alloc, scope, &tree.operand, &tree.tail, at, least)?;
-    Ok((typed.into_test(alloc)?, next))
+    let typed = expression(alloc, scope, tree, least)?;
+    typed.into_test(alloc)
 }
 
-/// An expression whose value isn't asked for.
-pub fn any(
+/// An expression with the sort that it has. Faults are reported.
+#[tactic(auto, using(crate::proofs::Firsts::earliest_more))]
+pub fn expression(
     alloc: Global,
     scope: &Scope,
     tree: &Expression,
-    at: usize,
     least: &mut Option<Fault>,
-) -> Result<usize, AllocError>
-    requires { at + expression_width (expression_of tree.now) < 2 ^ 64 }
-    ensures faults { IfOk result (λ _. least.new ≡ earliest least.old (expression_faults scope.now at (expression_of tree.now))) }
-    ensures next { IfOk result (λ next. next ≡ at + expression_width (expression_of tree.now)) }
+) -> Result<Typed, AllocError>
+    ensures typed { IfOk result (λ typed. typed_of typed ≡ expression_typed scope.now (expression_of tree.now)) }
+    ensures faults { OnOk result (least.new ≡ earliest least.old (expression_faults scope.now (expression_of tree.now))) }
 {
-    let (_, next) = expression(alloc, scope, &tree.operand, &tree.tail, at, least)?;
-    Ok(next)
+    let first = operand(alloc, scope, &tree.operand, least)?;
+    grouped(alloc, scope, first, &tree.tail, least)
 }
 
-// An expression by its first operand and its tail.
+// What an operand and the tail behind it are together.
 #[cycle(expressions)]
 #[tactic(auto, using(crate::proofs::Firsts::earliest_more))]
-fn expression(
+fn grouped(
     alloc: Global,
     scope: &Scope,
-    first: &Operand,
+    first: Typed,
     tail: &Tail,
-    at: usize,
     least: &mut Option<Fault>,
-) -> Result<(Typed, usize), AllocError>
-    requires { at + operand_width (operand_of first.now) + tail_width (tail_of tail.now) < 2 ^ 64 }
-    ensures typed { IfOk result (λ found. typed_of found.0 ≡ value (grouped scope.now at (operand_of first.now) (tail_of tail.now))) }
-    ensures faults { IfOk result (λ _. least.new ≡ earliest least.old (whole_faults scope.now at (operand_of first.now) (tail_of tail.now))) }
-    ensures next { IfOk result (λ found. found.1 ≡ at + operand_width (operand_of first.now) + tail_width (tail_of tail.now)) }
+) -> Result<Typed, AllocError>
+    ensures typed { IfOk result (λ typed. typed_of typed ≡ value (tail_grouped scope.now (leaf (typed_of first)) (tail_of tail.now))) }
+    ensures faults { OnOk result (least.new ≡ earliest least.old (tail_faults scope.now (tail_of tail.now) ++ mixed_in (tail_grouped scope.now (leaf (typed_of first)) (tail_of tail.now)))) }
 {
-    let (typed, next) = operand(alloc, scope, first, at, least)?;
-    let mut group = Grouping::Operand(typed);
-    let mut here = next;
+    let mut group = Grouping::Operand(first);
     let mut left = tail;
     while let Tail::Further {
-        op,
-        operand: e,
+        link: Link::Operation { op, operand: e },
         rest,
     } = left
     {
-        let (typed, next) = operand(alloc, scope, e, here + 1, least)?;
-        group = group.attach(alloc, *op, typed)?;
-        here = next;
+        let right = operand(alloc, scope, e, least)?;
+        group = group.attach(alloc, op_of(*op), right)?;
         left = rest;
     }
-    let typed = group.value(alloc, least)?;
-    Ok((typed, here))
+    group.value(alloc, least)
+}
+
+// What a written operator means.
+fn op_of(op: Operator) -> Op2
+    ensures { result ≡ op_of op }
+{
+    match op {
+        Operator::Or => Op2::Or,
+        Operator::And => Op2::And,
+        Operator::Equal => Op2::Equal,
+        Operator::NotEqual => Op2::NotEqual,
+        Operator::Less => Op2::Less,
+        Operator::LessEqual => Op2::LessEqual,
+        Operator::Greater => Op2::Greater,
+        Operator::GreaterEqual => Op2::GreaterEqual,
+        Operator::Add => Op2::Add,
+        Operator::Subtract => Op2::Sub,
+        Operator::Multiply => Op2::Mul,
+    }
 }
 
 // An operand.
@@ -109,38 +113,30 @@ fn operand(
     alloc: Global,
     scope: &Scope,
     tree: &Operand,
-    at: usize,
     least: &mut Option<Fault>,
-) -> Result<(Typed, usize), AllocError>
-    requires { at + operand_width (operand_of tree.now) < 2 ^ 64 }
-    ensures typed { IfOk result (λ found. typed_of found.0 ≡ operand_typed scope.now at (operand_of tree.now)) }
-    ensures faults { IfOk result (λ _. least.new ≡ earliest least.old (operand_faults scope.now at (operand_of tree.now))) }
-    ensures next { IfOk result (λ found. found.1 ≡ at + operand_width (operand_of tree.now)) }
+) -> Result<Typed, AllocError>
+    ensures typed { IfOk result (λ typed. typed_of typed ≡ operand_typed scope.now (operand_of tree.now)) }
+    ensures faults { OnOk result (least.new ≡ earliest least.old (operand_faults scope.now (operand_of tree.now))) }
 {
-    match tree {
-        Operand::Number(value) => Ok((typed(at, Sort::Number, Expr::Number(*value)), at + 1)),
-        Operand::Name(name) => {
+    let at = tree.at;
+    match &tree.kind {
+        OperandKind::Number(value) => Ok(typed(at, Sort::Number, Expr::Number(*value))),
+        OperandKind::Name(name) => {
             scope.need_visible(name, at, least);
-            Ok((
-                typed(at, Sort::Number, Expr::Name(scope.place(name))),
-                at + 1,
-            ))
+            Ok(typed(at, Sort::Number, Expr::Name(scope.place(name))))
         }
-        Operand::Truth(value) => Ok((typed(at, Sort::Truth, truth(*value)), at + 1)),
-        Operand::Unknown => Ok((typed(at, Sort::Either, Expr::Free), at + 1)),
-        Operand::Call => Ok((typed(at, Sort::Either, Expr::Free), at + 3)),
-        Operand::Signed { prefix, operand: e } => {
-            let (inner, next) = operand(alloc, scope, e, at + 1, least)?;
-            Ok((signed(alloc, *prefix, at, inner, least)?, next))
+        OperandKind::Truth(value) => Ok(typed(at, Sort::Truth, truth(*value))),
+        OperandKind::Unknown | OperandKind::Call => Ok(typed(at, Sort::Either, Expr::Free)),
+        OperandKind::Signed { prefix, operand: e } => {
+            let inner = operand(alloc, scope, e, least)?;
+            signed(alloc, *prefix, at, inner, least)
         }
-        Operand::Parentheses { operand: e, tail } => {
-            let (inner, next) = expression(alloc, scope, e, tail, at + 1, least)?;
-            Ok((typed(at, inner.sort, inner.expr), next + 1))
+        OperandKind::Parentheses { operand: e, tail } => {
+            let first = operand(alloc, scope, e, least)?;
+            let inner = grouped(alloc, scope, first, tail, least)?;
+            Ok(typed(at, inner.sort, inner.expr))
         }
-        Operand::Range { low, high } => {
-            let next = at + 3 + tokens(low) + tokens(high);
-            Ok((range(*low, *high, at, least), next))
-        }
+        OperandKind::Range { low, high } => Ok(range(*low, *high, at, least)),
     }
 }
 
@@ -217,11 +213,4 @@ fn in_order(lo: Option<i64>, hi: Option<i64>) -> bool
         (Some(lo), Some(hi)) => lo <= hi,
         _ => true,
     }
-}
-
-// How many tokens an end has.
-fn tokens(end: &End) -> usize
-    ensures { result ≡ end_width (range_end end.now) }
-{
-    if end.negative { 2 } else { 1 }
 }

@@ -1,17 +1,16 @@
 //! The front door: the program that a tree stands for.
 
-ghost use Rattle.std.specs.Prelude.{◌≡◌, ◌+◌, ◌<◌, ◌^◌, IfOk, IfErr};
-ghost use Rattle.concrete_syntax.specs.Mirror.{program as program_of, prelude as prelude_of};
+ghost use Rattle.std.specs.Prelude.{◌≡◌, IfOk, IfErr};
+ghost use Rattle.concrete_syntax.specs.Mirror.{program as program_of};
 ghost use Rattle.step_meaning.specs.Syntax.{statements};
 ghost use Rattle.step_meaning.specs.Places.{places};
 ghost use Rattle.elaboration.specs.Places.{program_places};
 ghost use Rattle.elaboration.specs.Elaborates.{StandsFor, IsRefusalOf};
-ghost use Rattle.elaboration.specs.Widths.{head_width, program_width, prelude_width};
 
 use crate::fault::Fault;
 use crate::scope::Scope;
 use crate::statement::items;
-use concrete_syntax::{Prelude, Program as Tree};
+use concrete_syntax::Program as Tree;
 use source_lex::Token;
 use std::alloc::{AllocError, Global};
 use step_meaning::{Block, Program};
@@ -42,7 +41,6 @@ impl From<AllocError> for Refusal {
 /// `Fault` comes exactly where a name is used outside its scope or declared twice, a truth value stands where a number is needed, a
 /// range is upside down or infinite the wrong way, or a sixteenth name is declared; `Memory` where memory runs out.
 pub fn elaborate(alloc: Global, tree: &Tree, tokens: &[Token]) -> Result<Program, Refusal>
-    requires { program_width (program_of tree.now) < 2 ^ 64 }
     ensures program { IfOk result (λ program. StandsFor (program_of tree.now) program.names (statements program.body)) }
     ensures places { IfOk result (λ program. places program.body ≡ program_places tokens.now (program_of tree.now)) }
     ensures refusal { IfErr result (IsRefusalOf (program_of tree.now)) }
@@ -50,13 +48,11 @@ pub fn elaborate(alloc: Global, tree: &Tree, tokens: &[Token]) -> Result<Program
     let mut scope = Scope::new(alloc);
     let mut least = None;
     let mut list = Vec::new(alloc);
-    let first = head(tree);
-    let _ = items(
+    items(
         alloc,
         tokens,
         &mut scope,
         &tree.items,
-        first,
         &mut least,
         &mut list,
     )?;
@@ -66,25 +62,4 @@ pub fn elaborate(alloc: Global, tree: &Tree, tokens: &[Token]) -> Result<Program
     let names = scope.into_names(alloc)?;
     let body = Block::of(alloc, list)?;
     Ok(Program { names, body })
-}
-
-// How many tokens stand before the items of `main`.
-fn head(tree: &Tree) -> usize
-    requires { program_width (program_of tree.now) < 2 ^ 64 }
-    ensures { result ≡ head_width (program_of tree.now) }
-{
-    let mut width = 0;
-    for prelude in tree.preludes.iter() {
-        width += prelude_tokens(prelude);
-    }
-    width + if tree.void { 6 } else { 5 }
-}
-
-fn prelude_tokens(prelude: &Prelude) -> usize
-    ensures { result ≡ prelude_width (prelude_of prelude.now) }
-{
-    match prelude {
-        Prelude::ExternCall { void } => { if *void { 7 } else { 6 } }
-        Prelude::TypedefBool => 9,
-    }
 }

@@ -1,7 +1,7 @@
 //! Elaboration: names and sorts of a concrete tree, and the program that it stands for.
-//! Front door: `elaborate`. Stands on the concrete trees of `concrete_syntax` and the programs of `step_meaning`. In `specs/`: how many
-//! tokens a tree has (Widths), how operators group (Grouping), which names may be used where (Scopes), what expressions and statements
-//! stand for, with their faults (Expressions, Statements, Faults), and all of it at a program (Elaborates).
+//! Front door: `elaborate`. Stands on the concrete trees of `concrete_syntax` and the programs of `step_meaning`. In `specs/`: how
+//! operators group (Grouping), which names may be used where (Scopes), what expressions and statements stand for, with their faults
+//! (Expressions, Statements, Faults), where statements stand in the text (Places), and all of it at a program (Elaborates).
 #![tactic(auto)]
 
 mod expression;

@@ -32,8 +32,8 @@ impl Model for Scope {
 }
 
 impl Scope {
-    ghost use Rattle.std.specs.Prelude.{◌≡◌, ◌≤◌, OnOk, IfOk, length, take, vec_items, false};
-    ghost use Rattle.concrete_syntax.specs.Mirror.{optional};
+    ghost use Rattle.std.specs.Prelude.{◌≡◌, ◌≤◌, OnOk, IfOk, length, take, false};
+    ghost use Rattle.concrete_syntax.specs.Mirror.{name, optional};
     ghost use Rattle.elaboration.specs.Expressions.{unknown_name};
     ghost use Rattle.elaboration.specs.Elaborates.{no_names};
     ghost use Rattle.elaboration.specs.Faults.{earliest};
@@ -77,17 +77,18 @@ impl Scope {
     }
 
     /// Reports a name that may not be declared here.
-    pub fn need_new(&self, part: &Part, token: usize, least: &mut Option<Fault>)
-        ensures { least.new ≡ earliest least.old (name_faults self.now token (vec_items part.now.declared) (optional part.now.initialiser)) }
+    pub fn need_new(&self, part: &Part, least: &mut Option<Fault>)
+        ensures { least.new ≡ earliest least.old (name_faults self.now (name part.now.declared) (optional part.now.initialiser)) }
     {
-        if position(&self.visible, &part.declared).is_some() {
-            report(least, Rule::Twice, token);
-        } else if self.is_declared(&part.declared) {
+        let name = &part.declared;
+        if position(&self.visible, &name.bytes).is_some() {
+            report(least, Rule::Twice, name.at);
+        } else if self.is_declared(&name.bytes) {
             if part.initialiser.is_none() {
-                report(least, Rule::Twice, token);
+                report(least, Rule::Twice, name.at);
             }
         } else if self.declared.len() >= MOST_VARIABLES {
-            report(least, Rule::Variables, token);
+            report(least, Rule::Variables, name.at);
         }
     }
 

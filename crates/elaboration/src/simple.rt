@@ -1,14 +1,12 @@
 //! Simple statements and declarations, which nothing nests in.
 
-ghost use Rattle.std.specs.Prelude.{◌≡◌, ◌+◌, ◌<◌, ◌^◌, ◌++◌, ◌∷◌, [], IfOk, OnOk, vec_items};
+ghost use Rattle.std.specs.Prelude.{◌≡◌, ◌++◌, ◌∷◌, [], IfOk, OnOk};
 ghost use Rattle.concrete_syntax.specs.Mirror.{action as action_of, simple as simple_of, part as part_of, declaration as declaration_of};
 ghost use Rattle.step_meaning.specs.Syntax as syntax;
 ghost use Rattle.step_meaning.specs.Places.{all_places, statement_places};
 ghost use Rattle.elaboration.specs.Faults.{earliest};
-ghost use Rattle.elaboration.specs.Scopes.{declare, place_of};
-ghost use Rattle.elaboration.specs.Statements.{action_meaning, action_faults, simple_meaning, simple_faults, part_meaning, part_faults, declaration_scope, declaration_meaning, declaration_faults, stepped, assigned};
-ghost use Rattle.elaboration.specs.Places.{place_in, places_in, part_tokens, declaration_tokens};
-ghost use Rattle.elaboration.specs.Widths.{action_width, simple_width, part_width, declaration_width};
+ghost use Rattle.elaboration.specs.Statements.{action_meaning, action_faults, simple_meaning, simple_faults, part_scope, part_meaning, part_faults, declaration_scope, declaration_meaning, declaration_faults, stepped, assigned};
+ghost use Rattle.elaboration.specs.Places.{place_in, places_in, simple_at, part_tokens, declaration_tokens};
 
 use crate::expression::number;
 use crate::fault::Fault;
@@ -18,38 +16,43 @@ use source_lex::{Token, start_of};
 use std::alloc::{AllocError, Global};
 use step_meaning::{Expr, Op2, Stmt, StmtKind};
 
-/// A simple statement from the token `at` on, whose statement is added to `out`, and the number of the token behind it. `place` is the
-/// place in the text of its first token. Faults are reported.
+/// A simple statement: its assignment is added to `out`, at this place in the text. Faults are reported.
 #[tactic(auto, using(crate::proofs::Firsts::earliest_more))]
 pub fn simple(
     alloc: Global,
     scope: &Scope,
     tree: &Simple,
-    at: usize,
     place: u32,
     least: &mut Option<Fault>,
     out: &mut Vec<Stmt>,
-) -> Result<usize, AllocError>
-    requires { at + simple_width (simple_of tree.now) < 2 ^ 64 }
-    ensures meaning { OnOk result (syntax.parts out.new.items ≡ syntax.parts out.old.items ++ simple_meaning scope.now at (simple_of tree.now)) }
+) -> Result<(), AllocError>
+    ensures meaning { OnOk result (syntax.parts out.new.items ≡ syntax.parts out.old.items ++ simple_meaning scope.now (simple_of tree.now)) }
     ensures places { OnOk result (all_places out.new.items ≡ all_places out.old.items ++ place ∷ []) }
-    ensures faults { OnOk result (least.new ≡ earliest least.old (simple_faults scope.now at (simple_of tree.now))) }
-    ensures next { IfOk result (λ next. next ≡ at + simple_width (simple_of tree.now)) }
+    ensures faults { OnOk result (least.new ≡ earliest least.old (simple_faults scope.now (simple_of tree.now))) }
 {
     match tree {
         Simple::Acts { name, action: acts } => {
-            scope.need_visible(name, at, least);
-            let var = scope.place(name);
-            let (value, next) = action(alloc, scope, acts, at + 1, var, least)?;
+            scope.need_visible(&name.bytes, name.at, least);
+            let var = scope.place(&name.bytes);
+            let value = action(alloc, scope, acts, var, least)?;
             out.push(assign(place, var, value))?;
-            Ok(next)
         }
-        Simple::StepsBefore { step, name } => {
-            scope.need_visible(name, at + 1, least);
-            let var = scope.place(name);
+        Simple::StepsBefore { step, name, .. } => {
+            scope.need_visible(&name.bytes, name.at, least);
+            let var = scope.place(&name.bytes);
             out.push(assign(place, var, stepped(alloc, var, *step)?))?;
-            Ok(at + 2)
         }
+    }
+    Ok(())
+}
+
+/// The number of a simple statement's first token.
+pub fn simple_at(tree: &Simple) -> usize
+    ensures { result ≡ simple_at (simple_of tree.now) }
+{
+    match tree {
+        Simple::Acts { name, .. } => name.at,
+        Simple::StepsBefore { at, .. } => *at,
     }
 }
 
@@ -64,26 +67,22 @@ fn assign(at: u32, var: u8, value: Expr) -> Stmt
 }
 
 // What a variable is given behind its name.
-#[tactic(auto, using(crate::proofs::Firsts::earliest_more))]
 fn action(
     alloc: Global,
     scope: &Scope,
     tree: &Action,
-    at: usize,
     var: u8,
     least: &mut Option<Fault>,
-) -> Result<(Expr, usize), AllocError>
-    requires { at + action_width (action_of tree.now) < 2 ^ 64 }
-    ensures meaning { IfOk result (λ found. syntax.expression found.0 ≡ action_meaning scope.now at var (action_of tree.now)) }
-    ensures faults { OnOk result (least.new ≡ earliest least.old (action_faults scope.now at (action_of tree.now))) }
-    ensures next { IfOk result (λ found. found.1 ≡ at + action_width (action_of tree.now)) }
+) -> Result<Expr, AllocError>
+    ensures meaning { IfOk result (λ made. syntax.expression made ≡ action_meaning scope.now var (action_of tree.now)) }
+    ensures faults { OnOk result (least.new ≡ earliest least.old (action_faults scope.now (action_of tree.now))) }
 {
     match tree {
         Action::Assigns { assignment, value } => {
-            let (value, next) = number(alloc, scope, value, at + 1, least)?;
-            Ok((assigned(alloc, var, *assignment, value)?, next))
+            let value = number(alloc, scope, value, least)?;
+            assigned(alloc, var, *assignment, value)
         }
-        Action::Steps(step) => Ok((stepped(alloc, var, *step)?, at + 1)),
+        Action::Steps(step) => stepped(alloc, var, *step),
     }
 }
 
@@ -120,63 +119,56 @@ fn pair(alloc: Global, op: Op2, left: Expr, right: Expr) -> Result<Expr, AllocEr
     })
 }
 
-/// A declaration from its `int` at the token `at` on: its names are declared, and for each with an initialiser a statement is added to
-/// `out`, with the name's place in the text. Answers the number of the token behind its `;`. Faults are reported.
+/// A declaration: its names are declared, and for each with an initialiser a statement is added to `out`, with the name's place in the
+/// text. Faults are reported.
 #[tactic(auto, using(crate::proofs::Firsts::earliest_more))]
 pub fn declaration(
     alloc: Global,
     tokens: &[Token],
     scope: &mut Scope,
     tree: &Declaration,
-    at: usize,
     least: &mut Option<Fault>,
     out: &mut Vec<Stmt>,
-) -> Result<usize, AllocError>
-    requires { at + declaration_width (declaration_of tree.now) < 2 ^ 64 }
+) -> Result<(), AllocError>
     ensures scope { OnOk result (scope.new ≡ declaration_scope scope.old (declaration_of tree.now)) }
-    ensures meaning { OnOk result (syntax.parts out.new.items ≡ syntax.parts out.old.items ++ declaration_meaning scope.old at (declaration_of tree.now)) }
-    ensures places { OnOk result (all_places out.new.items ≡ all_places out.old.items ++ places_in tokens.now (declaration_tokens at (declaration_of tree.now))) }
-    ensures faults { OnOk result (least.new ≡ earliest least.old (declaration_faults scope.old at (declaration_of tree.now))) }
-    ensures next { IfOk result (λ next. next ≡ at + declaration_width (declaration_of tree.now)) }
+    ensures meaning { OnOk result (syntax.parts out.new.items ≡ syntax.parts out.old.items ++ declaration_meaning scope.old (declaration_of tree.now)) }
+    ensures places { OnOk result (all_places out.new.items ≡ all_places out.old.items ++ places_in tokens.now (declaration_tokens (declaration_of tree.now))) }
+    ensures faults { OnOk result (least.new ≡ earliest least.old (declaration_faults scope.old (declaration_of tree.now))) }
 {
-    let mut here = part(alloc, tokens, scope, &tree.part, at + 1, least, out)?;
+    part(alloc, tokens, scope, &tree.part, least, out)?;
     for more in tree.more.iter() {
-        here = part(alloc, tokens, scope, more, here + 1, least, out)?;
+        part(alloc, tokens, scope, more, least, out)?;
     }
-    Ok(here + 1)
+    Ok(())
 }
 
-// A declared name at the token `at`, and its initialiser.
+// A declared name, and its initialiser.
 #[tactic(auto, using(crate::proofs::Firsts::earliest_more))]
 fn part(
     alloc: Global,
     tokens: &[Token],
     scope: &mut Scope,
     tree: &Part,
-    at: usize,
     least: &mut Option<Fault>,
     out: &mut Vec<Stmt>,
-) -> Result<usize, AllocError>
-    requires { at + part_width (part_of tree.now) < 2 ^ 64 }
-    ensures scope { OnOk result (scope.new ≡ declare scope.old (vec_items tree.now.declared)) }
-    ensures meaning { OnOk result (syntax.parts out.new.items ≡ syntax.parts out.old.items ++ part_meaning scope.old at (part_of tree.now)) }
-    ensures places { OnOk result (all_places out.new.items ≡ all_places out.old.items ++ places_in tokens.now (part_tokens at (part_of tree.now))) }
-    ensures faults { OnOk result (least.new ≡ earliest least.old (part_faults scope.old at (part_of tree.now))) }
-    ensures next { IfOk result (λ next. next ≡ at + part_width (part_of tree.now)) }
+) -> Result<(), AllocError>
+    ensures scope { OnOk result (scope.new ≡ part_scope scope.old (part_of tree.now)) }
+    ensures meaning { OnOk result (syntax.parts out.new.items ≡ syntax.parts out.old.items ++ part_meaning scope.old (part_of tree.now)) }
+    ensures places { OnOk result (all_places out.new.items ≡ all_places out.old.items ++ places_in tokens.now (part_tokens (part_of tree.now))) }
+    ensures faults { OnOk result (least.new ≡ earliest least.old (part_faults scope.old (part_of tree.now))) }
 {
-    scope.need_new(tree, at, least);
+    scope.need_new(tree, least);
+    let name = &tree.declared;
     match &tree.initialiser {
         Some(initialiser) => {
-            let (value, next) = number(alloc, scope, initialiser, at + 2, least)?;
-            scope.declare(alloc, &tree.declared)?;
-            out.push(assign(place_of(tokens, at), scope.place(&tree.declared), value))?;
-            Ok(next)
+            let value = number(alloc, scope, initialiser, least)?;
+            scope.declare(alloc, &name.bytes)?;
+            let place = place_of(tokens, name.at);
+            out.push(assign(place, scope.place(&name.bytes), value))?;
         }
-        None => {
-            scope.declare(alloc, &tree.declared)?;
-            Ok(at + 1)
-        }
+        None => scope.declare(alloc, &name.bytes)?,
     }
+    Ok(())
 }
 
 /// The place in the text of a token, by its number.

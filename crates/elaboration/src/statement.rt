@@ -1,27 +1,24 @@
 //! Statements. Only nesting recurses: the items in braces are walked by a loop.
 
-ghost use Rattle.std.specs.Prelude.{◌≡◌, ◌+◌, ◌<◌, ◌^◌, ◌++◌, ◌∷◌, [], IfOk, OnOk};
-ghost use Rattle.concrete_syntax.specs.Trees.{conditional as conditional_tree, while_loop as while_tree, do_loop as do_tree};
+ghost use Rattle.std.specs.Prelude.{◌≡◌, ◌++◌, ◌∷◌, [], IfOk, OnOk};
+ghost use Rattle.concrete_syntax.specs.Trees.{conditional as conditional_tree, while_loop as while_tree, do_loop as do_tree, for_loop as for_tree};
 ghost use Rattle.concrete_syntax.specs.Mirror.{expression as expression_of, start as start_of, optional, optional_simple as optional_simple_of, statement as statement_of, otherwise as otherwise_of, items as items_of};
 ghost use Rattle.step_meaning.specs.Syntax as syntax;
 ghost use Rattle.step_meaning.specs.Places as step_places;
 ghost use Rattle.elaboration.specs.Faults.{earliest};
-ghost use Rattle.elaboration.specs.Scopes.{close};
-ghost use Rattle.elaboration.specs.Statements.{statement_scope, statement_meaning, statement_faults, otherwise_scope, otherwise_meaning, otherwise_faults, items_scope, items_meaning, items_faults, start_scope, start_meaning, start_faults, optional_test, optional_faults, optional_simple_meaning, optional_simple_faults, loop_meaning, loop_faults};
-ghost use Rattle.elaboration.specs.Places.{places_in, statement_tokens, otherwise_tokens, items_tokens, start_tokens, optional_simple_tokens, loop_tokens};
-ghost use Rattle.elaboration.specs.Widths.{statement_width, otherwise_width, items_width, start_width, optional_width, optional_simple_width, loop_width};
+ghost use Rattle.elaboration.specs.Statements.{statement_scope, statement_meaning, statement_faults, kind_scope, kind_meaning, kind_faults, otherwise_scope, otherwise_meaning, otherwise_faults, items_scope, items_meaning, items_faults, start_scope, start_meaning, start_faults, optional_test, optional_faults, optional_simple_meaning, optional_simple_faults};
+ghost use Rattle.elaboration.specs.Places.{places_in, statement_tokens, kind_tokens, otherwise_tokens, items_tokens, start_tokens, optional_simple_tokens};
 
-use crate::expression::{any, test};
+use crate::expression::{expression, test};
 use crate::fault::Fault;
 use crate::scope::Scope;
-use crate::simple::{declaration, place_of, simple};
-use concrete_syntax::{Expression, Items, Otherwise, Simple, Start, Statement};
+use crate::simple::{declaration, place_of, simple, simple_at};
+use concrete_syntax::{Expression, Items, Otherwise, Simple, Start, Statement, StatementKind};
 use source_lex::Token;
 use std::alloc::{AllocError, Global};
 use step_meaning::{Block, Expr, Stmt, StmtKind};
 
-// A statement from the token `at` on: what it stands for is added to `out`. Answers the number of the token behind it. Faults are
-// reported.
+// A statement: what it stands for is added to `out`. Faults are reported.
 #[cycle(statements)]
 #[tactic(auto, using(crate::proofs::Firsts::earliest_more))]
 fn statement(
@@ -29,71 +26,54 @@ fn statement(
     tokens: &[Token],
     scope: &mut Scope,
     tree: &Statement,
-    at: usize,
     least: &mut Option<Fault>,
     out: &mut Vec<Stmt>,
-) -> Result<usize, AllocError>
-    requires { at + statement_width (statement_of tree.now) < 2 ^ 64 }
+) -> Result<(), AllocError>
     ensures scope { OnOk result (scope.new ≡ statement_scope scope.old (statement_of tree.now)) }
-    ensures meaning { OnOk result (syntax.parts out.new.items ≡ syntax.parts out.old.items ++ statement_meaning scope.old at (statement_of tree.now)) }
-    ensures places { OnOk result (step_places.all_places out.new.items ≡ step_places.all_places out.old.items ++ places_in tokens.now (statement_tokens at (statement_of tree.now))) }
-    ensures faults { OnOk result (least.new ≡ earliest least.old (statement_faults scope.old at (statement_of tree.now))) }
-    ensures next { IfOk result (λ next. next ≡ at + statement_width (statement_of tree.now)) }
+    ensures meaning { OnOk result (syntax.parts out.new.items ≡ syntax.parts out.old.items ++ statement_meaning scope.old (statement_of tree.now)) }
+    ensures places { OnOk result (step_places.all_places out.new.items ≡ step_places.all_places out.old.items ++ places_in tokens.now (statement_tokens (statement_of tree.now))) }
+    ensures faults { OnOk result (least.new ≡ earliest least.old (statement_faults scope.old (statement_of tree.now))) }
 {
-    match tree {
-        Statement::Simple(tree) => {
-            let next = simple(alloc, scope, tree, at, place_of(tokens, at), least, out)?;
-            Ok(next + 1)
+    let at = tree.at;
+    match &tree.kind {
+        StatementKind::Simple(tree) => {
+            let place = place_of(tokens, at);
+            simple(alloc, scope, tree, place, least, out)?;
         }
-        Statement::Skip => add(out, (stmt(place_of(tokens, at), StmtKind::Skip), at + 1)),
-        Statement::Braces(all) => {
+        StatementKind::Skip => out.push(stmt(place_of(tokens, at), StmtKind::Skip))?,
+        StatementKind::Braces(all) => {
             let depth = scope.depth();
-            let next = items(alloc, tokens, scope, all, at + 1, least, out)?;
+            items(alloc, tokens, scope, all, least, out)?;
             scope.close(depth);
-            Ok(next + 1)
         }
-        Statement::Conditional { test, part, other } => {
-            let found = conditional(alloc, tokens, scope, test, part, other, at, least)?;
-            add(out, found)
+        StatementKind::Conditional { test, part, other } => {
+            let made = conditional(alloc, tokens, scope, test, part, other, at, least)?;
+            out.push(made)?;
         }
-        Statement::While { test, body } => {
-            let found = while_loop(alloc, tokens, scope, test, body, at, least)?;
-            add(out, found)
+        StatementKind::While { test, body } => {
+            let made = while_loop(alloc, tokens, scope, test, body, at, least)?;
+            out.push(made)?;
         }
-        Statement::Do { body, test } => {
-            let found = do_loop(alloc, tokens, scope, body, test, at, least)?;
-            add(out, found)
+        StatementKind::Do { body, end, test } => {
+            let made = do_loop(alloc, tokens, scope, body, *end, test, least)?;
+            out.push(made)?;
         }
-        Statement::For {
+        StatementKind::For {
             start,
             test,
             step,
             body,
         } => {
-            let depth = scope.depth();
-            let inner = for_start(alloc, tokens, scope, start, at + 2, least, out)?;
-            let found = for_loop(alloc, tokens, scope, test, step, body, inner, at, least)?;
-            scope.close(depth);
-            add(out, found)
+            for_loop(
+                alloc, tokens, scope, start, test, step, body, at, least, out,
+            )?;
         }
-        Statement::Return(value) => {
-            let next = unused(alloc, scope, value, at + 1, least)?;
-            add(
-                out,
-                (stmt(place_of(tokens, at), StmtKind::Return), next + 1),
-            )
+        StatementKind::Return(value) => {
+            unused(alloc, scope, value, least)?;
+            out.push(stmt(place_of(tokens, at), StmtKind::Return))?;
         }
     }
-}
-
-// Adds a statement, and answers the number of the token behind it, which comes with it.
-fn add(out: &mut Vec<Stmt>, found: (Stmt, usize)) -> Result<usize, AllocError>
-    ensures added { OnOk result (out.new.items ≡ out.old.items ++ found.0 ∷ []) }
-    ensures next { IfOk result (λ next. next ≡ found.1) }
-{
-    let (stmt, next) = found;
-    out.push(stmt)?;
-    Ok(next)
+    Ok(())
 }
 
 fn stmt(at: u32, kind: StmtKind) -> Stmt
@@ -115,21 +95,16 @@ fn conditional(
     other: &Otherwise,
     at: usize,
     least: &mut Option<Fault>,
-) -> Result<(Stmt, usize), AllocError>
-    requires { at + statement_width (conditional_tree (expression_of condition.now) (statement_of part.now) (otherwise_of other.now)) < 2 ^ 64 }
-    ensures scope { OnOk result (scope.new ≡ statement_scope scope.old (conditional_tree (expression_of condition.now) (statement_of part.now) (otherwise_of other.now))) }
-    ensures meaning { IfOk result (λ found. syntax.statement found.0.kind ∷ [] ≡ statement_meaning scope.old at (conditional_tree (expression_of condition.now) (statement_of part.now) (otherwise_of other.now))) }
-    ensures places { IfOk result (λ found. step_places.statement_places found.0 ≡ places_in tokens.now (statement_tokens at (conditional_tree (expression_of condition.now) (statement_of part.now) (otherwise_of other.now)))) }
-    ensures faults { OnOk result (least.new ≡ earliest least.old (statement_faults scope.old at (conditional_tree (expression_of condition.now) (statement_of part.now) (otherwise_of other.now)))) }
-    ensures next { IfOk result (λ found. found.1 ≡ at + statement_width (conditional_tree (expression_of condition.now) (statement_of part.now) (otherwise_of other.now))) }
+) -> Result<Stmt, AllocError>
+    ensures scope { OnOk result (scope.new ≡ kind_scope scope.old (conditional_tree (expression_of condition.now) (statement_of part.now) (otherwise_of other.now))) }
+    ensures meaning { IfOk result (λ made. syntax.statement made.kind ∷ [] ≡ kind_meaning scope.old (conditional_tree (expression_of condition.now) (statement_of part.now) (otherwise_of other.now))) }
+    ensures places { IfOk result (λ made. step_places.statement_places made ≡ places_in tokens.now (kind_tokens at (conditional_tree (expression_of condition.now) (statement_of part.now) (otherwise_of other.now)))) }
+    ensures faults { OnOk result (least.new ≡ earliest least.old (kind_faults scope.old (conditional_tree (expression_of condition.now) (statement_of part.now) (otherwise_of other.now)))) }
 {
-    let (test, behind) = test(alloc, scope, condition, at + 2, least)?;
-    let (yes, behind) = body(alloc, tokens, scope, part, behind + 1, least)?;
-    let (no, next) = otherwise(alloc, tokens, scope, other, behind, least)?;
-    Ok((
-        stmt(place_of(tokens, at), StmtKind::If { test, yes, no }),
-        next,
-    ))
+    let test = test(alloc, scope, condition, least)?;
+    let yes = body(alloc, tokens, scope, part, least)?;
+    let no = otherwise(alloc, tokens, scope, other, least)?;
+    Ok(stmt(place_of(tokens, at), StmtKind::If { test, yes, no }))
 }
 
 // A `while` whose word is the token `at`.
@@ -143,24 +118,19 @@ fn while_loop(
     part: &Statement,
     at: usize,
     least: &mut Option<Fault>,
-) -> Result<(Stmt, usize), AllocError>
-    requires { at + statement_width (while_tree (expression_of condition.now) (statement_of part.now)) < 2 ^ 64 }
+) -> Result<Stmt, AllocError>
     ensures scope { OnOk result (scope.new ≡ statement_scope scope.old (statement_of part.now)) }
-    ensures meaning { IfOk result (λ found. syntax.statement found.0.kind ∷ [] ≡ statement_meaning scope.old at (while_tree (expression_of condition.now) (statement_of part.now))) }
-    ensures places { IfOk result (λ found. step_places.statement_places found.0 ≡ places_in tokens.now (statement_tokens at (while_tree (expression_of condition.now) (statement_of part.now)))) }
-    ensures faults { OnOk result (least.new ≡ earliest least.old (statement_faults scope.old at (while_tree (expression_of condition.now) (statement_of part.now)))) }
-    ensures next { IfOk result (λ found. found.1 ≡ at + statement_width (while_tree (expression_of condition.now) (statement_of part.now))) }
+    ensures meaning { IfOk result (λ made. syntax.statement made.kind ∷ [] ≡ kind_meaning scope.old (while_tree (expression_of condition.now) (statement_of part.now))) }
+    ensures places { IfOk result (λ made. step_places.statement_places made ≡ places_in tokens.now (kind_tokens at (while_tree (expression_of condition.now) (statement_of part.now)))) }
+    ensures faults { OnOk result (least.new ≡ earliest least.old (kind_faults scope.old (while_tree (expression_of condition.now) (statement_of part.now)))) }
 {
-    let (test, behind) = test(alloc, scope, condition, at + 2, least)?;
-    let (body, next) = body(alloc, tokens, scope, part, behind + 1, least)?;
+    let test = test(alloc, scope, condition, least)?;
+    let body = body(alloc, tokens, scope, part, least)?;
     let step = Block::End;
-    Ok((
-        stmt(place_of(tokens, at), StmtKind::While { test, body, step }),
-        next,
-    ))
+    Ok(stmt(place_of(tokens, at), StmtKind::While { test, body, step }))
 }
 
-// A `do` whose word is the token `at`. Its place is that of the `while` that ends it.
+// A `do` that ends with the `while` of the token `end`, whose place is its own.
 #[cycle(statements)]
 #[tactic(auto, using(crate::proofs::Firsts::earliest_more))]
 fn do_loop(
@@ -168,53 +138,48 @@ fn do_loop(
     tokens: &[Token],
     scope: &mut Scope,
     part: &Statement,
+    end: usize,
     condition: &Expression,
-    at: usize,
     least: &mut Option<Fault>,
-) -> Result<(Stmt, usize), AllocError>
-    requires { at + statement_width (do_tree (statement_of part.now) (expression_of condition.now)) < 2 ^ 64 }
+) -> Result<Stmt, AllocError>
     ensures scope { OnOk result (scope.new ≡ statement_scope scope.old (statement_of part.now)) }
-    ensures meaning { IfOk result (λ found. syntax.statement found.0.kind ∷ [] ≡ statement_meaning scope.old at (do_tree (statement_of part.now) (expression_of condition.now))) }
-    ensures places { IfOk result (λ found. step_places.statement_places found.0 ≡ places_in tokens.now (statement_tokens at (do_tree (statement_of part.now) (expression_of condition.now)))) }
-    ensures faults { OnOk result (least.new ≡ earliest least.old (statement_faults scope.old at (do_tree (statement_of part.now) (expression_of condition.now)))) }
-    ensures next { IfOk result (λ found. found.1 ≡ at + statement_width (do_tree (statement_of part.now) (expression_of condition.now))) }
+    ensures meaning { IfOk result (λ made. syntax.statement made.kind ∷ [] ≡ kind_meaning scope.old (do_tree (statement_of part.now) end (expression_of condition.now))) }
+    ensures places { IfOk result (λ made. step_places.statement_places made ≡ places_in tokens.now (statement_tokens (statement_of part.now) ++ end ∷ [])) }
+    ensures faults { OnOk result (least.new ≡ earliest least.old (kind_faults scope.old (do_tree (statement_of part.now) end (expression_of condition.now)))) }
 {
-    let (body, last) = body(alloc, tokens, scope, part, at + 1, least)?;
-    let (test, behind) = test(alloc, scope, condition, last + 2, least)?;
-    Ok((
-        stmt(place_of(tokens, last), StmtKind::Do { body, test }),
-        behind + 2,
-    ))
+    let body = body(alloc, tokens, scope, part, least)?;
+    let test = test(alloc, scope, condition, least)?;
+    Ok(stmt(place_of(tokens, end), StmtKind::Do { body, test }))
 }
 
-// The loop that a `for` is behind its start, from the token `at` of its test on. The word `for` is the token `word`.
+// A `for` whose word is the token `at`: its start, and then a loop with its last part as a step.
 #[cycle(statements)]
 #[tactic(auto, using(crate::proofs::Firsts::earliest_more))]
 fn for_loop(
     alloc: Global,
     tokens: &[Token],
     scope: &mut Scope,
+    start: &Start,
     condition: &Option<Expression>,
     step: &Option<Simple>,
     part: &Statement,
     at: usize,
-    word: usize,
     least: &mut Option<Fault>,
-) -> Result<(Stmt, usize), AllocError>
-    requires { at + loop_width (optional condition.now) (optional_simple_of step.now) (statement_of part.now) < 2 ^ 64 }
-    ensures scope { OnOk result (scope.new ≡ statement_scope scope.old (statement_of part.now)) }
-    ensures meaning { IfOk result (λ found. syntax.statement found.0.kind ≡ loop_meaning scope.old at (optional condition.now) (optional_simple_of step.now) (statement_of part.now)) }
-    ensures places { IfOk result (λ found. step_places.statement_places found.0 ≡ places_in tokens.now (loop_tokens word at (optional condition.now) (optional_simple_of step.now) (statement_of part.now))) }
-    ensures faults { OnOk result (least.new ≡ earliest least.old (loop_faults scope.old at (optional condition.now) (optional_simple_of step.now) (statement_of part.now))) }
-    ensures next { IfOk result (λ found. found.1 ≡ at + loop_width (optional condition.now) (optional_simple_of step.now) (statement_of part.now)) }
+    out: &mut Vec<Stmt>,
+) -> Result<(), AllocError>
+    ensures scope { OnOk result (scope.new ≡ kind_scope scope.old (for_tree (start_of start.now) (optional condition.now) (optional_simple_of step.now) (statement_of part.now))) }
+    ensures meaning { OnOk result (syntax.parts out.new.items ≡ syntax.parts out.old.items ++ kind_meaning scope.old (for_tree (start_of start.now) (optional condition.now) (optional_simple_of step.now) (statement_of part.now))) }
+    ensures places { OnOk result (step_places.all_places out.new.items ≡ step_places.all_places out.old.items ++ places_in tokens.now (kind_tokens at (for_tree (start_of start.now) (optional condition.now) (optional_simple_of step.now) (statement_of part.now)))) }
+    ensures faults { OnOk result (least.new ≡ earliest least.old (kind_faults scope.old (for_tree (start_of start.now) (optional condition.now) (optional_simple_of step.now) (statement_of part.now)))) }
 {
-    let (test, behind) = optional_test(alloc, scope, condition, at, least)?;
-    let (step, behind) = last_part(alloc, tokens, scope, step, behind + 1, least)?;
-    let (body, next) = body(alloc, tokens, scope, part, behind + 1, least)?;
-    Ok((
-        stmt(place_of(tokens, word), StmtKind::While { test, body, step }),
-        next,
-    ))
+    let depth = scope.depth();
+    for_start(alloc, tokens, scope, start, least, out)?;
+    let test = optional_test(alloc, scope, condition, least)?;
+    let step = last_part(alloc, tokens, scope, step, least)?;
+    let body = body(alloc, tokens, scope, part, least)?;
+    scope.close(depth);
+    out.push(stmt(place_of(tokens, at), StmtKind::While { test, body, step }))?;
+    Ok(())
 }
 
 // A statement as a list of its own.
@@ -224,19 +189,16 @@ fn body(
     tokens: &[Token],
     scope: &mut Scope,
     tree: &Statement,
-    at: usize,
     least: &mut Option<Fault>,
-) -> Result<(Block, usize), AllocError>
-    requires { at + statement_width (statement_of tree.now) < 2 ^ 64 }
+) -> Result<Block, AllocError>
     ensures scope { OnOk result (scope.new ≡ statement_scope scope.old (statement_of tree.now)) }
-    ensures meaning { IfOk result (λ found. syntax.statements found.0 ≡ syntax.of_list (statement_meaning scope.old at (statement_of tree.now))) }
-    ensures places { IfOk result (λ found. step_places.places found.0 ≡ places_in tokens.now (statement_tokens at (statement_of tree.now))) }
-    ensures faults { OnOk result (least.new ≡ earliest least.old (statement_faults scope.old at (statement_of tree.now))) }
-    ensures next { IfOk result (λ found. found.1 ≡ at + statement_width (statement_of tree.now)) }
+    ensures meaning { IfOk result (λ block. syntax.statements block ≡ syntax.of_list (statement_meaning scope.old (statement_of tree.now))) }
+    ensures places { IfOk result (λ block. step_places.places block ≡ places_in tokens.now (statement_tokens (statement_of tree.now))) }
+    ensures faults { OnOk result (least.new ≡ earliest least.old (statement_faults scope.old (statement_of tree.now))) }
 {
     let mut list = Vec::new(alloc);
-    let next = statement(alloc, tokens, scope, tree, at, least, &mut list)?;
-    Ok((Block::of(alloc, list)?, next))
+    statement(alloc, tokens, scope, tree, least, &mut list)?;
+    Block::of(alloc, list)
 }
 
 // The second part of an `if`, where it has one.
@@ -246,26 +208,20 @@ fn otherwise(
     tokens: &[Token],
     scope: &mut Scope,
     tree: &Otherwise,
-    at: usize,
     least: &mut Option<Fault>,
-) -> Result<(Block, usize), AllocError>
-    requires { at + otherwise_width (otherwise_of tree.now) < 2 ^ 64 }
+) -> Result<Block, AllocError>
     ensures scope { OnOk result (scope.new ≡ otherwise_scope scope.old (otherwise_of tree.now)) }
-    ensures meaning { IfOk result (λ found. syntax.statements found.0 ≡ syntax.of_list (otherwise_meaning scope.old at (otherwise_of tree.now))) }
-    ensures places { IfOk result (λ found. step_places.places found.0 ≡ places_in tokens.now (otherwise_tokens at (otherwise_of tree.now))) }
-    ensures faults { OnOk result (least.new ≡ earliest least.old (otherwise_faults scope.old at (otherwise_of tree.now))) }
-    ensures next { IfOk result (λ found. found.1 ≡ at + otherwise_width (otherwise_of tree.now)) }
+    ensures meaning { IfOk result (λ block. syntax.statements block ≡ syntax.of_list (otherwise_meaning scope.old (otherwise_of tree.now))) }
+    ensures places { IfOk result (λ block. step_places.places block ≡ places_in tokens.now (otherwise_tokens (otherwise_of tree.now))) }
+    ensures faults { OnOk result (least.new ≡ earliest least.old (otherwise_faults scope.old (otherwise_of tree.now))) }
 {
     match tree {
-        Otherwise::Nothing => Ok((Block::End, at)),
-        Otherwise::Else(part) => {
-            let (block, next) = body(alloc, tokens, scope, part, at + 1, least)?;
-            Ok((block, next))
-        }
+        Otherwise::Nothing => Ok(Block::End),
+        Otherwise::Else(part) => body(alloc, tokens, scope, part, least),
     }
 }
 
-/// Items from the token `at` on.
+/// The items of a pair of braces.
 #[cycle(statements)]
 #[tactic(auto, using(crate::proofs::Firsts::earliest_more))]
 pub fn items(
@@ -273,59 +229,52 @@ pub fn items(
     tokens: &[Token],
     scope: &mut Scope,
     tree: &Items,
-    at: usize,
     least: &mut Option<Fault>,
     out: &mut Vec<Stmt>,
-) -> Result<usize, AllocError>
-    requires { at + items_width (items_of tree.now) < 2 ^ 64 }
+) -> Result<(), AllocError>
     ensures scope { OnOk result (scope.new ≡ items_scope scope.old (items_of tree.now)) }
-    ensures meaning { OnOk result (syntax.parts out.new.items ≡ syntax.parts out.old.items ++ items_meaning scope.old at (items_of tree.now)) }
-    ensures places { OnOk result (step_places.all_places out.new.items ≡ step_places.all_places out.old.items ++ places_in tokens.now (items_tokens at (items_of tree.now))) }
-    ensures faults { OnOk result (least.new ≡ earliest least.old (items_faults scope.old at (items_of tree.now))) }
-    ensures next { IfOk result (λ next. next ≡ at + items_width (items_of tree.now)) }
+    ensures meaning { OnOk result (syntax.parts out.new.items ≡ syntax.parts out.old.items ++ items_meaning scope.old (items_of tree.now)) }
+    ensures places { OnOk result (step_places.all_places out.new.items ≡ step_places.all_places out.old.items ++ places_in tokens.now (items_tokens (items_of tree.now))) }
+    ensures faults { OnOk result (least.new ≡ earliest least.old (items_faults scope.old (items_of tree.now))) }
 {
-    let mut here = at;
     let mut left = tree;
     loop {
         match left {
-            Items::Ended => return Ok(here),
+            Items::Ended => return Ok(()),
             Items::Declaration { first, rest } => {
-                here = declaration(alloc, tokens, scope, first, here, least, out)?;
+                declaration(alloc, tokens, scope, first, least, out)?;
                 left = rest;
             }
             Items::Statement { first, rest } => {
-                here = statement(alloc, tokens, scope, first, here, least, out)?;
+                statement(alloc, tokens, scope, first, least, out)?;
                 left = rest;
             }
         }
     }
 }
 
-// The start of a `for`, from behind its `(` to behind its `;`.
+// The start of a `for`.
 #[tactic(auto, using(crate::proofs::Firsts::earliest_more))]
 fn for_start(
     alloc: Global,
     tokens: &[Token],
     scope: &mut Scope,
     tree: &Start,
-    at: usize,
     least: &mut Option<Fault>,
     out: &mut Vec<Stmt>,
-) -> Result<usize, AllocError>
-    requires { at + start_width (start_of tree.now) < 2 ^ 64 }
+) -> Result<(), AllocError>
     ensures scope { OnOk result (scope.new ≡ start_scope scope.old (start_of tree.now)) }
-    ensures meaning { OnOk result (syntax.parts out.new.items ≡ syntax.parts out.old.items ++ start_meaning scope.old at (start_of tree.now)) }
-    ensures places { OnOk result (step_places.all_places out.new.items ≡ step_places.all_places out.old.items ++ places_in tokens.now (start_tokens at (start_of tree.now))) }
-    ensures faults { OnOk result (least.new ≡ earliest least.old (start_faults scope.old at (start_of tree.now))) }
-    ensures next { IfOk result (λ next. next ≡ at + start_width (start_of tree.now)) }
+    ensures meaning { OnOk result (syntax.parts out.new.items ≡ syntax.parts out.old.items ++ start_meaning scope.old (start_of tree.now)) }
+    ensures places { OnOk result (step_places.all_places out.new.items ≡ step_places.all_places out.old.items ++ places_in tokens.now (start_tokens (start_of tree.now))) }
+    ensures faults { OnOk result (least.new ≡ earliest least.old (start_faults scope.old (start_of tree.now))) }
 {
     match tree {
-        Start::Nothing => Ok(at + 1),
+        Start::Nothing => Ok(()),
         Start::Simple(tree) => {
-            let next = simple(alloc, scope, tree, at, place_of(tokens, at), least, out)?;
-            Ok(next + 1)
+            let place = place_of(tokens, simple_at(tree));
+            simple(alloc, scope, tree, place, least, out)
         }
-        Start::Declaration(tree) => declaration(alloc, tokens, scope, tree, at, least, out),
+        Start::Declaration(tree) => declaration(alloc, tokens, scope, tree, least, out),
     }
 }
 
@@ -334,17 +283,14 @@ fn optional_test(
     alloc: Global,
     scope: &Scope,
     tree: &Option<Expression>,
-    at: usize,
     least: &mut Option<Fault>,
-) -> Result<(Expr, usize), AllocError>
-    requires { at + optional_width (optional tree.now) < 2 ^ 64 }
-    ensures meaning { IfOk result (λ found. syntax.expression found.0 ≡ optional_test scope.now at (optional tree.now)) }
-    ensures faults { OnOk result (least.new ≡ earliest least.old (optional_faults scope.now at (optional tree.now))) }
-    ensures next { IfOk result (λ found. found.1 ≡ at + optional_width (optional tree.now)) }
+) -> Result<Expr, AllocError>
+    ensures meaning { IfOk result (λ made. syntax.expression made ≡ optional_test scope.now (optional tree.now)) }
+    ensures faults { OnOk result (least.new ≡ earliest least.old (optional_faults scope.now (optional tree.now))) }
 {
     match tree {
-        Some(tree) => test(alloc, scope, tree, at, least),
-        None => Ok((Expr::True, at)),
+        Some(tree) => test(alloc, scope, tree, least),
+        None => Ok(Expr::True),
     }
 }
 
@@ -354,23 +300,20 @@ fn last_part(
     tokens: &[Token],
     scope: &Scope,
     tree: &Option<Simple>,
-    at: usize,
     least: &mut Option<Fault>,
-) -> Result<(Block, usize), AllocError>
-    requires { at + optional_simple_width (optional_simple_of tree.now) < 2 ^ 64 }
-    ensures meaning { IfOk result (λ found. syntax.statements found.0 ≡ syntax.of_list (optional_simple_meaning scope.now at (optional_simple_of tree.now))) }
-    ensures places { IfOk result (λ found. step_places.places found.0 ≡ places_in tokens.now (optional_simple_tokens at (optional_simple_of tree.now))) }
-    ensures faults { OnOk result (least.new ≡ earliest least.old (optional_simple_faults scope.now at (optional_simple_of tree.now))) }
-    ensures next { IfOk result (λ found. found.1 ≡ at + optional_simple_width (optional_simple_of tree.now)) }
+) -> Result<Block, AllocError>
+    ensures meaning { IfOk result (λ block. syntax.statements block ≡ syntax.of_list (optional_simple_meaning scope.now (optional_simple_of tree.now))) }
+    ensures places { IfOk result (λ block. step_places.places block ≡ places_in tokens.now (optional_simple_tokens (optional_simple_of tree.now))) }
+    ensures faults { OnOk result (least.new ≡ earliest least.old (optional_simple_faults scope.now (optional_simple_of tree.now))) }
 {
     match tree {
         Some(tree) => {
             let mut list = Vec::new(alloc);
-            let place = place_of(tokens, at);
-            let next = simple(alloc, scope, tree, at, place, least, &mut list)?;
-            Ok((Block::of(alloc, list)?, next))
+            let place = place_of(tokens, simple_at(tree));
+            simple(alloc, scope, tree, place, least, &mut list)?;
+            Block::of(alloc, list)
         }
-        None => Ok((Block::End, at)),
+        None => Ok(Block::End),
     }
 }
 
@@ -379,15 +322,12 @@ fn unused(
     alloc: Global,
     scope: &Scope,
     tree: &Option<Expression>,
-    at: usize,
     least: &mut Option<Fault>,
-) -> Result<usize, AllocError>
-    requires { at + optional_width (optional tree.now) < 2 ^ 64 }
-    ensures faults { OnOk result (least.new ≡ earliest least.old (optional_faults scope.now at (optional tree.now))) }
-    ensures next { IfOk result (λ next. next ≡ at + optional_width (optional tree.now)) }
+) -> Result<(), AllocError>
+    ensures faults { OnOk result (least.new ≡ earliest least.old (optional_faults scope.now (optional tree.now))) }
 {
-    match tree {
-        Some(tree) => any(alloc, scope, tree, at, least),
-        None => Ok(at),
+    if let Some(tree) = tree {
+        expression(alloc, scope, tree, least)?;
     }
+    Ok(())
 }

@@ -1,4 +1,4 @@
-mod Spelled
+mod Behind
 mod Small
 mod Parsed
 mod Faulty

@@ -1,19 +1,21 @@
 -- A program has no more statements than its text has bytes.
-use Rattle.std.proofs.Common.{◌≡◌, ℕ, suc, ◌+◌, ◌≤◌, ◌<◌, ◌^◌, List, [], ◌∷◌, ◌++◌, Option, None, Some, length, All, ap, arith}
+use Rattle.std.proofs.Common.{◌≡◌, ℕ, suc, ◌+◌, ◌≤◌, List, [], ◌∷◌, ◌++◌, Option, None, Some, length, All, ap, arith}
 use Rattle.std.proofs.lemmas.List.{length-map}
+use Rattle.derivation.specs.declared.symbol.Symbol.TheVariants as S
 use Rattle.derivation.specs.Word.{word}
+use Rattle.derivation.specs.Pieces.{token, look, spelling}
 use Rattle.source_lex.specs.Laws.{TokensAreInOrder}
 use Rattle.source_lex.specs.Spans.{IsWithin, InOrderFrom}
 use Rattle.source_lex.specs.declared.token.Token.{Token}
 use Rattle.step_meaning.specs.Syntax as syntax
-use Rattle.concrete_syntax.specs.Trees.{Expression, Simple, acts, steps_before, Part, Declaration, Start, starts_with_nothing, starts_with, declares, Statement, simple, skip, braces, conditional, while_loop, do_loop, for_loop, return, Otherwise, without, otherwise, Items, none, declaration, statement, Program}
-use Rattle.source_syntax.specs.Texts.{IsTextOf as IsSyntaxOf}
-use Rattle.elaboration.specs.Widths.{simple_width, optional_simple_width, initialiser_width, part_width, parts_width, declaration_width, start_width, optional_width, statement_width, otherwise_width, items_width, program_width, head_width}
-use Rattle.elaboration.specs.Scopes.{Scope, declare}
-use Rattle.elaboration.specs.Statements.{simple_meaning, optional_simple_meaning, initialiser_meaning, part_meaning, parts_meaning, declaration_scope, declaration_meaning, start_scope, start_meaning, optional_test, behind_test, statement_scope, statement_meaning, otherwise_meaning, items_meaning}
+use Rattle.concrete_syntax.specs.Trees.{Expression, Name, Simple, acts, steps_before, Part, Declaration, Start, starts_with_nothing, starts_with, declares, Statement, statement_at, StatementKind, simple, skip, braces, conditional, while_loop, do_loop, for_loop, return, Otherwise, without, otherwise, Items, none, declaration, statement, Program}
+use Rattle.source_syntax.specs.Language.{Piece, is_at}
+use Rattle.source_syntax.specs.Spelling.{sign, leading, opening, optional_pieces, simple_pieces, initialiser_pieces, part_pieces, parts_pieces, declaration_pieces, start_pieces, finish_pieces, test_pieces, statement_pieces, statement_kind_pieces, otherwise_pieces, items_pieces, void_pieces, program_pieces}
+use Rattle.elaboration.specs.Scopes.{Scope}
+use Rattle.elaboration.specs.Statements.{simple_meaning, optional_simple_meaning, initialiser_meaning, part_scope, part_meaning, parts_meaning, declaration_scope, declaration_meaning, start_scope, start_meaning, optional_test, statement_scope, statement_meaning, kind_meaning, otherwise_meaning, items_meaning}
 use Rattle.elaboration.specs.Elaborates.{no_names}
 use Rattle.source_parse.specs.Derives.{IsTextOf}
-use Rattle.source_parse.proofs.Spelled.{program_count}
+use Rattle.source_parse.proofs.Behind.{EndsWith, behind_optional, behind_action, behind_initialiser, behind_test, behind_void, behind_preludes}
 
 -- how many statements a list has, inner ones included
 abbrev size : List syntax.Statement → ℕ
@@ -23,105 +25,153 @@ size_append : (xs ys : List syntax.Statement) → size (xs ++ ys) ≡ size xs + 
 size_append [] ys = omega arith
 size_append (x ∷ xs) ys = omega (arith, size_append xs ys)
 
-simple_size : (scope : Scope) (n : ℕ) (s : Simple) → size (simple_meaning scope n s) ≤ simple_width s
-simple_size scope n (acts x action) = omega arith
-simple_size scope n (steps_before step x) = omega arith
+-- how many words the pieces spell
+abbrev count : List Piece → ℕ
+count pieces = length (spelling pieces)
 
-optional_simple_size : (scope : Scope) (n : ℕ) (s : Option Simple) → size (optional_simple_meaning scope n s) ≤ optional_simple_width s
-optional_simple_size scope n (Some s) = simple_size scope n s
-optional_simple_size scope n None = omega arith
+count_append : (xs ys : List Piece) → count (xs ++ ys) ≡ count xs + count ys
+count_append [] ys = omega arith
+count_append (token t ∷ xs) ys = omega (arith, count_append xs ys)
+count_append (look l ∷ xs) ys = count_append xs ys
 
-initialiser_size : (scope : Scope) (n : ℕ) (x : List ℕ) (e : Option Expression) → size (initialiser_meaning scope n x e) ≤ initialiser_width e
-initialiser_size scope n x (Some e) = omega arith
-initialiser_size scope n x None = omega arith
+fewer : {pieces behind : List Piece} → EndsWith pieces behind → count behind ≤ count pieces
+fewer {pieces} {behind} h = omega (arith, ap count h.parted, count_append h.front behind)
 
-part_size : (scope : Scope) (n : ℕ) (part : Part) → size (part_meaning scope n part) ≤ part_width part
-part_size scope n part = omega (arith, initialiser_size scope n part.declared part.initialiser)
+-- What a tree stands for has no more statements than it spells words.
+simple_size : (scope : Scope) (levels : ℕ) (s : Simple) (behind : List Piece)
+    → size (simple_meaning scope s) + count behind ≤ count (simple_pieces levels s behind)
+simple_size scope levels (acts x action) behind = omega (arith, fewer (behind_action levels action behind))
+simple_size scope levels (steps_before at step x) behind = omega arith
 
-parts_size : (scope : Scope) (n : ℕ) (parts : List Part) → size (parts_meaning scope n parts) ≤ parts_width parts
-parts_size scope n [] = omega arith
-parts_size scope n (part ∷ more) =
-    let behind = declare scope part.declared in
-    let next = n + 1 + part_width part in
-    omega (arith, size_append (part_meaning scope (n + 1) part) (parts_meaning behind next more), part_size scope (n + 1) part, parts_size behind next more)
+finish_size : (scope : Scope) (levels : ℕ) (s : Option Simple) (behind : List Piece)
+    → size (optional_simple_meaning scope s) + count behind ≤ count (finish_pieces levels s behind)
+finish_size scope levels (Some s) behind = omega (arith, simple_size scope levels s (token (sign S.CloseParenthesis) ∷ behind))
+finish_size scope levels None behind = omega arith
 
-declaration_size : (scope : Scope) (n : ℕ) (d : Declaration) → size (declaration_meaning scope n d) ≤ declaration_width d
-declaration_size scope n d =
-    let behind = declare scope d.part.declared in
-    let next = n + 1 + part_width d.part in
-    omega (arith, size_append (part_meaning scope (n + 1) d.part) (parts_meaning behind next d.more), part_size scope (n + 1) d.part, parts_size behind next d.more)
+initialiser_size : (scope : Scope) (levels : ℕ) (x : Name) (e : Option Expression) (behind : List Piece)
+    → size (initialiser_meaning scope x e) + count behind ≤ 1 + count (initialiser_pieces levels e behind)
+initialiser_size scope levels x (Some e) behind = omega (arith, fewer (behind_initialiser levels (Some e) behind))
+initialiser_size scope levels x None behind = omega arith
 
-start_size : (scope : Scope) (n : ℕ) (start : Start) → size (start_meaning scope n start) ≤ start_width start
-start_size scope n starts_with_nothing = omega arith
-start_size scope n (starts_with s) = omega (arith, simple_size scope n s)
-start_size scope n (declares d) = declaration_size scope n d
+part_size : (scope : Scope) (levels : ℕ) (part : Part) (behind : List Piece)
+    → size (part_meaning scope part) + count behind ≤ count (part_pieces levels part behind)
+part_size scope levels part behind = omega (arith, initialiser_size scope levels part.declared part.initialiser behind)
+
+parts_size : (scope : Scope) (levels : ℕ) (parts : List Part) (behind : List Piece)
+    → size (parts_meaning scope parts) + count behind ≤ count (parts_pieces levels parts behind)
+parts_size scope levels [] behind = omega arith
+parts_size scope levels (part ∷ more) behind =
+    omega (
+      arith,
+      size_append (part_meaning scope part) (parts_meaning (part_scope scope part) more),
+      part_size scope levels part (parts_pieces levels more behind),
+      parts_size (part_scope scope part) levels more behind,
+    )
+
+declaration_size : (scope : Scope) (levels : ℕ) (d : Declaration) (behind : List Piece)
+    → size (declaration_meaning scope d) + count behind ≤ count (declaration_pieces levels d behind)
+declaration_size scope levels d behind = omega (arith, parts_size scope levels (d.part ∷ d.more) behind)
+
+start_size : (scope : Scope) (levels : ℕ) (start : Start) (behind : List Piece)
+    → size (start_meaning scope start) + count behind ≤ count (start_pieces levels start behind)
+start_size scope levels starts_with_nothing behind = omega arith
+start_size scope levels (starts_with s) behind = omega (arith, simple_size scope levels s (token (leading S.Semicolon) ∷ behind))
+start_size scope levels (declares d) behind = declaration_size scope levels d behind
 
 mutual
-  statement_size : (scope : Scope) (n : ℕ) (s : Statement) → size (statement_meaning scope n s) ≤ statement_width s
-  statement_size scope n (simple s) = omega (arith, simple_size scope n s)
-  statement_size scope n skip = omega arith
-  statement_size scope n (braces all) = omega (arith, items_size scope (n + 1) all)
-  statement_size scope n (conditional test part other) =
+  statement_size : (scope : Scope) (levels : ℕ) (s : Statement) (behind : List Piece)
+      → size (statement_meaning scope s) + count behind ≤ count (statement_pieces levels s behind)
+  statement_size scope levels (statement_at at kind) behind = kind_size scope levels kind behind
+
+  kind_size : (scope : Scope) (levels : ℕ) (kind : StatementKind) (behind : List Piece)
+      → size (kind_meaning scope kind) + count behind ≤ count (statement_kind_pieces levels kind behind)
+  kind_size scope levels (simple s) behind = omega (arith, simple_size scope levels s (token (sign S.Semicolon) ∷ behind))
+  kind_size scope levels skip behind = omega arith
+  kind_size scope levels (braces all) behind = omega (arith, items_size scope (levels + 1) all (token (sign S.CloseBrace) ∷ behind))
+  kind_size scope levels (conditional test part other) behind =
+      let last = otherwise_pieces (levels + 1) other behind in
       omega (
         arith,
-        statement_size scope (behind_test n test) part,
-        otherwise_size (statement_scope scope part) (behind_test n test + statement_width part) other,
+        fewer (behind_test (levels + 1) test (statement_pieces (levels + 1) part last)),
+        statement_size scope (levels + 1) part last,
+        otherwise_size (statement_scope scope part) (levels + 1) other behind,
       )
-  statement_size scope n (while_loop test body) = omega (arith, statement_size scope (behind_test n test) body)
-  statement_size scope n (do_loop body test) = omega (arith, statement_size scope (n + 1) body)
-  statement_size scope n (for_loop start test step body) =
+  kind_size scope levels (while_loop test body) behind =
+      omega (arith, fewer (behind_test (levels + 1) test (statement_pieces (levels + 1) body behind)), statement_size scope (levels + 1) body behind)
+  kind_size scope levels (do_loop body end test) behind =
+      let last = token (sign S.Semicolon) ∷ behind in
+      omega (
+        arith,
+        statement_size scope (levels + 1) body (look (is_at end) ∷ token (sign S.While) ∷ test_pieces (levels + 1) test last),
+        fewer (behind_test (levels + 1) test last),
+      )
+  kind_size scope levels (for_loop start test step body) behind =
       let inside = start_scope scope start in
-      let at = n + 2 + start_width start in
-      let last = at + optional_width test + 1 in
-      let inner = last + optional_simple_width step + 1 in
+      let inner = statement_pieces (levels + 1) body behind in
+      let last = token (sign S.Semicolon) ∷ finish_pieces (levels + 1) step inner in
       omega (
         arith,
-        size_append (start_meaning scope (n + 2) start) (syntax.while_loop (optional_test inside at test) (syntax.of_list (statement_meaning inside inner body)) (syntax.of_list (optional_simple_meaning inside last step)) ∷ []),
-        start_size scope (n + 2) start,
-        optional_simple_size inside last step,
-        statement_size inside inner body,
+        size_append (start_meaning scope start) (syntax.while_loop (optional_test inside test) (syntax.of_list (statement_meaning inside body))
+            (syntax.of_list (optional_simple_meaning inside step)) ∷ []),
+        start_size scope (levels + 1) start (optional_pieces (levels + 1) test last),
+        fewer (behind_optional (levels + 1) test last),
+        finish_size inside (levels + 1) step inner,
+        statement_size inside (levels + 1) body behind,
       )
-  statement_size scope n (return value) = omega arith
+  kind_size scope levels (return value) behind = omega (arith, fewer (behind_optional levels value (token (sign S.Semicolon) ∷ behind)))
 
-  otherwise_size : (scope : Scope) (n : ℕ) (other : Otherwise) → size (otherwise_meaning scope n other) ≤ otherwise_width other
-  otherwise_size scope n without = omega arith
-  otherwise_size scope n (otherwise s) = omega (arith, statement_size scope (n + 1) s)
+  otherwise_size : (scope : Scope) (levels : ℕ) (other : Otherwise) (behind : List Piece)
+      → size (otherwise_meaning scope other) + count behind ≤ count (otherwise_pieces levels other behind)
+  otherwise_size scope levels without behind = omega arith
+  otherwise_size scope levels (otherwise s) behind = omega (arith, statement_size scope (levels + 1) s behind)
 
-  items_size : (scope : Scope) (n : ℕ) (all : Items) → size (items_meaning scope n all) ≤ items_width all
-  items_size scope n none = omega arith
-  items_size scope n (declaration d more) =
-      let behind = declaration_scope scope d in
-      let next = n + declaration_width d in
-      omega (arith, size_append (declaration_meaning scope n d) (items_meaning behind next more), declaration_size scope n d, items_size behind next more)
-  items_size scope n (statement s more) =
-      let behind = statement_scope scope s in
-      let next = n + statement_width s in
-      omega (arith, size_append (statement_meaning scope n s) (items_meaning behind next more), statement_size scope n s, items_size behind next more)
+  items_size : (scope : Scope) (levels : ℕ) (all : Items) (behind : List Piece)
+      → size (items_meaning scope all) + count behind ≤ count (items_pieces levels all behind)
+  items_size scope levels none behind = omega arith
+  items_size scope levels (declaration d more) behind =
+      omega (
+        arith,
+        size_append (declaration_meaning scope d) (items_meaning (declaration_scope scope d) more),
+        declaration_size scope levels d (items_pieces levels more behind),
+        items_size (declaration_scope scope d) levels more behind,
+      )
+  items_size scope levels (statement s more) behind =
+      omega (
+        arith,
+        size_append (statement_meaning scope s) (items_meaning (statement_scope scope s) more),
+        statement_size scope levels s (items_pieces levels more behind),
+        items_size (statement_scope scope s) levels more behind,
+      )
+
+body_size : (p : Program) → size (items_meaning no_names p.items) ≤ count (program_pieces p [])
+body_size p =
+    let close = token (sign S.CloseBrace) ∷ [] in
+    let body = token (opening S.OpenBrace 1) ∷ items_pieces 1 p.items close in
+    omega (
+      arith,
+      fewer (behind_preludes p.preludes (token (sign S.Int) ∷ token (sign S.Main) ∷ token (sign S.OpenParenthesis) ∷ void_pieces p.void body)),
+      fewer (behind_void p.void body),
+      items_size no_names 1 p.items close,
+    )
 
 -- tokens that lie in order within a text are no more than its bytes
 tokens_size : (text : List ℕ) (tokens : List Token) (i : ℕ) → i ≤ length text → InOrderFrom i tokens → All (IsWithin text) tokens
     → i + length tokens ≤ length text
 tokens_size text [] i le order within = omega arith
-tokens_size text (token ∷ tokens) i le order within =
-    let first = within 0 token (omega arith) in
-    let rest = tokens_size text tokens token.end first.inside order.1 (λ k d lt. within (suc k) d (omega arith)) in
+tokens_size text (one ∷ tokens) i le order within =
+    let first = within 0 one (omega arith) in
+    let rest = tokens_size text tokens one.end first.inside order.1 (λ k d lt. within (suc k) d (omega arith)) in
     omega (arith, order.0, first.nonempty)
-
--- the tree of a text has no more tokens than the text has bytes
-pub width_within : (text : List ℕ) (tree : Program) → TokensAreInOrder → IsSyntaxOf text tree → program_width tree ≤ length text
-width_within text tree in_order h =
-    let order = in_order text h.tokens h.lexed in
-    let tokens = tokens_size text h.tokens 0 (omega arith) order.0 order.1 in
-    let spelled = ap length h.spelled.spelled in
-    let counted = length-map h.tokens (word text) in
-    omega (arith, tokens, spelled, counted, program_count tree)
-
-pub width_fits : (text : List ℕ) (tree : Program) → TokensAreInOrder → IsSyntaxOf text tree → length text ≤ 65536 → program_width tree < 2 ^ 64
-width_fits text tree in_order h short = omega (arith, width_within text tree in_order h)
 
 pub program_size : (text : List ℕ) (names : List (List ℕ)) (body : syntax.Statements) → TokensAreInOrder → IsTextOf text names body
     → syntax.size_of body ≤ length text
 program_size text names body in_order h =
-    let tree = h.tree in
-    let same = ap syntax.size_of h.stands.means in
-    omega (arith, same, items_size no_names (head_width tree) tree.items, width_within text tree in_order h.spelled)
+    let order = in_order text h.spelled.tokens h.spelled.lexed in
+    omega (
+      arith,
+      ap syntax.size_of h.stands.means,
+      body_size h.tree,
+      ap length h.spelled.spelled.spelled,
+      length-map h.spelled.tokens (word text),
+      tokens_size text h.spelled.tokens 0 (omega arith) order.0 order.1,
+    )

@@ -17,7 +17,7 @@ use crate::laws::a_program_is_no_larger_than_its_text;
 use concrete_syntax::Program as Tree;
 use derivation::Rule as SyntaxRule;
 use elaboration::{Fault, Refusal, Rule, elaborate};
-use source_lex::{Token, tokens_are_in_order};
+use source_lex::Token;
 use source_syntax::{SyntaxFault, place_in, read_syntax};
 use std::alloc::Global;
 use step_meaning::Program;
@@ -53,7 +53,6 @@ fn program(alloc: Global, text: &[u8], tree: &Tree, tokens: &[Token]) -> Result<
     ensures places { IfOk result (λ program. places program.body ≡ program_places tokens.now (program_tree tree.now)) }
     ensures fault { IfErr result (IsFaultOf text.now) }
 {
-    tokens_are_in_order();
     match elaborate(alloc, tree, tokens) {
         Ok(program) => Ok(program),
         Err(Refusal::Fault(fault)) => Err(of_names(text, tokens, fault)),

@@ -51,7 +51,7 @@ const PROGRAMS: [(&str, &str, &[u32]); 12] = [
 ];
 
 // Texts with the number of their fault and its place.
-const FAULTS: [(&str, u8, u32); 15] = [
+const FAULTS: [(&str, u8, u32); 53] = [
     ("int main() { int x = x; }", 5, 21),
     ("int main() { { int x; } x = 1; }", 5, 24),
     ("int main() { for (int x = 1; ; ) ; x = 1; }", 5, 35),
@@ -67,6 +67,128 @@ const FAULTS: [(&str, u8, u32); 15] = [
     ("int main() { if x }", 4, 16),
     ("int main() { int a; a = 1 }", 4, 26),
     ("int main() { int else; }", 4, 17),
+    ("int main()", 4, 10),
+    ("int main() { } /*/", 3, 15),
+    ("int main() { a/b }", 1, 14),
+    ("int main() { x == 1; }", 4, 15),
+    ("int main() { x = a?; }", 4, 18),
+    ("int main() { int x, ; }", 4, 20),
+    ("int main() { x = [+1, 2]; }", 4, 18),
+    ("int main() { for (x; ; ) ; }", 4, 19),
+    ("int main() { for (;;) int x; }", 4, 22),
+    ("int main() { int x; x -= x == x; }", 7, 25),
+    ("int main() { int x; x = +(x < 1); }", 7, 25),
+    ("int main() { if (?) ; else else ; }", 4, 27),
+    ("int main() { int x; x = (true) + y; }", 7, 24),
+    ("int main() { int x; x = (x < 1) + x; }", 7, 24),
+    ("int main() { { int x = 1; } int x = x; }", 5, 36),
+    ("int main() { int x = 1; { int x = 2; } }", 6, 30),
+    ("int main() { int a; if (a == (a < a)) ; }", 7, 29),
+    ("int main() { int x = (y) + [2,1] + true; }", 5, 22),
+    ("int main() { int i; for (int i = 0; ; ) ; }", 6, 29),
+    ("int main() { int a,b,c,d,e,f,g,h,i,j,k,l,m,n,o,p; }", 9, 47),
+    (
+        "int main() { for (int i = 0; i < 3; i++) { int i = 1; } }",
+        6,
+        47,
+    ),
+    (
+        "int main() { int x; for (;;) { int y = 1; { int y = 2; } } }",
+        6,
+        48,
+    ),
+    (
+        "int main() { int a,b,c,d,e,f,g,h,i,j,k,l,m,n,o; int p = p, q = [3,2]; }",
+        9,
+        52,
+    ),
+    (
+        "int main() { for (int i = 0, j = i; j; ) { int k = 1; } for (int j = 0; k; ) ; }",
+        5,
+        72,
+    ),
+    (
+        "int main() {{{{{{{{{{{{{{{{{{{{{{{{{{{{{{{{{{{{{{{{{{{{{{{{{{{{{{{{{{{{{{{if (x) ;",
+        10,
+        77,
+    ),
+    (
+        "int main() {{{{{{{{{{{{{{{{{{{{{{{{{{{{{{{{{{{{{{{{{{{{{{{{{{{{{{{{{{{{{{if ((x)) ;",
+        10,
+        77,
+    ),
+    (
+        "int main() {{{{{{{{{{{{{{{{{{{{{{{{{{{{{{{{{{{{{{{{{{{{{{{{{{{{{{{{{{{{{{{for (;;) ;",
+        4,
+        84,
+    ),
+    (
+        "int main() {{{{{{{{{{{{{{{{{{{{{{{{{{{{{{{{{{{{{{{{{{{{{{{{{{{{{{{{{{{{{{{do ; while x",
+        4,
+        85,
+    ),
+    (
+        "int main() {{{{{{{{{{{{{{{{{{{{{{{{{{{{{{{{{{{{{{{{{{{{{{{{{{{{{{{{{{{{{{{{return (1);",
+        10,
+        82,
+    ),
+    (
+        "int main() {{{{{{{{{{{{{{{{{{{{{{{{{{{{{{{{{{{{{{{{{{{{{{{{{{{{{{{{{{{{{{{{return + 1;",
+        10,
+        82,
+    ),
+    (
+        "int main() {{{{{{{{{{{{{{{{{{{{{{{{{{{{{{{{{{{{{{{{{{{{{{{{{{{{{{{{{{{{{{if (x) ; else ;",
+        4,
+        88,
+    ),
+    (
+        "int main() {{{{{{{{{{{{{{{{{{{{{{{{{{{{{{{{{{{{{{{{{{{{{{{{{{{{{{{{{{{{{{do ; while (x) ;",
+        4,
+        89,
+    ),
+    (
+        "int main() {{{{{{{{{{{{{{{{{{{{{{{{{{{{{{{{{{{{{{{{{{{{{{{{{{{{{{{{{{{{{{{for (;[-1,2];) ;",
+        4,
+        90,
+    ),
+    (
+        "int main() {{{{{{{{{{{{{{{{{{{{{{{{{{{{{{{{{{{{{{{{{{{{{{{{{{{{{{{{{{{{{{for (x = (1);;) ;",
+        4,
+        90,
+    ),
+    (
+        "int main() {{{{{{{{{{{{{{{{{{{{{{{{{{{{{{{{{{{{{{{{{{{{{{{{{{{{{{{{{{{{{{{{x = [-inf, -3];",
+        4,
+        90,
+    ),
+    (
+        "int main() {{{{{{{{{{{{{{{{{{{{{{{{{{{{{{{{{{{{{{{{{{{{{{{{{{{{{{{{{{{{{{{do ; while (x) ;",
+        10,
+        85,
+    ),
+    (
+        "int main() {{{{{{{{{{{{{{{{{{{{{{{{{{{{{{{{{{{{{{{{{{{{{{{{{{{{{{{{{{{{{{{{x = __VERIFIER_nondet_int;",
+        4,
+        100,
+    ),
+    (
+        "typedef enum {false,true} bool; int main() {{{{{{{{{{{{{{{{{{{{{{{{{{{{{{{{{{{{{{{{{{{{{{{{{{{{{{{{{{{{{{{{{",
+        10,
+        107,
+    ),
+];
+
+// Texts that are programs, though they look as if they had a fault.
+const ACCEPTED: [&str; 8] = [
+    "int main(void){return;}",
+    "int main() { int x = [-0, 0]; }",
+    "int main() { int E, A, AX, exit; E = A; }",
+    "int main() { int x; x *= 1 + 1; x += ?; ++x; }",
+    "int main() { int x; if (x) for (;;) if (x) ; else do if (x) ; else ; while (x); else ; }",
+    "int main() { int a; if (+?) ; if ((?)) ; if (!?) ; if (-?) ; if (? && ?) ; if (? == ?) ; if (? + 1) ; }",
+    "typedef enum {false, true} bool; typedef enum {false, true} bool; extern int __VERIFIER_nondet_int(); int main() { }",
+    "int main() { int x; x = - - - - - - - - - - - - - - - - - - - - - - - - - - - - - - - - - - - - - - - - - - - - - - - - - - - - - - - - - - - - - - - 1; }",
 ];
 
 fn sign_of(op: Op2) -> &'static str {
@@ -232,5 +354,16 @@ fn texts_that_are_no_programs_have_their_first_faults(rt: HostRuntime) {
             Err(fault) => assert_eq!(rt; fault.numbered(), Some((number, place)), "of {text}"),
             Ok(_) => panic!(rt; "{text} is a program"),
         }
+    }
+}
+
+#[test]
+fn texts_that_look_wrong_are_programs(rt: HostRuntime) {
+    for text in ACCEPTED {
+        assert!(rt; text.len() <= 65536);
+        assert!(rt;
+            parse(rt.alloc(), text.as_bytes()).is_ok(),
+            "{text} has a fault"
+        );
     }
 }

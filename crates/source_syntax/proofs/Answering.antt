@@ -5,19 +5,19 @@ use Rattle.derivation.specs.declared.rule.Rule.{Rule}
 use Rattle.derivation.specs.declared.rule.Rule.TheVariants.{Expected, Nesting, Operators}
 use Rattle.derivation.specs.declared.symbol.Symbol.{Symbol}
 use Rattle.derivation.specs.declared.lexeme.Lexeme.{Lexeme}
-use Rattle.derivation.specs.Word.{Word, symbol, name as named, number as numbered}
-use Rattle.derivation.specs.Spelled.{words_from}
-use Rattle.derivation.specs.Pieces.{Token}
-use Rattle.derivation.specs.Comes.{IsQuiet}
+use Rattle.derivation.specs.Word.{symbol, name as named, number as numbered}
+use Rattle.derivation.specs.Comes.{IsNext}
+use Rattle.source_syntax.specs.Language.{Token, Rest, IsQuiet, rest_from}
 use Rattle.source_syntax.specs.declared.fault.Fault.{Fault}
 use Rattle.source_syntax.specs.declared.fault.Failure.{Failure}
 use Rattle.source_syntax.specs.Failures.{OnFault, IfFault}
 use Rattle.source_syntax.specs.Spelling.{plain, sign, leading, opening, leading_opening}
-use Rattle.source_syntax.specs.Pending.{Pending, exactly, a_name, Trees}
+use Rattle.source_syntax.specs.Pending.{Pending, exactly, exactly_at, a_name, bytes_of_a_name, Trees}
 use Rattle.source_syntax.specs.Leads.{Leads, Stops}
 use Rattle.source_syntax.specs.Reads.{MissesSign, MissesOpening, MissesName, AreNext, MissesOne}
 use Rattle.source_syntax.proofs.Calculus.{over, fails, stay}
-use Rattle.source_syntax.proofs.Expressions.{token_read, token_missed, token_too_deep, name_read, name_missed}
+use Rattle.source_syntax.proofs.Choices.{held}
+use Rattle.source_syntax.proofs.Expressions.{token_read, token_missed, token_too_deep, located_tokens, names, bytes_read, bytes_missed}
 
 -- a fault that is handed on
 pub handed_on : {X : Type 0} (r : Result X Fault) (f : Fault) (P : Fault → Type 0) → IsErr r × IsErrAnd r (λ e. e ≡ f) → P f → IfErr r P
@@ -37,74 +37,89 @@ passed_on (Ok x) f P Q h k turn = tt
 passed_on (Err (Failure.Memory e)) f P Q h k turn = tt
 passed_on (Err (Failure.Fault g)) f P Q h k turn = turn g (subst (λ f. OnFault f P) (sym h.1) k)
 
-module _ {c : ℕ} {S : List Pending} {from to : List Word} where
-  pub sign_reads : (s : Symbol) (quiet : IsQuiet (Some (symbol s))) → from ≡ symbol s ∷ to
+module _ {c : ℕ} {S : List Pending} {from to : Rest} where
+  pub sign_reads : (s : Symbol) (quiet : IsQuiet (Some (symbol s))) → IsNext (symbol s) from to
       → Leads c ((exactly (sign s) quiet ∷ S)) from c S to (λ g. (tt, g))
   sign_reads s quiet e = token_read c (sign s) quiet S from to e (omega arith, tt)
 
-  pub leading_reads : (s : Symbol) (quiet : IsQuiet (Some (symbol s))) → from ≡ symbol s ∷ to
+  pub leading_reads : (s : Symbol) (quiet : IsQuiet (Some (symbol s))) → IsNext (symbol s) from to
       → Leads c ((exactly (leading s) quiet ∷ S)) from 0 S to (λ g. (tt, g))
   leading_reads s quiet e = token_read c (leading s) quiet S from to e (omega arith, tt)
 
-  pub opening_reads : (s : Symbol) (level : ℕ) (quiet : IsQuiet (Some (symbol s))) → from ≡ symbol s ∷ to → level ≤ 64
+  pub opening_reads : (s : Symbol) (level : ℕ) (quiet : IsQuiet (Some (symbol s))) → IsNext (symbol s) from to → level ≤ 64
       → Leads c ((exactly (opening s level) quiet ∷ S)) from c S to (λ g. (tt, g))
   opening_reads s level quiet e shallow = token_read c (opening s level) quiet S from to e (shallow, tt)
 
-  pub leading_opening_reads : (s : Symbol) (level : ℕ) (quiet : IsQuiet (Some (symbol s))) → from ≡ symbol s ∷ to → level ≤ 64
+  pub leading_opening_reads : (s : Symbol) (level : ℕ) (quiet : IsQuiet (Some (symbol s))) → IsNext (symbol s) from to → level ≤ 64
       → Leads c ((exactly (leading_opening s level) quiet ∷ S)) from 0 S to (λ g. (tt, g))
   leading_opening_reads s level quiet e shallow = token_read c (leading_opening s level) quiet S from to e (shallow, tt)
 
-  pub number_reads : {z : ℤ} → from ≡ numbered z ∷ to → Leads c ((exactly (plain (numbered z)) (refl, refl) ∷ S)) from c S to (λ g. (tt, g))
+  pub number_reads : {z : ℤ} → IsNext (numbered z) from to → Leads c ((exactly (plain (numbered z)) (refl, refl) ∷ S)) from c S to (λ g. (tt, g))
   number_reads {z} e = token_read c (plain (numbered z)) (refl, refl) S from to e (omega arith, tt)
 
-  pub name_reads : {x : List ℕ} → from ≡ named x ∷ to → Leads c (a_name ∷ S) from c S to (λ g. (x, g))
-  name_reads {x} e = name_read c S from x to e
+  pub sign_at_reads : (s : Symbol) (quiet : IsQuiet (Some (symbol s))) → IsNext (symbol s) from to
+      → Leads c ((exactly_at (sign s) quiet ∷ S)) from c S to (λ g. (from.number, g))
+  sign_at_reads s quiet e = over (held (located_tokens (sign s) quiet S) c from) (sign_reads s quiet e)
+
+  pub bytes_reads : {x : List ℕ} → IsNext (named x) from to → Leads c (bytes_of_a_name ∷ S) from c S to (λ g. (x, g))
+  bytes_reads {x} e = bytes_read c S from x to e
+
+  pub name_reads : {x : List ℕ} → IsNext (named x) from to → Leads c (a_name ∷ S) from c S to (λ g. (record { at = from.number; bytes = x }, g))
+  name_reads {x} e = over (held (names S) c from) (bytes_reads e)
 
 -- the same for faults
-missed : (c : ℕ) (t : Token) (quiet : IsQuiet (Some t.word)) (S : List Pending) (from : List Word) (s : Symbol) (rule : Rule) → t.word ≡ symbol s
+missed : (c : ℕ) (t : Token) (quiet : IsQuiet (Some t.word)) (S : List Pending) (from : Rest) (s : Symbol) (rule : Rule) → t.word ≡ symbol s
     → MissesSign from s rule → Stops c ((exactly t quiet ∷ S)) from rule from
 missed c t quiet S from s Expected e h = token_missed c t quiet S from (λ to same. h to (same ∙ ap (λ w. w ∷ to) e))
 missed c t quiet S from s Nesting e h = absurd h
 missed c t quiet S from s Operators e h = absurd h
 
-missed_opening : (c : ℕ) (t : Token) (quiet : IsQuiet (Some t.word)) (S : List Pending) (from : List Word) (s : Symbol) (rule : Rule) → t.word ≡ symbol s
+missed_opening : (c : ℕ) (t : Token) (quiet : IsQuiet (Some t.word)) (S : List Pending) (from : Rest) (s : Symbol) (rule : Rule) → t.word ≡ symbol s
     → MissesOpening from s t.level rule → Stops c ((exactly t quiet ∷ S)) from rule from
 missed_opening c t quiet S from s Expected e h = token_missed c t quiet S from (λ to same. h to (same ∙ ap (λ w. w ∷ to) e))
-missed_opening c t quiet S from s Nesting e h = token_too_deep c t quiet S from h.0.0 (h.0.1 ∙ ap (λ w. w ∷ h.0.0) (sym e)) h.1
+missed_opening c t quiet S from s Nesting e h = token_too_deep c t quiet S from h.0.0 (h.0.1.0 ∙ ap (λ w. w ∷ h.0.0.words) (sym e), h.0.1.1) h.1
 missed_opening c t quiet S from s Operators e h = absurd h
 
 there : (c : ℕ) (lexemes : List Lexeme) (at : ℕ) (fault : Fault) (A : List Pending) → fault.at ≡ at
-    → Stops c A (words_from lexemes at) fault.rule (words_from lexemes at) → Stops c A (words_from lexemes at) fault.rule (words_from lexemes fault.at)
-there c lexemes at fault A e h = subst (λ n. Stops c A (words_from lexemes at) fault.rule (words_from lexemes n)) (sym e) h
+    → Stops c A (rest_from lexemes at) fault.rule (rest_from lexemes at) → Stops c A (rest_from lexemes at) fault.rule (rest_from lexemes fault.at)
+there c lexemes at fault A e h = subst (λ n. Stops c A (rest_from lexemes at) fault.rule (rest_from lexemes n)) (sym e) h
 
 module _ {c : ℕ} {S : List Pending} (lexemes : List Lexeme) (at : ℕ) (fault : Fault) where
-  pub sign_refused : (s : Symbol) (quiet : IsQuiet (Some (symbol s))) → MissesSign (words_from lexemes at) s fault.rule × (fault.at ≡ at)
-      → Stops c ((exactly (sign s) quiet ∷ S)) (words_from lexemes at) fault.rule (words_from lexemes fault.at)
-  sign_refused s quiet h = there c lexemes at fault (exactly (sign s) quiet ∷ S) h.1 (missed c (sign s) quiet S (words_from lexemes at) s fault.rule refl h.0)
+  pub sign_refused : (s : Symbol) (quiet : IsQuiet (Some (symbol s))) → MissesSign (rest_from lexemes at) s fault.rule × (fault.at ≡ at)
+      → Stops c ((exactly (sign s) quiet ∷ S)) (rest_from lexemes at) fault.rule (rest_from lexemes fault.at)
+  sign_refused s quiet h = there c lexemes at fault (exactly (sign s) quiet ∷ S) h.1 (missed c (sign s) quiet S (rest_from lexemes at) s fault.rule refl h.0)
 
-  pub leading_refused : (s : Symbol) (quiet : IsQuiet (Some (symbol s))) → MissesSign (words_from lexemes at) s fault.rule × (fault.at ≡ at)
-      → Stops c ((exactly (leading s) quiet ∷ S)) (words_from lexemes at) fault.rule (words_from lexemes fault.at)
-  leading_refused s quiet h = there c lexemes at fault (exactly (leading s) quiet ∷ S) h.1 (missed c (leading s) quiet S (words_from lexemes at) s fault.rule refl h.0)
+  pub leading_refused : (s : Symbol) (quiet : IsQuiet (Some (symbol s))) → MissesSign (rest_from lexemes at) s fault.rule × (fault.at ≡ at)
+      → Stops c ((exactly (leading s) quiet ∷ S)) (rest_from lexemes at) fault.rule (rest_from lexemes fault.at)
+  leading_refused s quiet h = there c lexemes at fault (exactly (leading s) quiet ∷ S) h.1 (missed c (leading s) quiet S (rest_from lexemes at) s fault.rule refl h.0)
 
-  pub opening_refused : (s : Symbol) (level : ℕ) (quiet : IsQuiet (Some (symbol s))) → MissesOpening (words_from lexemes at) s level fault.rule × (fault.at ≡ at)
-      → Stops c ((exactly (opening s level) quiet ∷ S)) (words_from lexemes at) fault.rule (words_from lexemes fault.at)
+  pub opening_refused : (s : Symbol) (level : ℕ) (quiet : IsQuiet (Some (symbol s))) → MissesOpening (rest_from lexemes at) s level fault.rule × (fault.at ≡ at)
+      → Stops c ((exactly (opening s level) quiet ∷ S)) (rest_from lexemes at) fault.rule (rest_from lexemes fault.at)
   opening_refused s level quiet h =
-      there c lexemes at fault (exactly (opening s level) quiet ∷ S) h.1 (missed_opening c (opening s level) quiet S (words_from lexemes at) s fault.rule refl h.0)
+      there c lexemes at fault (exactly (opening s level) quiet ∷ S) h.1 (missed_opening c (opening s level) quiet S (rest_from lexemes at) s fault.rule refl h.0)
 
-  pub leading_opening_refused : (s : Symbol) (level : ℕ) (quiet : IsQuiet (Some (symbol s))) → MissesOpening (words_from lexemes at) s level fault.rule × (fault.at ≡ at)
-      → Stops c ((exactly (leading_opening s level) quiet ∷ S)) (words_from lexemes at) fault.rule (words_from lexemes fault.at)
+  pub leading_opening_refused : (s : Symbol) (level : ℕ) (quiet : IsQuiet (Some (symbol s))) → MissesOpening (rest_from lexemes at) s level fault.rule × (fault.at ≡ at)
+      → Stops c ((exactly (leading_opening s level) quiet ∷ S)) (rest_from lexemes at) fault.rule (rest_from lexemes fault.at)
   leading_opening_refused s level quiet h =
       there c lexemes at fault (exactly (leading_opening s level) quiet ∷ S) h.1
-      (missed_opening c (leading_opening s level) quiet S (words_from lexemes at) s fault.rule refl h.0)
+      (missed_opening c (leading_opening s level) quiet S (rest_from lexemes at) s fault.rule refl h.0)
 
-  pub name_refused : MissesName (words_from lexemes at) fault.rule × (fault.at ≡ at)
-      → Stops c ((a_name ∷ S)) (words_from lexemes at) fault.rule (words_from lexemes fault.at)
-  name_refused h = there c lexemes at fault (a_name ∷ S) h.1 (by_rule fault.rule h.0)
+  pub sign_at_refused : (s : Symbol) (quiet : IsQuiet (Some (symbol s))) → MissesSign (rest_from lexemes at) s fault.rule × (fault.at ≡ at)
+      → Stops c ((exactly_at (sign s) quiet ∷ S)) (rest_from lexemes at) fault.rule (rest_from lexemes fault.at)
+  sign_at_refused s quiet h = fails (held (located_tokens (sign s) quiet S) c (rest_from lexemes at)) (sign_refused s quiet h)
+
+  pub bytes_refused : MissesName (rest_from lexemes at) fault.rule × (fault.at ≡ at)
+      → Stops c ((bytes_of_a_name ∷ S)) (rest_from lexemes at) fault.rule (rest_from lexemes fault.at)
+  bytes_refused h = there c lexemes at fault (bytes_of_a_name ∷ S) h.1 (by_rule fault.rule h.0)
     where
-      by_rule : (rule : Rule) → MissesName (words_from lexemes at) rule → Stops c ((a_name ∷ S)) (words_from lexemes at) rule (words_from lexemes at)
-      by_rule Expected h = name_missed c S (words_from lexemes at) h
+      by_rule : (rule : Rule) → MissesName (rest_from lexemes at) rule → Stops c ((bytes_of_a_name ∷ S)) (rest_from lexemes at) rule (rest_from lexemes at)
+      by_rule Expected h = bytes_missed c S (rest_from lexemes at) h
       by_rule Nesting h = absurd h
       by_rule Operators h = absurd h
+
+  pub name_refused : MissesName (rest_from lexemes at) fault.rule × (fault.at ≡ at)
+      → Stops c ((a_name ∷ S)) (rest_from lexemes at) fault.rule (rest_from lexemes fault.at)
+  name_refused h = fails (held (names S) c (rest_from lexemes at)) (bytes_refused h)
 
 -- signs one behind the other
 abbrev pub AreQuiet : List Symbol → Type 0
@@ -124,12 +139,12 @@ behind_units [] quiet S g = g
 behind_units (s ∷ more) quiet S g = behind_units more quiet.1 S g.1
 
 module _ {c : ℕ} {S : List Pending} where
-  pub signs_read : (all : List Symbol) (quiet : AreQuiet all) {from to : List Word} → AreNext all from to
+  pub signs_read : (all : List Symbol) (quiet : AreQuiet all) {from to : Rest} → AreNext all from to
       → Leads c (in_turn all quiet S) from c S to (units all quiet S)
   signs_read [] quiet {from} {to} h = subst (λ to. Leads c S from c S to (λ g. g)) h (stay c S from)
   signs_read (s ∷ more) quiet h = over (sign_reads s quiet.0 h.1) (signs_read more quiet.1 h.2)
 
-pub signs_refused : {c : ℕ} (S : List Pending) (all : List Symbol) (quiet : AreQuiet all) {from to : List Word} {rule : Rule}
+pub signs_refused : {c : ℕ} (S : List Pending) (all : List Symbol) (quiet : AreQuiet all) {from to : Rest} {rule : Rule}
     → MissesOne all from rule to → Stops c (in_turn all quiet S) from rule to
 signs_refused S [] quiet h = absurd h
 signs_refused {c} S (s ∷ more) quiet {from} {to} {rule} (inl h) =

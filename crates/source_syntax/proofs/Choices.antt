@@ -2,7 +2,9 @@
 use Rattle.std.proofs.Common.{◌≡◌, ◌≢◌, ℕ, ◌⊎◌, inl, inr, List, [], ◌∷◌, Option, None, Some, refl, sym, ap, ◌∙◌, subst}
 use Rattle.derivation.specs.declared.rule.Rule.TheVariants.{Expected}
 use Rattle.derivation.specs.Word.{Word}
-use Rattle.derivation.specs.Pieces.{Token, token, first, first_before}
+use Rattle.derivation.specs.Pieces.{token, look, first, first_before, Fits}
+use Rattle.derivation.specs.Comes.{IsNext}
+use Rattle.source_syntax.specs.Language.{Token, Rest, is_at}
 use Rattle.derivation.specs.Limits.{IsWithin, count_on}
 use Rattle.source_syntax.specs.Pending.{Pending, Trees, pieces}
 use Rattle.source_syntax.specs.Leads.{Leads, Stops}
@@ -25,15 +27,15 @@ pub record Choice {Opening : Type 0} (A : List Pending) (classify : Option Word 
   pub view : (f : Trees A) → Way A IsOpen rest fill (classify (begins A f)) f
 
 module _ {Opening : Type 0} {A : List Pending} {classify : Option Word → Opening} {IsOpen : Opening → Type 0} {rest : Opening → List Pending}
-    {fill : (o : Opening) → Trees (rest o) → Trees A} (x : Choice A classify IsOpen rest fill) (c : ℕ) (from : List Word) where
-  pub goes : (o : Opening) → o ≡ classify (first from) → Leads c A from c (rest o) from (fill o)
+    {fill : (o : Opening) → Trees (rest o) → Trees A} (x : Choice A classify IsOpen rest fill) (c : ℕ) (from : Rest) where
+  pub goes : (o : Opening) → o ≡ classify (first from.words) → Leads c A from c (rest o) from (fill o)
   goes o e =
-      opens A (rest o) c from (λ next. classify next ≡ o) [] (fill o) refl tt refl tt (x.spells o)
+      opens A (rest o) c from (λ next. classify next ≡ o) [] (fill o) refl refl tt refl tt (x.spells o)
       (λ f fits is. let way = subst (λ o. Way A IsOpen rest fill o f) is (x.view f) in (way.1, way.2)) (sym e)
 
-  pub stuck : (o : Opening) → (IsOpen o → ⊥) → o ≡ classify (first from) → Stops c A from Expected from
+  pub stuck : (o : Opening) → (IsOpen o → ⊥) → o ≡ classify (first from.words) → Stops c A from Expected from
   stuck o closed e =
-      sticks A c from (λ next. classify next ≡ o) (complete A) (completes A).0 (completes A).1
+      sticks A c from (λ next. classify next ≡ o) (complete from.number A) (completes from.number A).0 (completes from.number A).1
       (λ f fits is. closed (subst IsOpen is (x.view f).0)) (sym e)
 
 -- a tree that begins with a token, or is made as others are that don't begin with its word
@@ -48,7 +50,7 @@ pub record Fork (A : List Pending) (t : Token) (B : List Pending) (fill : Trees 
   pub view : (f : Trees A) → Sides A t B fill C other f
 
 -- where a word isn't the first, it isn't the next
-pub not_next : (w : Word) (from : List Word) → ((to : List Word) → from ≢ w ∷ to) → first from ≢ Some w
+pub not_next : (w : Word) (ws : List Word) → ((to : List Word) → ws ≢ w ∷ to) → first ws ≢ Some w
 not_next w [] h e = cc
 not_next w (v ∷ ws) h e = h ws (let same : v ≡ w = cc in ap (λ x. x ∷ ws) same)
 
@@ -68,9 +70,27 @@ module _ {A : List Pending} {t : Token} {B : List Pending} {fill : Trees B → T
       by_way (inl h) = absurd (differs (ap (begins A) h.1 ∙ ap (λ ps. first_before ps None) (x.spells h.0)))
       by_way (inr h) = (h.0, h.1)
 
-  module _ {c : ℕ} {from : List Word} where
-    pub taken : {to : List Word} → from ≡ t.word ∷ to → IsWithin c t → Leads c A from (count_on c t.counting) B to fill
+  module _ {c : ℕ} {from : Rest} where
+    pub taken : {to : Rest} → IsNext t.word from to → IsWithin c t → Leads c A from (count_on c t.counting) B to fill
     taken {to} e within = reads A B c from to t fill e within x.spells (λ f fits next. this_side f next)
 
-    pub left_out : first from ≢ Some t.word → Leads c A from c C from other
-    left_out differs = opens A C c from (λ next. next ≢ Some t.word) [] other refl tt refl tt x.spells_other (λ f fits other_word. that_side f other_word) differs
+    pub left_out : first from.words ≢ Some t.word → Leads c A from c C from other
+    left_out differs = opens A C c from (λ next. next ≢ Some t.word) [] other refl refl tt refl tt x.spells_other (λ f fits other_word. that_side f other_word) differs
+
+-- Things to be read that hold the number of their first token, and are others but for that.
+pub record Held (A B : List Pending) (fill : ℕ → Trees B → Trees A) : Type 0 where
+  pub spells : (m : ℕ) (g : Trees B) → pieces A (fill m g) ≡ look (is_at m) ∷ pieces B g
+  pub view : (f : Trees A) → (m : ℕ) × (g : Trees B) × (f ≡ fill m g)
+
+module _ {A B : List Pending} {fill : ℕ → Trees B → Trees A} (x : Held A B fill) where
+  -- what fits holds the number of its place
+  pub placed : (n : ℕ) (f : Trees A) → Fits n (pieces A f) → (g : Trees B) × (f ≡ fill n g) × Fits n (pieces B g)
+  placed n f fits =
+      let way = x.view f in
+      let parts : Fits n (look (is_at way.0) ∷ pieces B way.1) = subst (Fits n) (ap (pieces A) way.2 ∙ x.spells way.0 way.1) fits in
+      (way.1, way.2 ∙ ap (λ m. fill m way.1) parts.0, parts.1)
+
+  pub held : (c : ℕ) (from : Rest) → Leads c A from c B from (fill from.number)
+  held c from =
+      opens A B c from (λ next. Unit {0}) (look (is_at from.number) ∷ []) (fill from.number) refl refl tt refl (refl, tt) (x.spells from.number)
+      (λ f fits any. let here = placed from.number f fits in (here.0, here.1)) tt

@@ -1,63 +1,74 @@
 -- Whatever is still to be read can be completed, by words that no end forbids.
-use Rattle.std.proofs.Common.{pos, List, [], ◌∷◌, None, Some, false, refl}
-use Rattle.derivation.specs.Pieces.{first_before, Fits}
-use Rattle.derivation.specs.Comes.{IsQuiet}
+use Rattle.std.proofs.Common.{ℕ, ◌+◌, pos, List, [], ◌∷◌, None, Some, false, refl}
+use Rattle.derivation.specs.Pieces.{first_before, number_behind, Fits}
+use Rattle.source_syntax.specs.Language.{IsQuiet}
 use Rattle.concrete_syntax.specs.declared.sign.Step.TheVariants as Step
-use Rattle.concrete_syntax.specs.Trees.{number, ended, Expression, steps, steps_before, starts_with_nothing, skip, without, none}
-use Rattle.source_syntax.specs.Pending.{Pending, exactly, a_name, a_size, an_end, an_operand, a_tail, an_expression, an_optional, a_test, an_action, a_simple, a_part_end, parts, a_declaration, a_start, a_finish, a_statement, an_otherwise, items, a_void, a_program, TreeOf, Trees, pieces}
+use Rattle.concrete_syntax.specs.Trees.{operand_at, number, ended, Expression, Name, steps, steps_before, starts_with_nothing, statement_at, skip, without, none}
+use Rattle.source_syntax.specs.Pending.{Pending, exactly, exactly_at, a_name, bytes_of_a_name, a_size, an_end, an_operand, an_operand_kind, a_tail, an_expression, an_optional, a_test, an_action, a_simple, a_part_end, parts, a_declaration, a_start, a_finish, a_statement, a_statement_kind, an_otherwise, items, a_void, a_program, TreeOf, pieces_of, Trees, pieces}
 
-abbrev zero_expression : Expression
-zero_expression = record { operand = number (pos 0); tail = ended }
+abbrev zero_at : ℕ → Expression
+zero_at at = record { operand = operand_at at (number (pos 0)); tail = ended }
 
--- a short tree of each
-abbrev pub short : (p : Pending) → TreeOf p
-short (exactly t quiet) = tt
-short a_name = []
-short a_size = Some (pos 0)
-short an_end = record { negative = false; size = Some (pos 0) }
-short (an_operand n) = number (pos 0)
-short (a_tail n) = ended
-short (an_expression n) = zero_expression
-short (an_optional n) = None
-short (a_test n) = zero_expression
-short (an_action n) = steps Step.Increment
-short (a_simple n) = steps_before Step.Increment []
-short (a_part_end n) = (None, [])
-short (parts n) = []
-short (a_declaration n) = record { part = record { declared = []; initialiser = None }; more = [] }
-short (a_start n) = starts_with_nothing
-short (a_finish n) = None
-short (a_statement n) = skip
-short (an_otherwise n) = without
-short (items n) = none
-short a_void = false
-short a_program = record { preludes = []; void = false; items = none }
+abbrev empty_name : ℕ → Name
+empty_name at = record { at = at; bytes = [] }
 
-abbrev pub complete : (all : List Pending) → Trees all
-complete [] = tt
-complete (p ∷ more) = (short p, complete more)
+-- a short tree of each, from the token of this number on
+abbrev pub short : ℕ → (p : Pending) → TreeOf p
+short at (exactly t quiet) = tt
+short at (exactly_at t quiet) = at
+short at a_name = empty_name at
+short at bytes_of_a_name = []
+short at a_size = Some (pos 0)
+short at an_end = record { negative = false; size = Some (pos 0) }
+short at (an_operand n) = operand_at at (number (pos 0))
+short at (an_operand_kind n) = number (pos 0)
+short at (a_tail n) = ended
+short at (an_expression n) = zero_at at
+short at (an_optional n) = None
+short at (a_test n) = zero_at (at + 1)
+short at (an_action n) = steps Step.Increment
+short at (a_simple n) = steps_before at Step.Increment (empty_name (at + 1))
+short at (a_part_end n) = (None, [])
+short at (parts n) = []
+short at (a_declaration n) = record { part = record { declared = empty_name (at + 1); initialiser = None }; more = [] }
+short at (a_start n) = starts_with_nothing
+short at (a_finish n) = None
+short at (a_statement n) = statement_at at skip
+short at (a_statement_kind n) = skip
+short at (an_otherwise n) = without
+short at (items n) = none
+short at a_void = false
+short at a_program = record { preludes = []; void = false; items = none }
 
-pub completes : (all : List Pending)
-    → Fits (pieces all (complete all)) × IsQuiet (first_before (pieces all (complete all)) None)
-completes [] = (tt, (refl, refl))
-completes (exactly t quiet ∷ more) = ((completes more).0, quiet)
-completes (a_name ∷ more) = ((completes more).0, (refl, refl))
-completes (a_size ∷ more) = ((completes more).0, (refl, refl))
-completes (an_end ∷ more) = ((completes more).0, (refl, refl))
-completes (an_operand n ∷ more) = ((completes more).0, (refl, refl))
-completes (a_tail n ∷ more) = (((completes more).1.0, (completes more).0), (completes more).1)
-completes (an_expression n ∷ more) = (((completes more).1.0, (completes more).0), (refl, refl))
-completes (an_optional n ∷ more) = ((completes more).0, (refl, refl))
-completes (a_test n ∷ more) = ((refl, (completes more).0), (refl, refl))
-completes (an_action n ∷ more) = ((completes more).0, (refl, refl))
-completes (a_simple n ∷ more) = ((completes more).0, (refl, refl))
-completes (a_part_end n ∷ more) = ((completes more).0, (refl, refl))
-completes (parts n ∷ more) = ((completes more).0, (refl, refl))
-completes (a_declaration n ∷ more) = ((completes more).0, (refl, refl))
-completes (a_start n ∷ more) = ((completes more).0, (refl, refl))
-completes (a_finish n ∷ more) = ((completes more).0, (refl, refl))
-completes (a_statement n ∷ more) = ((completes more).0, (refl, refl))
-completes (an_otherwise n ∷ more) = (((completes more).1.1, (completes more).0), (completes more).1)
-completes (items n ∷ more) = ((completes more).0, (refl, refl))
-completes (a_void ∷ more) = ((completes more).0, (refl, refl))
-completes (a_program ∷ more) = ((completes more).0, (refl, refl))
+abbrev pub complete : ℕ → (all : List Pending) → Trees all
+complete at [] = tt
+complete at (p ∷ more) = (short at p, complete (number_behind at (pieces_of p (short at p) [])) more)
+
+pub completes : (at : ℕ) (all : List Pending)
+    → Fits at (pieces all (complete at all)) × IsQuiet (first_before (pieces all (complete at all)) None)
+completes at [] = (tt, (refl, refl))
+completes at (exactly t quiet ∷ more) = ((completes _ more).0, quiet)
+completes at (exactly_at t quiet ∷ more) = ((refl, (completes _ more).0), quiet)
+completes at (a_name ∷ more) = ((refl, (completes _ more).0), (refl, refl))
+completes at (bytes_of_a_name ∷ more) = ((completes _ more).0, (refl, refl))
+completes at (a_size ∷ more) = ((completes _ more).0, (refl, refl))
+completes at (an_end ∷ more) = ((completes _ more).0, (refl, refl))
+completes at (an_operand n ∷ more) = ((refl, (completes _ more).0), (refl, refl))
+completes at (an_operand_kind n ∷ more) = ((completes _ more).0, (refl, refl))
+completes at (a_tail n ∷ more) = (((completes at more).1.0, (completes at more).0), (completes at more).1)
+completes at (an_expression n ∷ more) = ((refl, ((completes (at + 1) more).1.0, (completes (at + 1) more).0)), (refl, refl))
+completes at (an_optional n ∷ more) = ((completes _ more).0, (refl, refl))
+completes at (a_test n ∷ more) = ((refl, (refl, (completes _ more).0)), (refl, refl))
+completes at (an_action n ∷ more) = ((completes _ more).0, (refl, refl))
+completes at (a_simple n ∷ more) = ((refl, (refl, (completes _ more).0)), (refl, refl))
+completes at (a_part_end n ∷ more) = ((completes _ more).0, (refl, refl))
+completes at (parts n ∷ more) = ((completes _ more).0, (refl, refl))
+completes at (a_declaration n ∷ more) = ((refl, (completes _ more).0), (refl, refl))
+completes at (a_start n ∷ more) = ((completes _ more).0, (refl, refl))
+completes at (a_finish n ∷ more) = ((completes _ more).0, (refl, refl))
+completes at (a_statement n ∷ more) = ((refl, (completes _ more).0), (refl, refl))
+completes at (a_statement_kind n ∷ more) = ((completes _ more).0, (refl, refl))
+completes at (an_otherwise n ∷ more) = (((completes at more).1.1, (completes at more).0), (completes at more).1)
+completes at (items n ∷ more) = ((completes _ more).0, (refl, refl))
+completes at (a_void ∷ more) = ((completes _ more).0, (refl, refl))
+completes at (a_program ∷ more) = ((completes _ more).0, (refl, refl))

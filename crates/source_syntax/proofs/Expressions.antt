@@ -1,57 +1,67 @@
 -- How the reading of expressions goes on, by the next word.
 use Rattle.std.proofs.Common.{◌≡◌, ◌≢◌, inl, inr, ℕ, ◌+◌, ◌<◌, ◌≤◌, ℤ, List, [], ◌∷◌, Option, None, Some, Bool, true, false, refl, sym, ap, ◌∙◌, arith}
-use Rattle.std.specs.Bool.{IsFalse}
-use Rattle.step_meaning.specs.declared.expression.Op2.{Op2}
+use Rattle.concrete_syntax.specs.declared.sign.Operator.{Operator}
 use Rattle.derivation.specs.declared.rule.Rule.TheVariants.{Expected, Nesting, Operators}
 use Rattle.derivation.specs.declared.symbol.Symbol.TheVariants as Sym
-use Rattle.derivation.specs.Word.{Word, symbol, name as named, number as numbered, unknown as unreadable}
-use Rattle.derivation.specs.Pieces.{Token, look, no_operator, sees, first, first_before, Fits}
+use Rattle.derivation.specs.Word.{Word, symbol, name as named, number as numbered}
+use Rattle.derivation.specs.Pieces.{look, first, first_before, Fits}
 use Rattle.derivation.specs.Limits.{IsWithin}
-use Rattle.derivation.specs.Comes.{IsQuiet}
+use Rattle.derivation.specs.Comes.{IsNext}
+use Rattle.source_syntax.specs.Language.{Token, Rest, binary_operator, no_operator, IsQuiet}
 use Rattle.source_syntax.specs.Leads.{Leads, Stops}
 use Rattle.source_syntax.proofs.Calculus.{opens, reads, sticks, exceeds}
 use Rattle.concrete_syntax.specs.declared.sign.Prefix.{Prefix}
 use Rattle.source_syntax.specs.declared.opening.OperandOpening.{OperandOpening}
 use Rattle.source_syntax.specs.declared.opening.SizeOpening.{SizeOpening}
-use Rattle.source_syntax.specs.Openings.{opening_of_operand, binary_operator, size_opening}
-use Rattle.concrete_syntax.specs.Trees.{Operand, number, name, truth, unknown, call, signed, parentheses, range, Tail, ended, further}
+use Rattle.source_syntax.specs.Openings.{opening_of_operand, size_opening}
+use Rattle.concrete_syntax.specs.Trees.{Operand, operand_at, OperandKind, number, name, truth, unknown, call, signed, parentheses, range, operation, Tail, ended, further}
 use Rattle.source_syntax.specs.Spelling.{plain, sign, opening, operator, sign_of, prefix_sign, truth_word}
-use Rattle.source_syntax.specs.Pending.{Pending, exactly, a_name, a_size, an_end, an_operand, a_tail, an_expression, Trees, pieces}
+use Rattle.source_syntax.specs.Pending.{Pending, exactly, exactly_at, a_name, bytes_of_a_name, a_size, an_end, an_operand, an_operand_kind, a_tail, an_expression, Trees, pieces}
 use Rattle.source_syntax.proofs.Completions.{complete, completes}
-use Rattle.source_syntax.proofs.Choices.{begins, Way, Choice, Sides, Fork, not_next}
+use Rattle.source_syntax.proofs.Choices.{begins, Way, Choice, Sides, Fork, Held, not_next}
 
 abbrev pub Same : (all : List Pending) → Trees all → Trees all → Type 0
 Same all x y = x ≡ y
 
 -- a token that has to stand here does, doesn't, or breaks the limit of nesting
-module _ (c : ℕ) (t : Token) (quiet : IsQuiet (Some t.word)) (S : List Pending) (from : List Word) where
-  pub token_read : (to : List Word) → from ≡ t.word ∷ to → IsWithin c t
+module _ (c : ℕ) (t : Token) (quiet : IsQuiet (Some t.word)) (S : List Pending) (from : Rest) where
+  pub token_read : (to : Rest) → IsNext t.word from to → IsWithin c t
       → Leads c ((exactly t quiet ∷ S)) from (Rattle.derivation.specs.Limits.count_on c t.counting) S to (λ g. (tt, g))
   token_read to e within =
       reads ((exactly t quiet ∷ S)) S c from to t (λ g. (tt, g)) e within (λ g. refl) (λ f fits next. (f.1, refl))
 
-  pub token_missed : ((to : List Word) → from ≢ t.word ∷ to) → Stops c ((exactly t quiet ∷ S)) from Expected from
+  pub token_missed : ((to : List Word) → from.words ≢ t.word ∷ to) → Stops c ((exactly t quiet ∷ S)) from Expected from
   token_missed h =
-      sticks (exactly t quiet ∷ S) c from (λ next. next ≢ Some t.word) (complete (exactly t quiet ∷ S))
-      (completes (exactly t quiet ∷ S)).0 (completes (exactly t quiet ∷ S)).1 (λ f fits other. other refl) (not_next t.word from h)
+      sticks (exactly t quiet ∷ S) c from (λ next. next ≢ Some t.word) (complete from.number (exactly t quiet ∷ S))
+      (completes from.number (exactly t quiet ∷ S)).0 (completes from.number (exactly t quiet ∷ S)).1 (λ f fits other. other refl)
+      (not_next t.word from.words h)
 
-  pub token_too_deep : (to : List Word) → from ≡ t.word ∷ to → 64 < t.level → Stops c ((exactly t quiet ∷ S)) from Nesting from
+  pub token_too_deep : (to : Rest) → IsNext t.word from to → 64 < t.level → Stops c ((exactly t quiet ∷ S)) from Nesting from
   token_too_deep to e deep =
-      exceeds ((exactly t quiet ∷ S)) c from t (pieces S (complete S)) Nesting (complete (exactly t quiet ∷ S))
-      (completes (exactly t quiet ∷ S)).0 refl (ap first e) (λ e. cc) deep (λ f fits next. (pieces S f.1, refl))
+      exceeds ((exactly t quiet ∷ S)) c from t (pieces S (complete (from.number + 1) S)) Nesting (complete from.number (exactly t quiet ∷ S))
+      (completes from.number (exactly t quiet ∷ S)).0 refl (ap first e.0) (λ e. cc) deep (λ f fits next. (pieces S f.1, refl))
+
+-- a token with its number
+pub located_tokens : (t : Token) (quiet : IsQuiet (Some t.word)) (S : List Pending)
+    → Held (exactly_at t quiet ∷ S) (exactly t quiet ∷ S) (λ m g. (m, g.1))
+located_tokens t quiet S = record { spells = λ m g. refl; view = λ f. (f.0, (tt, f.1), refl) }
 
 -- names
-module _ (c : ℕ) (S : List Pending) (from : List Word) where
-  pub name_read : (x : List ℕ) (to : List Word) → from ≡ named x ∷ to
-      → Leads c ((a_name ∷ S)) from c S to (λ g. (x, g))
-  name_read x to e =
-      reads ((a_name ∷ S)) S c from to (plain (named x)) (λ g. (x, g)) e (omega arith, tt) (λ g. refl)
+pub names : (S : List Pending) → Held (a_name ∷ S) (bytes_of_a_name ∷ S) (λ m g. (record { at = m; bytes = g.0 }, g.1))
+names S = record { spells = λ m g. refl; view = λ f. (f.0.at, (f.0.bytes, f.1), refl) }
+
+module _ (c : ℕ) (S : List Pending) (from : Rest) where
+  pub bytes_read : (x : List ℕ) (to : Rest) → IsNext (named x) from to
+      → Leads c ((bytes_of_a_name ∷ S)) from c S to (λ g. (x, g))
+  bytes_read x to e =
+      reads ((bytes_of_a_name ∷ S)) S c from to (plain (named x)) (λ g. (x, g)) e (omega arith, tt) (λ g. refl)
       (λ f fits next. (f.1, let same : f.0 ≡ x = cc in ap (λ y. (y, f.1)) same))
 
-  pub name_missed : ((x : List ℕ) (to : List Word) → from ≢ named x ∷ to) → Stops c ((a_name ∷ S)) from Expected from
-  name_missed h =
-      sticks (a_name ∷ S) c from (λ next. (x : List ℕ) → next ≢ Some (named x)) (complete (a_name ∷ S))
-      (completes (a_name ∷ S)).0 (completes (a_name ∷ S)).1 (λ f fits other. other f.0 refl) (λ x. not_next (named x) from (h x))
+  pub bytes_missed : ((x : List ℕ) (to : List Word) → from.words ≢ named x ∷ to) → Stops c ((bytes_of_a_name ∷ S)) from Expected from
+  bytes_missed h =
+      sticks (bytes_of_a_name ∷ S) c from (λ next. (x : List ℕ) → next ≢ Some (named x)) (complete from.number (bytes_of_a_name ∷ S))
+      (completes from.number (bytes_of_a_name ∷ S)).0 (completes from.number (bytes_of_a_name ∷ S)).1 (λ f fits other. other f.0 refl)
+      (λ x. not_next (named x) from.words (h x))
 
 -- the end of a range
 abbrev pub IsSize : SizeOpening → Type 0
@@ -105,21 +115,21 @@ IsOperand _ = Unit {0}
 module _ (n : ℕ) where
   abbrev pub operand_rest : OperandOpening → List Pending → List Pending
   operand_rest (OperandOpening.Number z) S = exactly (plain (numbered z)) (refl, refl) ∷ S
-  operand_rest OperandOpening.Name S = a_name ∷ S
+  operand_rest OperandOpening.Name S = bytes_of_a_name ∷ S
   operand_rest (OperandOpening.Truth b) S = exactly (sign (truth_word b)) (truth_quiet b) ∷ S
   operand_rest OperandOpening.Unknown S = exactly (sign Sym.Question) (refl, refl) ∷ S
   operand_rest OperandOpening.Call S =
       exactly (sign Sym.Nondeterministic) (refl, refl) ∷ exactly (opening Sym.OpenParenthesis (n + 1)) (refl, refl)
       ∷ exactly (sign Sym.CloseParenthesis) (refl, refl) ∷ S
-  operand_rest (OperandOpening.Signed prefix) S = an_operand n ∷ S
+  operand_rest (OperandOpening.Signed prefix) S = an_operand_kind n ∷ S
   operand_rest OperandOpening.Parenthesis S =
       exactly (opening Sym.OpenParenthesis (n + 1)) (refl, refl) ∷ an_expression (n + 1) ∷ exactly (sign Sym.CloseParenthesis) (refl, refl) ∷ S
   operand_rest OperandOpening.Bracket S =
       exactly (sign Sym.OpenBracket) (refl, refl) ∷ an_end ∷ exactly (sign Sym.Comma) (refl, refl) ∷ an_end
       ∷ exactly (sign Sym.CloseBracket) (refl, refl) ∷ S
-  operand_rest OperandOpening.Nothing S = an_operand n ∷ S
+  operand_rest OperandOpening.Nothing S = an_operand_kind n ∷ S
 
-  abbrev pub operand_tree : (o : OperandOpening) → (S : List Pending) → Trees (operand_rest o S) → Trees (an_operand n ∷ S)
+  abbrev pub operand_tree : (o : OperandOpening) → (S : List Pending) → Trees (operand_rest o S) → Trees (an_operand_kind n ∷ S)
   operand_tree (OperandOpening.Number z) S g = (number z, g.1)
   operand_tree OperandOpening.Name S g = (name g.0, g.1)
   operand_tree (OperandOpening.Truth b) S g = (truth b, g.1)
@@ -131,10 +141,10 @@ module _ (n : ℕ) where
   operand_tree OperandOpening.Nothing S g = g
 
   module _ (S : List Pending) where
-    pub operands : Choice (an_operand n ∷ S) opening_of_operand IsOperand (λ o. operand_rest o S) (λ o. operand_tree o S)
+    pub operands : Choice (an_operand_kind n ∷ S) opening_of_operand IsOperand (λ o. operand_rest o S) (λ o. operand_tree o S)
     operands = record { spells = spells; view = view }
       where
-        spells : (o : OperandOpening) → (g : Trees (operand_rest o S)) → pieces (an_operand n ∷ S) (operand_tree o S g) ≡ pieces (operand_rest o S) g
+        spells : (o : OperandOpening) → (g : Trees (operand_rest o S)) → pieces (an_operand_kind n ∷ S) (operand_tree o S g) ≡ pieces (operand_rest o S) g
         spells (OperandOpening.Number z) g = refl
         spells OperandOpening.Name g = refl
         spells (OperandOpening.Truth b) g = refl
@@ -145,8 +155,8 @@ module _ (n : ℕ) where
         spells OperandOpening.Bracket g = refl
         spells OperandOpening.Nothing g = refl
 
-        view : (f : Trees (an_operand n ∷ S))
-            → Way (an_operand n ∷ S) IsOperand (λ o. operand_rest o S) (λ o. operand_tree o S) (opening_of_operand (begins (an_operand n ∷ S) f)) f
+        view : (f : Trees (an_operand_kind n ∷ S))
+            → Way (an_operand_kind n ∷ S) IsOperand (λ o. operand_rest o S) (λ o. operand_tree o S) (opening_of_operand (begins (an_operand_kind n ∷ S) f)) f
         view (number z, rest) = (tt, (tt, rest), refl)
         view (name x, rest) = (tt, (x, rest), refl)
         view (truth true, rest) = (tt, (tt, rest), refl)
@@ -159,15 +169,24 @@ module _ (n : ℕ) where
         view (parentheses t more, rest) = (tt, (tt, (record { operand = t; tail = more }, (tt, rest))), refl)
         view (range lo hi, rest) = (tt, (tt, (lo, (tt, (hi, (tt, rest))))), refl)
 
-  module _ (c : ℕ) (S : List Pending) (from : List Word) where
+  pub located_operands : (S : List Pending) → Held (an_operand n ∷ S) (an_operand_kind n ∷ S) (λ m g. (operand_at m g.0, g.1))
+  located_operands S = record { spells = λ m g. refl; view = λ f. view f.0 f.1 }
+    where
+      view : (e : Operand) (rest : Trees S) → (m : ℕ) × (g : Trees (an_operand_kind n ∷ S)) × Same (an_operand n ∷ S) (e, rest) (operand_at m g.0, g.1)
+      view (operand_at m kind) rest = (m, (kind, rest), refl)
+
+  pub operand_begins : (S : List Pending) (e : Operand) (rest : Trees S) → IsOperand (opening_of_operand (begins (an_operand n ∷ S) (e, rest)))
+  operand_begins S (operand_at m kind) rest = ((operands S).view (kind, rest)).0
+
+  module _ (c : ℕ) (S : List Pending) (from : Rest) where
     -- which operands begin with a sign
     pub opening_of_prefix : (p : Prefix) → opening_of_operand (Some (symbol (prefix_sign p))) ≡ OperandOpening.Signed p
     opening_of_prefix Prefix.Plus = refl
     opening_of_prefix Prefix.Minus = refl
     opening_of_prefix Prefix.Not = refl
 
-    pub prefix_view : (prefix : Prefix) (t : Operand) (rest : Trees S) → opening_of_operand (first_before (pieces (an_operand n ∷ S) (t, rest)) None) ≡ OperandOpening.Signed prefix
-        → (g : Trees (an_operand (n + 1) ∷ S)) × Same (an_operand n ∷ S) (t, rest) (signed prefix g.0, g.1)
+    pub prefix_view : (prefix : Prefix) (t : OperandKind) (rest : Trees S) → opening_of_operand (first_before (pieces (an_operand_kind n ∷ S) (t, rest)) None) ≡ OperandOpening.Signed prefix
+        → (g : Trees (an_operand (n + 1) ∷ S)) × Same (an_operand_kind n ∷ S) (t, rest) (signed prefix g.0, g.1)
     prefix_view prefix (number z) rest e = absurd (cc)
     prefix_view prefix (name x) rest e = absurd (cc)
     prefix_view prefix (truth true) rest e = absurd (cc)
@@ -181,107 +200,73 @@ module _ (n : ℕ) where
     prefix_view prefix (range lo hi) rest e = absurd (cc)
 
     -- behind a sign, and at one that opens level 65
-    pub prefix_read : (prefix : Prefix) (to : List Word) → from ≡ symbol (prefix_sign prefix) ∷ to → n + 1 ≤ 64
-        → Leads c ((an_operand n ∷ S)) from c ((an_operand (n + 1) ∷ S)) to (λ g. (signed prefix g.0, g.1))
+    pub prefix_read : (prefix : Prefix) (to : Rest) → IsNext (symbol (prefix_sign prefix)) from to → n + 1 ≤ 64
+        → Leads c ((an_operand_kind n ∷ S)) from c ((an_operand (n + 1) ∷ S)) to (λ g. (signed prefix g.0, g.1))
     prefix_read prefix to e shallow =
-        reads ((an_operand n ∷ S)) ((an_operand (n + 1) ∷ S)) c from to (opening (prefix_sign prefix) (n + 1))
+        reads ((an_operand_kind n ∷ S)) ((an_operand (n + 1) ∷ S)) c from to (opening (prefix_sign prefix) (n + 1))
         (λ g. (signed prefix g.0, g.1)) e (shallow, tt) (λ g. refl)
         (λ f fits next. prefix_view prefix f.0 f.1 (ap opening_of_operand next ∙ opening_of_prefix prefix))
 
-    pub prefix_too_deep : (prefix : Prefix) (to : List Word) → from ≡ symbol (prefix_sign prefix) ∷ to → 64 < n + 1
-        → Stops c ((an_operand n ∷ S)) from Nesting from
+    pub prefix_too_deep : (prefix : Prefix) (to : Rest) → IsNext (symbol (prefix_sign prefix)) from to → 64 < n + 1
+        → Stops c ((an_operand_kind n ∷ S)) from Nesting from
     prefix_too_deep prefix to e deep =
-        exceeds ((an_operand n ∷ S)) c from (opening (prefix_sign prefix) (n + 1)) (pieces (an_operand (n + 1) ∷ S) (complete (an_operand (n + 1) ∷ S)))
-        Nesting (signed prefix (complete (an_operand (n + 1) ∷ S)).0, complete S) (completes (an_operand (n + 1) ∷ S)).0 refl (ap first e) (λ e. cc) deep
+        let inner = complete (from.number + 1) (an_operand (n + 1) ∷ S) in
+        exceeds ((an_operand_kind n ∷ S)) c from (opening (prefix_sign prefix) (n + 1)) (pieces (an_operand (n + 1) ∷ S) inner)
+        Nesting (signed prefix inner.0, inner.1) (completes (from.number + 1) (an_operand (n + 1) ∷ S)).0 refl (ap first e.0) (λ e. cc) deep
         (λ f fits next. let found = prefix_view prefix f.0 f.1 (ap opening_of_operand next ∙ opening_of_prefix prefix) in
-        (pieces (an_operand (n + 1) ∷ S) found.0, ap (pieces (an_operand n ∷ S)) found.1))
+        (pieces (an_operand (n + 1) ∷ S) found.0, ap (pieces (an_operand_kind n ∷ S)) found.1))
 
 -- the operators and operands behind the first operand
-pub unseen : (next : Option Word) → IsFalse (sees no_operator next) → binary_operator next ≡ None
-unseen None h = refl
-unseen (Some (named x)) h = refl
-unseen (Some (numbered z)) h = refl
-unseen (Some unreadable) h = refl
-unseen (Some (symbol Sym.Plus)) h = absurd (cc)
-unseen (Some (symbol Sym.Minus)) h = absurd (cc)
-unseen (Some (symbol Sym.Times)) h = absurd (cc)
-unseen (Some (symbol Sym.Less)) h = absurd (cc)
-unseen (Some (symbol Sym.LessEqual)) h = absurd (cc)
-unseen (Some (symbol Sym.Greater)) h = absurd (cc)
-unseen (Some (symbol Sym.GreaterEqual)) h = absurd (cc)
-unseen (Some (symbol Sym.Equal)) h = absurd (cc)
-unseen (Some (symbol Sym.NotEqual)) h = absurd (cc)
-unseen (Some (symbol Sym.And)) h = absurd (cc)
-unseen (Some (symbol Sym.Or)) h = absurd (cc)
-unseen (Some (symbol _)) h = refl
+pub reads_back : (op : Operator) → binary_operator (Some (symbol (sign_of op))) ≡ Some op
+reads_back Operator.Add = refl
+reads_back Operator.Subtract = refl
+reads_back Operator.Multiply = refl
+reads_back Operator.Less = refl
+reads_back Operator.LessEqual = refl
+reads_back Operator.Greater = refl
+reads_back Operator.GreaterEqual = refl
+reads_back Operator.Equal = refl
+reads_back Operator.NotEqual = refl
+reads_back Operator.And = refl
+reads_back Operator.Or = refl
 
-seen : (next : Option Word) → binary_operator next ≡ None → IsFalse (sees no_operator next)
-seen None h = refl
-seen (Some (named x)) h = refl
-seen (Some (numbered z)) h = refl
-seen (Some unreadable) h = refl
-seen (Some (symbol Sym.Plus)) h = absurd (cc)
-seen (Some (symbol Sym.Minus)) h = absurd (cc)
-seen (Some (symbol Sym.Times)) h = absurd (cc)
-seen (Some (symbol Sym.Less)) h = absurd (cc)
-seen (Some (symbol Sym.LessEqual)) h = absurd (cc)
-seen (Some (symbol Sym.Greater)) h = absurd (cc)
-seen (Some (symbol Sym.GreaterEqual)) h = absurd (cc)
-seen (Some (symbol Sym.Equal)) h = absurd (cc)
-seen (Some (symbol Sym.NotEqual)) h = absurd (cc)
-seen (Some (symbol Sym.And)) h = absurd (cc)
-seen (Some (symbol Sym.Or)) h = absurd (cc)
-seen (Some (symbol _)) h = refl
-
-pub reads_back : (op : Op2) → binary_operator (Some (symbol (sign_of op))) ≡ Some op
-reads_back Op2.Add = refl
-reads_back Op2.Sub = refl
-reads_back Op2.Mul = refl
-reads_back Op2.Less = refl
-reads_back Op2.LessEqual = refl
-reads_back Op2.Greater = refl
-reads_back Op2.GreaterEqual = refl
-reads_back Op2.Equal = refl
-reads_back Op2.NotEqual = refl
-reads_back Op2.And = refl
-reads_back Op2.Or = refl
-
-module _ (n c : ℕ) (S : List Pending) (from : List Word) where
+module _ (n c : ℕ) (S : List Pending) (from : Rest) where
   -- where no operator follows, the expression has ended
-  pub tail_ends : None ≡ binary_operator (first from)
+  pub tail_ends : None ≡ binary_operator (first from.words)
       → Leads c ((a_tail n ∷ S)) from c S from (λ g. (ended, g))
   tail_ends e =
-      opens (a_tail n ∷ S) S c from (λ next. binary_operator next ≡ None) (look no_operator ∷ []) (λ g. (ended, g)) refl tt refl
-      (seen (first from) (sym e), tt) (λ g. refl) (λ f fits none. view f.0 f.1 none) (sym e)
+      opens (a_tail n ∷ S) S c from (λ next. binary_operator next ≡ None) (look no_operator ∷ []) (λ g. (ended, g)) refl refl tt refl
+      (sym e, tt) (λ g. refl) (λ f fits none. view f.0 f.1 none) (sym e)
     where
       view : (t : Tail) (rest : Trees S) → binary_operator (first_before (pieces (a_tail n ∷ S) (t, rest)) None) ≡ None
           → (g : Trees S) × Same (a_tail n ∷ S) (t, rest) (ended, g)
       view ended rest none = (rest, refl)
-      view (further op t more) rest none = absurd (let both = sym (reads_back op) ∙ none in cc)
+      view (further (operation op t) more) rest none = absurd (let both = sym (reads_back op) ∙ none in cc)
 
   -- which tails begin with an operator
-  pub operator_view : (op : Op2) (t : Tail) (rest : Trees S) → Fits (pieces (a_tail n ∷ S) (t, rest))
+  pub operator_view : (op : Operator) (t : Tail) (rest : Trees S) → Fits from.number (pieces (a_tail n ∷ S) (t, rest))
       → binary_operator (first_before (pieces (a_tail n ∷ S) (t, rest)) None) ≡ Some op
-      → (g : Trees (an_operand n ∷ a_tail n ∷ S)) × Same (a_tail n ∷ S) (t, rest) (further op g.0 g.1.0, g.1.1)
-  operator_view op ended rest fits found = absurd (let none = unseen (first_before (pieces S rest) None) fits.0 in let both = sym none ∙ found in cc)
-  operator_view op (further other t more) rest fits found = (
+      → (g : Trees (an_operand n ∷ a_tail n ∷ S)) × Same (a_tail n ∷ S) (t, rest) (further (operation op g.0) g.1.0, g.1.1)
+  operator_view op ended rest fits found = absurd (let both = sym fits.0 ∙ found in cc)
+  operator_view op (further (operation other t) more) rest fits found = (
     (t, (more, rest)),
     let both : Some other ≡ Some op = sym (reads_back other) ∙ found in
-        let same : other ≡ op = cc in ap (λ o. (further o t more, rest)) same,
+        let same : other ≡ op = cc in ap (λ o. (further (operation o t) more, rest)) same,
   )
 
-  pub operator_read : (op : Op2) (to : List Word) → from ≡ symbol (sign_of op) ∷ to → c + 1 ≤ 256
-      → Leads c ((a_tail n ∷ S)) from (c + 1) ((an_operand n ∷ a_tail n ∷ S)) to (λ g. (further op g.0 g.1.0, g.1.1))
+  pub operator_read : (op : Operator) (to : Rest) → IsNext (symbol (sign_of op)) from to → c + 1 ≤ 256
+      → Leads c ((a_tail n ∷ S)) from (c + 1) ((an_operand n ∷ a_tail n ∷ S)) to (λ g. (further (operation op g.0) g.1.0, g.1.1))
   operator_read op to e few =
-      reads ((a_tail n ∷ S)) ((an_operand n ∷ a_tail n ∷ S)) c from to (operator op) (λ g. (further op g.0 g.1.0, g.1.1)) e
+      reads ((a_tail n ∷ S)) ((an_operand n ∷ a_tail n ∷ S)) c from to (operator op) (λ g. (further (operation op g.0) g.1.0, g.1.1)) e
       (omega arith, few) (λ g. refl) (λ f fits next. operator_view op f.0 f.1 fits (ap binary_operator next ∙ reads_back op))
 
-  pub operator_too_many : (op : Op2) (to : List Word) → from ≡ symbol (sign_of op) ∷ to → 256 < c + 1
+  pub operator_too_many : (op : Operator) (to : Rest) → IsNext (symbol (sign_of op)) from to → 256 < c + 1
       → Stops c ((a_tail n ∷ S)) from Operators from
   operator_too_many op to e many =
-      exceeds ((a_tail n ∷ S)) c from (operator op) (pieces (an_operand n ∷ a_tail n ∷ S) (complete (an_operand n ∷ a_tail n ∷ S))) Operators
-      (further op (complete (an_operand n ∷ a_tail n ∷ S)).0 (complete (an_operand n ∷ a_tail n ∷ S)).1.0, complete S)
-      (completes (an_operand n ∷ a_tail n ∷ S)).0 refl (ap first e) (λ e. cc) (omega arith, many)
+      let inner = complete (from.number + 1) (an_operand n ∷ a_tail n ∷ S) in
+      exceeds ((a_tail n ∷ S)) c from (operator op) (pieces (an_operand n ∷ a_tail n ∷ S) inner) Operators
+      (further (operation op inner.0) inner.1.0, inner.1.1)
+      (completes (from.number + 1) (an_operand n ∷ a_tail n ∷ S)).0 refl (ap first e.0) (λ e. cc) (omega arith, many)
       (λ f fits next. let found = operator_view op f.0 f.1 fits (ap binary_operator next ∙ reads_back op) in
       (pieces (an_operand n ∷ a_tail n ∷ S) found.0, ap (pieces (a_tail n ∷ S)) found.1))
 
@@ -290,5 +275,5 @@ module _ (n c : ℕ) (S : List Pending) (from : List Word) where
       (λ g. (record { operand = g.0; tail = g.1.0 }, g.1.1))
   expression_goes =
       opens (an_expression n ∷ S) (an_operand n ∷ a_tail n ∷ S) c from (λ next. Unit {0}) []
-      (λ g. (record { operand = g.0; tail = g.1.0 }, g.1.1)) refl tt refl tt (λ g. refl)
+      (λ g. (record { operand = g.0; tail = g.1.0 }, g.1.1)) refl refl tt refl tt (λ g. refl)
       (λ f fits any. ((f.0.operand, (f.0.tail, f.1)), refl)) tt

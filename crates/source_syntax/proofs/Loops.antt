@@ -5,6 +5,8 @@ use Rattle.derivation.specs.declared.rule.Rule.{Rule}
 use Rattle.derivation.specs.declared.symbol.Symbol.TheVariants as Sym
 use Rattle.derivation.specs.Word.{Word, symbol}
 use Rattle.derivation.specs.Pieces.{first}
+use Rattle.derivation.specs.Comes.{IsNext}
+use Rattle.source_syntax.specs.Language.{Rest}
 use Rattle.source_syntax.specs.declared.opening.ItemOpening.TheVariants as ItemOpening
 use Rattle.source_syntax.specs.Openings.{opening_of_item}
 use Rattle.concrete_syntax.specs.declared.statement.Item.{Item as RustItem}
@@ -22,17 +24,17 @@ use Rattle.source_syntax.proofs.Statements.{all_items, declaration_goes, further
 use Rattle.source_syntax.proofs.Answering.{sign_reads, leading_reads}
 
 -- a tree that is told by an equation
-pub told_reads : {p : Pending} {t u : TreeOf p} {from to : List Word} → t ≡ u → Reads p u from to → Reads p t from to
+pub told_reads : {p : Pending} {t u : TreeOf p} {from to : Rest} → t ≡ u → Reads p u from to → Reads p t from to
 told_reads {p} {t} {u} {from} {to} e r = subst (λ t. Reads p t from to) (sym e) r
 
 -- items
-pub items_from : (n : ℕ) (start : List Word) (list : List Item) → list ≡ [] → Continues (items n) (items_of list) start start
+pub items_from : (n : ℕ) (start : Rest) (list : List Item) → list ≡ [] → Continues (items n) (items_of list) start start
 items_from n start list empty =
     subst (λ list. Continues (items n) (items_of list) start start) (sym empty) (record { comes = λ count behind. (count, stay count (items n ∷ behind) start) })
 
-module _ (n : ℕ) (start here : List Word) where
-  pub items_declaration : (to : List Word) (list more : List Item) (d : Declaration) → more ≡ list ++ declared d ∷ []
-      → Continues (items n) (items_of list) start here → ItemOpening.Declaration ≡ opening_of_item (first here)
+module _ (n : ℕ) (start here : Rest) where
+  pub items_declaration : (to : Rest) (list more : List Item) (d : Declaration) → more ≡ list ++ declared d ∷ []
+      → Continues (items n) (items_of list) start here → ItemOpening.Declaration ≡ opening_of_item (first here.words)
       → ReadsLeading (a_declaration n) d here to → Continues (items n) (items_of more) start to
   items_declaration to list more d pushed h e r = record {
     comes = λ count behind. (
@@ -42,8 +44,8 @@ module _ (n : ℕ) (start here : List Word) where
     );
   }
 
-  pub items_statement : (to : List Word) (list more : List Item) (s : Statement) → more ≡ list ++ stated s ∷ []
-      → Continues (items n) (items_of list) start here → ItemOpening.Statement ≡ opening_of_item (first here)
+  pub items_statement : (to : Rest) (list more : List Item) (s : Statement) → more ≡ list ++ stated s ∷ []
+      → Continues (items n) (items_of list) start here → ItemOpening.Statement ≡ opening_of_item (first here.words)
       → Reads (a_statement n) s here to → Continues (items n) (items_of more) start to
   items_statement to list more s pushed h e r = record {
     comes = λ count behind. (
@@ -53,8 +55,8 @@ module _ (n : ℕ) (start here : List Word) where
     );
   }
 
-  pub items_close : (to : List Word) (list : List Item) (all : Items) → Continues (items n) (items_of list) start here → ItemOpening.Close ≡ opening_of_item (first here)
-      → here ≡ symbol Sym.CloseBrace ∷ to → all ≡ items_of list none → Reads (items n) all start to
+  pub items_close : (to : Rest) (list : List Item) (all : Items) → Continues (items n) (items_of list) start here → ItemOpening.Close ≡ opening_of_item (first here.words)
+      → IsNext (symbol Sym.CloseBrace) here to → all ≡ items_of list none → Reads (items n) all start to
   items_close to list all h e r made = record {
     comes = λ count behind. (
       _,
@@ -64,19 +66,19 @@ module _ (n : ℕ) (start here : List Word) where
   }
 
 -- the parts of a declaration
-module _ (n : ℕ) (start : List Word) where
-  pub parts_from : (inner to : List Word) (part : Part) (so_far : List Part) → so_far ≡ [] → start ≡ symbol Sym.Int ∷ inner → ReadsPart n part inner to
+module _ (n : ℕ) (start : Rest) where
+  pub parts_from : (inner to : Rest) (part : Part) (so_far : List Part) → so_far ≡ [] → IsNext (symbol Sym.Int) start inner → ReadsPart n part inner to
       → ComesToParts n part so_far start to
   parts_from inner to part so_far empty e r = subst (λ so_far. ComesToParts n part so_far start to) (sym empty) (record {
     comes = λ count behind. (_, over (declaration_goes n count behind start) (over (sign_reads Sym.Int (refl, refl) e) (r.comes _ behind).1));
   })
 
-  pub part_missing : (inner to : List Word) → start ≡ symbol Sym.Int ∷ inner → (rule : Rule) → RefusesPart n inner rule to → Refuses (a_declaration n) start rule to
+  pub part_missing : (inner to : Rest) → IsNext (symbol Sym.Int) start inner → (rule : Rule) → RefusesPart n inner rule to → Refuses (a_declaration n) start rule to
   part_missing inner to e rule h count behind =
       fails (declaration_goes n count behind start) (fails (sign_reads Sym.Int (refl, refl) e) (h _ behind))
 
-  pub parts_over : (here inner to : List Word) (part further : Part) (so_far more : List Part) → more ≡ so_far ++ further ∷ []
-      → ComesToParts n part so_far start here → here ≡ symbol Sym.Comma ∷ inner → ReadsPart n further inner to → ComesToParts n part more start to
+  pub parts_over : (here inner to : Rest) (part further : Part) (so_far more : List Part) → more ≡ so_far ++ further ∷ []
+      → ComesToParts n part so_far start here → IsNext (symbol Sym.Comma) here inner → ReadsPart n further inner to → ComesToParts n part more start to
   parts_over here inner to part further so_far more pushed h c r = record {
     comes = λ count behind. (
       _,
@@ -86,23 +88,23 @@ module _ (n : ℕ) (start : List Word) where
     );
   }
 
-  pub parts_close : (here to : List Word) (part : Part) (so_far : List Part) → ComesToParts n part so_far start here
-      → ((to : List Word) → here ≢ symbol Sym.Comma ∷ to) → here ≡ symbol Sym.Semicolon ∷ to
+  pub parts_close : (here to : Rest) (part : Part) (so_far : List Part) → ComesToParts n part so_far start here
+      → ((to : List Word) → here.words ≢ symbol Sym.Comma ∷ to) → IsNext (symbol Sym.Semicolon) here to
       → ReadsLeading (a_declaration n) (record { part = part; more = so_far }) start to
   parts_close here to part so_far h missing c = record {
     comes = λ count behind.
         refilled (λ trees. ap (λ l. (record { part = part; more = l }, trees)) (append-nil so_far))
         (over (h.comes count behind).1
-        (over (left_out (further_parts n behind) (not_next (symbol Sym.Comma) here missing)) (leading_reads Sym.Semicolon (refl, refl) c)));
+        (over (left_out (further_parts n behind) (not_next (symbol Sym.Comma) here.words missing)) (leading_reads Sym.Semicolon (refl, refl) c)));
   }
 
 -- what stands before `main`
-pub preludes_from : (start : List Word) (list : List Prelude) → list ≡ [] → Continues a_program (behind_preludes list) start start
+pub preludes_from : (start : Rest) (list : List Prelude) → list ≡ [] → Continues a_program (behind_preludes list) start start
 preludes_from start list empty =
     subst (λ list. Continues a_program (behind_preludes list) start start) (sym empty)
     (record { comes = λ count behind. (count, stay count (a_program ∷ behind) start) })
 
-pub preludes_over : (start here to : List Word) (list front more : List Prelude) → more ≡ list ++ front → Continues a_program (behind_preludes list) start here
+pub preludes_over : (start here to : Rest) (list front more : List Prelude) → more ≡ list ++ front → Continues a_program (behind_preludes list) start here
     → Continues a_program (behind_preludes front) here to → Continues a_program (behind_preludes more) start to
 preludes_over start here to list front more pushed h r = record {
   comes = λ count behind. (
@@ -113,7 +115,7 @@ preludes_over start here to list front more pushed h r = record {
   );
 }
 
-pub preludes_to : (start here to : List Word) (list : List Prelude) (void : Bool) (all : Items) → Continues a_program (behind_preludes list) start here
+pub preludes_to : (start here to : Rest) (list : List Prelude) (void : Bool) (all : Items) → Continues a_program (behind_preludes list) start here
     → Reads a_program (record { preludes = []; void = void; items = all }) here to → Reads a_program (record { preludes = list; void = void; items = all }) start to
 preludes_to start here to list void all h r = record {
   comes = λ count behind. (

@@ -1,6 +1,6 @@
 -- Readings of a single word that the next word opens.
 use Rattle.std.proofs.Common.{◌≡◌, ℕ, ◌+◌, ◌<◌, ◌≤◌, ℤ, List, [], ◌∷◌, ◌++◌, subst, Some, None, Bool, refl, sym, ap, ◌∙◌, arith}
-use Rattle.step_meaning.specs.declared.expression.Op2.{Op2}
+use Rattle.concrete_syntax.specs.declared.sign.Operator.{Operator}
 use Rattle.derivation.specs.declared.rule.Rule.TheVariants.{Nesting, Operators}
 use Rattle.derivation.specs.declared.symbol.Symbol.{Symbol}
 use Rattle.derivation.specs.declared.symbol.Symbol.TheVariants as Sym
@@ -8,18 +8,20 @@ use Rattle.derivation.specs.declared.lexeme.Lexeme.{Lexeme}
 use Rattle.derivation.specs.Word.{Word, symbol, number as numbered}
 use Rattle.derivation.specs.Spelled.{words_from, IsBehind}
 use Rattle.derivation.specs.Pieces.{first}
+use Rattle.derivation.specs.Comes.{IsNext}
+use Rattle.source_syntax.specs.Language.{Rest, rest_from, binary_operator}
 use Rattle.concrete_syntax.specs.declared.sign.Prefix.{Prefix}
 use Rattle.source_syntax.specs.declared.opening.OperandOpening.{OperandOpening}
 use Rattle.source_syntax.specs.declared.opening.SizeOpening.{SizeOpening}
-use Rattle.source_syntax.specs.Openings.{opening_of_operand, binary_operator, size_opening}
+use Rattle.source_syntax.specs.Openings.{opening_of_operand, size_opening}
 use Rattle.std.proofs.lemmas.List.{map-append}
-use Rattle.concrete_syntax.specs.declared.expression.Operand.{Operand as RustOperand}
-use Rattle.concrete_syntax.specs.Chains.{Link, tail_of}
-use Rattle.concrete_syntax.specs.Mirror.{operand, link, links}
+use Rattle.concrete_syntax.specs.declared.expression.Link.{Link as RustLink}
+use Rattle.concrete_syntax.specs.Chains.{tail_of}
+use Rattle.concrete_syntax.specs.Mirror.{link, links}
 use Rattle.concrete_syntax.proofs.Chains.{tail_of-append}
-use Rattle.concrete_syntax.specs.Trees.{Operand, Tail, number, truth, unknown, signed, further, ended}
+use Rattle.concrete_syntax.specs.Trees.{Operand, Link, operation, Tail, number, truth, unknown, signed, further, ended}
 use Rattle.source_syntax.specs.Spelling.{truth_word, prefix_sign, sign_of}
-use Rattle.source_syntax.specs.Pending.{Pending, a_size, an_operand, a_tail, an_expression, TreeOf}
+use Rattle.source_syntax.specs.Pending.{Pending, a_size, an_operand, an_operand_kind, a_tail, an_expression, TreeOf}
 use Rattle.source_syntax.specs.Leads.{Leads, Stops}
 use Rattle.source_syntax.specs.Reads.{ReadsCounting, ComesToTail}
 use Rattle.source_syntax.proofs.Calculus.{over, refilled}
@@ -33,27 +35,27 @@ pub one_behind : (lexemes : List Lexeme) (at : ℕ) (w : Word) (rest : List Word
 one_behind lexemes at w rest e = record { forward = omega arith; inside = omega (arith, (stands_at lexemes at w rest e).0) }
 
 pub next_of : (lexemes : List Lexeme) (at : ℕ) (w : Word) (rest : List Word) → words_from lexemes at ≡ w ∷ rest
-    → words_from lexemes at ≡ w ∷ words_from lexemes (at + 1)
-next_of lexemes at w rest e = e ∙ ap (λ ws. w ∷ ws) (sym (stands_at lexemes at w rest e).1)
+    → IsNext w (rest_from lexemes at) (rest_from lexemes (at + 1))
+next_of lexemes at w rest e = (e ∙ ap (λ ws. w ∷ ws) (sym (stands_at lexemes at w rest e).1), refl)
 
 module _ (lexemes : List Lexeme) (at : ℕ) where
   pub size_number : (z : ℤ) → SizeOpening.Number z ≡ size_opening (first (words_from lexemes at))
-      → ((count : ℕ) → ReadsCounting count a_size (Some z) (words_from lexemes at) count (words_from lexemes (at + 1))) × IsBehind lexemes at (at + 1)
+      → ((count : ℕ) → ReadsCounting count a_size (Some z) (rest_from lexemes at) count (rest_from lexemes (at + 1))) × IsBehind lexemes at (at + 1)
   size_number z e =
       let w = size_word (words_from lexemes at) (SizeOpening.Number z) e in (
         λ count. record {
-          comes = λ behind. over (goes (sizes behind) count (words_from lexemes at) (SizeOpening.Number z) e)
+          comes = λ behind. over (goes (sizes behind) count (rest_from lexemes at) (SizeOpening.Number z) e)
               (number_reads (next_of lexemes at (numbered z) w.0 w.1));
         },
         one_behind lexemes at (numbered z) w.0 w.1,
       )
 
   pub size_infinite : SizeOpening.Infinite ≡ size_opening (first (words_from lexemes at))
-      → ((count : ℕ) → ReadsCounting count a_size None (words_from lexemes at) count (words_from lexemes (at + 1))) × IsBehind lexemes at (at + 1)
+      → ((count : ℕ) → ReadsCounting count a_size None (rest_from lexemes at) count (rest_from lexemes (at + 1))) × IsBehind lexemes at (at + 1)
   size_infinite e =
       let w = size_word (words_from lexemes at) SizeOpening.Infinite e in (
         λ count. record {
-          comes = λ behind. over (goes (sizes behind) count (words_from lexemes at) SizeOpening.Infinite e)
+          comes = λ behind. over (goes (sizes behind) count (rest_from lexemes at) SizeOpening.Infinite e)
               (sign_reads Sym.Infinite (refl, refl) (next_of lexemes at (symbol Sym.Infinite) w.0 w.1));
         },
         one_behind lexemes at (symbol Sym.Infinite) w.0 w.1,
@@ -62,33 +64,33 @@ module _ (lexemes : List Lexeme) (at : ℕ) where
 -- operands of one word
 module _ (lexemes : List Lexeme) (at n : ℕ) where
   pub operand_number : (z : ℤ) → OperandOpening.Number z ≡ opening_of_operand (first (words_from lexemes at))
-      → ((count : ℕ) → ReadsCounting count (an_operand n) (number z) (words_from lexemes at) count (words_from lexemes (at + 1))) × IsBehind lexemes at (at + 1)
+      → ((count : ℕ) → ReadsCounting count (an_operand_kind n) (number z) (rest_from lexemes at) count (rest_from lexemes (at + 1))) × IsBehind lexemes at (at + 1)
   operand_number z e =
       let w = operand_word (words_from lexemes at) (OperandOpening.Number z) e in (
         λ count. record {
-          comes = λ behind. over (goes (operands n behind) count (words_from lexemes at) (OperandOpening.Number z) e)
+          comes = λ behind. over (goes (operands n behind) count (rest_from lexemes at) (OperandOpening.Number z) e)
               (number_reads (next_of lexemes at (numbered z) w.0 w.1));
         },
         one_behind lexemes at (numbered z) w.0 w.1,
       )
 
   pub operand_truth : (b : Bool) → OperandOpening.Truth b ≡ opening_of_operand (first (words_from lexemes at))
-      → ((count : ℕ) → ReadsCounting count (an_operand n) (truth b) (words_from lexemes at) count (words_from lexemes (at + 1))) × IsBehind lexemes at (at + 1)
+      → ((count : ℕ) → ReadsCounting count (an_operand_kind n) (truth b) (rest_from lexemes at) count (rest_from lexemes (at + 1))) × IsBehind lexemes at (at + 1)
   operand_truth b e =
       let w = operand_word (words_from lexemes at) (OperandOpening.Truth b) e in (
         λ count. record {
-          comes = λ behind. over (goes (operands n behind) count (words_from lexemes at) (OperandOpening.Truth b) e)
+          comes = λ behind. over (goes (operands n behind) count (rest_from lexemes at) (OperandOpening.Truth b) e)
               (sign_reads (truth_word b) (truth_quiet b) (next_of lexemes at (symbol (truth_word b)) w.0 w.1));
         },
         one_behind lexemes at (symbol (truth_word b)) w.0 w.1,
       )
 
   pub operand_unknown : OperandOpening.Unknown ≡ opening_of_operand (first (words_from lexemes at))
-      → ((count : ℕ) → ReadsCounting count (an_operand n) unknown (words_from lexemes at) count (words_from lexemes (at + 1))) × IsBehind lexemes at (at + 1)
+      → ((count : ℕ) → ReadsCounting count (an_operand_kind n) unknown (rest_from lexemes at) count (rest_from lexemes (at + 1))) × IsBehind lexemes at (at + 1)
   operand_unknown e =
       let w = operand_word (words_from lexemes at) OperandOpening.Unknown e in (
         λ count. record {
-          comes = λ behind. over (goes (operands n behind) count (words_from lexemes at) OperandOpening.Unknown e)
+          comes = λ behind. over (goes (operands n behind) count (rest_from lexemes at) OperandOpening.Unknown e)
               (sign_reads Sym.Question (refl, refl) (next_of lexemes at (symbol Sym.Question) w.0 w.1));
         },
         one_behind lexemes at (symbol Sym.Question) w.0 w.1,
@@ -96,60 +98,62 @@ module _ (lexemes : List Lexeme) (at n : ℕ) where
 
   -- a sign before an operand
   pub behind_prefix : (prefix : Prefix) → OperandOpening.Signed prefix ≡ opening_of_operand (first (words_from lexemes at)) → n + 1 ≤ 64
-      → ((count : ℕ) (behind : List Pending) → Leads count (an_operand n ∷ behind) (words_from lexemes at) count (an_operand (n + 1) ∷ behind)
-      (words_from lexemes (at + 1)) (λ g. (signed prefix g.0, g.1)))
+      → ((count : ℕ) (behind : List Pending) → Leads count (an_operand_kind n ∷ behind) (rest_from lexemes at) count (an_operand (n + 1) ∷ behind)
+      (rest_from lexemes (at + 1)) (λ g. (signed prefix g.0, g.1)))
       × IsBehind lexemes at (at + 1)
   behind_prefix prefix e shallow =
       let w = operand_word (words_from lexemes at) (OperandOpening.Signed prefix) e in (
-        λ count behind. prefix_read n count behind (words_from lexemes at) prefix (words_from lexemes (at + 1))
+        λ count behind. prefix_read n count behind (rest_from lexemes at) prefix (rest_from lexemes (at + 1))
             (next_of lexemes at (symbol (prefix_sign prefix)) w.0 w.1) shallow,
         one_behind lexemes at (symbol (prefix_sign prefix)) w.0 w.1,
       )
 
   pub prefix_stops : (prefix : Prefix) → OperandOpening.Signed prefix ≡ opening_of_operand (first (words_from lexemes at)) → 64 < n + 1
-      → (count : ℕ) (behind : List Pending) → Stops count (an_operand n ∷ behind) (words_from lexemes at) Nesting (words_from lexemes at)
+      → (count : ℕ) (behind : List Pending) → Stops count (an_operand_kind n ∷ behind) (rest_from lexemes at) Nesting (rest_from lexemes at)
   prefix_stops prefix e deep count behind =
       let w = operand_word (words_from lexemes at) (OperandOpening.Signed prefix) e in
-      prefix_too_deep n count behind (words_from lexemes at) prefix w.0 w.1 deep
+      prefix_too_deep n count behind (rest_from lexemes at) prefix (rest_from lexemes (at + 1))
+      (next_of lexemes at (symbol (prefix_sign prefix)) w.0 w.1) deep
 
   -- an operator behind an operand
-  pub behind_operator : (op : Op2) → Some op ≡ binary_operator (first (words_from lexemes at)) → (count : ℕ) → count + 1 ≤ 256
-      → ((behind : List Pending) → Leads count (a_tail n ∷ behind) (words_from lexemes at) (count + 1) (an_operand n ∷ a_tail n ∷ behind)
-      (words_from lexemes (at + 1)) (λ g. (further op g.0 g.1.0, g.1.1)))
+  pub behind_operator : (op : Operator) → Some op ≡ binary_operator (first (words_from lexemes at)) → (count : ℕ) → count + 1 ≤ 256
+      → ((behind : List Pending) → Leads count (a_tail n ∷ behind) (rest_from lexemes at) (count + 1) (an_operand n ∷ a_tail n ∷ behind)
+      (rest_from lexemes (at + 1)) (λ g. (further (operation op g.0) g.1.0, g.1.1)))
       × IsBehind lexemes at (at + 1)
   behind_operator op e count few =
       let w = operator_word (words_from lexemes at) (Some op) e in (
-        λ behind. operator_read n count behind (words_from lexemes at) op (words_from lexemes (at + 1)) (next_of lexemes at (symbol (sign_of op)) w.0 w.1) few,
+        λ behind. operator_read n count behind (rest_from lexemes at) op (rest_from lexemes (at + 1)) (next_of lexemes at (symbol (sign_of op)) w.0 w.1) few,
         one_behind lexemes at (symbol (sign_of op)) w.0 w.1,
       )
 
-  pub operator_stops : (op : Op2) → Some op ≡ binary_operator (first (words_from lexemes at)) → (count : ℕ) → 256 < count + 1
-      → (behind : List Pending) → Stops count (a_tail n ∷ behind) (words_from lexemes at) Operators (words_from lexemes at)
+  pub operator_stops : (op : Operator) → Some op ≡ binary_operator (first (words_from lexemes at)) → (count : ℕ) → 256 < count + 1
+      → (behind : List Pending) → Stops count (a_tail n ∷ behind) (rest_from lexemes at) Operators (rest_from lexemes at)
   operator_stops op e count many behind =
       let w = operator_word (words_from lexemes at) (Some op) e in
-      operator_too_many n count behind (words_from lexemes at) op w.0 w.1 many
+      operator_too_many n count behind (rest_from lexemes at) op (rest_from lexemes (at + 1))
+      (next_of lexemes at (symbol (sign_of op)) w.0 w.1) many
 
 -- the loop of an expression
-module _ (count levels : ℕ) (start : List Word) where
-  pub tail_from : (now : ℕ) (here : List Word) (e : Operand) (links : List Link) → links ≡ [] → ReadsCounting count (an_operand levels) e start now here
+module _ (count levels : ℕ) (start : Rest) where
+  pub tail_from : (now : ℕ) (here : Rest) (e : Operand) (links : List Link) → links ≡ [] → ReadsCounting count (an_operand levels) e start now here
       → ComesToTail count levels e links start now here
   tail_from now here e links none r = subst (λ links. ComesToTail count levels e links start now here) (sym none) (record {
     comes = λ behind. over (expression_goes levels count behind start) (r.comes (a_tail levels ∷ behind));
   })
 
-  pub tail_over : (now next : ℕ) (here inner to : List Word) (op : Op2) (e further_operand : Operand) (links more : List Link)
-      → more ≡ links ++ (op, further_operand) ∷ [] → ComesToTail count levels e links start now here
-      → ((behind : List Pending) → Leads now (a_tail levels ∷ behind) here (now + 1) (an_operand levels ∷ a_tail levels ∷ behind) inner (λ g. (further op g.0 g.1.0, g.1.1)))
+  pub tail_over : (now next : ℕ) (here inner to : Rest) (op : Operator) (e further_operand : Operand) (links more : List Link)
+      → more ≡ links ++ operation op further_operand ∷ [] → ComesToTail count levels e links start now here
+      → ((behind : List Pending) → Leads now (a_tail levels ∷ behind) here (now + 1) (an_operand levels ∷ a_tail levels ∷ behind) inner (λ g. (further (operation op g.0) g.1.0, g.1.1)))
       → ReadsCounting (now + 1) (an_operand levels) further_operand inner next to → ComesToTail count levels e more start next to
   tail_over now next here inner to op e further_operand links more pushed h step r = record {
     comes = λ behind.
         refilled (λ trees. ap (λ t. (record { operand = e; tail = t }, trees.1))
-        (sym (ap (λ l. tail_of l trees.0) pushed ∙ tail_of-append links ((op, further_operand) ∷ []) trees.0)))
+        (sym (ap (λ l. tail_of l trees.0) pushed ∙ tail_of-append links (operation op further_operand ∷ []) trees.0)))
         (over (h.comes behind) (over (step behind) (r.comes (a_tail levels ∷ behind))));
   }
 
-  pub tail_done : (now : ℕ) (here : List Word) (e : Operand) (links : List Link) (tail : Tail) → ComesToTail count levels e links start now here
-      → None ≡ binary_operator (first here) → tail ≡ tail_of links ended
+  pub tail_done : (now : ℕ) (here : Rest) (e : Operand) (links : List Link) (tail : Tail) → ComesToTail count levels e links start now here
+      → None ≡ binary_operator (first here.words) → tail ≡ tail_of links ended
       → ReadsCounting count (an_expression levels) (record { operand = e; tail = tail }) start now here
   tail_done now here e links tail h none made = record {
     comes = λ behind.
@@ -158,14 +162,13 @@ module _ (count levels : ℕ) (start : List Word) where
   }
 
 -- a link more in a list
-pub one_link_more : (old new : List (Op2 × RustOperand)) (op : Op2) (e : RustOperand) → new ≡ old ++ (op, e) ∷ []
-    → links new ≡ links old ++ (op, operand e) ∷ []
-one_link_more old new op e pushed = ap links pushed ∙ map-append link old ((op, e) ∷ [])
+pub one_link_more : (old new : List RustLink) (last : RustLink) → new ≡ old ++ last ∷ [] → links new ≡ links old ++ link last ∷ []
+one_link_more old new last pushed = ap links pushed ∙ map-append link old (last ∷ [])
 
 -- a tree that is told by an equation
-pub told : {count now : ℕ} {p : Pending} {t u : TreeOf p} {from to : List Word} → t ≡ u → ReadsCounting count p u from now to → ReadsCounting count p t from now to
+pub told : {count now : ℕ} {p : Pending} {t u : TreeOf p} {from to : Rest} → t ≡ u → ReadsCounting count p u from now to → ReadsCounting count p t from now to
 told {count} {now} {p} {t} {u} {from} {to} e r = subst (λ t. ReadsCounting count p t from now to) (sym e) r
 
 -- a sign whose spelling is told by an equation
-pub written : {from to : List Word} {s t : Symbol} → from ≡ symbol s ∷ to → s ≡ t → from ≡ symbol t ∷ to
-written {from} {to} e h = e ∙ ap (λ x. symbol x ∷ to) h
+pub written : (from to : Rest) {s t : Symbol} → IsNext (symbol s) from to → s ≡ t → IsNext (symbol t) from to
+written from to e h = (e.0 ∙ ap (λ x. symbol x ∷ to.words) h, e.1)

@@ -5,8 +5,9 @@ use Rattle.derivation.specs.declared.rule.Rule.TheVariants.{Expected, Nesting}
 use Rattle.derivation.specs.declared.symbol.Symbol.{Symbol}
 use Rattle.derivation.specs.declared.symbol.Symbol.TheVariants as Sym
 use Rattle.derivation.specs.Word.{Word, symbol, name as named, number as numbered, unknown as unreadable}
-use Rattle.derivation.specs.Pieces.{look, no_else, sees, first, Fits}
-use Rattle.derivation.specs.Comes.{IsQuiet}
+use Rattle.derivation.specs.Pieces.{look, first, Fits}
+use Rattle.derivation.specs.Comes.{IsNext}
+use Rattle.source_syntax.specs.Language.{Rest, is_else, no_else, IsQuiet}
 use Rattle.source_syntax.specs.Leads.{Leads, Stops}
 use Rattle.source_syntax.proofs.Calculus.{opens, reads, sticks, exceeds}
 use Rattle.concrete_syntax.specs.declared.sign.Assignment.{Assignment}
@@ -18,13 +19,13 @@ use Rattle.source_syntax.specs.declared.opening.ItemOpening.{ItemOpening}
 use Rattle.source_syntax.specs.declared.opening.StartOpening.{StartOpening}
 use Rattle.source_syntax.specs.declared.opening.PreludeOpening.{PreludeOpening}
 use Rattle.source_syntax.specs.Openings.{opening_of_simple, opening_of_action, opening_of_statement, opening_of_item, opening_of_start, opening_of_prelude, opening_of_operand}
-use Rattle.concrete_syntax.specs.Trees.{Operand, number, name, call, Expression, assigns, steps, Simple, acts, steps_before, Part, starts_with_nothing, starts_with, declares, Statement, simple, skip, braces, conditional, while_loop, do_loop, for_loop, return, Otherwise, without, otherwise, Items, none, declaration, statement, Prelude, extern_call, typedef_bool}
+use Rattle.concrete_syntax.specs.Trees.{Expression, assigns, steps, Simple, acts, steps_before, Part, starts_with_nothing, starts_with, declares, Statement, statement_at, simple, skip, braces, conditional, while_loop, do_loop, for_loop, return, Otherwise, without, otherwise, Items, none, declaration, statement, Prelude, extern_call, typedef_bool}
 use Rattle.source_syntax.specs.Spelling.{sign, leading, opening, leading_opening, assignment_sign, step_sign}
-use Rattle.source_syntax.specs.Pending.{Pending, exactly, a_name, a_tail, an_expression, an_optional, a_test, an_action, a_simple, a_part_end, parts, a_declaration, a_start, a_finish, a_statement, an_otherwise, items, a_void, a_program, Trees, pieces}
+use Rattle.source_syntax.specs.Pending.{Pending, exactly, exactly_at, a_name, a_tail, an_expression, an_optional, a_test, an_action, a_simple, a_part_end, parts, a_declaration, a_start, a_finish, a_statement, a_statement_kind, an_otherwise, items, a_void, a_program, Trees, pieces}
 use Rattle.source_syntax.proofs.Completions.{complete, completes}
 use Rattle.source_syntax.proofs.Answering.{AreQuiet, in_turn, units, behind_units}
-use Rattle.source_syntax.proofs.Choices.{begins, Way, Choice, Sides, Fork}
-use Rattle.source_syntax.proofs.Expressions.{Same, IsOperand, operands}
+use Rattle.source_syntax.proofs.Choices.{begins, Way, Choice, Sides, Fork, Held}
+use Rattle.source_syntax.proofs.Expressions.{Same, IsOperand, operand_begins}
 
 pub assignment_quiet : (a : Assignment) → IsQuiet (Some (symbol (assignment_sign a)))
 assignment_quiet Assignment.Assign = (refl, refl)
@@ -77,12 +78,12 @@ IsSimple _ = Unit {0}
 module _ (n : ℕ) where
   abbrev pub simple_rest : SimpleOpening → List Pending → List Pending
   simple_rest SimpleOpening.Name S = a_name ∷ an_action n ∷ S
-  simple_rest (SimpleOpening.Steps s) S = exactly (sign (step_sign s)) (step_quiet s) ∷ a_name ∷ S
+  simple_rest (SimpleOpening.Steps s) S = exactly_at (sign (step_sign s)) (step_quiet s) ∷ a_name ∷ S
   simple_rest SimpleOpening.Nothing S = a_simple n ∷ S
 
   abbrev pub simple_tree : (o : SimpleOpening) → (S : List Pending) → Trees (simple_rest o S) → Trees (a_simple n ∷ S)
   simple_tree SimpleOpening.Name S g = (acts g.0 g.1.0, g.1.1)
-  simple_tree (SimpleOpening.Steps s) S g = (steps_before s g.1.0, g.1.1)
+  simple_tree (SimpleOpening.Steps s) S g = (steps_before g.0 s g.1.0, g.1.1)
   simple_tree SimpleOpening.Nothing S g = g
 
   pub simples : (S : List Pending) → Choice (a_simple n ∷ S) opening_of_simple IsSimple (λ o. simple_rest o S) (λ o. simple_tree o S)
@@ -96,8 +97,8 @@ module _ (n : ℕ) where
       view : (f : Trees (a_simple n ∷ S))
           → Way (a_simple n ∷ S) IsSimple (λ o. simple_rest o S) (λ o. simple_tree o S) (opening_of_simple (begins (a_simple n ∷ S) f)) f
       view (acts x action, rest) = (tt, (x, (action, rest)), refl)
-      view (steps_before Step.Increment x, rest) = (tt, (tt, (x, rest)), refl)
-      view (steps_before Step.Decrement x, rest) = (tt, (tt, (x, rest)), refl)
+      view (steps_before at Step.Increment x, rest) = (tt, (at, (x, rest)), refl)
+      view (steps_before at Step.Decrement x, rest) = (tt, (at, (x, rest)), refl)
 
 module _ (n : ℕ) (S : List Pending) where
   -- what stands behind a declared name: an initialiser or none, and further parts
@@ -126,7 +127,7 @@ module _ (n : ℕ) (S : List Pending) where
   pub no_semicolon : (e : Expression) (rest : Trees S) → begins (an_optional n ∷ S) (Some e, rest) ≢ Some (symbol Sym.Semicolon)
   no_semicolon e rest is =
       subst (λ next. IsOperand (opening_of_operand next)) is
-      ((operands n (a_tail n ∷ exactly (sign Sym.Semicolon) (refl, refl) ∷ S)).view (e.operand, (e.tail, (tt, rest)))).0
+      (operand_begins n (a_tail n ∷ exactly (sign Sym.Semicolon) (refl, refl) ∷ S) e.operand (e.tail, (tt, rest)))
 
   pub optionals : Fork (an_optional n ∷ S) (sign Sym.Semicolon) S (λ g. (None, g))
       (an_expression n ∷ exactly (sign Sym.Semicolon) (refl, refl) ∷ S) (λ g. (Some g.0, g.1.1))
@@ -162,12 +163,12 @@ voids S = record { spells = λ g. refl; spells_other = λ g. refl; view = view }
     view (false, rest) = inr ((tt, rest), refl, λ e. cc)
 
 -- a declaration
-module _ (n c : ℕ) (S : List Pending) (from : List Word) where
+module _ (n c : ℕ) (S : List Pending) (from : Rest) where
   pub declaration_goes : Leads c ((a_declaration n ∷ S)) from c ((exactly (sign Sym.Int) (refl, refl) ∷ a_name ∷ a_part_end n ∷ S)) from
       (λ g. (record { part = record { declared = g.1.0; initialiser = g.1.1.0.0 }; more = g.1.1.0.1 }, g.1.1.1))
   declaration_goes =
       opens (a_declaration n ∷ S) (exactly (sign Sym.Int) (refl, refl) ∷ a_name ∷ a_part_end n ∷ S) c from (λ next. Unit {0}) []
-      (λ g. (record { part = record { declared = g.1.0; initialiser = g.1.1.0.0 }; more = g.1.1.0.1 }, g.1.1.1)) refl tt refl tt (λ g. refl)
+      (λ g. (record { part = record { declared = g.1.0; initialiser = g.1.1.0.0 }; more = g.1.1.0.1 }, g.1.1.1)) refl refl tt refl tt (λ g. refl)
       (λ f fits any. ((tt, (f.0.part.declared, ((f.0.part.initialiser, f.0.more), f.1))), refl)) tt
 
   -- the test of an `if` or a loop
@@ -177,7 +178,7 @@ module _ (n c : ℕ) (S : List Pending) (from : List Word) where
   test_goes =
       opens (a_test n ∷ S)
       (exactly (leading_opening Sym.OpenParenthesis (n + 1)) (refl, refl) ∷ an_expression (n + 1) ∷ exactly (sign Sym.CloseParenthesis) (refl, refl) ∷ S)
-      c from (λ next. Unit {0}) [] (λ g. (g.1.0, g.1.1.1)) refl tt refl tt (λ g. refl)
+      c from (λ next. Unit {0}) [] (λ g. (g.1.0, g.1.1.1)) refl refl tt refl tt (λ g. refl)
       (λ f fits any. ((tt, (f.0, (tt, f.1))), refl)) tt
 
 -- how what begins with a simple statement opens
@@ -234,26 +235,26 @@ module _ (n : ℕ) where
   statement_rest StatementOpening.Braces S = exactly (opening Sym.OpenBrace (n + 1)) (refl, refl) ∷ items (n + 1) ∷ S
   statement_rest StatementOpening.If S = exactly (opening Sym.If (n + 1)) (refl, refl) ∷ a_test (n + 1) ∷ a_statement (n + 1) ∷ an_otherwise (n + 1) ∷ S
   statement_rest StatementOpening.While S = exactly (opening Sym.While (n + 1)) (refl, refl) ∷ a_test (n + 1) ∷ a_statement (n + 1) ∷ S
-  statement_rest StatementOpening.Do S = exactly (opening Sym.Do (n + 1)) (refl, refl) ∷ a_statement (n + 1) ∷ exactly (sign Sym.While) (refl, refl) ∷ a_test (n + 1) ∷ exactly (sign Sym.Semicolon) (refl, refl) ∷ S
+  statement_rest StatementOpening.Do S = exactly (opening Sym.Do (n + 1)) (refl, refl) ∷ a_statement (n + 1) ∷ exactly_at (sign Sym.While) (refl, refl) ∷ a_test (n + 1) ∷ exactly (sign Sym.Semicolon) (refl, refl) ∷ S
   statement_rest StatementOpening.For S = exactly (opening Sym.For (n + 1)) (refl, refl) ∷ exactly (sign Sym.OpenParenthesis) (refl, refl) ∷ a_start (n + 1) ∷ an_optional (n + 1) ∷ a_finish (n + 1) ∷ a_statement (n + 1) ∷ S
   statement_rest StatementOpening.Return S = exactly (leading Sym.Return) (refl, refl) ∷ an_optional n ∷ S
-  statement_rest StatementOpening.Nothing S = a_statement n ∷ S
+  statement_rest StatementOpening.Nothing S = a_statement_kind n ∷ S
 
-  abbrev pub statement_tree : (o : StatementOpening) → (S : List Pending) → Trees (statement_rest o S) → Trees (a_statement n ∷ S)
+  abbrev pub statement_tree : (o : StatementOpening) → (S : List Pending) → Trees (statement_rest o S) → Trees (a_statement_kind n ∷ S)
   statement_tree StatementOpening.Simple S g = (simple g.0, g.1.1)
   statement_tree StatementOpening.Skip S g = (skip, g.1)
   statement_tree StatementOpening.Braces S g = (braces g.1.0, g.1.1)
   statement_tree StatementOpening.If S g = (conditional g.1.0 g.1.1.0 g.1.1.1.0, g.1.1.1.1)
   statement_tree StatementOpening.While S g = (while_loop g.1.0 g.1.1.0, g.1.1.1)
-  statement_tree StatementOpening.Do S g = (do_loop g.1.0 g.1.1.1.0, g.1.1.1.1.1)
+  statement_tree StatementOpening.Do S g = (do_loop g.1.0 g.1.1.0 g.1.1.1.0, g.1.1.1.1.1)
   statement_tree StatementOpening.For S g = (for_loop g.1.1.0 g.1.1.1.0 g.1.1.1.1.0 g.1.1.1.1.1.0, g.1.1.1.1.1.1)
   statement_tree StatementOpening.Return S g = (return g.1.0, g.1.1)
   statement_tree StatementOpening.Nothing S g = g
 
-  pub statements : (S : List Pending) → Choice (a_statement n ∷ S) opening_of_statement IsStatement (λ o. statement_rest o S) (λ o. statement_tree o S)
+  pub statements : (S : List Pending) → Choice (a_statement_kind n ∷ S) opening_of_statement IsStatement (λ o. statement_rest o S) (λ o. statement_tree o S)
   statements S = record { spells = spells; view = view }
     where
-      spells : (o : StatementOpening) → (g : Trees (statement_rest o S)) → pieces (a_statement n ∷ S) (statement_tree o S g) ≡ pieces (statement_rest o S) g
+      spells : (o : StatementOpening) → (g : Trees (statement_rest o S)) → pieces (a_statement_kind n ∷ S) (statement_tree o S g) ≡ pieces (statement_rest o S) g
       spells StatementOpening.Simple g = refl
       spells StatementOpening.Skip g = refl
       spells StatementOpening.Braces g = refl
@@ -264,18 +265,26 @@ module _ (n : ℕ) where
       spells StatementOpening.Return g = refl
       spells StatementOpening.Nothing g = refl
 
-      view : (f : Trees (a_statement n ∷ S))
-          → Way (a_statement n ∷ S) IsStatement (λ o. statement_rest o S) (λ o. statement_tree o S) (opening_of_statement (begins (a_statement n ∷ S) f)) f
+      view : (f : Trees (a_statement_kind n ∷ S))
+          → Way (a_statement_kind n ∷ S) IsStatement (λ o. statement_rest o S) (λ o. statement_tree o S)
+          (opening_of_statement (begins (a_statement_kind n ∷ S) f)) f
       view (simple s, rest) =
-          subst (λ o. Way (a_statement n ∷ S) IsStatement (λ o. statement_rest o S) (λ o. statement_tree o S) o (simple s, rest))
+          subst (λ o. Way (a_statement_kind n ∷ S) IsStatement (λ o. statement_rest o S) (λ o. statement_tree o S) o (simple s, rest))
           (sym (opens_simply _ (simple_begins n (exactly (sign Sym.Semicolon) (refl, refl) ∷ S) s (tt, rest))).0) (tt, (s, (tt, rest)), refl)
       view (skip, rest) = (tt, (tt, rest), refl)
       view (braces all, rest) = (tt, (tt, (all, rest)), refl)
       view (conditional test part other, rest) = (tt, (tt, (test, (part, (other, rest)))), refl)
       view (while_loop test body, rest) = (tt, (tt, (test, (body, rest))), refl)
-      view (do_loop body test, rest) = (tt, (tt, (body, (tt, (test, (tt, rest))))), refl)
+      view (do_loop body end test, rest) = (tt, (tt, (body, (end, (test, (tt, rest))))), refl)
       view (for_loop start test step body, rest) = (tt, (tt, (tt, (start, (test, (step, (body, rest)))))), refl)
       view (return value, rest) = (tt, (tt, (value, rest)), refl)
+
+  pub located_statements : (S : List Pending) → Held (a_statement n ∷ S) (a_statement_kind n ∷ S) (λ m g. (statement_at m g.0, g.1))
+  located_statements S = record { spells = λ m g. refl; view = λ f. view f.0 f.1 }
+    where
+      view : (s : Statement) (rest : Trees S)
+          → (m : ℕ) × (g : Trees (a_statement_kind n ∷ S)) × Same (a_statement n ∷ S) (s, rest) (statement_at m g.0, g.1)
+      view (statement_at m kind) rest = (m, (kind, rest), refl)
 
 -- what begins with a statement among items
 pub is_statement : (next : Option Word) → IsStatement (opening_of_statement next) → opening_of_item next ≡ ItemOpening.Statement
@@ -300,7 +309,7 @@ module _ (n : ℕ) where
   items_tree ItemOpening.Statement S g = (statement g.0 g.1.0, g.1.1)
 
   pub statement_among : (S : List Pending) (s : Statement) (rest : Trees S) → opening_of_item (begins (a_statement n ∷ S) (s, rest)) ≡ ItemOpening.Statement
-  statement_among S s rest = is_statement _ ((statements n S).view (s, rest)).0
+  statement_among S (statement_at at kind) rest = is_statement _ ((statements n S).view (kind, rest)).0
 
   pub all_items : (S : List Pending) → Choice (items n ∷ S) opening_of_item (λ o. Unit {0}) (λ o. items_rest o S) (λ o. items_tree o S)
   all_items S = record { spells = spells; view = view }
@@ -369,40 +378,41 @@ beginnings S = record { spells = spells; view = λ f. view f.0.preludes f.0.void
     view [] v all rest = (tt, units main_signs main_quiet (a_void ∷ exactly (opening Sym.OpenBrace 1) (refl, refl) ∷ items 1 ∷ S) (v, (tt, (all, rest))), refl)
 
 -- the second part of an `if`: none where no `else` follows
-module _ (n c : ℕ) (S : List Pending) (from : List Word) where
-  pub otherwise_ends : IsFalse (sees no_else (first from)) → Leads c (an_otherwise n ∷ S) from c S from (λ g. (without, g))
+module _ (n c : ℕ) (S : List Pending) (from : Rest) where
+  pub otherwise_ends : IsFalse (is_else (first from.words)) → Leads c (an_otherwise n ∷ S) from c S from (λ g. (without, g))
   otherwise_ends e =
-      opens (an_otherwise n ∷ S) S c from (λ next. IsFalse (sees no_else next)) (look no_else ∷ []) (λ g. (without, g)) refl tt refl
+      opens (an_otherwise n ∷ S) S c from (λ next. IsFalse (is_else next)) (look no_else ∷ []) (λ g. (without, g)) refl refl tt refl
       (e, tt) (λ g. refl) (λ f fits missing. view f.0 f.1 missing) e
     where
-      view : (t : Otherwise) (rest : Trees S) → IsFalse (sees no_else (begins (an_otherwise n ∷ S) (t, rest)))
+      view : (t : Otherwise) (rest : Trees S) → IsFalse (is_else (begins (an_otherwise n ∷ S) (t, rest)))
           → (g : Trees S) × Same (an_otherwise n ∷ S) (t, rest) (without, g)
       view without rest missing = (rest, refl)
       view (otherwise part) rest missing = absurd (cc)
 
   -- which second parts begin with an `else`
-  pub else_view : (t : Otherwise) (rest : Trees S) → Fits (pieces (an_otherwise n ∷ S) (t, rest))
+  pub else_view : (t : Otherwise) (rest : Trees S) → Fits from.number (pieces (an_otherwise n ∷ S) (t, rest))
       → begins (an_otherwise n ∷ S) (t, rest) ≡ Some (symbol Sym.Else)
       → (g : Trees (a_statement (n + 1) ∷ S)) × Same (an_otherwise n ∷ S) (t, rest) (otherwise g.0, g.1)
-  else_view without rest fits found = absurd (let seen = subst (λ next. IsFalse (sees no_else next)) found fits.0 in cc)
+  else_view without rest fits found = absurd (let seen = subst (λ next. IsFalse (is_else next)) found fits.0 in cc)
   else_view (otherwise part) rest fits found = ((part, rest), refl)
 
-  pub else_read : (to : List Word) → from ≡ symbol Sym.Else ∷ to → n + 1 ≤ 64
+  pub else_read : (to : Rest) → IsNext (symbol Sym.Else) from to → n + 1 ≤ 64
       → Leads c ((an_otherwise n ∷ S)) from c ((a_statement (n + 1) ∷ S)) to (λ g. (otherwise g.0, g.1))
   else_read to e shallow =
       reads ((an_otherwise n ∷ S)) ((a_statement (n + 1) ∷ S)) c from to (opening Sym.Else (n + 1)) (λ g. (otherwise g.0, g.1)) e
       (shallow, tt) (λ g. refl) (λ f fits next. else_view f.0 f.1 fits next)
 
-  pub else_too_deep : (to : List Word) → from ≡ symbol Sym.Else ∷ to → 64 < n + 1
+  pub else_too_deep : (to : Rest) → IsNext (symbol Sym.Else) from to → 64 < n + 1
       → Stops c ((an_otherwise n ∷ S)) from Nesting from
   else_too_deep to e deep =
-      exceeds ((an_otherwise n ∷ S)) c from (opening Sym.Else (n + 1)) (pieces (a_statement (n + 1) ∷ S) (complete (a_statement (n + 1) ∷ S)))
-      Nesting (otherwise (complete (a_statement (n + 1) ∷ S)).0, complete S) (completes (a_statement (n + 1) ∷ S)).0 refl (ap first e) (λ e. cc) deep
+      let inner = complete (from.number + 1) (a_statement (n + 1) ∷ S) in
+      exceeds ((an_otherwise n ∷ S)) c from (opening Sym.Else (n + 1)) (pieces (a_statement (n + 1) ∷ S) inner)
+      Nesting (otherwise inner.0, inner.1) (completes (from.number + 1) (a_statement (n + 1) ∷ S)).0 refl (ap first e.0) (λ e. cc) deep
       (λ f fits next. let found = else_view f.0 f.1 fits next in
       (pieces (a_statement (n + 1) ∷ S) found.0, ap (pieces (an_otherwise n ∷ S)) found.1))
 
 -- where the next word isn't `else`
-pub not_else : (from : List Word) → ((to : List Word) → from ≢ symbol Sym.Else ∷ to) → IsFalse (sees no_else (first from))
+pub not_else : (ws : List Word) → ((to : List Word) → ws ≢ symbol Sym.Else ∷ to) → IsFalse (is_else (first ws))
 not_else [] h = refl
 not_else (named x ∷ ws) h = refl
 not_else (numbered z ∷ ws) h = refl
@@ -411,8 +421,8 @@ not_else (symbol Sym.Else ∷ ws) h = absurd (h ws refl)
 not_else (symbol _ ∷ ws) h = refl
 
 -- behind a program nothing follows
-pub trailing : (c : ℕ) (from : List Word) → from ≢ [] → Stops c [] from Expected from
-trailing c from h = sticks [] c from (λ next. next ≢ None) tt tt (refl, refl) (λ f fits some. some refl) (some from h)
+pub trailing : (c : ℕ) (from : Rest) → from.words ≢ [] → Stops c [] from Expected from
+trailing c from h = sticks [] c from (λ next. next ≢ None) tt tt (refl, refl) (λ f fits some. some refl) (some from.words h)
   where
     some : (ws : List Word) → ws ≢ [] → first ws ≢ None
     some [] k e = k refl

@@ -2,7 +2,7 @@
 use Rattle.std.proofs.Common.{◌≡◌, ℕ, suc, ◌+◌, ◌<◌, ◌≤◌, ◌⊎◌, inl, inr, List, [], ◌∷◌, Option, None, Some, length, drop, get_or, drop-cons, refl, sym, ap, ◌∙◌, subst, add-one}
 use Rattle.std.proofs.lemmas.Bool.{cases_lt}
 use Rattle.std.proofs.lemmas.List.{drop_all}
-use Rattle.step_meaning.specs.declared.expression.Op2.{Op2}
+use Rattle.concrete_syntax.specs.declared.sign.Operator.{Operator}
 use Rattle.derivation.specs.declared.lexeme.Lexeme.{Lexeme}
 use Rattle.derivation.specs.declared.symbol.Symbol.TheVariants as Sym
 use Rattle.derivation.specs.Word.{Word, symbol, name as named, number as numbered, unknown as unreadable}
@@ -10,7 +10,8 @@ use Rattle.derivation.specs.Spelled.{spelled, all_spelled, words_from}
 use Rattle.derivation.specs.Pieces.{first}
 use Rattle.source_syntax.specs.declared.opening.OperandOpening.{OperandOpening}
 use Rattle.source_syntax.specs.declared.opening.SizeOpening.{SizeOpening}
-use Rattle.source_syntax.specs.Openings.{opening_of_operand, binary_operator, size_opening}
+use Rattle.source_syntax.specs.Openings.{opening_of_operand, size_opening}
+use Rattle.source_syntax.specs.Language.{binary_operator}
 use Rattle.source_syntax.specs.Spelling.{sign_of, prefix_sign, truth_word}
 
 -- where a word stands, there is room for it, and the others stand behind
@@ -68,11 +69,11 @@ size_word (unreadable ∷ ws) o e = subst (λ o. WordForSize o (unreadable ∷ w
 size_word (symbol Sym.Infinite ∷ ws) o e = subst (λ o. WordForSize o (symbol Sym.Infinite ∷ ws)) (sym e) (ws, refl)
 size_word (symbol s ∷ ws) o e = subst (λ o. WordForSize o (symbol s ∷ ws)) (sym e) tt
 
-abbrev pub WordForOperator : Option Op2 → List Word → Type 0
+abbrev pub WordForOperator : Option Operator → List Word → Type 0
 WordForOperator (Some op) ws = (rest : List Word) × (ws ≡ symbol (sign_of op) ∷ rest)
 WordForOperator None ws = Unit {0}
 
-pub operator_word : (ws : List Word) (o : Option Op2) → o ≡ binary_operator (first ws) → WordForOperator o ws
+pub operator_word : (ws : List Word) (o : Option Operator) → o ≡ binary_operator (first ws) → WordForOperator o ws
 operator_word [] o e = subst (λ o. WordForOperator o []) (sym e) tt
 operator_word (named x ∷ ws) o e = subst (λ o. WordForOperator o (named x ∷ ws)) (sym e) tt
 operator_word (numbered z ∷ ws) o e = subst (λ o. WordForOperator o (numbered z ∷ ws)) (sym e) tt

@@ -1,3 +1,4 @@
+pub mod Language
 pub mod Openings
 pub mod Spelling
 pub mod Pending

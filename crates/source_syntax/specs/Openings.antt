@@ -1,6 +1,5 @@
 -- How each kind of phrase opens, by its next word.
-use Rattle.std.specs.Prelude.{true, false, Option, Some, None}
-use Rattle.step_meaning.specs.declared.expression.Op2.{Op2}
+use Rattle.std.specs.Prelude.{true, false, Option, Some}
 use Rattle.derivation.specs.declared.symbol.Symbol.TheVariants as Symbol
 use Rattle.derivation.specs.Word.{Word, symbol, name, number}
 use Rattle.source_syntax.specs.declared.opening.ActionOpening.{ActionOpening}
@@ -28,20 +27,6 @@ opening_of_operand (Some (symbol Symbol.Not)) = OperandOpening.Signed Prefix.Not
 opening_of_operand (Some (symbol Symbol.OpenParenthesis)) = OperandOpening.Parenthesis
 opening_of_operand (Some (symbol Symbol.OpenBracket)) = OperandOpening.Bracket
 opening_of_operand _ = OperandOpening.Nothing
-
-abbrev pub binary_operator : Option Word → Option Op2
-binary_operator (Some (symbol Symbol.Plus)) = Some Op2.Add
-binary_operator (Some (symbol Symbol.Minus)) = Some Op2.Sub
-binary_operator (Some (symbol Symbol.Times)) = Some Op2.Mul
-binary_operator (Some (symbol Symbol.Less)) = Some Op2.Less
-binary_operator (Some (symbol Symbol.LessEqual)) = Some Op2.LessEqual
-binary_operator (Some (symbol Symbol.Greater)) = Some Op2.Greater
-binary_operator (Some (symbol Symbol.GreaterEqual)) = Some Op2.GreaterEqual
-binary_operator (Some (symbol Symbol.Equal)) = Some Op2.Equal
-binary_operator (Some (symbol Symbol.NotEqual)) = Some Op2.NotEqual
-binary_operator (Some (symbol Symbol.And)) = Some Op2.And
-binary_operator (Some (symbol Symbol.Or)) = Some Op2.Or
-binary_operator _ = None
 
 abbrev pub size_opening : Option Word → SizeOpening
 size_opening (Some (number z)) = SizeOpening.Number z

@@ -2,20 +2,23 @@
 use Rattle.std.specs.Prelude.{ℕ, ℤ, Bool, Option, Some, List, [], ◌∷◌}
 use Rattle.derivation.specs.declared.symbol.Symbol.TheVariants as S
 use Rattle.derivation.specs.Word.{name as named}
-use Rattle.derivation.specs.Pieces.{Token, Piece, token}
-use Rattle.derivation.specs.Comes.{Phrase, IsQuiet}
-use Rattle.concrete_syntax.specs.Trees.{End, Operand, Tail, Expression, Action, Simple, Part, Declaration, Start, Statement, Otherwise, Items, Program}
-use Rattle.source_syntax.specs.Spelling.{plain, sign, size_pieces, end_pieces, operand_pieces, tail_pieces, expression_pieces, optional_pieces, action_pieces, simple_pieces, initialiser_pieces, parts_pieces, declaration_pieces, start_pieces, finish_pieces, test_pieces, statement_pieces, otherwise_pieces, items_pieces, void_pieces, program_pieces}
+use Rattle.derivation.specs.Pieces.{token, look}
+use Rattle.source_syntax.specs.Language.{Token, Piece, Phrase, is_at, IsQuiet}
+use Rattle.concrete_syntax.specs.Trees.{End, Operand, OperandKind, Tail, Expression, Name, Action, Simple, Part, Declaration, Start, Statement, StatementKind, Otherwise, Items, Program}
+use Rattle.source_syntax.specs.Spelling.{plain, sign, size_pieces, end_pieces, operand_pieces, operand_kind_pieces, tail_pieces, expression_pieces, optional_pieces, name_pieces, action_pieces, simple_pieces, initialiser_pieces, parts_pieces, declaration_pieces, start_pieces, finish_pieces, test_pieces, statement_pieces, statement_kind_pieces, otherwise_pieces, items_pieces, void_pieces, program_pieces}
 
 -- Something to be read, where so many levels are open. Some take the sign behind them along, by which the next word tells their end:
 -- an optional expression its `;`, the parts of a declaration their `;`, the start of a `for` its `;`, its last part the `)`, and items
 -- the `}`.
 pub data Pending : Type 0 where
   exactly : (t : Token) → IsQuiet (Some t.word) → Pending
+  exactly_at : (t : Token) → IsQuiet (Some t.word) → Pending
   a_name : Pending
+  bytes_of_a_name : Pending
   a_size : Pending
   an_end : Pending
   an_operand : ℕ → Pending
+  an_operand_kind : ℕ → Pending
   a_tail : ℕ → Pending
   an_expression : ℕ → Pending
   an_optional : ℕ → Pending
@@ -28,6 +31,7 @@ pub data Pending : Type 0 where
   a_start : ℕ → Pending
   a_finish : ℕ → Pending
   a_statement : ℕ → Pending
+  a_statement_kind : ℕ → Pending
   an_otherwise : ℕ → Pending
   items : ℕ → Pending
   a_void : Pending
@@ -35,10 +39,13 @@ pub data Pending : Type 0 where
 
 abbrev pub TreeOf : Pending → Type 0
 TreeOf (exactly t quiet) = Unit {0}
-TreeOf a_name = List ℕ
+TreeOf (exactly_at t quiet) = ℕ
+TreeOf a_name = Name
+TreeOf bytes_of_a_name = List ℕ
 TreeOf a_size = Option ℤ
 TreeOf an_end = End
 TreeOf (an_operand n) = Operand
+TreeOf (an_operand_kind n) = OperandKind
 TreeOf (a_tail n) = Tail
 TreeOf (an_expression n) = Expression
 TreeOf (an_optional n) = Option Expression
@@ -51,6 +58,7 @@ TreeOf (a_declaration n) = Declaration
 TreeOf (a_start n) = Start
 TreeOf (a_finish n) = Option Simple
 TreeOf (a_statement n) = Statement
+TreeOf (a_statement_kind n) = StatementKind
 TreeOf (an_otherwise n) = Otherwise
 TreeOf (items n) = Items
 TreeOf a_void = Bool
@@ -58,10 +66,13 @@ TreeOf a_program = Program
 
 abbrev pub pieces_of : (p : Pending) → TreeOf p → List Piece → List Piece
 pieces_of (exactly t quiet) tree behind = token t ∷ behind
-pieces_of a_name x behind = token (plain (named x)) ∷ behind
+pieces_of (exactly_at t quiet) at behind = look (is_at at) ∷ token t ∷ behind
+pieces_of a_name x behind = name_pieces x behind
+pieces_of bytes_of_a_name x behind = token (plain (named x)) ∷ behind
 pieces_of a_size size behind = size_pieces size behind
 pieces_of an_end end behind = end_pieces end behind
 pieces_of (an_operand n) e behind = operand_pieces n e behind
+pieces_of (an_operand_kind n) kind behind = operand_kind_pieces n kind behind
 pieces_of (a_tail n) tail behind = tail_pieces n tail behind
 pieces_of (an_expression n) e behind = expression_pieces n e behind
 pieces_of (an_optional n) e behind = optional_pieces n e (token (sign S.Semicolon) ∷ behind)
@@ -74,6 +85,7 @@ pieces_of (a_declaration n) d behind = declaration_pieces n d behind
 pieces_of (a_start n) start behind = start_pieces n start behind
 pieces_of (a_finish n) step behind = finish_pieces n step behind
 pieces_of (a_statement n) s behind = statement_pieces n s behind
+pieces_of (a_statement_kind n) kind behind = statement_kind_pieces n kind behind
 pieces_of (an_otherwise n) other behind = otherwise_pieces n other behind
 pieces_of (items n) all behind = items_pieces n all (token (sign S.CloseBrace) ∷ behind)
 pieces_of a_void void behind = void_pieces void behind

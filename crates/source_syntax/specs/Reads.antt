@@ -4,68 +4,70 @@ use Rattle.derivation.specs.declared.rule.Rule.{Rule}
 use Rattle.derivation.specs.declared.rule.Rule.TheVariants.{Expected, Nesting, Operators}
 use Rattle.derivation.specs.declared.symbol.Symbol.{Symbol}
 use Rattle.derivation.specs.Word.{Word, symbol, name as named}
-use Rattle.concrete_syntax.specs.Trees.{Operand, Part, Prelude, Program}
-use Rattle.concrete_syntax.specs.Chains.{Link, tail_of}
+use Rattle.derivation.specs.Comes.{IsNext}
+use Rattle.source_syntax.specs.Language.{Rest}
+use Rattle.concrete_syntax.specs.Trees.{Operand, Link, Part, Prelude, Program}
+use Rattle.concrete_syntax.specs.Chains.{tail_of}
 use Rattle.source_syntax.specs.Pending.{Pending, an_expression, a_tail, a_name, a_part_end, parts, a_declaration, TreeOf}
 use Rattle.source_syntax.specs.Leads.{Leads, Stops}
 
 -- the words up to `to` are this tree of a `p`, and its operators raise the count of their expression from `count` to `now`
-pub record ReadsCounting (count : ℕ) (p : Pending) (tree : TreeOf p) (from : List Word) (now : ℕ) (to : List Word) : Type 0 where
+pub record ReadsCounting (count : ℕ) (p : Pending) (tree : TreeOf p) (from : Rest) (now : ℕ) (to : Rest) : Type 0 where
   pub comes : (behind : List Pending) → Leads count (p ∷ behind) from now behind to (λ trees. (tree, trees))
 
-abbrev pub RefusesCounting : ℕ → Pending → List Word → Rule → List Word → Type 0
+abbrev pub RefusesCounting : ℕ → Pending → Rest → Rule → Rest → Type 0
 RefusesCounting count p from rule to = (behind : List Pending) → Stops count (p ∷ behind) from rule to
 
 -- the same for a `p` whose expressions begin their counts anew
-pub record Reads (p : Pending) (tree : TreeOf p) (from to : List Word) : Type 0 where
+pub record Reads (p : Pending) (tree : TreeOf p) (from to : Rest) : Type 0 where
   pub comes : (count : ℕ) (behind : List Pending)
       → (now : ℕ) × Leads count (p ∷ behind) from now behind to (λ trees. (tree, trees))
 
-abbrev pub Refuses : Pending → List Word → Rule → List Word → Type 0
+abbrev pub Refuses : Pending → Rest → Rule → Rest → Type 0
 Refuses p from rule to = (count : ℕ) → RefusesCounting count p from rule to
 
 -- the same for a `p` that begins with an expression
-pub record ReadsAfresh (p : Pending) (tree : TreeOf p) (from to : List Word) : Type 0 where
+pub record ReadsAfresh (p : Pending) (tree : TreeOf p) (from to : Rest) : Type 0 where
   pub comes : (behind : List Pending)
       → (now : ℕ) × Leads 0 (p ∷ behind) from now behind to (λ trees. (tree, trees))
 
 -- the words up to `to` are this tree of a `p`, behind which an expression begins
-pub record ReadsLeading (p : Pending) (tree : TreeOf p) (from to : List Word) : Type 0 where
+pub record ReadsLeading (p : Pending) (tree : TreeOf p) (from to : Rest) : Type 0 where
   pub comes : (count : ℕ) (behind : List Pending) → Leads count (p ∷ behind) from 0 behind to (λ trees. (tree, trees))
 
 -- why a word isn't the one that has to stand here, or opens level 65
-abbrev pub MissesSign : List Word → Symbol → Rule → Type 0
-MissesSign from wanted Expected = (to : List Word) → from ≢ symbol wanted ∷ to
+abbrev pub MissesSign : Rest → Symbol → Rule → Type 0
+MissesSign from wanted Expected = (to : List Word) → from.words ≢ symbol wanted ∷ to
 MissesSign from wanted _ = ⊥
 
 -- these signs stand one behind the other; and the first of them that doesn't, behind those that do
-abbrev pub AreNext : List Symbol → List Word → List Word → Type 0
+abbrev pub AreNext : List Symbol → Rest → Rest → Type 0
 AreNext [] from to = from ≡ to
-AreNext (wanted ∷ more) from to = (behind : List Word) × (from ≡ symbol wanted ∷ behind) × AreNext more behind to
+AreNext (wanted ∷ more) from to = (behind : Rest) × IsNext (symbol wanted) from behind × AreNext more behind to
 
-abbrev pub MissesOne : List Symbol → List Word → Rule → List Word → Type 0
+abbrev pub MissesOne : List Symbol → Rest → Rule → Rest → Type 0
 MissesOne [] from rule to = ⊥
 MissesOne (wanted ∷ more) from rule to =
-    (MissesSign from wanted rule × (to ≡ from)) ⊎ ((behind : List Word) × (from ≡ symbol wanted ∷ behind) × MissesOne more behind rule to)
+    (MissesSign from wanted rule × (to ≡ from)) ⊎ ((behind : Rest) × IsNext (symbol wanted) from behind × MissesOne more behind rule to)
 
-abbrev pub MissesOpening : List Word → Symbol → ℕ → Rule → Type 0
-MissesOpening from wanted level Expected = (to : List Word) → from ≢ symbol wanted ∷ to
-MissesOpening from wanted level Nesting = ((to : List Word) × (from ≡ symbol wanted ∷ to)) × (64 < level)
+abbrev pub MissesOpening : Rest → Symbol → ℕ → Rule → Type 0
+MissesOpening from wanted level Expected = (to : List Word) → from.words ≢ symbol wanted ∷ to
+MissesOpening from wanted level Nesting = ((to : Rest) × IsNext (symbol wanted) from to) × (64 < level)
 MissesOpening from wanted level Operators = ⊥
 
-abbrev pub MissesName : List Word → Rule → Type 0
-MissesName from Expected = (x : List ℕ) (to : List Word) → from ≢ named x ∷ to
+abbrev pub MissesName : Rest → Rule → Type 0
+MissesName from Expected = (x : List ℕ) (to : List Word) → from.words ≢ named x ∷ to
 MissesName from _ = ⊥
 
--- Reading an expression from `start` has read this operand and these operators and operands behind it, and has come to reading the
--- tail that is left from `here`.
-pub record ComesToTail (count levels : ℕ) (operand : Operand) (links : List Link) (start : List Word) (now : ℕ) (here : List Word) : Type 0 where
+-- Reading an expression from `start` has read this operand and these links behind it, and has come to reading the tail that is left from
+-- `here`.
+pub record ComesToTail (count levels : ℕ) (operand : Operand) (links : List Link) (start : Rest) (now : ℕ) (here : Rest) : Type 0 where
   pub comes : (behind : List Pending)
       → Leads count (an_expression levels ∷ behind) start now (a_tail levels ∷ behind) here
       (λ trees. (record { operand = operand; tail = tail_of links trees.0 }, trees.1))
 
 -- Reading a `p` from `from` has come to reading what is left of it from `to`: the whole is made so of what is left.
-pub record Continues (p : Pending) (whole : TreeOf p → TreeOf p) (from to : List Word) : Type 0 where
+pub record Continues (p : Pending) (whole : TreeOf p → TreeOf p) (from to : Rest) : Type 0 where
   pub comes : (count : ℕ) (behind : List Pending)
       → (now : ℕ) × Leads count (p ∷ behind) from now (p ∷ behind) to (λ trees. (whole trees.0, trees.1))
 
@@ -74,16 +76,16 @@ abbrev pub behind_preludes : List Prelude → Program → Program
 behind_preludes front program = record { preludes = front ++ program.preludes; void = program.void; items = program.items }
 
 -- the words up to `to` are this part of a declaration, before further parts
-pub record ReadsPart (levels : ℕ) (part : Part) (from to : List Word) : Type 0 where
+pub record ReadsPart (levels : ℕ) (part : Part) (from to : Rest) : Type 0 where
   pub comes : (count : ℕ) (behind : List Pending)
       → (now : ℕ) × Leads count (a_name ∷ a_part_end levels ∷ behind) from now (parts levels ∷ behind) to
       (λ trees. (part.declared, ((part.initialiser, trees.0), trees.1)))
 
-abbrev pub RefusesPart : ℕ → List Word → Rule → List Word → Type 0
+abbrev pub RefusesPart : ℕ → Rest → Rule → Rest → Type 0
 RefusesPart levels from rule to = (count : ℕ) (behind : List Pending) → Stops count (a_name ∷ a_part_end levels ∷ behind) from rule to
 
 -- Reading a declaration from `from` has read this part and these behind it, and has come to reading its further parts from `to`.
-pub record ComesToParts (levels : ℕ) (part : Part) (so_far : List Part) (from to : List Word) : Type 0 where
+pub record ComesToParts (levels : ℕ) (part : Part) (so_far : List Part) (from to : Rest) : Type 0 where
   pub comes : (count : ℕ) (behind : List Pending)
       → (now : ℕ) × Leads count (a_declaration levels ∷ behind) from now (parts levels ∷ behind) to
       (λ trees. (record { part = part; more = so_far ++ trees.0 }, trees.1))

@@ -1,14 +1,15 @@
 -- The pieces that a tree spells before others, where `levels` levels of nesting are open.
 use Rattle.std.specs.Prelude.{ℕ, ◌+◌, ℤ, Bool, true, false, Option, None, Some, List, [], ◌∷◌}
-use Rattle.step_meaning.specs.declared.expression.Op2.{Op2}
+use Rattle.concrete_syntax.specs.declared.sign.Operator.{Operator}
 use Rattle.derivation.specs.declared.symbol.Symbol.{Symbol}
 use Rattle.derivation.specs.declared.symbol.Symbol.TheVariants as S
 use Rattle.derivation.specs.Word.{Word, symbol, name as named, number as numbered}
-use Rattle.derivation.specs.Pieces.{Token, keeps, one_more, anew, Piece, token, look, no_operator, no_else}
+use Rattle.derivation.specs.Pieces.{keeps, one_more, anew, token, look}
+use Rattle.source_syntax.specs.Language.{Token, Piece, is_at, no_operator, no_else}
 use Rattle.concrete_syntax.specs.declared.sign.Prefix.{Prefix}
 use Rattle.concrete_syntax.specs.declared.sign.Assignment.{Assignment}
 use Rattle.concrete_syntax.specs.declared.sign.Step.{Step}
-use Rattle.concrete_syntax.specs.Trees.{End, Operand, number, name, truth, unknown, call, signed, parentheses, range, Tail, ended, further, Expression, Action, assigns, steps, Simple, acts, steps_before, Part, Declaration, Start, starts_with_nothing, starts_with, declares, Statement, simple, skip, braces, conditional, while_loop, do_loop, for_loop, return, Otherwise, without, otherwise, Items, none, declaration, statement, Prelude, extern_call, typedef_bool, Program}
+use Rattle.concrete_syntax.specs.Trees.{End, Operand, operand_at, OperandKind, number, name, truth, unknown, call, signed, parentheses, range, Link, operation, Tail, ended, further, Expression, Name, Action, assigns, steps, Simple, acts, steps_before, Part, Declaration, Start, starts_with_nothing, starts_with, declares, Statement, statement_at, StatementKind, simple, skip, braces, conditional, while_loop, do_loop, for_loop, return, Otherwise, without, otherwise, Items, none, declaration, statement, Prelude, extern_call, typedef_bool, Program}
 
 -- a token that opens no level
 abbrev pub plain : Word → Token
@@ -30,20 +31,20 @@ abbrev pub leading_opening : Symbol → ℕ → Token
 leading_opening s level = record { word = symbol s; level = level; counting = anew }
 
 -- how an operator is written
-abbrev pub sign_of : Op2 → Symbol
-sign_of Op2.Add = S.Plus
-sign_of Op2.Sub = S.Minus
-sign_of Op2.Mul = S.Times
-sign_of Op2.Less = S.Less
-sign_of Op2.LessEqual = S.LessEqual
-sign_of Op2.Greater = S.Greater
-sign_of Op2.GreaterEqual = S.GreaterEqual
-sign_of Op2.Equal = S.Equal
-sign_of Op2.NotEqual = S.NotEqual
-sign_of Op2.And = S.And
-sign_of Op2.Or = S.Or
+abbrev pub sign_of : Operator → Symbol
+sign_of Operator.Add = S.Plus
+sign_of Operator.Subtract = S.Minus
+sign_of Operator.Multiply = S.Times
+sign_of Operator.Less = S.Less
+sign_of Operator.LessEqual = S.LessEqual
+sign_of Operator.Greater = S.Greater
+sign_of Operator.GreaterEqual = S.GreaterEqual
+sign_of Operator.Equal = S.Equal
+sign_of Operator.NotEqual = S.NotEqual
+sign_of Operator.And = S.And
+sign_of Operator.Or = S.Or
 
-abbrev pub operator : Op2 → Token
+abbrev pub operator : Operator → Token
 operator op = record { word = symbol (sign_of op); level = 0; counting = one_more }
 
 abbrev pub prefix_sign : Prefix → Symbol
@@ -76,27 +77,35 @@ minus_pieces false behind = behind
 abbrev pub end_pieces : End → List Piece → List Piece
 end_pieces end behind = minus_pieces end.negative (size_pieces end.size behind)
 
+-- What holds a number stands where the next token is that of this number.
+--
 -- A sign before an operand, a `(` and the `(` of a call each open a level. Behind the last operand of an expression no binary operator
--- follows.
+-- follows: in a whole program only `)`, `;` and `,` do, so this keeps no text out, but tells where an expression that is read ends.
 abbrev mutual
   pub operand_pieces : ℕ → Operand → List Piece → List Piece
-  operand_pieces levels (number z) behind = token (plain (numbered z)) ∷ behind
-  operand_pieces levels (name x) behind = token (plain (named x)) ∷ behind
-  operand_pieces levels (truth b) behind = token (sign (truth_word b)) ∷ behind
-  operand_pieces levels unknown behind = token (sign S.Question) ∷ behind
-  operand_pieces levels call behind =
+  operand_pieces levels (operand_at at kind) behind = look (is_at at) ∷ operand_kind_pieces levels kind behind
+
+  pub operand_kind_pieces : ℕ → OperandKind → List Piece → List Piece
+  operand_kind_pieces levels (number z) behind = token (plain (numbered z)) ∷ behind
+  operand_kind_pieces levels (name x) behind = token (plain (named x)) ∷ behind
+  operand_kind_pieces levels (truth b) behind = token (sign (truth_word b)) ∷ behind
+  operand_kind_pieces levels unknown behind = token (sign S.Question) ∷ behind
+  operand_kind_pieces levels call behind =
       token (sign S.Nondeterministic) ∷ token (opening S.OpenParenthesis (levels + 1)) ∷ token (sign S.CloseParenthesis) ∷ behind
-  operand_pieces levels (signed prefix e) behind = token (opening (prefix_sign prefix) (levels + 1)) ∷ operand_pieces (levels + 1) e behind
-  operand_pieces levels (parentheses e more) behind =
+  operand_kind_pieces levels (signed prefix e) behind = token (opening (prefix_sign prefix) (levels + 1)) ∷ operand_pieces (levels + 1) e behind
+  operand_kind_pieces levels (parentheses e more) behind =
       token (opening S.OpenParenthesis (levels + 1))
       ∷ operand_pieces (levels + 1) e (tail_pieces (levels + 1) more (token (sign S.CloseParenthesis) ∷ behind))
-  operand_pieces levels (range lo hi) behind =
+  operand_kind_pieces levels (range lo hi) behind =
       token (sign S.OpenBracket)
       ∷ end_pieces lo (token (sign S.Comma) ∷ end_pieces hi (token (sign S.CloseBracket) ∷ behind))
 
+  pub link_pieces : ℕ → Link → List Piece → List Piece
+  link_pieces levels (operation op e) behind = token (operator op) ∷ operand_pieces levels e behind
+
   pub tail_pieces : ℕ → Tail → List Piece → List Piece
   tail_pieces levels ended behind = look no_operator ∷ behind
-  tail_pieces levels (further op e more) behind = token (operator op) ∷ operand_pieces levels e (tail_pieces levels more behind)
+  tail_pieces levels (further link more) behind = link_pieces levels link (tail_pieces levels more behind)
 
 abbrev pub expression_pieces : ℕ → Expression → List Piece → List Piece
 expression_pieces levels e behind = operand_pieces levels e.operand (tail_pieces levels e.tail behind)
@@ -109,16 +118,19 @@ abbrev pub action_pieces : ℕ → Action → List Piece → List Piece
 action_pieces levels (assigns assignment e) behind = token (leading (assignment_sign assignment)) ∷ expression_pieces levels e behind
 action_pieces levels (steps step) behind = token (sign (step_sign step)) ∷ behind
 
+abbrev pub name_pieces : Name → List Piece → List Piece
+name_pieces x behind = look (is_at x.at) ∷ token (plain (named x.bytes)) ∷ behind
+
 abbrev pub simple_pieces : ℕ → Simple → List Piece → List Piece
-simple_pieces levels (acts x action) behind = token (plain (named x)) ∷ action_pieces levels action behind
-simple_pieces levels (steps_before step x) behind = token (sign (step_sign step)) ∷ token (plain (named x)) ∷ behind
+simple_pieces levels (acts x action) behind = name_pieces x (action_pieces levels action behind)
+simple_pieces levels (steps_before at step x) behind = look (is_at at) ∷ token (sign (step_sign step)) ∷ name_pieces x behind
 
 abbrev pub initialiser_pieces : ℕ → Option Expression → List Piece → List Piece
 initialiser_pieces levels (Some e) behind = token (leading S.Assign) ∷ expression_pieces levels e behind
 initialiser_pieces levels None behind = behind
 
 abbrev pub part_pieces : ℕ → Part → List Piece → List Piece
-part_pieces levels part behind = token (plain (named part.declared)) ∷ initialiser_pieces levels part.initialiser behind
+part_pieces levels part behind = name_pieces part.declared (initialiser_pieces levels part.initialiser behind)
 
 -- further parts of a declaration, and its `;`, behind which a `for` has an expression
 abbrev pub parts_pieces : ℕ → List Part → List Piece → List Piece
@@ -147,24 +159,27 @@ test_pieces levels test behind =
 -- `while` that ends a `do` and the `(` of a `for` open none. An `else` belongs to the nearest `if`: where an `if` has none, none follows.
 abbrev mutual
   pub statement_pieces : ℕ → Statement → List Piece → List Piece
-  statement_pieces levels (simple s) behind = simple_pieces levels s (token (sign S.Semicolon) ∷ behind)
-  statement_pieces levels skip behind = token (sign S.Semicolon) ∷ behind
-  statement_pieces levels (braces items) behind =
+  statement_pieces levels (statement_at at kind) behind = look (is_at at) ∷ statement_kind_pieces levels kind behind
+
+  pub statement_kind_pieces : ℕ → StatementKind → List Piece → List Piece
+  statement_kind_pieces levels (simple s) behind = simple_pieces levels s (token (sign S.Semicolon) ∷ behind)
+  statement_kind_pieces levels skip behind = token (sign S.Semicolon) ∷ behind
+  statement_kind_pieces levels (braces items) behind =
       token (opening S.OpenBrace (levels + 1)) ∷ items_pieces (levels + 1) items (token (sign S.CloseBrace) ∷ behind)
-  statement_pieces levels (conditional test part other) behind =
+  statement_kind_pieces levels (conditional test part other) behind =
       token (opening S.If (levels + 1)) ∷ test_pieces (levels + 1) test (statement_pieces (levels + 1) part (otherwise_pieces (levels + 1) other behind))
-  statement_pieces levels (while_loop test body) behind =
+  statement_kind_pieces levels (while_loop test body) behind =
       token (opening S.While (levels + 1)) ∷ test_pieces (levels + 1) test (statement_pieces (levels + 1) body behind)
-  statement_pieces levels (do_loop body test) behind =
+  statement_kind_pieces levels (do_loop body end test) behind =
       token (opening S.Do (levels + 1))
       ∷ statement_pieces (levels + 1) body
-      (token (sign S.While) ∷ test_pieces (levels + 1) test (token (sign S.Semicolon) ∷ behind))
-  statement_pieces levels (for_loop start test step body) behind =
+      (look (is_at end) ∷ token (sign S.While) ∷ test_pieces (levels + 1) test (token (sign S.Semicolon) ∷ behind))
+  statement_kind_pieces levels (for_loop start test step body) behind =
       token (opening S.For (levels + 1)) ∷ token (sign S.OpenParenthesis)
       ∷ start_pieces (levels + 1) start
       (optional_pieces (levels + 1) test
       (token (sign S.Semicolon) ∷ finish_pieces (levels + 1) step (statement_pieces (levels + 1) body behind)))
-  statement_pieces levels (return value) behind =
+  statement_kind_pieces levels (return value) behind =
       token (leading S.Return) ∷ optional_pieces levels value (token (sign S.Semicolon) ∷ behind)
 
   pub otherwise_pieces : ℕ → Otherwise → List Piece → List Piece

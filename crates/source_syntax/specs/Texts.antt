@@ -2,7 +2,8 @@
 use Rattle.std.specs.Prelude.{◌≡◌, ℕ, List, [], length, drop, ⊤}
 use Rattle.derivation.specs.declared.rule.Rule.{Rule}
 use Rattle.derivation.specs.Word.{words}
-use Rattle.derivation.specs.Comes.{Phrase, FirstFault, IsSpelledBy}
+use Rattle.derivation.specs.Comes.{FirstFault, IsSpelledBy}
+use Rattle.source_syntax.specs.Language.{Phrase}
 use Rattle.source_lex.specs.Spans.{start_of}
 use Rattle.source_lex.specs.Tokens.{TokensOf}
 use Rattle.source_lex.specs.Faults.{FirstFault as FirstLexFault}

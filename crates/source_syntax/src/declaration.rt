@@ -2,7 +2,8 @@
 
 ghost use Rattle.std.specs.Prelude.{◌≤◌, IfOk};
 ghost use Rattle.derivation.specs.Pieces.{first};
-ghost use Rattle.derivation.specs.Spelled.{words_from, IsBehind};
+ghost use Rattle.derivation.specs.Spelled.{IsBehind};
+ghost use Rattle.source_syntax.specs.Language.{rest_from};
 ghost use Rattle.concrete_syntax.specs.Mirror.{part as part_tree, declaration as declaration_tree, start as start_tree};
 ghost use Rattle.source_syntax.specs.Failures.{IfFault};
 ghost use Rattle.source_syntax.specs.Pending.{a_declaration, a_start};
@@ -13,7 +14,7 @@ use crate::fault::Failure;
 use crate::opening::{StartOpening, opening_of_start};
 use crate::reader::{owned_name, sign};
 use crate::simple::simple;
-use concrete_syntax::{Declaration, Part, Start};
+use concrete_syntax::{Declaration, Name, Part, Start};
 use derivation::{Lexeme, Symbol, after};
 use std::alloc::Global;
 
@@ -25,9 +26,9 @@ pub fn declaration(
     levels: u32,
 ) -> Result<(Declaration, usize), Failure>
     requires shallow { levels ≤ 64 }
-    ensures read { IfOk result (λ found. ReadsLeading (a_declaration levels) (declaration_tree found.0) (words_from words.now at) (words_from words.now found.1)) }
+    ensures read { IfOk result (λ found. ReadsLeading (a_declaration levels) (declaration_tree found.0) (rest_from words.now at) (rest_from words.now found.1)) }
     ensures forward { IfOk result (λ found. IsBehind words.now at found.1) }
-    ensures refused { IfFault result (λ fault. Refuses (a_declaration levels) (words_from words.now at) fault.rule (words_from words.now fault.at)) }
+    ensures refused { IfFault result (λ fault. Refuses (a_declaration levels) (rest_from words.now at) fault.rule (rest_from words.now fault.at)) }
 {
     let inner = sign(words, at, Symbol::Int)?;
     let (first, mut here) = part(alloc, words, inner, levels)?;
@@ -52,11 +53,12 @@ fn part(
     levels: u32,
 ) -> Result<(Part, usize), Failure>
     requires shallow { levels ≤ 64 }
-    ensures read { IfOk result (λ found. ReadsPart levels (part_tree found.0) (words_from words.now at) (words_from words.now found.1)) }
+    ensures read { IfOk result (λ found. ReadsPart levels (part_tree found.0) (rest_from words.now at) (rest_from words.now found.1)) }
     ensures forward { IfOk result (λ found. IsBehind words.now at found.1) }
-    ensures refused { IfFault result (λ fault. RefusesPart levels (words_from words.now at) fault.rule (words_from words.now fault.at)) }
+    ensures refused { IfFault result (λ fault. RefusesPart levels (rest_from words.now at) fault.rule (rest_from words.now fault.at)) }
 {
-    let (declared, behind) = owned_name(alloc, words, at)?;
+    let (bytes, behind) = owned_name(alloc, words, at)?;
+    let declared = Name { at, bytes };
     if let Some(inner) = after(words, behind, Symbol::Assign) {
         let (value, next, _) = expression(alloc, words, inner, levels, 0)?;
         return Ok((
@@ -84,9 +86,9 @@ pub fn start(
     levels: u32,
 ) -> Result<(Start, usize), Failure>
     requires shallow { levels ≤ 64 }
-    ensures read { IfOk result (λ found. ReadsLeading (a_start levels) (start_tree found.0) (words_from words.now at) (words_from words.now found.1)) }
+    ensures read { IfOk result (λ found. ReadsLeading (a_start levels) (start_tree found.0) (rest_from words.now at) (rest_from words.now found.1)) }
     ensures forward { IfOk result (λ found. IsBehind words.now at found.1) }
-    ensures refused { IfFault result (λ fault. Refuses (a_start levels) (words_from words.now at) fault.rule (words_from words.now fault.at)) }
+    ensures refused { IfFault result (λ fault. Refuses (a_start levels) (rest_from words.now at) fault.rule (rest_from words.now fault.at)) }
 {
     match opening_of_start(words, at) {
         StartOpening::Nothing => {

@@ -3,12 +3,13 @@
 ghost use Rattle.std.specs.Prelude.{◌≡◌, ◌≤◌, ℕ, IfOk, IfErr};
 ghost use Rattle.derivation.specs.Pieces.{first};
 ghost use Rattle.derivation.specs.Spelled.{words_from, IsBehind};
-ghost use Rattle.concrete_syntax.specs.Mirror.{operand as operand_tree, expression as expression_tree, range_end as end_tree};
+ghost use Rattle.source_syntax.specs.Language.{rest_from};
+ghost use Rattle.concrete_syntax.specs.Mirror.{operand as operand_tree, operand_kind as kind_tree, expression as expression_tree, range_end as end_tree};
 ghost use Rattle.concrete_syntax.specs.Trees.{call as call_tree, range as range_tree};
 ghost use Rattle.source_syntax.specs.Openings.{opening_of_operand};
 ghost use Rattle.source_syntax.specs.declared.opening.OperandOpening.TheVariants.{Call, Parenthesis, Bracket, Signed};
 ghost use Rattle.source_syntax.specs.Failures.{IfFault};
-ghost use Rattle.source_syntax.specs.Pending.{an_operand, an_expression, an_end, a_size};
+ghost use Rattle.source_syntax.specs.Pending.{an_operand, an_operand_kind, an_expression, an_end, a_size};
 ghost use Rattle.source_syntax.specs.Reads.{ReadsCounting, RefusesCounting};
 
 use crate::fault::{Failure, Fault};
@@ -16,7 +17,7 @@ use crate::opening::{
     OperandOpening, SizeOpening, binary_operator, opening_of_operand, size_opening,
 };
 use crate::reader::{MOST_LEVELS, opening, owned_name, sign};
-use concrete_syntax::{End, Expression, Operand, Prefix, Tail};
+use concrete_syntax::{End, Expression, Link, Operand, OperandKind, Prefix, Tail};
 use derivation::{Lexeme, Rule, Symbol, after};
 use std::alloc::Global;
 
@@ -35,10 +36,10 @@ pub fn expression(
 ) -> Result<(Expression, usize, u32), Failure>
     requires shallow { levels ≤ 64 }
     requires few { operators ≤ 256 }
-    ensures read { IfOk result (λ found. ReadsCounting operators (an_expression levels) (expression_tree found.0) (words_from words.now at) found.2 (words_from words.now found.1)) }
+    ensures read { IfOk result (λ found. ReadsCounting operators (an_expression levels) (expression_tree found.0) (rest_from words.now at) found.2 (rest_from words.now found.1)) }
     ensures counted { IfOk result (λ found. found.2 ≤ 256) }
     ensures forward { IfOk result (λ found. IsBehind words.now at found.1) }
-    ensures refused { IfFault result (λ fault. RefusesCounting operators (an_expression levels) (words_from words.now at) fault.rule (words_from words.now fault.at)) }
+    ensures refused { IfFault result (λ fault. RefusesCounting operators (an_expression levels) (rest_from words.now at) fault.rule (rest_from words.now fault.at)) }
 {
     let (first, mut here, mut count) = operand(alloc, words, at, levels, operators)?;
     let mut links = Vec::new(alloc);
@@ -52,7 +53,10 @@ pub fn expression(
                     }));
                 }
                 let (further, next, now) = operand(alloc, words, here + 1, levels, count + 1)?;
-                links.push((op, further))?;
+                links.push(Link::Operation {
+                    op,
+                    operand: further,
+                })?;
                 here = next;
                 count = now;
             }
@@ -82,28 +86,48 @@ fn operand(
 ) -> Result<(Operand, usize, u32), Failure>
     requires shallow { levels ≤ 64 }
     requires few { operators ≤ 256 }
-    ensures read { IfOk result (λ found. ReadsCounting operators (an_operand levels) (operand_tree found.0) (words_from words.now at) found.2 (words_from words.now found.1)) }
+    ensures read { IfOk result (λ found. ReadsCounting operators (an_operand levels) (operand_tree found.0) (rest_from words.now at) found.2 (rest_from words.now found.1)) }
     ensures counted { IfOk result (λ found. found.2 ≤ 256) }
     ensures forward { IfOk result (λ found. IsBehind words.now at found.1) }
-    ensures refused { IfFault result (λ fault. RefusesCounting operators (an_operand levels) (words_from words.now at) fault.rule (words_from words.now fault.at)) }
+    ensures refused { IfFault result (λ fault. RefusesCounting operators (an_operand levels) (rest_from words.now at) fault.rule (rest_from words.now fault.at)) }
+{
+    let (kind, next, count) = operand_kind(alloc, words, at, levels, operators)?;
+    Ok((Operand { at, kind }, next, count))
+}
+
+// Reads what an operand is.
+#[cycle(expressions)]
+fn operand_kind(
+    alloc: Global,
+    words: &[Lexeme<'_>],
+    at: usize,
+    levels: u32,
+    operators: u32,
+) -> Result<(OperandKind, usize, u32), Failure>
+    requires shallow { levels ≤ 64 }
+    requires few { operators ≤ 256 }
+    ensures read { IfOk result (λ found. ReadsCounting operators (an_operand_kind levels) (kind_tree found.0) (rest_from words.now at) found.2 (rest_from words.now found.1)) }
+    ensures counted { IfOk result (λ found. found.2 ≤ 256) }
+    ensures forward { IfOk result (λ found. IsBehind words.now at found.1) }
+    ensures refused { IfFault result (λ fault. RefusesCounting operators (an_operand_kind levels) (rest_from words.now at) fault.rule (rest_from words.now fault.at)) }
 {
     match opening_of_operand(words, at) {
-        OperandOpening::Number(value) => Ok((Operand::Number(value), at + 1, operators)),
+        OperandOpening::Number(value) => Ok((OperandKind::Number(value), at + 1, operators)),
         OperandOpening::Name => {
             let (name, next) = owned_name(alloc, words, at)?;
-            Ok((Operand::Name(name), next, operators))
+            Ok((OperandKind::Name(name), next, operators))
         }
-        OperandOpening::Truth(value) => Ok((Operand::Truth(value), at + 1, operators)),
-        OperandOpening::Unknown => Ok((Operand::Unknown, at + 1, operators)),
+        OperandOpening::Truth(value) => Ok((OperandKind::Truth(value), at + 1, operators)),
+        OperandOpening::Unknown => Ok((OperandKind::Unknown, at + 1, operators)),
         OperandOpening::Call => {
             let next = call(words, at, levels)?;
-            Ok((Operand::Call, next, operators))
+            Ok((OperandKind::Call, next, operators))
         }
         OperandOpening::Signed(prefix) => signed(alloc, words, at, levels, operators, prefix),
         OperandOpening::Parenthesis => parentheses(alloc, words, at, levels, operators),
         OperandOpening::Bracket => {
             let (low, high, next) = range(words, at, levels)?;
-            Ok((Operand::Range { low, high }, next, operators))
+            Ok((OperandKind::Range { low, high }, next, operators))
         }
         OperandOpening::Nothing => Err(Failure::Fault(Fault {
             rule: Rule::Expected,
@@ -121,14 +145,14 @@ fn signed(
     levels: u32,
     operators: u32,
     prefix: Prefix,
-) -> Result<(Operand, usize, u32), Failure>
+) -> Result<(OperandKind, usize, u32), Failure>
     requires shallow { levels ≤ 64 }
     requires few { operators ≤ 256 }
     requires opens { Signed prefix ≡ opening_of_operand (first (words_from words.now at)) }
-    ensures read { IfOk result (λ found. ReadsCounting operators (an_operand levels) (operand_tree found.0) (words_from words.now at) found.2 (words_from words.now found.1)) }
+    ensures read { IfOk result (λ found. ReadsCounting operators (an_operand_kind levels) (kind_tree found.0) (rest_from words.now at) found.2 (rest_from words.now found.1)) }
     ensures counted { IfOk result (λ found. found.2 ≤ 256) }
     ensures forward { IfOk result (λ found. IsBehind words.now at found.1) }
-    ensures refused { IfFault result (λ fault. RefusesCounting operators (an_operand levels) (words_from words.now at) fault.rule (words_from words.now fault.at)) }
+    ensures refused { IfFault result (λ fault. RefusesCounting operators (an_operand_kind levels) (rest_from words.now at) fault.rule (rest_from words.now fault.at)) }
 {
     if levels + 1 > MOST_LEVELS {
         return Err(Failure::Fault(Fault {
@@ -138,7 +162,7 @@ fn signed(
     }
     let (inner, next, count) = operand(alloc, words, at + 1, levels + 1, operators)?;
     let operand = Box::new(alloc, inner)?;
-    Ok((Operand::Signed { prefix, operand }, next, count))
+    Ok((OperandKind::Signed { prefix, operand }, next, count))
 }
 
 // Reads an expression in parentheses.
@@ -149,30 +173,30 @@ fn parentheses(
     at: usize,
     levels: u32,
     operators: u32,
-) -> Result<(Operand, usize, u32), Failure>
+) -> Result<(OperandKind, usize, u32), Failure>
     requires shallow { levels ≤ 64 }
     requires few { operators ≤ 256 }
     requires opens { Parenthesis ≡ opening_of_operand (first (words_from words.now at)) }
-    ensures read { IfOk result (λ found. ReadsCounting operators (an_operand levels) (operand_tree found.0) (words_from words.now at) found.2 (words_from words.now found.1)) }
+    ensures read { IfOk result (λ found. ReadsCounting operators (an_operand_kind levels) (kind_tree found.0) (rest_from words.now at) found.2 (rest_from words.now found.1)) }
     ensures counted { IfOk result (λ found. found.2 ≤ 256) }
     ensures forward { IfOk result (λ found. IsBehind words.now at found.1) }
-    ensures refused { IfFault result (λ fault. RefusesCounting operators (an_operand levels) (words_from words.now at) fault.rule (words_from words.now fault.at)) }
+    ensures refused { IfFault result (λ fault. RefusesCounting operators (an_operand_kind levels) (rest_from words.now at) fault.rule (rest_from words.now fault.at)) }
 {
     let inner = opening(words, at, Symbol::OpenParenthesis, levels + 1)?;
     let (value, behind, count) = expression(alloc, words, inner, levels + 1, operators)?;
     let next = sign(words, behind, Symbol::CloseParenthesis)?;
     let operand = Box::new(alloc, value.operand)?;
     let tail = Box::new(alloc, value.tail)?;
-    Ok((Operand::Parentheses { operand, tail }, next, count))
+    Ok((OperandKind::Parentheses { operand, tail }, next, count))
 }
 
 // Reads `__VERIFIER_nondet_int()`.
 fn call(words: &[Lexeme<'_>], at: usize, levels: u32) -> Result<usize, Fault>
     requires shallow { levels ≤ 64 }
     requires opens { Call ≡ opening_of_operand (first (words_from words.now at)) }
-    ensures read { IfOk result (λ next. (count : ℕ) → ReadsCounting count (an_operand levels) call_tree (words_from words.now at) count (words_from words.now next)) }
+    ensures read { IfOk result (λ next. (count : ℕ) → ReadsCounting count (an_operand_kind levels) call_tree (rest_from words.now at) count (rest_from words.now next)) }
     ensures forward { IfOk result (IsBehind words.now at) }
-    ensures refused { IfErr result (λ fault. (count : ℕ) → RefusesCounting count (an_operand levels) (words_from words.now at) fault.rule (words_from words.now fault.at)) }
+    ensures refused { IfErr result (λ fault. (count : ℕ) → RefusesCounting count (an_operand_kind levels) (rest_from words.now at) fault.rule (rest_from words.now fault.at)) }
 {
     let open = sign(words, at, Symbol::Nondeterministic)?;
     let close = opening(words, open, Symbol::OpenParenthesis, levels + 1)?;
@@ -183,9 +207,9 @@ fn call(words: &[Lexeme<'_>], at: usize, levels: u32) -> Result<usize, Fault>
 // Reads `[a, b]`. Answers both ends and the place behind.
 fn range(words: &[Lexeme<'_>], at: usize, levels: u32) -> Result<(End, End, usize), Fault>
     requires opens { Bracket ≡ opening_of_operand (first (words_from words.now at)) }
-    ensures read { IfOk result (λ found. (count : ℕ) → ReadsCounting count (an_operand levels) (range_tree (end_tree found.0) (end_tree found.1)) (words_from words.now at) count (words_from words.now found.2)) }
+    ensures read { IfOk result (λ found. (count : ℕ) → ReadsCounting count (an_operand_kind levels) (range_tree (end_tree found.0) (end_tree found.1)) (rest_from words.now at) count (rest_from words.now found.2)) }
     ensures forward { IfOk result (λ found. IsBehind words.now at found.2) }
-    ensures refused { IfErr result (λ fault. (count : ℕ) → RefusesCounting count (an_operand levels) (words_from words.now at) fault.rule (words_from words.now fault.at)) }
+    ensures refused { IfErr result (λ fault. (count : ℕ) → RefusesCounting count (an_operand_kind levels) (rest_from words.now at) fault.rule (rest_from words.now fault.at)) }
 {
     let first = sign(words, at, Symbol::OpenBracket)?;
     let (low, comma) = range_end(words, first)?;
@@ -197,9 +221,9 @@ fn range(words: &[Lexeme<'_>], at: usize, levels: u32) -> Result<(End, End, usiz
 
 // Reads an end of a range.
 fn range_end(words: &[Lexeme<'_>], at: usize) -> Result<(End, usize), Fault>
-    ensures read { IfOk result (λ found. (count : ℕ) → ReadsCounting count an_end (end_tree found.0) (words_from words.now at) count (words_from words.now found.1)) }
+    ensures read { IfOk result (λ found. (count : ℕ) → ReadsCounting count an_end (end_tree found.0) (rest_from words.now at) count (rest_from words.now found.1)) }
     ensures forward { IfOk result (λ found. IsBehind words.now at found.1) }
-    ensures refused { IfErr result (λ fault. (count : ℕ) → RefusesCounting count an_end (words_from words.now at) fault.rule (words_from words.now fault.at)) }
+    ensures refused { IfErr result (λ fault. (count : ℕ) → RefusesCounting count an_end (rest_from words.now at) fault.rule (rest_from words.now fault.at)) }
 {
     if let Some(inner) = after(words, at, Symbol::Minus) {
         let (below, next) = size(words, inner)?;
@@ -223,9 +247,9 @@ fn range_end(words: &[Lexeme<'_>], at: usize) -> Result<(End, usize), Fault>
 
 // Reads a number or `inf`, of which it answers `None`.
 fn size(words: &[Lexeme<'_>], at: usize) -> Result<(Option<i64>, usize), Fault>
-    ensures read { IfOk result (λ found. (count : ℕ) → ReadsCounting count a_size found.0 (words_from words.now at) count (words_from words.now found.1)) }
+    ensures read { IfOk result (λ found. (count : ℕ) → ReadsCounting count a_size found.0 (rest_from words.now at) count (rest_from words.now found.1)) }
     ensures forward { IfOk result (λ found. IsBehind words.now at found.1) }
-    ensures refused { IfErr result (λ fault. (count : ℕ) → RefusesCounting count a_size (words_from words.now at) fault.rule (words_from words.now fault.at)) }
+    ensures refused { IfErr result (λ fault. (count : ℕ) → RefusesCounting count a_size (rest_from words.now at) fault.rule (rest_from words.now fault.at)) }
 {
     match size_opening(words, at) {
         SizeOpening::Number(value) => Ok((Some(value), at + 1)),

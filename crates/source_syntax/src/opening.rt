@@ -2,12 +2,12 @@
 
 ghost use Rattle.std.specs.Prelude.{◌≡◌};
 ghost use Rattle.derivation.specs.Spelled.{words_from};
+ghost use Rattle.source_syntax.specs.Language.{binary_operator};
 ghost use Rattle.derivation.specs.Pieces.{first};
-ghost use Rattle.source_syntax.specs.Openings.{opening_of_operand, binary_operator, opening_of_simple, opening_of_action, opening_of_statement, opening_of_item, opening_of_prelude, size_opening, opening_of_start};
+ghost use Rattle.source_syntax.specs.Openings.{opening_of_operand, opening_of_simple, opening_of_action, opening_of_statement, opening_of_item, opening_of_prelude, size_opening, opening_of_start};
 
-use concrete_syntax::{Assignment, Prefix, Step};
+use concrete_syntax::{Assignment, Operator, Prefix, Step};
 use derivation::{Lexeme, Symbol};
-use step_meaning::Op2;
 
 /// How an operand opens.
 #[derive(Clone, Copy)]
@@ -109,24 +109,24 @@ pub fn opening_of_operand(words: &[Lexeme<'_>], at: usize) -> OperandOpening
 }
 
 /// The binary operator at this place.
-pub fn binary_operator(words: &[Lexeme<'_>], at: usize) -> Option<Op2>
+pub fn binary_operator(words: &[Lexeme<'_>], at: usize) -> Option<Operator>
     ensures { result ≡ binary_operator (first (words_from words.now at)) }
 {
     let Some(word) = words.get(at) else {
         return None;
     };
     match *word {
-        Lexeme::Symbol(Symbol::Plus) => Some(Op2::Add),
-        Lexeme::Symbol(Symbol::Minus) => Some(Op2::Sub),
-        Lexeme::Symbol(Symbol::Times) => Some(Op2::Mul),
-        Lexeme::Symbol(Symbol::Less) => Some(Op2::Less),
-        Lexeme::Symbol(Symbol::LessEqual) => Some(Op2::LessEqual),
-        Lexeme::Symbol(Symbol::Greater) => Some(Op2::Greater),
-        Lexeme::Symbol(Symbol::GreaterEqual) => Some(Op2::GreaterEqual),
-        Lexeme::Symbol(Symbol::Equal) => Some(Op2::Equal),
-        Lexeme::Symbol(Symbol::NotEqual) => Some(Op2::NotEqual),
-        Lexeme::Symbol(Symbol::And) => Some(Op2::And),
-        Lexeme::Symbol(Symbol::Or) => Some(Op2::Or),
+        Lexeme::Symbol(Symbol::Plus) => Some(Operator::Add),
+        Lexeme::Symbol(Symbol::Minus) => Some(Operator::Subtract),
+        Lexeme::Symbol(Symbol::Times) => Some(Operator::Multiply),
+        Lexeme::Symbol(Symbol::Less) => Some(Operator::Less),
+        Lexeme::Symbol(Symbol::LessEqual) => Some(Operator::LessEqual),
+        Lexeme::Symbol(Symbol::Greater) => Some(Operator::Greater),
+        Lexeme::Symbol(Symbol::GreaterEqual) => Some(Operator::GreaterEqual),
+        Lexeme::Symbol(Symbol::Equal) => Some(Operator::Equal),
+        Lexeme::Symbol(Symbol::NotEqual) => Some(Operator::NotEqual),
+        Lexeme::Symbol(Symbol::And) => Some(Operator::And),
+        Lexeme::Symbol(Symbol::Or) => Some(Operator::Or),
         _ => None,
     }
 }

@@ -3,6 +3,7 @@
 ghost use Rattle.std.specs.Prelude.{◌≡◌, [], ◌∷◌, IfOk, IfErr};
 ghost use Rattle.derivation.specs.Pieces.{first};
 ghost use Rattle.derivation.specs.Spelled.{words_from, IsBehind};
+ghost use Rattle.source_syntax.specs.Language.{rest_from};
 ghost use Rattle.concrete_syntax.specs.Trees.{extern_call as extern_tree, typedef_bool as typedef_tree};
 ghost use Rattle.concrete_syntax.specs.Mirror.{program as program_tree, items as items_tree};
 ghost use Rattle.source_syntax.specs.Failures.{IfFault};
@@ -21,9 +22,9 @@ use std::alloc::Global;
 
 /// Reads a program.
 pub fn program(alloc: Global, words: &[Lexeme<'_>], at: usize) -> Result<(Program, usize), Failure>
-    ensures read { IfOk result (λ found. Reads a_program (program_tree found.0) (words_from words.now at) (words_from words.now found.1)) }
+    ensures read { IfOk result (λ found. Reads a_program (program_tree found.0) (rest_from words.now at) (rest_from words.now found.1)) }
     ensures forward { IfOk result (λ found. IsBehind words.now at found.1) }
-    ensures refused { IfFault result (λ fault. Refuses a_program (words_from words.now at) fault.rule (words_from words.now fault.at)) }
+    ensures refused { IfFault result (λ fault. Refuses a_program (rest_from words.now at) fault.rule (rest_from words.now fault.at)) }
 {
     let mut here = at;
     let mut preludes = Vec::new(alloc);
@@ -57,9 +58,9 @@ pub fn program(alloc: Global, words: &[Lexeme<'_>], at: usize) -> Result<(Progra
 // Reads the declaration of `__VERIFIER_nondet_int`. Answers whether `void` is written in its parentheses, and the place behind it.
 fn extern_call(words: &[Lexeme<'_>], at: usize) -> Result<(bool, usize), Fault>
     requires opens { PreludeOpening.Extern ≡ opening_of_prelude (first (words_from words.now at)) }
-    ensures read { IfOk result (λ found. Continues a_program (behind_preludes (extern_tree found.0 ∷ [])) (words_from words.now at) (words_from words.now found.1)) }
+    ensures read { IfOk result (λ found. Continues a_program (behind_preludes (extern_tree found.0 ∷ [])) (rest_from words.now at) (rest_from words.now found.1)) }
     ensures forward { IfOk result (λ found. IsBehind words.now at found.1) }
-    ensures refused { IfErr result (λ fault. Refuses a_program (words_from words.now at) fault.rule (words_from words.now fault.at)) }
+    ensures refused { IfErr result (λ fault. Refuses a_program (rest_from words.now at) fault.rule (rest_from words.now fault.at)) }
 {
     let before = [
         Symbol::Extern,
@@ -76,9 +77,9 @@ fn extern_call(words: &[Lexeme<'_>], at: usize) -> Result<(bool, usize), Fault>
 // Reads the definition of `bool`.
 fn typedef_bool(words: &[Lexeme<'_>], at: usize) -> Result<usize, Fault>
     requires opens { PreludeOpening.Typedef ≡ opening_of_prelude (first (words_from words.now at)) }
-    ensures read { IfOk result (λ next. Continues a_program (behind_preludes (typedef_tree ∷ [])) (words_from words.now at) (words_from words.now next)) }
+    ensures read { IfOk result (λ next. Continues a_program (behind_preludes (typedef_tree ∷ [])) (rest_from words.now at) (rest_from words.now next)) }
     ensures forward { IfOk result (IsBehind words.now at) }
-    ensures refused { IfErr result (λ fault. Refuses a_program (words_from words.now at) fault.rule (words_from words.now fault.at)) }
+    ensures refused { IfErr result (λ fault. Refuses a_program (rest_from words.now at) fault.rule (rest_from words.now fault.at)) }
 {
     let all = [
         Symbol::Typedef,
@@ -102,9 +103,9 @@ fn main_function(
     at: usize,
 ) -> Result<(bool, Items, usize), Failure>
     requires opens { PreludeOpening.Main ≡ opening_of_prelude (first (words_from words.now at)) }
-    ensures read { IfOk result (λ found. Reads a_program (record { preludes = []; void = found.0; items = items_tree found.1 }) (words_from words.now at) (words_from words.now found.2)) }
+    ensures read { IfOk result (λ found. Reads a_program (record { preludes = []; void = found.0; items = items_tree found.1 }) (rest_from words.now at) (rest_from words.now found.2)) }
     ensures forward { IfOk result (λ found. IsBehind words.now at found.2) }
-    ensures refused { IfFault result (λ fault. Refuses a_program (words_from words.now at) fault.rule (words_from words.now fault.at)) }
+    ensures refused { IfFault result (λ fault. Refuses a_program (rest_from words.now at) fault.rule (rest_from words.now fault.at)) }
 {
     let before = [Symbol::Int, Symbol::Main, Symbol::OpenParenthesis];
     let inner = signs(words, at, &before)?;
@@ -116,9 +117,9 @@ fn main_function(
 
 // Reads a `)`, and before it the word `void` where it stands. Answers whether it does, and the place behind the `)`.
 fn void(words: &[Lexeme<'_>], at: usize) -> Result<(bool, usize), Fault>
-    ensures read { IfOk result (λ found. Reads a_void found.0 (words_from words.now at) (words_from words.now found.1)) }
+    ensures read { IfOk result (λ found. Reads a_void found.0 (rest_from words.now at) (rest_from words.now found.1)) }
     ensures forward { IfOk result (λ found. IsBehind words.now at found.1) }
-    ensures refused { IfErr result (λ fault. Refuses a_void (words_from words.now at) fault.rule (words_from words.now fault.at)) }
+    ensures refused { IfErr result (λ fault. Refuses a_void (rest_from words.now at) fault.rule (rest_from words.now fault.at)) }
 {
     if let Some(close) = after(words, at, Symbol::Void) {
         let end = sign(words, close, Symbol::CloseParenthesis)?;

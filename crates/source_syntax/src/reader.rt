@@ -1,8 +1,10 @@
 //! Readers of single words. Each reads at a place of the list of words and answers the place behind.
 
-ghost use Rattle.std.specs.Prelude.{◌≡◌, ◌∷◌, ◌+◌, ◌<◌, ◌≤◌, length, IfOk, IfErr};
+ghost use Rattle.std.specs.Prelude.{◌≡◌, ◌+◌, ◌<◌, ◌≤◌, length, IfOk, IfErr};
 ghost use Rattle.derivation.specs.Word.{symbol, name as named};
-ghost use Rattle.derivation.specs.Spelled.{words_from, IsBehind};
+ghost use Rattle.source_syntax.specs.Language.{rest_from};
+ghost use Rattle.derivation.specs.Spelled.{IsBehind};
+ghost use Rattle.derivation.specs.Comes.{IsNext};
 ghost use Rattle.source_syntax.specs.Failures.{IfFault};
 ghost use Rattle.source_syntax.specs.Reads.{MissesSign, MissesOpening, MissesName, AreNext, MissesOne};
 
@@ -15,9 +17,9 @@ pub const MOST_LEVELS: u32 = 64;
 
 /// The place behind a sign or reserved word that has to stand here.
 pub fn sign(words: &[Lexeme<'_>], at: usize, wanted: Symbol) -> Result<usize, Fault>
-    ensures read { IfOk result (λ next. (words_from words.now at ≡ symbol wanted ∷ words_from words.now next)) }
+    ensures read { IfOk result (λ next. IsNext (symbol wanted) (rest_from words.now at) (rest_from words.now next)) }
     ensures forward { IfOk result (IsBehind words.now at) }
-    ensures missed { IfErr result (λ fault. MissesSign (words_from words.now at) wanted fault.rule × (fault.at ≡ at)) }
+    ensures missed { IfErr result (λ fault. MissesSign (rest_from words.now at) wanted fault.rule × (fault.at ≡ at)) }
 {
     match after(words, at, wanted) {
         Some(next) => Ok(next),
@@ -30,10 +32,10 @@ pub fn sign(words: &[Lexeme<'_>], at: usize, wanted: Symbol) -> Result<usize, Fa
 
 /// The place behind signs and reserved words that have to stand here, one behind the other.
 pub fn signs(words: &[Lexeme<'_>], at: usize, wanted: &[Symbol]) -> Result<usize, Fault>
-    ensures read { IfOk result (λ next. AreNext wanted.now (words_from words.now at) (words_from words.now next)) }
+    ensures read { IfOk result (λ next. AreNext wanted.now (rest_from words.now at) (rest_from words.now next)) }
     ensures forward { IfOk result (λ next. at + length wanted.now ≤ next) }
     ensures inside { IfOk result (λ next. 0 < length wanted.now → next ≤ length words.now) }
-    ensures missed { IfErr result (λ fault. MissesOne wanted.now (words_from words.now at) fault.rule (words_from words.now fault.at)) }
+    ensures missed { IfErr result (λ fault. MissesOne wanted.now (rest_from words.now at) fault.rule (rest_from words.now fault.at)) }
 {
     let mut here = at;
     for symbol in wanted {
@@ -44,10 +46,10 @@ pub fn signs(words: &[Lexeme<'_>], at: usize, wanted: &[Symbol]) -> Result<usize
 
 /// The place behind a sign or reserved word that has to stand here and opens this level.
 pub fn opening(words: &[Lexeme<'_>], at: usize, wanted: Symbol, level: u32) -> Result<usize, Fault>
-    ensures read { IfOk result (λ next. (words_from words.now at ≡ symbol wanted ∷ words_from words.now next)) }
+    ensures read { IfOk result (λ next. IsNext (symbol wanted) (rest_from words.now at) (rest_from words.now next)) }
     ensures shallow { IfOk result (λ _. level ≤ 64) }
     ensures forward { IfOk result (IsBehind words.now at) }
-    ensures missed { IfErr result (λ fault. MissesOpening (words_from words.now at) wanted level fault.rule × (fault.at ≡ at)) }
+    ensures missed { IfErr result (λ fault. MissesOpening (rest_from words.now at) wanted level fault.rule × (fault.at ≡ at)) }
 {
     let next = match after(words, at, wanted) {
         Some(next) => next,
@@ -69,9 +71,9 @@ pub fn opening(words: &[Lexeme<'_>], at: usize, wanted: Symbol, level: u32) -> R
 
 /// A name that has to stand here, and the place behind it.
 pub fn name<'t>(words: &[Lexeme<'t>], at: usize) -> Result<(&'t [u8], usize), Fault>
-    ensures read { IfOk result (λ found. (words_from words.now at ≡ named found.0.now ∷ words_from words.now found.1)) }
+    ensures read { IfOk result (λ found. IsNext (named found.0.now) (rest_from words.now at) (rest_from words.now found.1)) }
     ensures forward { IfOk result (λ found. IsBehind words.now at found.1) }
-    ensures missed { IfErr result (λ fault. MissesName (words_from words.now at) fault.rule × (fault.at ≡ at)) }
+    ensures missed { IfErr result (λ fault. MissesName (rest_from words.now at) fault.rule × (fault.at ≡ at)) }
 {
     let missing = Fault {
         rule: Rule::Expected,
@@ -92,9 +94,9 @@ pub fn owned_name(
     words: &[Lexeme<'_>],
     at: usize,
 ) -> Result<(Vec<u8>, usize), Failure>
-    ensures read { IfOk result (λ found. (words_from words.now at ≡ named found.0.items ∷ words_from words.now found.1)) }
+    ensures read { IfOk result (λ found. IsNext (named found.0.items) (rest_from words.now at) (rest_from words.now found.1)) }
     ensures forward { IfOk result (λ found. IsBehind words.now at found.1) }
-    ensures missed { IfFault result (λ fault. MissesName (words_from words.now at) fault.rule × (fault.at ≡ at)) }
+    ensures missed { IfFault result (λ fault. MissesName (rest_from words.now at) fault.rule × (fault.at ≡ at)) }
 {
     let (bytes, next) = name(words, at)?;
     let owned = bytes.to_vec(alloc)?;

@@ -1,7 +1,8 @@
 //! The parts of statements that no statement is a part of: tests, expressions that may be missing, and simple statements.
 
 ghost use Rattle.std.specs.Prelude.{◌≡◌, ◌≤◌, IfOk};
-ghost use Rattle.derivation.specs.Spelled.{words_from, IsBehind};
+ghost use Rattle.derivation.specs.Spelled.{IsBehind};
+ghost use Rattle.source_syntax.specs.Language.{rest_from};
 ghost use Rattle.concrete_syntax.specs.Mirror.{expression as expression_tree, optional as optional_tree, simple as simple_tree, action as action_tree, optional_simple as finish_tree};
 ghost use Rattle.source_syntax.specs.Openings.{opening_of_simple, opening_of_action};
 ghost use Rattle.source_syntax.specs.Spelling.{assignment_sign, step_sign};
@@ -13,7 +14,7 @@ use crate::expression::expression;
 use crate::fault::{Failure, Fault};
 use crate::opening::{ActionOpening, SimpleOpening, opening_of_action, opening_of_simple};
 use crate::reader::{opening, owned_name, sign};
-use concrete_syntax::{Action, Assignment, Expression, Simple, Step};
+use concrete_syntax::{Action, Assignment, Expression, Name, Simple, Step};
 use derivation::{Lexeme, Rule, Symbol, after};
 use std::alloc::Global;
 
@@ -25,9 +26,9 @@ pub fn test(
     levels: u32,
 ) -> Result<(Expression, usize), Failure>
     requires shallow { levels ≤ 64 }
-    ensures read { IfOk result (λ found. Reads (a_test levels) (expression_tree found.0) (words_from words.now at) (words_from words.now found.1)) }
+    ensures read { IfOk result (λ found. Reads (a_test levels) (expression_tree found.0) (rest_from words.now at) (rest_from words.now found.1)) }
     ensures forward { IfOk result (λ found. IsBehind words.now at found.1) }
-    ensures refused { IfFault result (λ fault. Refuses (a_test levels) (words_from words.now at) fault.rule (words_from words.now fault.at)) }
+    ensures refused { IfFault result (λ fault. Refuses (a_test levels) (rest_from words.now at) fault.rule (rest_from words.now fault.at)) }
 {
     let inner = opening(words, at, Symbol::OpenParenthesis, levels + 1)?;
     let (tested, behind, _) = expression(alloc, words, inner, levels + 1, 0)?;
@@ -43,9 +44,9 @@ pub fn optional(
     levels: u32,
 ) -> Result<(Option<Expression>, usize), Failure>
     requires shallow { levels ≤ 64 }
-    ensures read { IfOk result (λ found. ReadsAfresh (an_optional levels) (optional_tree found.0) (words_from words.now at) (words_from words.now found.1)) }
+    ensures read { IfOk result (λ found. ReadsAfresh (an_optional levels) (optional_tree found.0) (rest_from words.now at) (rest_from words.now found.1)) }
     ensures forward { IfOk result (λ found. IsBehind words.now at found.1) }
-    ensures refused { IfFault result (λ fault. RefusesCounting 0 (an_optional levels) (words_from words.now at) fault.rule (words_from words.now fault.at)) }
+    ensures refused { IfFault result (λ fault. RefusesCounting 0 (an_optional levels) (rest_from words.now at) fault.rule (rest_from words.now fault.at)) }
 {
     if let Some(end) = after(words, at, Symbol::Semicolon) {
         return Ok((None, end));
@@ -63,20 +64,22 @@ pub fn simple(
     levels: u32,
 ) -> Result<(Simple, usize), Failure>
     requires shallow { levels ≤ 64 }
-    ensures read { IfOk result (λ found. Reads (a_simple levels) (simple_tree found.0) (words_from words.now at) (words_from words.now found.1)) }
+    ensures read { IfOk result (λ found. Reads (a_simple levels) (simple_tree found.0) (rest_from words.now at) (rest_from words.now found.1)) }
     ensures forward { IfOk result (λ found. IsBehind words.now at found.1) }
-    ensures refused { IfFault result (λ fault. Refuses (a_simple levels) (words_from words.now at) fault.rule (words_from words.now fault.at)) }
+    ensures refused { IfFault result (λ fault. Refuses (a_simple levels) (rest_from words.now at) fault.rule (rest_from words.now fault.at)) }
 {
     match opening_of_simple(words, at) {
         SimpleOpening::Name => {
-            let (name, behind) = owned_name(alloc, words, at)?;
+            let (bytes, behind) = owned_name(alloc, words, at)?;
             let (action, next) = action(alloc, words, behind, levels)?;
+            let name = Name { at, bytes };
             Ok((Simple::Acts { name, action }, next))
         }
         SimpleOpening::Steps(step) => {
             let behind = sign(words, at, step_symbol(step))?;
-            let (name, next) = owned_name(alloc, words, behind)?;
-            Ok((Simple::StepsBefore { step, name }, next))
+            let (bytes, next) = owned_name(alloc, words, behind)?;
+            let name = Name { at: behind, bytes };
+            Ok((Simple::StepsBefore { at, step, name }, next))
         }
         SimpleOpening::Nothing => Err(Failure::Fault(Fault {
             rule: Rule::Expected,
@@ -93,9 +96,9 @@ fn action(
     levels: u32,
 ) -> Result<(Action, usize), Failure>
     requires shallow { levels ≤ 64 }
-    ensures read { IfOk result (λ found. Reads (an_action levels) (action_tree found.0) (words_from words.now at) (words_from words.now found.1)) }
+    ensures read { IfOk result (λ found. Reads (an_action levels) (action_tree found.0) (rest_from words.now at) (rest_from words.now found.1)) }
     ensures forward { IfOk result (λ found. IsBehind words.now at found.1) }
-    ensures refused { IfFault result (λ fault. Refuses (an_action levels) (words_from words.now at) fault.rule (words_from words.now fault.at)) }
+    ensures refused { IfFault result (λ fault. Refuses (an_action levels) (rest_from words.now at) fault.rule (rest_from words.now fault.at)) }
 {
     match opening_of_action(words, at) {
         ActionOpening::Assigns(assignment) => {
@@ -122,9 +125,9 @@ pub fn finish(
     levels: u32,
 ) -> Result<(Option<Simple>, usize), Failure>
     requires shallow { levels ≤ 64 }
-    ensures read { IfOk result (λ found. Reads (a_finish levels) (finish_tree found.0) (words_from words.now at) (words_from words.now found.1)) }
+    ensures read { IfOk result (λ found. Reads (a_finish levels) (finish_tree found.0) (rest_from words.now at) (rest_from words.now found.1)) }
     ensures forward { IfOk result (λ found. IsBehind words.now at found.1) }
-    ensures refused { IfFault result (λ fault. Refuses (a_finish levels) (words_from words.now at) fault.rule (words_from words.now fault.at)) }
+    ensures refused { IfFault result (λ fault. Refuses (a_finish levels) (rest_from words.now at) fault.rule (rest_from words.now fault.at)) }
 {
     if let Some(end) = after(words, at, Symbol::CloseParenthesis) {
         return Ok((None, end));

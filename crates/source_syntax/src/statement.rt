@@ -3,12 +3,13 @@
 ghost use Rattle.std.specs.Prelude.{◌≡◌, ◌≤◌, length, IfOk, IfErr};
 ghost use Rattle.derivation.specs.Pieces.{first};
 ghost use Rattle.derivation.specs.Spelled.{words_from, IsBehind};
+ghost use Rattle.source_syntax.specs.Language.{rest_from};
 ghost use Rattle.concrete_syntax.specs.Trees.{skip as skip_tree};
-ghost use Rattle.concrete_syntax.specs.Mirror.{statement as statement_tree, otherwise as otherwise_tree, items as items_tree};
+ghost use Rattle.concrete_syntax.specs.Mirror.{statement as statement_tree, statement_kind as kind_tree, otherwise as otherwise_tree, items as items_tree};
 ghost use Rattle.source_syntax.specs.Openings.{opening_of_statement};
 ghost use Rattle.source_syntax.specs.declared.opening.StatementOpening.TheVariants as StatementOpening;
 ghost use Rattle.source_syntax.specs.Failures.{IfFault};
-ghost use Rattle.source_syntax.specs.Pending.{a_statement, an_otherwise, items as pending_items};
+ghost use Rattle.source_syntax.specs.Pending.{a_statement, a_statement_kind, an_otherwise, items as pending_items};
 ghost use Rattle.source_syntax.specs.Reads.{Reads, Refuses};
 
 use crate::declaration::{declaration, start};
@@ -16,7 +17,7 @@ use crate::fault::{Failure, Fault};
 use crate::opening::{ItemOpening, StatementOpening, opening_of_item, opening_of_statement};
 use crate::reader::{MOST_LEVELS, opening, sign};
 use crate::simple::{finish, optional, simple, test};
-use concrete_syntax::{Item, Items, Otherwise, Statement};
+use concrete_syntax::{Item, Items, Otherwise, Statement, StatementKind};
 use derivation::{Lexeme, Rule, Symbol, after};
 use std::alloc::Global;
 
@@ -29,15 +30,32 @@ fn statement(
     levels: u32,
 ) -> Result<(Statement, usize), Failure>
     requires shallow { levels ≤ 64 }
-    ensures read { IfOk result (λ found. Reads (a_statement levels) (statement_tree found.0) (words_from words.now at) (words_from words.now found.1)) }
+    ensures read { IfOk result (λ found. Reads (a_statement levels) (statement_tree found.0) (rest_from words.now at) (rest_from words.now found.1)) }
     ensures forward { IfOk result (λ found. IsBehind words.now at found.1) }
-    ensures refused { IfFault result (λ fault. Refuses (a_statement levels) (words_from words.now at) fault.rule (words_from words.now fault.at)) }
+    ensures refused { IfFault result (λ fault. Refuses (a_statement levels) (rest_from words.now at) fault.rule (rest_from words.now fault.at)) }
+{
+    let (kind, next) = statement_kind(alloc, words, at, levels)?;
+    Ok((Statement { at, kind }, next))
+}
+
+// Reads what a statement is.
+#[cycle(statements)]
+fn statement_kind(
+    alloc: Global,
+    words: &[Lexeme<'_>],
+    at: usize,
+    levels: u32,
+) -> Result<(StatementKind, usize), Failure>
+    requires shallow { levels ≤ 64 }
+    ensures read { IfOk result (λ found. Reads (a_statement_kind levels) (kind_tree found.0) (rest_from words.now at) (rest_from words.now found.1)) }
+    ensures forward { IfOk result (λ found. IsBehind words.now at found.1) }
+    ensures refused { IfFault result (λ fault. Refuses (a_statement_kind levels) (rest_from words.now at) fault.rule (rest_from words.now fault.at)) }
 {
     match opening_of_statement(words, at) {
         StatementOpening::Simple => simple_statement(alloc, words, at, levels),
         StatementOpening::Skip => {
             let next = skip(words, at, levels)?;
-            Ok((Statement::Skip, next))
+            Ok((StatementKind::Skip, next))
         }
         StatementOpening::Braces => braces(alloc, words, at, levels),
         StatementOpening::If => conditional(alloc, words, at, levels),
@@ -58,25 +76,25 @@ fn simple_statement(
     words: &[Lexeme<'_>],
     at: usize,
     levels: u32,
-) -> Result<(Statement, usize), Failure>
+) -> Result<(StatementKind, usize), Failure>
     requires shallow { levels ≤ 64 }
     requires opens { StatementOpening.Simple ≡ opening_of_statement (first (words_from words.now at)) }
-    ensures read { IfOk result (λ found. Reads (a_statement levels) (statement_tree found.0) (words_from words.now at) (words_from words.now found.1)) }
+    ensures read { IfOk result (λ found. Reads (a_statement_kind levels) (kind_tree found.0) (rest_from words.now at) (rest_from words.now found.1)) }
     ensures forward { IfOk result (λ found. IsBehind words.now at found.1) }
-    ensures refused { IfFault result (λ fault. Refuses (a_statement levels) (words_from words.now at) fault.rule (words_from words.now fault.at)) }
+    ensures refused { IfFault result (λ fault. Refuses (a_statement_kind levels) (rest_from words.now at) fault.rule (rest_from words.now fault.at)) }
 {
     let (inner, behind) = simple(alloc, words, at, levels)?;
     let next = sign(words, behind, Symbol::Semicolon)?;
-    Ok((Statement::Simple(inner), next))
+    Ok((StatementKind::Simple(inner), next))
 }
 
 // Reads a `;` alone.
 fn skip(words: &[Lexeme<'_>], at: usize, levels: u32) -> Result<usize, Fault>
     requires shallow { levels ≤ 64 }
     requires opens { StatementOpening.Skip ≡ opening_of_statement (first (words_from words.now at)) }
-    ensures read { IfOk result (λ next. Reads (a_statement levels) skip_tree (words_from words.now at) (words_from words.now next)) }
+    ensures read { IfOk result (λ next. Reads (a_statement_kind levels) skip_tree (rest_from words.now at) (rest_from words.now next)) }
     ensures forward { IfOk result (IsBehind words.now at) }
-    ensures refused { IfErr result (λ fault. Refuses (a_statement levels) (words_from words.now at) fault.rule (words_from words.now fault.at)) }
+    ensures refused { IfErr result (λ fault. Refuses (a_statement_kind levels) (rest_from words.now at) fault.rule (rest_from words.now fault.at)) }
 {
     let next = sign(words, at, Symbol::Semicolon)?;
     Ok(next)
@@ -88,16 +106,16 @@ fn return_statement(
     words: &[Lexeme<'_>],
     at: usize,
     levels: u32,
-) -> Result<(Statement, usize), Failure>
+) -> Result<(StatementKind, usize), Failure>
     requires shallow { levels ≤ 64 }
     requires opens { StatementOpening.Return ≡ opening_of_statement (first (words_from words.now at)) }
-    ensures read { IfOk result (λ found. Reads (a_statement levels) (statement_tree found.0) (words_from words.now at) (words_from words.now found.1)) }
+    ensures read { IfOk result (λ found. Reads (a_statement_kind levels) (kind_tree found.0) (rest_from words.now at) (rest_from words.now found.1)) }
     ensures forward { IfOk result (λ found. IsBehind words.now at found.1) }
-    ensures refused { IfFault result (λ fault. Refuses (a_statement levels) (words_from words.now at) fault.rule (words_from words.now fault.at)) }
+    ensures refused { IfFault result (λ fault. Refuses (a_statement_kind levels) (rest_from words.now at) fault.rule (rest_from words.now fault.at)) }
 {
     let behind = sign(words, at, Symbol::Return)?;
     let (value, next) = optional(alloc, words, behind, levels)?;
-    Ok((Statement::Return(value), next))
+    Ok((StatementKind::Return(value), next))
 }
 
 // Reads items in braces.
@@ -107,16 +125,16 @@ fn braces(
     words: &[Lexeme<'_>],
     at: usize,
     levels: u32,
-) -> Result<(Statement, usize), Failure>
+) -> Result<(StatementKind, usize), Failure>
     requires shallow { levels ≤ 64 }
     requires opens { StatementOpening.Braces ≡ opening_of_statement (first (words_from words.now at)) }
-    ensures read { IfOk result (λ found. Reads (a_statement levels) (statement_tree found.0) (words_from words.now at) (words_from words.now found.1)) }
+    ensures read { IfOk result (λ found. Reads (a_statement_kind levels) (kind_tree found.0) (rest_from words.now at) (rest_from words.now found.1)) }
     ensures forward { IfOk result (λ found. IsBehind words.now at found.1) }
-    ensures refused { IfFault result (λ fault. Refuses (a_statement levels) (words_from words.now at) fault.rule (words_from words.now fault.at)) }
+    ensures refused { IfFault result (λ fault. Refuses (a_statement_kind levels) (rest_from words.now at) fault.rule (rest_from words.now fault.at)) }
 {
     let inner = opening(words, at, Symbol::OpenBrace, levels + 1)?;
     let (all, next) = items(alloc, words, inner, levels + 1)?;
-    Ok((Statement::Braces(all), next))
+    Ok((StatementKind::Braces(all), next))
 }
 
 /// Reads items, and the `}` behind them.
@@ -128,9 +146,9 @@ pub fn items(
     levels: u32,
 ) -> Result<(Items, usize), Failure>
     requires shallow { levels ≤ 64 }
-    ensures read { IfOk result (λ found. Reads (pending_items levels) (items_tree found.0) (words_from words.now at) (words_from words.now found.1)) }
+    ensures read { IfOk result (λ found. Reads (pending_items levels) (items_tree found.0) (rest_from words.now at) (rest_from words.now found.1)) }
     ensures forward { IfOk result (λ found. IsBehind words.now at found.1) }
-    ensures refused { IfFault result (λ fault. Refuses (pending_items levels) (words_from words.now at) fault.rule (words_from words.now fault.at)) }
+    ensures refused { IfFault result (λ fault. Refuses (pending_items levels) (rest_from words.now at) fault.rule (rest_from words.now fault.at)) }
 {
     let mut here = at;
     let mut list = Vec::new(alloc);
@@ -162,12 +180,12 @@ fn conditional(
     words: &[Lexeme<'_>],
     at: usize,
     levels: u32,
-) -> Result<(Statement, usize), Failure>
+) -> Result<(StatementKind, usize), Failure>
     requires shallow { levels ≤ 64 }
     requires opens { StatementOpening.If ≡ opening_of_statement (first (words_from words.now at)) }
-    ensures read { IfOk result (λ found. Reads (a_statement levels) (statement_tree found.0) (words_from words.now at) (words_from words.now found.1)) }
+    ensures read { IfOk result (λ found. Reads (a_statement_kind levels) (kind_tree found.0) (rest_from words.now at) (rest_from words.now found.1)) }
     ensures forward { IfOk result (λ found. IsBehind words.now at found.1) }
-    ensures refused { IfFault result (λ fault. Refuses (a_statement levels) (words_from words.now at) fault.rule (words_from words.now fault.at)) }
+    ensures refused { IfFault result (λ fault. Refuses (a_statement_kind levels) (rest_from words.now at) fault.rule (rest_from words.now fault.at)) }
 {
     let open = opening(words, at, Symbol::If, levels + 1)?;
     let (tested, inner) = test(alloc, words, open, levels + 1)?;
@@ -175,7 +193,7 @@ fn conditional(
     let (other, next) = otherwise(alloc, words, behind, levels + 1)?;
     let part = Box::new(alloc, first)?;
     Ok((
-        Statement::Conditional {
+        StatementKind::Conditional {
             test: tested,
             part,
             other,
@@ -194,10 +212,10 @@ fn otherwise(
 ) -> Result<(Otherwise, usize), Failure>
     requires shallow { levels ≤ 64 }
     requires within { at ≤ length words.now }
-    ensures read { IfOk result (λ found. Reads (an_otherwise levels) (otherwise_tree found.0) (words_from words.now at) (words_from words.now found.1)) }
+    ensures read { IfOk result (λ found. Reads (an_otherwise levels) (otherwise_tree found.0) (rest_from words.now at) (rest_from words.now found.1)) }
     ensures forward { IfOk result (λ found. at ≤ found.1) }
     ensures inside { IfOk result (λ found. found.1 ≤ length words.now) }
-    ensures refused { IfFault result (λ fault. Refuses (an_otherwise levels) (words_from words.now at) fault.rule (words_from words.now fault.at)) }
+    ensures refused { IfFault result (λ fault. Refuses (an_otherwise levels) (rest_from words.now at) fault.rule (rest_from words.now fault.at)) }
 {
     let Some(inner) = after(words, at, Symbol::Else) else {
         return Ok((Otherwise::Nothing, at));
@@ -220,18 +238,18 @@ fn while_loop(
     words: &[Lexeme<'_>],
     at: usize,
     levels: u32,
-) -> Result<(Statement, usize), Failure>
+) -> Result<(StatementKind, usize), Failure>
     requires shallow { levels ≤ 64 }
     requires opens { StatementOpening.While ≡ opening_of_statement (first (words_from words.now at)) }
-    ensures read { IfOk result (λ found. Reads (a_statement levels) (statement_tree found.0) (words_from words.now at) (words_from words.now found.1)) }
+    ensures read { IfOk result (λ found. Reads (a_statement_kind levels) (kind_tree found.0) (rest_from words.now at) (rest_from words.now found.1)) }
     ensures forward { IfOk result (λ found. IsBehind words.now at found.1) }
-    ensures refused { IfFault result (λ fault. Refuses (a_statement levels) (words_from words.now at) fault.rule (words_from words.now fault.at)) }
+    ensures refused { IfFault result (λ fault. Refuses (a_statement_kind levels) (rest_from words.now at) fault.rule (rest_from words.now fault.at)) }
 {
     let open = opening(words, at, Symbol::While, levels + 1)?;
     let (tested, inner) = test(alloc, words, open, levels + 1)?;
     let (repeated, next) = statement(alloc, words, inner, levels + 1)?;
     let body = Box::new(alloc, repeated)?;
-    Ok((Statement::While { test: tested, body }, next))
+    Ok((StatementKind::While { test: tested, body }, next))
 }
 
 // Reads a `do`.
@@ -241,20 +259,27 @@ fn do_loop(
     words: &[Lexeme<'_>],
     at: usize,
     levels: u32,
-) -> Result<(Statement, usize), Failure>
+) -> Result<(StatementKind, usize), Failure>
     requires shallow { levels ≤ 64 }
     requires opens { StatementOpening.Do ≡ opening_of_statement (first (words_from words.now at)) }
-    ensures read { IfOk result (λ found. Reads (a_statement levels) (statement_tree found.0) (words_from words.now at) (words_from words.now found.1)) }
+    ensures read { IfOk result (λ found. Reads (a_statement_kind levels) (kind_tree found.0) (rest_from words.now at) (rest_from words.now found.1)) }
     ensures forward { IfOk result (λ found. IsBehind words.now at found.1) }
-    ensures refused { IfFault result (λ fault. Refuses (a_statement levels) (words_from words.now at) fault.rule (words_from words.now fault.at)) }
+    ensures refused { IfFault result (λ fault. Refuses (a_statement_kind levels) (rest_from words.now at) fault.rule (rest_from words.now fault.at)) }
 {
     let inner = opening(words, at, Symbol::Do, levels + 1)?;
     let (repeated, behind) = statement(alloc, words, inner, levels + 1)?;
     let open = sign(words, behind, Symbol::While)?;
-    let (tested, end) = test(alloc, words, open, levels + 1)?;
-    let next = sign(words, end, Symbol::Semicolon)?;
+    let (tested, closed) = test(alloc, words, open, levels + 1)?;
+    let next = sign(words, closed, Symbol::Semicolon)?;
     let body = Box::new(alloc, repeated)?;
-    Ok((Statement::Do { body, test: tested }, next))
+    Ok((
+        StatementKind::Do {
+            body,
+            end: behind,
+            test: tested,
+        },
+        next,
+    ))
 }
 
 // Reads a `for`.
@@ -264,12 +289,12 @@ fn for_loop(
     words: &[Lexeme<'_>],
     at: usize,
     levels: u32,
-) -> Result<(Statement, usize), Failure>
+) -> Result<(StatementKind, usize), Failure>
     requires shallow { levels ≤ 64 }
     requires opens { StatementOpening.For ≡ opening_of_statement (first (words_from words.now at)) }
-    ensures read { IfOk result (λ found. Reads (a_statement levels) (statement_tree found.0) (words_from words.now at) (words_from words.now found.1)) }
+    ensures read { IfOk result (λ found. Reads (a_statement_kind levels) (kind_tree found.0) (rest_from words.now at) (rest_from words.now found.1)) }
     ensures forward { IfOk result (λ found. IsBehind words.now at found.1) }
-    ensures refused { IfFault result (λ fault. Refuses (a_statement levels) (words_from words.now at) fault.rule (words_from words.now fault.at)) }
+    ensures refused { IfFault result (λ fault. Refuses (a_statement_kind levels) (rest_from words.now at) fault.rule (rest_from words.now fault.at)) }
 {
     let open = opening(words, at, Symbol::For, levels + 1)?;
     let first = sign(words, open, Symbol::OpenParenthesis)?;
@@ -279,7 +304,7 @@ fn for_loop(
     let (repeated, next) = statement(alloc, words, inner, levels + 1)?;
     let body = Box::new(alloc, repeated)?;
     Ok((
-        Statement::For {
+        StatementKind::For {
             start,
             test,
             step,

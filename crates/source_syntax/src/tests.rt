@@ -2,14 +2,13 @@
 
 use super::*;
 use concrete_syntax::{
-    Action, Assignment, Expression, Items, Operand, Otherwise, Prefix, Prelude, Program, Simple,
-    Statement, Step, Tail,
+    Action, Assignment, Expression, Items, Link, Operand, OperandKind, Operator, Otherwise, Prefix,
+    Prelude, Program, Simple, Statement, StatementKind, Step, Tail,
 };
 use derivation::Rule;
 use source_lex::LexFault;
 use std::process::Abort;
 use std::test::Fail;
-use step_meaning::Op2;
 
 const PROGRAMS: [&[u8]; 22] = [
     b"int main() { }",
@@ -64,6 +63,40 @@ const EXPECTED: [(&[u8], u32); 27] = [
     (b"int main() { do ; while (?) }", 28),
     (b"int main() { for (int x; ; x) ; }", 28),
     (b"int main() { while (x) }", 23),
+];
+
+// A front, a part so many times, and a back: with the number of the text's fault, or 0, and its place.
+const REPEATED: [(&[u8], &[u8], usize, &[u8], (u32, u32)); 12] = [
+    (b"int main() { int x; x = 1", b"+1", 256, b"; }", (0, 0)),
+    (b"int main() { int x; x = 1", b"+1", 257, b"; }", (11, 537)),
+    (b"int main() { int x; x = 1", b"+1", 257, b" @", (1, 540)),
+    (
+        b"int main() { for (x = 1",
+        b"*(1)",
+        256,
+        b"; 1 < 2; x++) ; }",
+        (0, 0),
+    ),
+    (b"int main() ", b"{", 64, b"", (4, 75)),
+    (b"int main() ", b"{", 65, b"", (10, 75)),
+    (
+        b"int main() ",
+        b"{",
+        64,
+        b"}}}}}}}}}}}}}}}}}}}}}}}}}}}}}}}}}}}}}}}}}}}}}}}}}}}}}}}}}}}}}}}}",
+        (0, 0),
+    ),
+    (b"int main() ", b"{", 63, b"if (x) ;", (10, 77)),
+    (b"int main() ", b"{", 63, b"if x", (4, 77)),
+    (b"int main() { x = ", b"-", 64, b"1; }", (4, 17)),
+    (b"int main() { x = ", b"- ", 64, b"1; }", (10, 143)),
+    (
+        b"int main() { x = ",
+        b"(",
+        63,
+        b"__VERIFIER_nondet_int()",
+        (10, 101),
+    ),
 ];
 
 const BENCHMARK: &[u8] = b"extern int __VERIFIER_nondet_int(void);
@@ -136,52 +169,11 @@ fn repeated(
 }
 
 #[test]
-fn operators(rt: HostRuntime) -> Result<(), Fail> {
-    let front = b"int main() { int x; x = 1";
-    let most = repeated(&rt, front, b"+1", 256, b"; }")?;
-    assert_eq!(rt; fault_of(&rt, &most), (0, 0));
-    let past = repeated(&rt, front, b"+1", 257, b"; }")?;
-    assert_eq!(rt; fault_of(&rt, &past), (11, 537));
-    let parts = repeated(
-        &rt,
-        b"int main() { for (x = 1",
-        b"*(1)",
-        256,
-        b"; 1 < 2; x++) ; }",
-    )?;
-    assert_eq!(rt; fault_of(&rt, &parts), (0, 0));
-    let wrong = repeated(&rt, front, b"+1", 257, b" @")?;
-    assert_eq!(rt; fault_of(&rt, &wrong), (1, 540));
-    Ok(())
-}
-
-#[test]
-fn nesting(rt: HostRuntime) -> Result<(), Fail> {
-    let front = b"int main() ";
-    let mut most = repeated(&rt, front, b"{", 64, b"")?;
-    assert_eq!(rt; fault_of(&rt, &most), (4, 75));
-    for _ in 0..64 {
-        most.push(b'}')?;
+fn limits(rt: HostRuntime) -> Result<(), Fail> {
+    for (front, part, times, back, fault) in REPEATED {
+        let text = repeated(&rt, front, part, times, back)?;
+        assert_eq!(rt; fault_of(&rt, &text), fault, "of {times} times {part:?}");
     }
-    assert_eq!(rt; fault_of(&rt, &most), (0, 0));
-    let past = repeated(&rt, front, b"{", 65, b"")?;
-    assert_eq!(rt; fault_of(&rt, &past), (10, 75));
-    let test = repeated(&rt, front, b"{", 63, b"if (x) ;")?;
-    assert_eq!(rt; fault_of(&rt, &test), (10, 77));
-    let missing = repeated(&rt, front, b"{", 63, b"if x")?;
-    assert_eq!(rt; fault_of(&rt, &missing), (4, 77));
-    let signs = repeated(&rt, b"int main() { x = ", b"-", 64, b"1; }")?;
-    assert_eq!(rt; fault_of(&rt, &signs).0, 4);
-    let spaced = repeated(&rt, b"int main() { x = ", b"- ", 64, b"1; }")?;
-    assert_eq!(rt; fault_of(&rt, &spaced), (10, 143));
-    let calls = repeated(
-        &rt,
-        b"int main() { x = ",
-        b"(",
-        63,
-        b"__VERIFIER_nondet_int()",
-    )?;
-    assert_eq!(rt; fault_of(&rt, &calls), (10, 101));
     Ok(())
 }
 
@@ -213,8 +205,8 @@ fn first_of<'t>(rt: &impl Abort, tree: &'t Program) -> &'t Statement {
 
 // The value that is assigned first.
 fn value_of<'t>(rt: &impl Abort, tree: &'t Program) -> &'t Expression {
-    match first_of(rt, tree) {
-        Statement::Simple(
+    match &first_of(rt, tree).kind {
+        StatementKind::Simple(
             Simple::Acts {
                 name: _,
                 action: Action::Assigns {
@@ -231,19 +223,47 @@ fn value_of<'t>(rt: &impl Abort, tree: &'t Program) -> &'t Expression {
 fn tree_of_an_expression(rt: HostRuntime) {
     let tree = tree_of(&rt, b"int main() { x = 1 + true * [-inf, 3]; }");
     let value = value_of(&rt, &tree);
-    assert!(rt; matches!(value.operand, Operand::Number(1)));
-    let Tail::Further { op, operand, rest } = &value.tail else {
+    assert!(rt;
+        matches!(
+            value.operand,
+            Operand {
+                at: 7,
+                kind: OperandKind::Number(1)
+            }
+        )
+    );
+    let Tail::Further {
+        link: Link::Operation { op, operand },
+        rest,
+    } = &value.tail
+    else {
         panic!(rt; "no operator")
     };
-    assert!(rt; matches!(op, Op2::Add) && matches!(**operand, Operand::Truth(true)));
-    let Tail::Further { op, operand, rest } = &**rest else {
+    assert!(rt; matches!(op, Operator::Add));
+    assert!(rt;
+        matches!(
+            operand,
+            Operand {
+                at: 9,
+                kind: OperandKind::Truth(true)
+            }
+        )
+    );
+    let Tail::Further {
+        link: Link::Operation { op, operand },
+        rest,
+    } = &**rest
+    else {
         panic!(rt; "no second operator")
     };
-    assert!(rt; matches!(op, Op2::Mul) && matches!(**rest, Tail::Ended));
-    let Operand::Range { low, high } = &**operand else {
+    assert!(rt; matches!(op, Operator::Multiply) && matches!(**rest, Tail::Ended));
+    let OperandKind::Range { low, high } = &operand.kind else {
         panic!(rt; "no range")
     };
-    assert!(rt; low.negative && !high.negative);
+    assert_eq!(rt;
+        (operand.at, low.negative, high.negative),
+        (11, true, false)
+    );
     assert_eq!(rt; (low.size, high.size), (None, Some(3)));
 }
 
@@ -251,49 +271,103 @@ fn tree_of_an_expression(rt: HostRuntime) {
 fn tree_of_an_operand(rt: HostRuntime) {
     let tree = tree_of(&rt, b"int main() { x = -(y || ?); }");
     let value = value_of(&rt, &tree);
-    assert!(rt; matches!(value.tail, Tail::Ended));
-    let Operand::Signed {
+    assert!(rt; value.operand.at == 7 && matches!(value.tail, Tail::Ended));
+    let OperandKind::Signed {
         prefix: Prefix::Minus,
         operand,
-    } = &value.operand
+    } = &value.operand.kind
     else {
         panic!(rt; "no sign")
     };
-    let Operand::Parentheses { operand, tail } = &**operand else {
+    let OperandKind::Parentheses { operand, tail } = &operand.kind else {
         panic!(rt; "no parentheses")
     };
-    let Operand::Name(name) = &**operand else {
+    let OperandKind::Name(name) = &operand.kind else {
         panic!(rt; "no name")
     };
-    assert_eq!(rt; name.as_slice(), b"y".as_slice());
-    let Tail::Further { op, operand, rest } = &**tail else {
+    assert_eq!(rt; (operand.at, name.as_slice()), (9, b"y".as_slice()));
+    let Tail::Further {
+        link: Link::Operation { op, operand },
+        rest,
+    } = &**tail
+    else {
         panic!(rt; "no operator")
     };
-    assert!(rt; matches!(op, Op2::Or) && matches!(**operand, Operand::Unknown));
-    assert!(rt; matches!(**rest, Tail::Ended));
+    assert!(rt; matches!(op, Operator::Or) && matches!(**rest, Tail::Ended));
+    assert!(rt;
+        matches!(
+            operand,
+            Operand {
+                at: 11,
+                kind: OperandKind::Unknown
+            }
+        )
+    );
 }
 
 #[test]
 fn tree_of_a_conditional(rt: HostRuntime) {
     let tree = tree_of(&rt, b"int main() { if (?) if (?) ; else return 0; }");
-    let Statement::Conditional {
-        test: _,
-        part,
-        other: Otherwise::Nothing,
+    let Statement {
+        at: 5,
+        kind: StatementKind::Conditional {
+            test: _,
+            part,
+            other: Otherwise::Nothing,
+        },
     } = first_of(&rt, &tree)
     else {
         panic!(rt; "the outer `if` has an `else`")
     };
-    let Statement::Conditional {
+    let StatementKind::Conditional {
         test: _,
         part,
         other: Otherwise::Else(second),
-    } = &**part
+    } = &part.kind
     else {
         panic!(rt; "the inner `if` has no `else`")
     };
-    assert!(rt; matches!(**part, Statement::Skip));
-    assert!(rt; matches!(**second, Statement::Return(Some(_))));
+    assert!(rt;
+        matches!(
+            **part,
+            Statement {
+                at: 13,
+                kind: StatementKind::Skip
+            }
+        )
+    );
+    assert!(rt;
+        matches!(
+            **second,
+            Statement {
+                at: 15,
+                kind: StatementKind::Return(Some(_))
+            }
+        )
+    );
+}
+
+#[test]
+fn tree_of_a_do(rt: HostRuntime) {
+    let tree = tree_of(&rt, b"int main() { do ++x; while (x); }");
+    let StatementKind::Do { body, end, test } = &first_of(&rt, &tree).kind else {
+        panic!(rt; "no `do`")
+    };
+    assert_eq!(rt; (body.at, *end, test.operand.at), (6, 9, 11));
+    let StatementKind::Simple(
+        Simple::StepsBefore {
+            at,
+            step: Step::Increment,
+            name,
+        },
+    ) = &body.kind
+    else {
+        panic!(rt; "no sign before a name")
+    };
+    assert_eq!(rt;
+        (*at, name.at, name.bytes.as_slice()),
+        (6, 7, b"x".as_slice())
+    );
 }
 
 #[test]
@@ -302,16 +376,23 @@ fn tree_of_items(rt: HostRuntime) {
     let Items::Declaration { first, rest } = &tree.items else {
         panic!(rt; "no declaration")
     };
-    assert_eq!(rt; first.part.declared.as_slice(), b"a".as_slice());
-    assert!(rt; first.part.initialiser.is_some());
-    assert_eq!(rt; first.more.len(), 1);
-    assert_eq!(rt; first.more[0].declared.as_slice(), b"b".as_slice());
+    let (part, more) = (&first.part, &first.more);
+    assert_eq!(rt;
+        (part.declared.at, part.declared.bytes.as_slice()),
+        (6, b"a".as_slice())
+    );
+    assert!(rt; part.initialiser.is_some() && more.len() == 1);
+    assert_eq!(rt;
+        (more[0].declared.at, more[0].declared.bytes.as_slice()),
+        (10, b"b".as_slice())
+    );
     let Items::Statement { first, rest } = &**rest else {
         panic!(rt; "no statement")
     };
-    let Statement::Simple(Simple::Acts { name: _, action }) = &**first else {
+    let StatementKind::Simple(Simple::Acts { name, action }) = &first.kind else {
         panic!(rt; "no simple statement")
     };
+    assert_eq!(rt; (first.at, name.at), (12, 12));
     assert!(rt; matches!(action, Action::Steps(Step::Increment)));
     assert!(rt; matches!(**rest, Items::Ended));
 }

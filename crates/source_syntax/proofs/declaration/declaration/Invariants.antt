@@ -1,5 +1,5 @@
 use Rattle.std.proofs.Common.{◌-◌, ◌+◌, ◌≤◌, length, map}
-use Rattle.derivation.specs.Spelled.{words_from}
+use Rattle.source_syntax.specs.Language.{rest_from}
 use Rattle.concrete_syntax.specs.Mirror.{part}
 use Rattle.source_syntax.specs.Reads.{ComesToParts}
 use Rattle.source_syntax.proofs.declaration.declaration.Given as goal
@@ -8,7 +8,7 @@ use Rattle.source_syntax.proofs.declaration.declaration.Given as goal
 abbrev pub invariant-parts : goal.invariant-parts
 invariant-parts l = record {
   forward : l.at + 1 ≤ l.here;
-  comes : ComesToParts l.levels (part l.first) (map part l.more.items) (words_from l.words l.at) (words_from l.words l.here);
+  comes : ComesToParts l.levels (part l.first) (map part l.more.items) (rest_from l.words l.at) (rest_from l.words l.here);
 }
 
 abbrev pub decreases-parts : goal.decreases-parts

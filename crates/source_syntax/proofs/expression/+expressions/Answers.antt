@@ -5,12 +5,13 @@ use borrow.Author.Rules.{sfits_of}
 use Rattle.std.proofs.lemmas.Int.{to_z-of_z}
 use Rattle.derivation.specs.declared.symbol.Symbol.TheVariants as Sym
 use Rattle.source_syntax.specs.declared.opening.OperandOpening.TheVariants as OperandOpening
+use Rattle.concrete_syntax.specs.declared.expression.Link.TheVariants.{Operation}
 use Rattle.concrete_syntax.specs.Mirror.{operand, tail, links}
 use Rattle.concrete_syntax.specs.Trees.{number, parentheses, signed}
 use Rattle.source_syntax.proofs.Calculus.{over, fails}
-use Rattle.source_syntax.proofs.Choices.{goes, stuck}
-use Rattle.source_syntax.proofs.Expressions.{operands, expression_goes}
-use Rattle.source_syntax.proofs.Answering.{failed_on, passed_on, sign_reads, opening_reads, name_reads, sign_refused, opening_refused, name_refused}
+use Rattle.source_syntax.proofs.Choices.{goes, stuck, held}
+use Rattle.source_syntax.proofs.Expressions.{operands, located_operands, expression_goes}
+use Rattle.source_syntax.proofs.Answering.{failed_on, passed_on, sign_reads, opening_reads, bytes_reads, sign_refused, opening_refused, bytes_refused}
 use Rattle.source_syntax.proofs.Reading.{operand_number, operand_truth, operand_unknown, behind_prefix, prefix_stops, behind_operator, operator_stops, tail_from, tail_over, tail_done, one_link_more, told}
 use Rattle.source_syntax.proofs.expression.+expressions.Goals as goal
 
@@ -47,39 +48,49 @@ expression-operators-preserved t c =
       forward = omega (arith, c.operators.invariant.forward, c.in_ok-further-in-Some.ensures.forward.forward);
       inside = c.in_ok-further-in-Some.ensures.forward.inside;
       few = c.in_ok-further-in-Some.ensures.counted;
-      comes = tail_over _ _ _ _ _ _ _ _ c.in-Some.op _ _ _ _ (one_link_more _ _ _ _ (search rules)) c.operators.invariant.comes step.0 c.in_ok-further-in-Some.ensures.read;
+      comes = tail_over _ _ _ _ _ _ _ _ c.in-Some.op _ _ _ _ (one_link_more _ _ (Operation c.in-Some.op c.in_ok-further-in-Some.further) (search rules)) c.operators.invariant.comes step.0 c.in_ok-further-in-Some.ensures.read;
     }
 
 pub expression-returns-in-None-clause-read : goal.expression-returns-in-None-clause-read
 expression-returns-in-None-clause-read t c =
     tail_done _ _ _ _ _ _ _ _ c.operators.invariant.comes (sym c.in-None.is ∙ c.binary_operator.ensures) c.in_ok-tail-in-None.ensures
 
-pub operand-returns-in-Number-clause-read : goal.operand-returns-in-Number-clause-read
-operand-returns-in-Number-clause-read t c =
+pub operand-returns-in_err-kind-clause-refused : goal.operand-returns-in_err-kind-clause-refused
+operand-returns-in_err-kind-clause-refused t c =
+    passed_on _ _ _ _ c.from_residual.ensures c.in_err-kind.ensures.refused
+    (λ fault refused behind. fails (held (located_operands _ behind) _ _) (refused behind))
+
+pub operand-returns-clause-read : goal.operand-returns-clause-read
+operand-returns-clause-read t c = record {
+  comes = λ behind. over (held (located_operands _ behind) _ _) (c.in_ok-kind.ensures.read.comes behind);
+}
+
+pub operand_kind-returns-in-Number-clause-read : goal.operand_kind-returns-in-Number-clause-read
+operand_kind-returns-in-Number-clause-read t c =
     let fits = rw c.in-Number.is at c.opening_of_operand.type_inv in
     let kept : to_z w64 (of_z w64 c.in-Number.value) ≡ c.in-Number.value = to_z-of_z w64 c.in-Number.value (sfits_of fits.1.1.1.1.0.1) in
     told (ap number kept) ((operand_number c.args.words.now c.args.at _ c.in-Number.value (sym c.in-Number.is ∙ c.opening_of_operand.ensures)).0 _)
 
-pub operand-returns-in_err-name-in-Name-clause-refused : goal.operand-returns-in_err-name-in-Name-clause-refused
-operand-returns-in_err-name-in-Name-clause-refused t c =
+pub operand_kind-returns-in_err-name-in-Name-clause-refused : goal.operand_kind-returns-in_err-name-in-Name-clause-refused
+operand_kind-returns-in_err-name-in-Name-clause-refused t c =
     passed_on _ _ _ _ c.from_residual.ensures c.in_err-name-in-Name.ensures.missed
-    (λ fault missed behind. fails (goes (operands _ behind) _ _ OperandOpening.Name (sym c.in-Name.is ∙ c.opening_of_operand.ensures)) (name_refused _ _ fault missed))
+    (λ fault missed behind. fails (goes (operands _ behind) _ _ OperandOpening.Name (sym c.in-Name.is ∙ c.opening_of_operand.ensures)) (bytes_refused _ _ fault missed))
 
-pub operand-returns-in_ok-name-in-Name-clause-read : goal.operand-returns-in_ok-name-in-Name-clause-read
-operand-returns-in_ok-name-in-Name-clause-read t c = record {
-  comes = λ behind. over (goes (operands _ behind) _ _ OperandOpening.Name (sym c.in-Name.is ∙ c.opening_of_operand.ensures)) (name_reads c.in_ok-name-in-Name.ensures.read);
+pub operand_kind-returns-in_ok-name-in-Name-clause-read : goal.operand_kind-returns-in_ok-name-in-Name-clause-read
+operand_kind-returns-in_ok-name-in-Name-clause-read t c = record {
+  comes = λ behind. over (goes (operands _ behind) _ _ OperandOpening.Name (sym c.in-Name.is ∙ c.opening_of_operand.ensures)) (bytes_reads c.in_ok-name-in-Name.ensures.read);
 }
 
-pub operand-returns-in-Truth-clause-read : goal.operand-returns-in-Truth-clause-read
-operand-returns-in-Truth-clause-read t c =
+pub operand_kind-returns-in-Truth-clause-read : goal.operand_kind-returns-in-Truth-clause-read
+operand_kind-returns-in-Truth-clause-read t c =
     (operand_truth c.args.words.now c.args.at _ c.in-Truth.value (sym c.in-Truth.is ∙ c.opening_of_operand.ensures)).0 _
 
-pub operand-returns-in-Unknown-clause-read : goal.operand-returns-in-Unknown-clause-read
-operand-returns-in-Unknown-clause-read t c =
+pub operand_kind-returns-in-Unknown-clause-read : goal.operand_kind-returns-in-Unknown-clause-read
+operand_kind-returns-in-Unknown-clause-read t c =
     (operand_unknown c.args.words.now c.args.at _ (sym c.in-Unknown.is ∙ c.opening_of_operand.ensures)).0 _
 
-pub operand-returns-in-Nothing-clause-refused : goal.operand-returns-in-Nothing-clause-refused
-operand-returns-in-Nothing-clause-refused t c = λ behind. stuck (operands _ behind) _ _ _ (λ shut. shut) (sym c.in-Nothing.is ∙ c.opening_of_operand.ensures)
+pub operand_kind-returns-in-Nothing-clause-refused : goal.operand_kind-returns-in-Nothing-clause-refused
+operand_kind-returns-in-Nothing-clause-refused t c = λ behind. stuck (operands _ behind) _ _ _ (λ shut. shut) (sym c.in-Nothing.is ∙ c.opening_of_operand.ensures)
 
 pub parentheses-returns-in_err-inner-clause-refused : goal.parentheses-returns-in_err-inner-clause-refused
 parentheses-returns-in_err-inner-clause-refused t c =

@@ -1,5 +1,5 @@
 use Rattle.std.proofs.Common.{◌-◌, ◌≤◌, length, map}
-use Rattle.derivation.specs.Spelled.{words_from}
+use Rattle.source_syntax.specs.Language.{rest_from}
 use Rattle.concrete_syntax.specs.Mirror.{prelude}
 use Rattle.source_syntax.specs.Pending.{a_program}
 use Rattle.source_syntax.specs.Reads.{Continues, behind_preludes}
@@ -9,7 +9,7 @@ use Rattle.source_syntax.proofs.program.program.Given as goal
 abbrev pub invariant-preludes : goal.invariant-preludes
 invariant-preludes l = record {
   forward : l.at ≤ l.here;
-  comes : Continues a_program (behind_preludes (map prelude l.preludes.items)) (words_from l.words l.at) (words_from l.words l.here);
+  comes : Continues a_program (behind_preludes (map prelude l.preludes.items)) (rest_from l.words l.at) (rest_from l.words l.here);
 }
 
 abbrev pub decreases-preludes : goal.decreases-preludes

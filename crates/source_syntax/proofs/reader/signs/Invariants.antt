@@ -1,7 +1,6 @@
-use Rattle.std.proofs.Common.{◌+◌, ◌<◌, ◌≤◌, List, drop, length}
+use Rattle.std.proofs.Common.{◌+◌, ◌<◌, ◌≤◌, drop, length}
 use Rattle.derivation.specs.declared.rule.Rule.{Rule}
-use Rattle.derivation.specs.Word.{Word}
-use Rattle.derivation.specs.Spelled.{words_from}
+use Rattle.source_syntax.specs.Language.{Rest, rest_from}
 use Rattle.source_syntax.specs.Reads.{AreNext, MissesOne}
 use Rattle.source_syntax.proofs.reader.signs.Given as goal
 
@@ -10,7 +9,7 @@ abbrev pub invariant-loop-symbol : goal.invariant-loop-symbol
 invariant-loop-symbol l = record {
   forward : l.at + l.symbol-index ≤ l.here;
   inside : 0 < l.symbol-index → l.here ≤ length l.words;
-  stand : (to : List Word) → AreNext (drop l.symbol-index l.wanted) (words_from l.words l.here) to → AreNext l.wanted (words_from l.words l.at) to;
-  missed : (rule : Rule) (to : List Word) → MissesOne (drop l.symbol-index l.wanted) (words_from l.words l.here) rule to
-      → MissesOne l.wanted (words_from l.words l.at) rule to;
+  stand : (to : Rest) → AreNext (drop l.symbol-index l.wanted) (rest_from l.words l.here) to → AreNext l.wanted (rest_from l.words l.at) to;
+  missed : (rule : Rule) (to : Rest) → MissesOne (drop l.symbol-index l.wanted) (rest_from l.words l.here) rule to
+      → MissesOne l.wanted (rest_from l.words l.at) rule to;
 }

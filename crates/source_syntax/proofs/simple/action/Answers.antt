@@ -11,16 +11,16 @@ use Rattle.source_syntax.proofs.simple.action.Goals as goal
 pub returns-in_err-value-in-Assigns-clause-refused : goal.returns-in_err-value-in-Assigns-clause-refused
 returns-in_err-value-in-Assigns-clause-refused c =
     passed_on _ _ _ _ c.from_residual-in_err-value-in-Assigns.ensures c.in_err-value-in-Assigns.ensures.refused
-    (λ fault refused count behind. fails (goes (actions _ behind) count _ (ActionOpening.Assigns c.in-Assigns.assignment) (sym c.in-Assigns.is ∙ c.opening_of_action.ensures)) (fails (leading_reads (assignment_sign c.in-Assigns.assignment) (assignment_quiet c.in-Assigns.assignment) (written c.in_ok-behind-in-Assigns.ensures.read c.assignment_symbol.ensures)) (refused _)))
+    (λ fault refused count behind. fails (goes (actions _ behind) count _ (ActionOpening.Assigns c.in-Assigns.assignment) (sym c.in-Assigns.is ∙ c.opening_of_action.ensures)) (fails (leading_reads (assignment_sign c.in-Assigns.assignment) (assignment_quiet c.in-Assigns.assignment) (written _ _ c.in_ok-behind-in-Assigns.ensures.read c.assignment_symbol.ensures)) (refused _)))
 
 pub returns-in_ok-value-in-Assigns-clause-read : goal.returns-in_ok-value-in-Assigns-clause-read
 returns-in_ok-value-in-Assigns-clause-read c = record {
-  comes = λ count behind. (_, over (goes (actions _ behind) count _ (ActionOpening.Assigns c.in-Assigns.assignment) (sym c.in-Assigns.is ∙ c.opening_of_action.ensures)) (over (leading_reads (assignment_sign c.in-Assigns.assignment) (assignment_quiet c.in-Assigns.assignment) (written c.in_ok-behind-in-Assigns.ensures.read c.assignment_symbol.ensures)) (c.in_ok-value-in-Assigns.ensures.read.comes _)));
+  comes = λ count behind. (_, over (goes (actions _ behind) count _ (ActionOpening.Assigns c.in-Assigns.assignment) (sym c.in-Assigns.is ∙ c.opening_of_action.ensures)) (over (leading_reads (assignment_sign c.in-Assigns.assignment) (assignment_quiet c.in-Assigns.assignment) (written _ _ c.in_ok-behind-in-Assigns.ensures.read c.assignment_symbol.ensures)) (c.in_ok-value-in-Assigns.ensures.read.comes _)));
 }
 
 pub returns-in_ok-next-in-Steps-clause-read : goal.returns-in_ok-next-in-Steps-clause-read
 returns-in_ok-next-in-Steps-clause-read c = record {
-  comes = λ count behind. (_, over (goes (actions _ behind) count _ (ActionOpening.Steps c.in-Steps.step) (sym c.in-Steps.is ∙ c.opening_of_action.ensures)) (sign_reads (step_sign c.in-Steps.step) (step_quiet c.in-Steps.step) (written c.in_ok-next-in-Steps.ensures.read c.step_symbol.ensures)));
+  comes = λ count behind. (_, over (goes (actions _ behind) count _ (ActionOpening.Steps c.in-Steps.step) (sym c.in-Steps.is ∙ c.opening_of_action.ensures)) (sign_reads (step_sign c.in-Steps.step) (step_quiet c.in-Steps.step) (written _ _ c.in_ok-next-in-Steps.ensures.read c.step_symbol.ensures)));
 }
 
 pub returns-in-Nothing-clause-refused : goal.returns-in-Nothing-clause-refused

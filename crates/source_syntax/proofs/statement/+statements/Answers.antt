@@ -6,9 +6,9 @@ use Rattle.concrete_syntax.specs.declared.statement.Item.TheVariants as Item
 use Rattle.concrete_syntax.specs.Mirror.{item, statement, expression, start, optional, optional_simple, otherwise as otherwise_tree}
 use Rattle.concrete_syntax.specs.Trees.{conditional, while_loop, do_loop, for_loop, otherwise}
 use Rattle.source_syntax.proofs.Calculus.{over, fails}
-use Rattle.source_syntax.proofs.Choices.{goes, stuck}
-use Rattle.source_syntax.proofs.Statements.{statements, all_items, otherwise_ends, else_read, else_too_deep, not_else}
-use Rattle.source_syntax.proofs.Answering.{failed_on, passed_on, sign_reads, opening_reads, sign_refused, opening_refused}
+use Rattle.source_syntax.proofs.Choices.{goes, stuck, held}
+use Rattle.source_syntax.proofs.Statements.{statements, located_statements, all_items, otherwise_ends, else_read, else_too_deep, not_else}
+use Rattle.source_syntax.proofs.Answering.{failed_on, passed_on, sign_reads, sign_at_reads, opening_reads, sign_refused, sign_at_refused, opening_refused}
 use Rattle.source_syntax.proofs.Loops.{told_reads, items_from, one_item_more, items_declaration, items_statement, items_close}
 use Rattle.source_syntax.proofs.statement.+statements.Goals as goal
 
@@ -89,23 +89,23 @@ do_loop-returns-in_err-repeated-clause-refused t c =
 pub do_loop-returns-in_err-open-clause-refused : goal.do_loop-returns-in_err-open-clause-refused
 do_loop-returns-in_err-open-clause-refused t c =
     failed_on _ _ _ c.from_residual-in_err-open.ensures
-    (λ count behind. fails (goes (statements _ behind) count _ StatementOpening.Do c.requires.opens) (fails (opening_reads Sym.Do _ (refl, refl) c.in_ok-inner.ensures.read c.in_ok-inner.ensures.shallow) (fails (c.in_ok-repeated.ensures.read.comes _ _).1 (sign_refused _ _ c.in_err-open.field-0.0 Sym.While (refl, refl) c.in_err-open.ensures.missed))))
+    (λ count behind. fails (goes (statements _ behind) count _ StatementOpening.Do c.requires.opens) (fails (opening_reads Sym.Do _ (refl, refl) c.in_ok-inner.ensures.read c.in_ok-inner.ensures.shallow) (fails (c.in_ok-repeated.ensures.read.comes _ _).1 (sign_at_refused _ _ c.in_err-open.field-0.0 Sym.While (refl, refl) c.in_err-open.ensures.missed))))
 
 pub do_loop-returns-in_err-tested-clause-refused : goal.do_loop-returns-in_err-tested-clause-refused
 do_loop-returns-in_err-tested-clause-refused t c =
     passed_on _ _ _ _ c.from_residual-in_err-tested.ensures c.in_err-tested.ensures.refused
-    (λ fault refused count behind. fails (goes (statements _ behind) count _ StatementOpening.Do c.requires.opens) (fails (opening_reads Sym.Do _ (refl, refl) c.in_ok-inner.ensures.read c.in_ok-inner.ensures.shallow) (fails (c.in_ok-repeated.ensures.read.comes _ _).1 (fails (sign_reads Sym.While (refl, refl) c.in_ok-open.ensures.read) (refused _ _)))))
+    (λ fault refused count behind. fails (goes (statements _ behind) count _ StatementOpening.Do c.requires.opens) (fails (opening_reads Sym.Do _ (refl, refl) c.in_ok-inner.ensures.read c.in_ok-inner.ensures.shallow) (fails (c.in_ok-repeated.ensures.read.comes _ _).1 (fails (sign_at_reads Sym.While (refl, refl) c.in_ok-open.ensures.read) (refused _ _)))))
 
 pub do_loop-returns-in_err-next-clause-refused : goal.do_loop-returns-in_err-next-clause-refused
 do_loop-returns-in_err-next-clause-refused t c =
     failed_on _ _ _ c.from_residual-in_err-next.ensures
-    (λ count behind. fails (goes (statements _ behind) count _ StatementOpening.Do c.requires.opens) (fails (opening_reads Sym.Do _ (refl, refl) c.in_ok-inner.ensures.read c.in_ok-inner.ensures.shallow) (fails (c.in_ok-repeated.ensures.read.comes _ _).1 (fails (sign_reads Sym.While (refl, refl) c.in_ok-open.ensures.read) (fails (c.in_ok-tested.ensures.read.comes _ _).1 (sign_refused _ _ c.in_err-next.field-0.0 Sym.Semicolon (refl, refl) c.in_err-next.ensures.missed))))))
+    (λ count behind. fails (goes (statements _ behind) count _ StatementOpening.Do c.requires.opens) (fails (opening_reads Sym.Do _ (refl, refl) c.in_ok-inner.ensures.read c.in_ok-inner.ensures.shallow) (fails (c.in_ok-repeated.ensures.read.comes _ _).1 (fails (sign_at_reads Sym.While (refl, refl) c.in_ok-open.ensures.read) (fails (c.in_ok-tested.ensures.read.comes _ _).1 (sign_refused _ _ c.in_err-next.field-0.0 Sym.Semicolon (refl, refl) c.in_err-next.ensures.missed))))))
 
 pub do_loop-returns-clause-read : goal.do_loop-returns-clause-read
 do_loop-returns-clause-read t c =
     let kept : c.in_ok-body.body.value ≡ c.in_ok-repeated.repeated = search rules in
-    told_reads (ap (λ s. do_loop (statement s) (expression c.in_ok-tested.tested)) kept) (record {
-      comes = λ count behind. (_, over (goes (statements _ behind) count _ StatementOpening.Do c.requires.opens) (over (opening_reads Sym.Do _ (refl, refl) c.in_ok-inner.ensures.read c.in_ok-inner.ensures.shallow) (over (c.in_ok-repeated.ensures.read.comes _ _).1 (over (sign_reads Sym.While (refl, refl) c.in_ok-open.ensures.read) (over (c.in_ok-tested.ensures.read.comes _ _).1 (sign_reads Sym.Semicolon (refl, refl) c.in_ok-next.ensures.read))))));
+    told_reads (ap (λ s. do_loop (statement s) c.in_ok-repeated.behind (expression c.in_ok-tested.tested)) kept) (record {
+      comes = λ count behind. (_, over (goes (statements _ behind) count _ StatementOpening.Do c.requires.opens) (over (opening_reads Sym.Do _ (refl, refl) c.in_ok-inner.ensures.read c.in_ok-inner.ensures.shallow) (over (c.in_ok-repeated.ensures.read.comes _ _).1 (over (sign_at_reads Sym.While (refl, refl) c.in_ok-open.ensures.read) (over (c.in_ok-tested.ensures.read.comes _ _).1 (sign_reads Sym.Semicolon (refl, refl) c.in_ok-next.ensures.read))))));
     })
 
 pub for_loop-returns-in_err-open-clause-refused : goal.for_loop-returns-in_err-open-clause-refused
@@ -153,8 +153,18 @@ otherwise-returns-in_err-second-clause-refused t c =
 pub items-further-init : goal.items-further-init
 items-further-init t c = record { forward = omega arith; comes = items_from _ _ _ (let none : c.new-list.result.items ≡ [] = search rules in ap (map item) none) }
 
-pub statement-returns-in-Nothing-clause-refused : goal.statement-returns-in-Nothing-clause-refused
-statement-returns-in-Nothing-clause-refused t c = λ count behind. stuck (statements _ behind) count _ _ (λ shut. shut) (sym c.in-Nothing.is ∙ c.opening_of_statement.ensures)
+pub statement-returns-in_err-kind-clause-refused : goal.statement-returns-in_err-kind-clause-refused
+statement-returns-in_err-kind-clause-refused t c =
+    passed_on _ _ _ _ c.from_residual.ensures c.in_err-kind.ensures.refused
+    (λ fault refused count behind. fails (held (located_statements _ behind) count _) (refused count behind))
+
+pub statement-returns-clause-read : goal.statement-returns-clause-read
+statement-returns-clause-read t c = record {
+  comes = λ count behind. (_, over (held (located_statements _ behind) count _) (c.in_ok-kind.ensures.read.comes count behind).1);
+}
+
+pub statement_kind-returns-in-Nothing-clause-refused : goal.statement_kind-returns-in-Nothing-clause-refused
+statement_kind-returns-in-Nothing-clause-refused t c = λ count behind. stuck (statements _ behind) count _ _ (λ shut. shut) (sym c.in-Nothing.is ∙ c.opening_of_statement.ensures)
 
 pub items-further-preserved-in-Declaration : goal.items-further-preserved-in-Declaration
 items-further-preserved-in-Declaration t c =
