@@ -4,8 +4,12 @@ use crate::projection::project;
 use crate::solver::decide;
 use crate::tighten::tightest;
 use linear_cons::{Affine, MOST_ROWS, PLACES, Row, RowKind};
-use std::alloc::Global;
+use std::alloc::{AllocError, Global};
 use std::test::Fail;
+
+/// The numbers x, y, z and c of the constraint `x * x0 + y * x1 + z * x2 + c >= 0`. The comments below write
+/// `x`, `y` and `z` for `x0`, `x1` and `x2`.
+type Numbers = [i128; 4];
 
 /// What an answer is worth: a point counts once it is seen to meet the rows.
 #[derive(Clone, Copy, PartialEq, Eq, Debug)]
@@ -15,314 +19,344 @@ enum Verdict {
     Fraction,
     WrongPoint,
     Wide,
-    Rows(u32),
+    TooMany,
 }
 
-/// `x * x0 + y * x1 + z * x2 + constant`.
-fn plane(numbers: [i128; 4]) -> Affine {
-    let mut coef = [0; PLACES];
-    coef[0] = numbers[0];
-    coef[1] = numbers[1];
-    coef[2] = numbers[2];
-    Affine {
-        coef,
-        constant: numbers[3],
-    }
-}
+/// 2 to the power 126: three times this lies outside 128 bits.
+const LARGE: i128 = 0x4000_0000_0000_0000_0000_0000_0000_0000;
 
-/// The rows of constraints that have one each.
-fn system(alloc: Global, planes: &[[i128; 4]]) -> Result<Vec<Row>, Fail> {
-    let mut rows = Vec::new(alloc);
-    for numbers in planes {
-        if let RowKind::Row(row) = Row::of(plane(*numbers)) {
-            rows.push(row)?;
-        }
-    }
-    Ok(rows)
-}
+/// 2 to the power 100: the square of this lies outside 128 bits.
+const STEEP: i128 = 0x10_0000_0000_0000_0000_0000_0000;
 
-/// True where `num / den` meets every row.
-fn meets(rows: &[Row], num: &[i128; 16], den: i128) -> Result<bool, Fail> {
-    for row in rows {
-        let linear = Affine {
-            coef: row.affine.coef,
-            constant: 0,
-        };
-        let sum = linear.value(num)?;
-        let constant = Affine::constant(row.affine.constant).scale(den)?;
-        if sum.checked_add(constant.constant).ok_or("wide")? < 0 {
-            return Ok(false);
-        }
-    }
-    Ok(true)
-}
-
-/// The answer to at most 4,096 rows.
-fn judged(alloc: Global, rows: &[Row]) -> Result<Verdict, Fail> {
-    if rows.len() > MOST_ROWS {
-        return Ok(Verdict::WrongPoint);
-    }
-    Ok(match decide(alloc, rows)? {
-        Answer::Empty => Verdict::Empty,
-        Answer::Point { num, den } => {
-            if den <= 0 || !meets(rows, &num, den)? {
-                Verdict::WrongPoint
-            } else if den == 1 {
-                Verdict::Whole
-            } else {
-                Verdict::Fraction
-            }
-        }
-        Answer::Wide(_) => Verdict::Wide,
-        Answer::Rows { count } => Verdict::Rows(count),
-    })
-}
-
-fn verdict_of(alloc: Global, planes: &[[i128; 4]]) -> Result<Verdict, Fail> {
-    let rows = system(alloc, planes)?;
-    judged(alloc, &rows)
-}
-
-#[test]
-fn systems_without_a_store(rt: HostRuntime) -> Result<(), Fail> {
-    let alloc = rt.alloc();
-    let empty = Verdict::Empty;
+const WITHOUT_A_STORE: [&[Numbers]; 13] = [
     // x >= 1 and x <= 0.
-    let rows = [[1, 0, 0, -1], [-1, 0, 0, 0]];
-    assert_eq!(rt; verdict_of(alloc, &rows)?, empty);
+    &[[1, 0, 0, -1], [-1, 0, 0, 0]],
     // x + y >= 3, x <= 1, y <= 1: the sum is at most 2.
-    let rows = [[1, 1, 0, -3], [-1, 0, 0, 1], [0, -1, 0, 1]];
-    assert_eq!(rt; verdict_of(alloc, &rows)?, empty);
+    &[[1, 1, 0, -3], [-1, 0, 0, 1], [0, -1, 0, 1]],
     // 3 * x >= 1 and 3 * x <= 2: each row is rounded to whole numbers, x >= 1 and x <= 0.
-    let rows = [[3, 0, 0, -1], [-3, 0, 0, 2]];
-    assert_eq!(rt; verdict_of(alloc, &rows)?, empty);
+    &[[3, 0, 0, -1], [-3, 0, 0, 2]],
     // x < y, y < z, z < x: a cycle of strict orders.
-    let rows = [[-1, 1, 0, -1], [0, -1, 1, -1], [1, 0, -1, -1]];
-    assert_eq!(rt; verdict_of(alloc, &rows)?, empty);
+    &[[-1, 1, 0, -1], [0, -1, 1, -1], [1, 0, -1, -1]],
     // 2 * x - 2 * y = 1, by parity: rounded, x - y >= 1 and x - y <= 0.
-    let rows = [[2, -2, 0, -1], [-2, 2, 0, 1]];
-    assert_eq!(rt; verdict_of(alloc, &rows)?, empty);
+    &[[2, -2, 0, -1], [-2, 2, 0, 1]],
     // x + y >= 2, x - y >= 0, x <= 0: the first two sum to x >= 1.
-    let rows = [[1, 1, 0, -2], [1, -1, 0, 0], [-1, 0, 0, 0]];
-    assert_eq!(rt; verdict_of(alloc, &rows)?, empty);
+    &[[1, 1, 0, -2], [1, -1, 0, 0], [-1, 0, 0, 0]],
     // 2 * x + 3 * y <= 5, x >= 2, y >= 1: the least value on the left is 7.
-    let rows = [[-2, -3, 0, 5], [1, 0, 0, -2], [0, 1, 0, -1]];
-    assert_eq!(rt; verdict_of(alloc, &rows)?, empty);
+    &[[-2, -3, 0, 5], [1, 0, 0, -2], [0, 1, 0, -1]],
     // x + y + z >= 10 in a box of side 3.
-    let rows = [[1, 1, 1, -10], [-1, 0, 0, 3], [0, -1, 0, 3], [0, 0, -1, 3]];
-    assert_eq!(rt; verdict_of(alloc, &rows)?, empty);
+    &[[1, 1, 1, -10], [-1, 0, 0, 3], [0, -1, 0, 3], [0, 0, -1, 3]],
     // x + 2 * y <= 3, 2 * x + y <= 3, x + y >= 3: the first two sum to 3 * (x + y) <= 6.
-    let rows = [[-1, -2, 0, 3], [-2, -1, 0, 3], [1, 1, 0, -3]];
-    assert_eq!(rt; verdict_of(alloc, &rows)?, empty);
+    &[[-1, -2, 0, 3], [-2, -1, 0, 3], [1, 1, 0, -3]],
     // x + y <= 1, x + z <= 1, y + z <= 1, x + y + z >= 2: the sum of the first three is at most 3.
-    let rows = [
+    &[
         [-1, -1, 0, 1],
         [-1, 0, -1, 1],
         [0, -1, -1, 1],
         [1, 1, 1, -2],
-    ];
-    assert_eq!(rt; verdict_of(alloc, &rows)?, empty);
+    ],
     // 2 * x + 3 * y = 5 and 3 * x + 2 * y = 6: the single point (8/5, 3/5) is no store.
-    let rows = [[2, 3, 0, -5], [-2, -3, 0, 5], [3, 2, 0, -6], [-3, -2, 0, 6]];
-    assert_eq!(rt; verdict_of(alloc, &rows)?, empty);
+    &[[2, 3, 0, -5], [-2, -3, 0, 5], [3, 2, 0, -6], [-3, -2, 0, 6]],
     // Two opposed rows with numbers whose products lie outside 128 bits.
-    let large = 0x4000_0000_0000_0000_0000_0000_0000_0000;
-    let rows = [
-        [large, 1, 0, -1],
-        [-large, -1, 0, 0],
-        [large, -1, 0, large],
-        [-large, 3, 0, 5],
-    ];
-    assert_eq!(rt; verdict_of(alloc, &rows)?, empty);
+    &[
+        [LARGE, 1, 0, -1],
+        [-LARGE, -1, 0, 0],
+        [LARGE, -1, 0, LARGE],
+        [-LARGE, 3, 0, 5],
+    ],
     // The least and the greatest constant.
-    let rows = [[1, 2, 0, i128::MIN], [-1, -2, 0, i128::MAX]];
-    assert_eq!(rt; verdict_of(alloc, &rows)?, empty);
-    Ok(())
-}
+    &[[1, 2, 0, i128::MIN], [-1, -2, 0, i128::MAX]],
+];
 
-#[test]
-fn systems_with_a_whole_point(rt: HostRuntime) -> Result<(), Fail> {
-    let alloc = rt.alloc();
-    let whole = Verdict::Whole;
+const WITH_A_WHOLE_POINT: [&[Numbers]; 10] = [
     // No row.
-    assert_eq!(rt; verdict_of(alloc, &[])?, whole);
+    &[],
     // x >= 1 and x <= 1.
-    let rows = [[1, 0, 0, -1], [-1, 0, 0, 1]];
-    assert_eq!(rt; verdict_of(alloc, &rows)?, whole);
+    &[[1, 0, 0, -1], [-1, 0, 0, 1]],
     // x >= 5 alone, and x <= -5 alone: one side only.
-    assert_eq!(rt; verdict_of(alloc, &[[1, 0, 0, -5]])?, whole);
-    assert_eq!(rt; verdict_of(alloc, &[[-1, 0, 0, -5]])?, whole);
+    &[[1, 0, 0, -5]],
+    &[[-1, 0, 0, -5]],
     // y is above x and z above y, without ends.
-    let rows = [[-1, 1, 0, -1], [0, -1, 1, -1]];
-    assert_eq!(rt; verdict_of(alloc, &rows)?, whole);
+    &[[-1, 1, 0, -1], [0, -1, 1, -1]],
     // x + y <= 4, x + 3 * y <= 6, x, y >= 0: the polygon of a textbook's first linear program.
-    let rows = [[-1, -1, 0, 4], [-1, -3, 0, 6], [1, 0, 0, 0], [0, 1, 0, 0]];
-    assert_eq!(rt; verdict_of(alloc, &rows)?, whole);
+    &[[-1, -1, 0, 4], [-1, -3, 0, 6], [1, 0, 0, 0], [0, 1, 0, 0]],
     // x + y + z = 6, x - y = 0, y - z = 0: the single point (2, 2, 2).
-    let rows = [
+    &[
         [1, 1, 1, -6],
         [-1, -1, -1, 6],
         [1, -1, 0, 0],
         [-1, 1, 0, 0],
         [0, 1, -1, 0],
         [0, -1, 1, 0],
-    ];
-    assert_eq!(rt; verdict_of(alloc, &rows)?, whole);
+    ],
     // x + y >= 1 and x - y >= 0, an octagon: x >= 1 after rounding.
-    let rows = [[1, 1, 0, -1], [1, -1, 0, 0], [-1, 0, 0, 1]];
-    assert_eq!(rt; verdict_of(alloc, &rows)?, whole);
+    &[[1, 1, 0, -1], [1, -1, 0, 0], [-1, 0, 0, 1]],
     // The same linear part three times: the tightest row decides.
-    let rows = [[1, 1, 0, 5], [1, 1, 0, -7], [1, 1, 0, 0], [-1, -1, 0, 7]];
-    assert_eq!(rt; verdict_of(alloc, &rows)?, whole);
+    &[[1, 1, 0, 5], [1, 1, 0, -7], [1, 1, 0, 0], [-1, -1, 0, 7]],
     // 3 * x + 5 * y = 1: (2, -1) and others; x is free and y follows.
-    let rows = [[1, 0, 0, -2], [-1, 0, 0, 2], [3, 5, 0, -1], [-3, -5, 0, 1]];
-    assert_eq!(rt; verdict_of(alloc, &rows)?, whole);
-    Ok(())
-}
+    &[[1, 0, 0, -2], [-1, 0, 0, 2], [3, 5, 0, -1], [-3, -5, 0, 1]],
+];
 
-#[test]
-fn systems_with_a_rational_point(rt: HostRuntime) -> Result<(), Fail> {
-    let alloc = rt.alloc();
-    let fraction = Verdict::Fraction;
+const WITH_A_RATIONAL_POINT: [&[Numbers]; 4] = [
     // y = 2 * x and y = 2 * z + 1: x is half of an odd number.
-    let rows = [[-2, 1, 0, 0], [2, -1, 0, 0], [0, 1, -2, -1], [0, -1, 2, 1]];
-    assert_eq!(rt; verdict_of(alloc, &rows)?, fraction);
+    &[[-2, 1, 0, 0], [2, -1, 0, 0], [0, 1, -2, -1], [0, -1, 2, 1]],
     // 3 * x = 5 * y + 1 with x = 1: y goes first, since it has one pair and x four, and is 2/5.
-    let rows = [[1, 0, 0, -1], [-1, 0, 0, 1], [3, -5, 0, -1], [-3, 5, 0, 1]];
-    assert_eq!(rt; verdict_of(alloc, &rows)?, fraction);
+    &[[1, 0, 0, -1], [-1, 0, 0, 1], [3, -5, 0, -1], [-3, 5, 0, 1]],
     // 2 * x = y, 3 * x = y + 1 and 3 * z = y: the single point (1, 2, 2/3);
     // z goes first, since it has one pair and the others have more.
-    let rows = [
+    &[
         [2, -1, 0, 0],
         [-2, 1, 0, 0],
         [3, -1, 0, -1],
         [-3, 1, 0, 1],
         [0, -1, 3, 0],
         [0, 1, -3, 0],
-    ];
-    assert_eq!(rt; verdict_of(alloc, &rows)?, fraction);
+    ],
     // y = 2 * x and y = 2 * z + 1 with x from 0 to 3: still half of an odd number.
-    let rows = [
+    &[
         [-2, 1, 0, 0],
         [2, -1, 0, 0],
         [0, 1, -2, -1],
         [0, -1, 2, 1],
         [1, 0, 0, 0],
         [-1, 0, 0, 3],
-    ];
-    assert_eq!(rt; verdict_of(alloc, &rows)?, fraction);
+    ],
+];
+
+const PAST_THE_BOUNDS: [&[Numbers]; 1] = [
+    // LARGE * x + y >= 1, x >= y and 3 * x + y <= 9: the first and the last combine to a row with LARGE * 3.
+    &[
+        [LARGE, 1, 0, -1],
+        [-LARGE, 3, 0, 5],
+        [1, -1, 0, 0],
+        [-3, -1, 0, 9],
+    ],
+];
+
+/// `x * x0 + y * x1 + z * x2 + c`.
+fn function([x, y, z, constant]: Numbers) -> Affine {
+    let mut coef = [0; PLACES];
+    coef[0] = x;
+    coef[1] = y;
+    coef[2] = z;
+    Affine { coef, constant }
+}
+
+/// Adds the rows of those constraints that have one.
+fn add_rows(rows: &mut Vec<Row>, constraints: &[Numbers]) -> Result<(), AllocError> {
+    for numbers in constraints {
+        if let RowKind::Row(row) = Row::of(function(*numbers)) {
+            rows.push(row)?;
+        }
+    }
+    Ok(())
+}
+
+fn rows_of(alloc: Global, constraints: &[Numbers]) -> Result<Vec<Row>, AllocError> {
+    let mut rows = Vec::new(alloc);
+    add_rows(&mut rows, constraints)?;
+    Ok(rows)
+}
+
+/// The row's function at `num / den`, times `den`, where that has room.
+fn value_at(row: &Row, num: &[i128; 16], den: i128) -> Option<i128> {
+    let mut scaled = row.affine;
+    scaled.constant = row.affine.constant.checked_mul(den)?;
+    scaled.value(num).ok()
+}
+
+/// True only where `num / den` is a point that meets every row.
+fn meets(rows: &[Row], num: &[i128; 16], den: i128) -> bool {
+    for row in rows {
+        match value_at(row, num, den) {
+            Some(value) if value >= 0 => {}
+            _ => return false,
+        }
+    }
+    den > 0
+}
+
+fn verdict_of(rows: &[Row], answer: &Answer) -> Verdict {
+    match answer {
+        Answer::Empty => Verdict::Empty,
+        Answer::Point { num, den } if !meets(rows, num, *den) => Verdict::WrongPoint,
+        Answer::Point { num: _, den: 1 } => Verdict::Whole,
+        Answer::Point { .. } => Verdict::Fraction,
+        Answer::Wide(_) => Verdict::Wide,
+        Answer::Rows { .. } => Verdict::TooMany,
+    }
+}
+
+/// What the answer to at most 4,096 rows is worth.
+fn judged(alloc: Global, rows: &[Row]) -> Result<Verdict, Fail> {
+    if rows.len() > MOST_ROWS {
+        return Err("more than 4,096 rows".into());
+    }
+    let answer = decide(alloc, rows)?;
+    Ok(verdict_of(rows, &answer))
+}
+
+/// The same, of the rows of constraints.
+fn decided(alloc: Global, constraints: &[Numbers]) -> Result<Verdict, Fail> {
+    let rows = rows_of(alloc, constraints)?;
+    judged(alloc, &rows)
+}
+
+#[test]
+fn systems_without_a_store(rt: HostRuntime) -> Result<(), Fail> {
+    for constraints in WITHOUT_A_STORE {
+        let verdict = decided(rt.alloc(), constraints)?;
+        assert_eq!(rt; verdict, Verdict::Empty, "{constraints:?}");
+    }
+    Ok(())
+}
+
+#[test]
+fn systems_with_a_whole_point(rt: HostRuntime) -> Result<(), Fail> {
+    for constraints in WITH_A_WHOLE_POINT {
+        let verdict = decided(rt.alloc(), constraints)?;
+        assert_eq!(rt; verdict, Verdict::Whole, "{constraints:?}");
+    }
+    Ok(())
+}
+
+#[test]
+fn systems_with_a_rational_point(rt: HostRuntime) -> Result<(), Fail> {
+    for constraints in WITH_A_RATIONAL_POINT {
+        let verdict = decided(rt.alloc(), constraints)?;
+        assert_eq!(rt; verdict, Verdict::Fraction, "{constraints:?}");
+    }
     Ok(())
 }
 
 #[test]
 fn systems_past_the_bounds(rt: HostRuntime) -> Result<(), Fail> {
-    let alloc = rt.alloc();
-    let large = 0x4000_0000_0000_0000_0000_0000_0000_0000;
-    // large * x + y >= 1 and -large * x + 2 * y >= 0: the first combination needs large * 3.
-    let rows = [
-        [large, 1, 0, -1],
-        [-large, 3, 0, 5],
-        [1, -1, 0, 0],
-        [-3, -1, 0, 9],
-    ];
-    assert_eq!(rt; verdict_of(alloc, &rows)?, Verdict::Wide);
-    // Each elimination comes to more than 4,096 combinations, and the pivots decide it.
-    let rows = slabs(alloc, 2, -1)?;
-    assert_eq!(rt; judged(alloc, &rows)?, Verdict::Empty);
+    for constraints in PAST_THE_BOUNDS {
+        let verdict = decided(rt.alloc(), constraints)?;
+        assert_eq!(rt; verdict, Verdict::Wide, "{constraints:?}");
+    }
     Ok(())
 }
 
-/// At each of three places 65 rows from below and 65 from above, each with its own linear part: no
-/// place has fewer than 65 * 65 = 4,225 pairs, and 260 rows are without it.
-fn slabs(alloc: Global, slope: i128, constant: i128) -> Result<Vec<Row>, Fail> {
+/// For each odd number from 101 to 229 the rows of `2 * x + number * y = 1`, and so for `y` and `z` and for `z`
+/// and `x`. Each of the three occurs in 130 rows from below and in 130 from above.
+fn slabs(alloc: Global) -> Result<Vec<Row>, AllocError> {
     let mut rows = Vec::new(alloc);
     for place in 0..3 {
-        for other in 0..65 {
-            let mut numbers = [0; 4];
-            numbers[place] = slope;
-            numbers[(place + 1) % 3] = 101 + 2 * other as i128;
-            let negated = [
-                numbers[0].wrapping_neg(),
-                numbers[1].wrapping_neg(),
-                numbers[2].wrapping_neg(),
-                constant.wrapping_neg(),
-            ];
-            numbers[3] = constant;
-            for signed in [numbers, negated] {
-                if let RowKind::Row(row) = Row::of(plane(signed)) {
-                    rows.push(row)?;
-                }
-            }
+        for step in 0..65u32 {
+            let mut numbers = [0, 0, 0, -1];
+            numbers[place] = 2;
+            numbers[(place + 1) % 3] = 101 + 2 * step as i128;
+            add_rows(&mut rows, &[numbers, negated(numbers)])?;
         }
     }
     Ok(rows)
 }
 
+fn negated([x, y, z, constant]: Numbers) -> Numbers {
+    [
+        x.wrapping_neg(),
+        y.wrapping_neg(),
+        z.wrapping_neg(),
+        constant.wrapping_neg(),
+    ]
+}
+
+#[test]
+fn pivots_decide_many_rows(rt: HostRuntime) -> Result<(), Fail> {
+    // Each elimination comes to 130 * 130 = 16,900 combinations.
+    let rows = slabs(rt.alloc())?;
+    assert_eq!(rt; judged(rt.alloc(), &rows)?, Verdict::Empty);
+    Ok(())
+}
+
+/// Constraints, a place, and constraints of the rows that are left without it.
+const PROJECTED: [(&[Numbers], u8, &[Numbers]); 3] = [
+    // x >= 1 and y >= x leave y >= 1.
+    (&[[1, 0, 0, -1], [-1, 1, 0, 0]], 0, &[[0, 1, 0, -1]]),
+    // STEEP * x + y >= 0 and -STEEP * x + y >= 0 leave y >= 0: the factors are divided before the rows are combined.
+    (&[[STEEP, 1, 0, 0], [-STEEP, 1, 0, 0]], 0, &[[0, 1, 0, 0]]),
+    // A place that does not occur leaves the tightest rows, in the order of their coefficients.
+    (
+        &[[1, 0, 0, -1], [-1, 1, 0, 0]],
+        5,
+        &[[-1, 1, 0, 0], [1, 0, 0, -1]],
+    ),
+];
+
+/// Constraints, a place, and the verdict on the rows that are left without it.
+const DECIDED_WITHOUT: [(&[Numbers], u8, Verdict); 1] = [
+    // x >= 1 and x <= 0 leave what nothing meets.
+    (&[[1, 0, 0, -1], [-1, 0, 0, 0]], 0, Verdict::Empty),
+];
+
+/// The rows that are left without the place.
+fn projected(alloc: Global, rows: &[Row], place: u8) -> Result<Vec<Row>, Fail> {
+    if place >= 16 {
+        return Err("no such place".into());
+    }
+    match project(alloc, rows, place)? {
+        Projected::Rows(left) => Ok(left),
+        Projected::Wide(_) => Err("a number that is too wide".into()),
+        Projected::TooMany { .. } => Err("too many rows".into()),
+    }
+}
+
+/// Whether these are the rows that are left without the place.
+fn leave(alloc: Global, rows: &[Row], place: u8, left: &[Numbers]) -> Result<bool, Fail> {
+    let found = projected(alloc, rows, place)?;
+    Ok(found == rows_of(alloc, left)?)
+}
+
 #[test]
 fn projections(rt: HostRuntime) -> Result<(), Fail> {
-    let alloc = rt.alloc();
-    // x >= 1 and y >= x leave y >= 1.
-    let rows = system(alloc, &[[1, 0, 0, -1], [-1, 1, 0, 0]])?;
-    let expected = system(alloc, &[[0, 1, 0, -1]])?;
-    match project(alloc, &rows, 0)? {
-        Projected::Rows(left) => assert_eq!(rt; left.as_slice(), expected.as_slice()),
-        _ => return Err(Fail::from("given up")),
-    }
-    // huge * x + y >= 0 and -huge * x + y >= 0 leave y >= 0: the factors are divided before the rows are combined.
-    let huge = 0x10_0000_0000_0000_0000_0000_0000;
-    let steep = system(alloc, &[[huge, 1, 0, 0], [-huge, 1, 0, 0]])?;
-    let expected = system(alloc, &[[0, 1, 0, 0]])?;
-    match project(alloc, &steep, 0)? {
-        Projected::Rows(left) => assert_eq!(rt; left.as_slice(), expected.as_slice()),
-        _ => return Err(Fail::from("given up")),
-    }
-    // A place that does not occur leaves the tightest rows, in the order of their coefficients.
-    let ordered = system(alloc, &[[-1, 1, 0, 0], [1, 0, 0, -1]])?;
-    match project(alloc, &rows, 5)? {
-        Projected::Rows(left) => assert_eq!(rt; left.as_slice(), ordered.as_slice()),
-        _ => return Err(Fail::from("given up")),
-    }
-    // x >= 1 and x <= 0 leave what nothing meets.
-    let rows = system(alloc, &[[1, 0, 0, -1], [-1, 0, 0, 0]])?;
-    match project(alloc, &rows, 0)? {
-        Projected::Rows(left) => assert_eq!(rt; judged(alloc, &left)?, Verdict::Empty),
-        _ => return Err(Fail::from("given up")),
+    for (constraints, place, left) in PROJECTED {
+        let rows = rows_of(rt.alloc(), constraints)?;
+        assert!(rt;
+            leave(rt.alloc(), &rows, place, left)?,
+            "{constraints:?} without the place {place}"
+        );
     }
     Ok(())
 }
 
-/// 65 rows from below and 65 from above.
-fn fan(alloc: Global) -> Result<Vec<Row>, Fail> {
+#[test]
+fn decided_projections(rt: HostRuntime) -> Result<(), Fail> {
+    for (constraints, place, verdict) in DECIDED_WITHOUT {
+        let rows = rows_of(rt.alloc(), constraints)?;
+        let left = projected(rt.alloc(), &rows, place)?;
+        assert_eq!(rt;
+            judged(rt.alloc(), &left)?,
+            verdict,
+            "{constraints:?} without the place {place}"
+        );
+    }
+    Ok(())
+}
+
+/// The rows of `slope * x + y >= 0` and `-slope * x + y >= 0` for each slope from 1 to 65.
+fn fan(alloc: Global) -> Result<Vec<Row>, AllocError> {
     let mut rows = Vec::new(alloc);
-    for other in 0..65 {
-        let slope = 1 + other as i128;
-        for signed in [slope, slope.wrapping_neg()] {
-            if let RowKind::Row(row) = Row::of(plane([signed, 1, 0, 0])) {
-                rows.push(row)?;
-            }
-        }
+    for step in 0..65u32 {
+        let slope = 1 + step as i128;
+        let constraints = [[slope, 1, 0, 0], [slope.wrapping_neg(), 1, 0, 0]];
+        add_rows(&mut rows, &constraints)?;
     }
     Ok(rows)
 }
 
 #[test]
 fn projection_of_many_rows(rt: HostRuntime) -> Result<(), Fail> {
-    let alloc = rt.alloc();
-    let rows = fan(alloc)?;
     // All of the 4,225 combinations say y >= 0.
-    let expected = system(alloc, &[[0, 1, 0, 0]])?;
-    match project(alloc, &rows, 0)? {
-        Projected::Rows(left) => assert_eq!(rt; left.as_slice(), expected.as_slice()),
-        _ => return Err(Fail::from("given up")),
-    }
+    let rows = fan(rt.alloc())?;
+    assert!(rt; leave(rt.alloc(), &rows, 0, &[[0, 1, 0, 0]])?);
     Ok(())
 }
 
-#[test]
-fn tightest_of_rows(rt: HostRuntime) -> Result<(), Fail> {
-    let alloc = rt.alloc();
-    let rows = system(
-        alloc,
+/// Constraints, and those of the tightest rows.
+const TIGHTENED: [(&[Numbers], &[Numbers]); 3] = [
+    (&[], &[]),
+    (&[[1, 0, 0, 5], [1, 0, 0, 5]], &[[1, 0, 0, 5]]),
+    (
         &[
             [1, 0, 0, 5],
             [0, 1, 0, 0],
@@ -330,8 +364,16 @@ fn tightest_of_rows(rt: HostRuntime) -> Result<(), Fail> {
             [2, 0, 0, 7],
             [0, -1, 3, 4],
         ],
-    )?;
-    let expected = system(alloc, &[[0, -1, 3, 4], [0, 1, 0, 0], [1, 0, 0, -1]])?;
-    assert_eq!(rt; tightest(rows).as_slice(), expected.as_slice());
+        &[[0, -1, 3, 4], [0, 1, 0, 0], [1, 0, 0, -1]],
+    ),
+];
+
+#[test]
+fn tightest_of_rows(rt: HostRuntime) -> Result<(), Fail> {
+    for (constraints, tight) in TIGHTENED {
+        let rows = rows_of(rt.alloc(), constraints)?;
+        let expected = rows_of(rt.alloc(), tight)?;
+        assert!(rt; tightest(rows) == expected, "{constraints:?}");
+    }
     Ok(())
 }

@@ -6,6 +6,9 @@ ghost use Rattle.decision_tree.specs.Extent.{ComplementsFit};
 ghost use Rattle.report_text.specs.Printed.{IsLineOver};
 
 use crate::{Counts, Explain, Header, Line, Lines, Report, Stop, Top, lines, print};
+use Leaf::*;
+use Said::*;
+use Side::*;
 use decision_tree::{AffineRank, Cause, Tree, Why};
 use line_text::{Claim, are_over, is_claim_over};
 use linear_cons::{Affine, Row, RowKind, Rows};
@@ -13,37 +16,118 @@ use std::alloc::{AllocError, Global};
 use std::test::Fail;
 use step_meaning::Names;
 
-/// `x` times the first number, `y` times the second, and the third.
-fn form(numbers: [i128; 3]) -> Affine {
+/// The numbers x, y and c of the function `x * x0 + y * x1 + c`. The names of `x0` and `x1` are `x` and `y`.
+type Numbers = [i128; 3];
+
+/// A leaf of a tree.
+#[derive(Clone, Copy, Debug)]
+enum Leaf {
+    /// A claim of so many steps.
+    Steps(i128),
+    /// No claim.
+    Nothing,
+    /// No claim, given up.
+    Given,
+}
+
+/// A side of a tree's root.
+#[derive(Clone, Copy, Debug)]
+enum Side {
+    Only(Leaf),
+    /// The one leaf where the function is at least 0, and the other elsewhere.
+    Split(Numbers, Leaf, Leaf),
+}
+
+/// A tree: the one side where the function is at least 0, and the other elsewhere.
+type Root = (Numbers, Side, Side);
+
+/// What a line says.
+#[derive(Clone, Copy, Debug)]
+enum Said {
+    Exactly(i128),
+    Within(Numbers),
+    Holds,
+    Unknown,
+}
+
+/// A line: the functions that are at least 0, and what it says where they are.
+type Stated = (&'static [Numbers], Said);
+
+/// The exact lines of a report, the proved and the unknown ones.
+type Sections = [&'static [Stated]; 3];
+
+/// What a report explains: the number of labels, that of families, and how often each adviser was asked.
+type Explained = Option<(u32, u32, &'static [u64])>;
+
+/// `x >= 0 ? nothing : (y >= 0 ? given up : 2)`.
+const HARDLY_DEFINED: Root = ([1, 0, 0], Only(Nothing), Split([0, 1, 0], Given, Steps(2)));
+
+/// Trees, what their defined leaves claim, and their lines.
+const LISTED: [(Root, Top, &[Stated]); 4] = [
+    // `x - 1 >= 0 ? (x >= 0 ? 3 : 5) : 1`: the rows of 5 are met nowhere, and `x >= 0` is looser than `x - 1 >= 0`.
+    (
+        (
+            [1, 0, -1],
+            Split([1, 0, 0], Steps(3), Steps(5)),
+            Only(Steps(1)),
+        ),
+        Top::Bound,
+        &[
+            (&[[1, 0, -1]], Within([0, 0, 3])),
+            (&[[-1, 0, 0]], Within([0, 0, 1])),
+        ],
+    ),
+    (
+        HARDLY_DEFINED,
+        Top::Exact,
+        &[
+            (&[[1, 0, 0]], Unknown),
+            (&[[-1, 0, -1], [0, 1, 0]], Unknown),
+            (&[[-1, 0, -1], [0, -1, -1]], Exactly(2)),
+        ],
+    ),
+    (
+        HARDLY_DEFINED,
+        Top::Bound,
+        &[
+            (&[[1, 0, 0]], Unknown),
+            (&[[-1, 0, -1], [0, 1, 0]], Unknown),
+            (&[[-1, 0, -1], [0, -1, -1]], Within([0, 0, 2])),
+        ],
+    ),
+    (
+        HARDLY_DEFINED,
+        Top::Plain,
+        &[
+            (&[[1, 0, 0]], Unknown),
+            (&[[-1, 0, -1], [0, 1, 0]], Unknown),
+            (&[[-1, 0, -1], [0, -1, -1]], Holds),
+        ],
+    ),
+];
+
+/// The lines of the long tree. Each leaf between its first and its last has opposed rows.
+const LISTED_OF_LONG: [Stated; 2] = [(&[[1, 0, -1]], Exactly(1)), (&[[-1, 0, 0]], Exactly(2))];
+
+/// `x * x0 + y * x1 + c`.
+fn function([x, y, constant]: Numbers) -> Affine {
     let mut coef = [0; 16];
-    coef[0] = numbers[0];
-    coef[1] = numbers[1];
-    Affine {
-        coef,
-        constant: numbers[2],
-    }
+    coef[0] = x;
+    coef[1] = y;
+    Affine { coef, constant }
 }
 
 /// The row of a constraint that has one.
-fn row(numbers: [i128; 3]) -> Result<Row, &'static str> {
-    match Row::of(form(numbers)) {
+fn row(numbers: Numbers) -> Result<Row, &'static str> {
+    match Row::of(function(numbers)) {
         RowKind::Row(row) => Ok(row),
-        RowKind::Always => Err("always"),
-        RowKind::Never => Err("never"),
+        RowKind::Always => Err("a row that always holds"),
+        RowKind::Never => Err("a row that never holds"),
     }
-}
-
-/// The names `x` and `y`.
-fn names(alloc: Global) -> Result<Names, AllocError> {
-    let mut list = Vec::new(alloc);
-    for name in [b"x".as_slice(), b"y"] {
-        list.push(name.to_vec(alloc)?)?;
-    }
-    Ok(Names::of(list))
 }
 
 /// A leaf whose rank is a constant.
-fn leaf(steps: i128) -> Tree<AffineRank>
+fn claimed(steps: i128) -> Tree<AffineRank>
     ensures fits { ComplementsFit (plan_of result) }
     ensures constant { HasConstantRanks (plan_of result) }
 {
@@ -55,10 +139,21 @@ fn leaf(steps: i128) -> Tree<AffineRank>
     }
 }
 
+fn leaf_of(leaf: &Leaf) -> Tree<AffineRank>
+    ensures fits { ComplementsFit (plan_of result) }
+    ensures constant { HasConstantRanks (plan_of result) }
+{
+    match *leaf {
+        Steps(steps) => claimed(steps),
+        Nothing => Tree::Bottom,
+        Given => Tree::Top(Cause::Given),
+    }
+}
+
 /// A node with the row of a constraint whose complement fits.
 fn node(
     alloc: Global,
-    numbers: [i128; 3],
+    numbers: Numbers,
     yes: Tree<AffineRank>,
     no: Tree<AffineRank>,
 ) -> Result<Tree<AffineRank>, Fail>
@@ -77,6 +172,233 @@ fn node(
         }
         Err(_) => Err(Fail::from("wide")),
     }
+}
+
+fn side_of(alloc: Global, side: &Side) -> Result<Tree<AffineRank>, Fail>
+    ensures fits { IfOk result (λ tree. ComplementsFit (plan_of tree)) }
+    ensures constant { IfOk result (λ tree. HasConstantRanks (plan_of tree)) }
+{
+    match side {
+        Only(leaf) => Ok(leaf_of(leaf)),
+        Split(numbers, yes, no) => node(alloc, *numbers, leaf_of(yes), leaf_of(no)),
+    }
+}
+
+fn tree_of(alloc: Global, root: &Root) -> Result<Tree<AffineRank>, Fail>
+    ensures fits { IfOk result (λ tree. ComplementsFit (plan_of tree)) }
+    ensures constant { IfOk result (λ tree. HasConstantRanks (plan_of tree)) }
+{
+    let (numbers, yes, no) = root;
+    let yes = side_of(alloc, yes)?;
+    let no = side_of(alloc, no)?;
+    node(alloc, *numbers, yes, no)
+}
+
+fn claim_of(said: &Said) -> Claim {
+    match *said {
+        Exactly(steps) => Claim::Exactly(steps),
+        Within(numbers) => Claim::Within(function(numbers)),
+        Holds => Claim::Holds,
+        Unknown => Claim::Unknown,
+    }
+}
+
+/// True exactly where these are the rows of the constraints, in the same order.
+fn are_rows(rows: &[Row], constraints: &[Numbers]) -> bool {
+    if rows.len() != constraints.len() {
+        return false;
+    }
+    for (row, numbers) in rows.iter().zip(constraints) {
+        if Row::of(function(*numbers)) != RowKind::Row(*row) {
+            return false;
+        }
+    }
+    true
+}
+
+/// True exactly where the lines are these, with their rows in the same order.
+fn are_stated(lines: &[Line], wanted: &[Stated]) -> bool {
+    if lines.len() != wanted.len() {
+        return false;
+    }
+    for (line, (constraints, said)) in lines.iter().zip(wanted) {
+        if line.claim != claim_of(said) || !are_rows(line.rows.items(), constraints) {
+            return false;
+        }
+    }
+    true
+}
+
+/// Whether these are the lines of the tree.
+fn lists(
+    alloc: Global,
+    tree: &Tree<AffineRank>,
+    top: Top,
+    wanted: &[Stated],
+) -> Result<bool, AllocError>
+    requires fits { ComplementsFit (plan_of tree.now) }
+    requires constant { HasConstantRanks (plan_of tree.now) }
+{
+    let found = lines(alloc, tree, top)?;
+    Ok(are_stated(found.items(), wanted))
+}
+
+#[test]
+fn lines_of_leaves(rt: HostRuntime) -> Result<(), Fail> {
+    for (root, top, wanted) in LISTED {
+        let tree = tree_of(rt.alloc(), &root)?;
+        assert!(rt;
+            lists(rt.alloc(), &tree, top, wanted)?,
+            "{root:?} with {top:?}"
+        );
+    }
+    Ok(())
+}
+
+/// A tree that is a line of nodes: each but the last has the leaf 1 on its yes side.
+fn long_line(alloc: Global, nodes: u32) -> Result<Tree<AffineRank>, Fail>
+    ensures fits { IfOk result (λ tree. ComplementsFit (plan_of tree)) }
+    ensures constant { IfOk result (λ tree. HasConstantRanks (plan_of tree)) }
+{
+    let mut tree = claimed(2);
+    for _ in 0..nodes {
+        tree = node(alloc, [1, 0, -1], claimed(1), tree)?;
+    }
+    Ok(tree)
+}
+
+/// The walk goes 32,767 nodes deep.
+#[test]
+fn lines_of_a_deep_tree(rt: HostRuntime) -> Result<(), Fail> {
+    let tree = long_line(rt.alloc(), 32_767)?;
+    assert!(rt; lists(rt.alloc(), &tree, Top::Exact, &LISTED_OF_LONG)?);
+    Ok(())
+}
+
+fn line_of(alloc: Global, (constraints, said): &Stated) -> Result<Line, Fail> {
+    let mut rows = Vec::new(alloc);
+    for numbers in *constraints {
+        let row = row(*numbers)?;
+        rows.push(row)?;
+    }
+    Ok(Line {
+        rows: Rows::of(rows),
+        claim: claim_of(said),
+    })
+}
+
+fn lines_of(alloc: Global, stated: &[Stated]) -> Result<Lines, Fail> {
+    let mut lines = Vec::new(alloc);
+    for one in stated {
+        let line = line_of(alloc, one)?;
+        lines.push(line)?;
+    }
+    Ok(Lines::of(lines))
+}
+
+/// Lines, those that claim something and those that claim nothing.
+const PARTED: [(&[Stated], &[Stated], &[Stated]); 2] = [
+    (&[], &[], &[]),
+    (
+        &[
+            (&[], Unknown),
+            (&[[1, 0, 0]], Holds),
+            (&[[0, 1, 0]], Unknown),
+            (&[], Exactly(3)),
+        ],
+        &[(&[[1, 0, 0]], Holds), (&[], Exactly(3))],
+        &[(&[], Unknown), (&[[0, 1, 0]], Unknown)],
+    ),
+];
+
+#[test]
+fn claims_apart(rt: HostRuntime) -> Result<(), Fail> {
+    for (stated, some, none) in PARTED {
+        let lines = lines_of(rt.alloc(), stated)?;
+        let (claiming, nothing) = lines.parted(rt.alloc())?;
+        assert!(rt; are_stated(claiming.items(), some), "of {stated:?}");
+        assert!(rt; are_stated(nothing.items(), none), "of {stated:?}");
+    }
+    Ok(())
+}
+
+/// Neither the rows of a line nor the lines are in the order of their bytes.
+const DISORDERED: Sections = [
+    &[(&[], Exactly(1))],
+    &[
+        (&[[1, 0, -1], [-1, 0, 1]], Within([0, 0, 3])),
+        (&[[1, 0, -2]], Within([2, 0, 1])),
+        (&[[0, 1, 0], [1, 1, -1]], Within([0, 0, 1])),
+    ],
+    &[(&[[-1, 0, -1]], Unknown)],
+];
+
+/// What is written of them below the exact lines.
+const ORDERED: &str =
+    "proved:\n-x + 1 >= 0 and x - 1 >= 0: within 3 steps\nx + y - 1 >= 0 and y >= 0: within 1 step\nx - 2 >= 0: within 2*x + 1 steps\nunknown:\n-x - 1 >= 0: unknown\nverdict: some inputs\n";
+
+/// Headers, the lines of reports, what these explain, the texts of the exact parts and what follows them.
+const REPORTS: [(Header, Sections, Explained, &str, &str); 7] = [
+    (Header::Absent, DISORDERED, None, "", ORDERED),
+    (
+        Header::Whole { tests: 2 },
+        DISORDERED,
+        None,
+        "exact, 2 tests:\nalways: exactly 1 step\n",
+        ORDERED,
+    ),
+    (
+        Header::Partial {
+            tests: 1,
+            cause: Stop::TooManyNodes,
+        },
+        DISORDERED,
+        None,
+        "exact, 1 tests, then too many nodes:\nalways: exactly 1 step\n",
+        ORDERED,
+    ),
+    (
+        Header::Stopped {
+            cause: Stop::WideNumbers,
+        },
+        DISORDERED,
+        None,
+        "exact: wide numbers\n",
+        ORDERED,
+    ),
+    (
+        Header::Stopped {
+            cause: Stop::NotPlain,
+        },
+        DISORDERED,
+        None,
+        "exact: not a plain program\n",
+        ORDERED,
+    ),
+    // Nothing is unknown.
+    (
+        Header::Absent,
+        [&[], &[(&[], Holds)], &[]],
+        None,
+        "",
+        "proved:\nalways: holds\nunknown:\nverdict: all inputs\n",
+    ),
+    (
+        Header::Absent,
+        [&[], &[], &[]],
+        Some((3, 1, &[8, 0])),
+        "",
+        "proved:\nunknown:\nexplain:\nlabels 3\nfamilies 1\nadviser 1 asked 8\nadviser 2 asked 0\nverdict: all inputs\n",
+    ),
+];
+
+/// The names `x` and `y`.
+fn names(alloc: Global) -> Result<Names, AllocError> {
+    let mut list = Vec::new(alloc);
+    for name in [b"x".as_slice(), b"y"] {
+        list.push(name.to_vec(alloc)?)?;
+    }
+    Ok(Names::of(list))
 }
 
 /// True only where the rows and the claim of the line mention no variable past the names.
@@ -104,256 +426,85 @@ fn lines_are_over(lines: &[Line], names: &Names) -> bool
     true
 }
 
-/// The text of the report, where its lines are over the names.
-fn text_of(alloc: Global, report: &Report, names: &Names) -> Result<Vec<u8>, Fail> {
-    if lines_are_over(report.exact.items(), names)
-        && lines_are_over(report.proved.items(), names)
-        && lines_are_over(report.unknown.items(), names)
+/// The text of the report, where its lines are over the names `x` and `y`.
+fn text_of(alloc: Global, report: &Report) -> Result<Vec<u8>, Fail> {
+    let names = names(alloc)?;
+    if lines_are_over(report.exact.items(), &names)
+        && lines_are_over(report.proved.items(), &names)
+        && lines_are_over(report.unknown.items(), &names)
     {
-        let text = print(alloc, report, names)?;
+        let text = print(alloc, report, &names)?;
         return Ok(text);
     }
     Err(Fail::from("past the names"))
 }
 
-/// A line as data: the numbers of its rows, and its claim.
-type Data<'a> = (&'a [[i128; 3]], Claim);
-
-/// The lines of the data.
-fn lines_from(alloc: Global, data: &[Data<'_>]) -> Result<Lines, Fail> {
-    let mut lines = Vec::new(alloc);
-    for (rows, claim) in data {
-        let mut list = Vec::new(alloc);
-        for numbers in *rows {
-            list.push(row(*numbers)?)?;
-        }
-        lines.push(Line {
-            rows: Rows::of(list),
-            claim: *claim,
-        })?;
-    }
-    Ok(Lines::of(lines))
+fn explain_of(alloc: Global, explained: &Explained) -> Result<Option<Explain>, AllocError> {
+    let Some((labels, families, asked)) = *explained else {
+        return Ok(None);
+    };
+    let asked = Counts::of(asked.to_vec(alloc)?);
+    Ok(Some(Explain {
+        labels,
+        families,
+        asked,
+    }))
 }
 
-/// True where the lines are those of the data, with their rows in the same order.
-fn are_from(lines: &Lines, data: &[Data<'_>]) -> Result<bool, Fail> {
-    if lines.items().len() != data.len() {
-        return Ok(false);
-    }
-    for (line, (rows, claim)) in lines.items().iter().zip(data) {
-        if line.claim != *claim || line.rows.items().len() != rows.len() {
-            return Ok(false);
-        }
-        for (found, numbers) in line.rows.items().iter().zip(*rows) {
-            if *found != row(*numbers)? {
-                return Ok(false);
-            }
-        }
-    }
-    Ok(true)
-}
-
-fn within(numbers: [i128; 3]) -> Claim {
-    Claim::Within(form(numbers))
-}
-
-#[test]
-fn lines_of_defined_leaves(rt: HostRuntime) -> Result<(), Fail> {
-    // `x - 1 >= 0 ? (x >= 0 ? 3 : 5) : 1`: the rows of 5 are met nowhere, and `x >= 0` is looser than `x - 1 >= 0`.
-    let inner = node(rt.alloc(), [1, 0, 0], leaf(3), leaf(5))?;
-    let tree = node(rt.alloc(), [1, 0, -1], inner, leaf(1))?;
-    let found = lines(rt.alloc(), &tree, Top::Bound)?;
-    let wanted: [Data<'_>; 2] = [
-        (&[[1, 0, -1]], within([0, 0, 3])),
-        (&[[-1, 0, 0]], within([0, 0, 1])),
-    ];
-    assert!(rt; are_from(&found, &wanted)?);
-    Ok(())
-}
-
-#[test]
-fn lines_of_undefined_leaves(rt: HostRuntime) -> Result<(), Fail> {
-    // `x >= 0 ? bottom : (y >= 0 ? top : 2)`.
-    let inner = node(rt.alloc(), [0, 1, 0], Tree::Top(Cause::Given), leaf(2))?;
-    let tree = node(rt.alloc(), [1, 0, 0], Tree::Bottom, inner)?;
-    for (top, claim) in [
-        (Top::Exact, Claim::Exactly(2)),
-        (Top::Bound, within([0, 0, 2])),
-        (Top::Plain, Claim::Holds),
-    ] {
-        let found = lines(rt.alloc(), &tree, top)?;
-        let wanted: [Data<'_>; 3] = [
-            (&[[1, 0, 0]], Claim::Unknown),
-            (&[[-1, 0, -1], [0, 1, 0]], Claim::Unknown),
-            (&[[-1, 0, -1], [0, -1, -1]], claim),
-        ];
-        assert!(rt; are_from(&found, &wanted)?);
-    }
-    Ok(())
-}
-
-/// The text of the report with these lines over the names `x` and `y`.
-fn printed(
+fn report_of(
     alloc: Global,
     header: Header,
-    exact: &[Data<'_>],
-    proved: &[Data<'_>],
-    unknown: &[Data<'_>],
-    explain: Option<Explain>,
-) -> Result<Vec<u8>, Fail> {
-    let names = names(alloc)?;
-    let exact = lines_from(alloc, exact)?;
-    let proved = lines_from(alloc, proved)?;
-    let unknown = lines_from(alloc, unknown)?;
-    let report = Report {
+    [exact, proved, unknown]: Sections,
+    explained: &Explained,
+) -> Result<Report, Fail> {
+    let exact = lines_of(alloc, exact)?;
+    let proved = lines_of(alloc, proved)?;
+    let unknown = lines_of(alloc, unknown)?;
+    let explain = explain_of(alloc, explained)?;
+    Ok(Report {
         header,
         exact,
         proved,
         unknown,
         explain,
-    };
-    text_of(alloc, &report, &names)
+    })
+}
+
+/// The bytes of the one text, followed by the other.
+fn joined(alloc: Global, front: &str, rest: &str) -> Result<Vec<u8>, AllocError> {
+    let mut text = front.as_bytes().to_vec(alloc)?;
+    text.extend_from_slice(rest.as_bytes())?;
+    Ok(text)
 }
 
 #[test]
-fn headers(rt: HostRuntime) -> Result<(), Fail> {
-    let exact: [Data<'_>; 1] = [(&[], Claim::Exactly(1))];
-    // Neither the rows of a line nor the lines are in the order of their bytes.
-    let proved: [Data<'_>; 3] = [
-        (&[[1, 0, -1], [-1, 0, 1]], within([0, 0, 3])),
-        (&[[1, 0, -2]], within([2, 0, 1])),
-        (&[[0, 1, 0], [1, 1, -1]], within([0, 0, 1])),
-    ];
-    let unknown: [Data<'_>; 1] = [(&[[-1, 0, -1]], Claim::Unknown)];
-    let below =
-        b"proved:\n-x + 1 >= 0 and x - 1 >= 0: within 3 steps\nx + y - 1 >= 0 and y >= 0: within 1 step\nx - 2 >= 0: within 2*x + 1 steps\nunknown:\n-x - 1 >= 0: unknown\nverdict: some inputs\n";
-    let partial = Header::Partial {
-        tests: 1,
-        cause: Stop::TooManyNodes,
-    };
-    let wide = Header::Stopped {
-        cause: Stop::WideNumbers,
-    };
-    let not_plain = Header::Stopped {
-        cause: Stop::NotPlain,
-    };
-    let rows: [(Header, &[u8]); 5] = [
-        (Header::Absent, b""),
-        (
-            Header::Whole { tests: 2 },
-            b"exact, 2 tests:\nalways: exactly 1 step\n",
-        ),
-        (
-            partial,
-            b"exact, 1 tests, then too many nodes:\nalways: exactly 1 step\n",
-        ),
-        (wide, b"exact: wide numbers\n"),
-        (not_plain, b"exact: not a plain program\n"),
-    ];
-    for (header, above) in rows {
-        let text = printed(rt.alloc(), header, &exact, &proved, &unknown, None)?;
-        let mut wanted = above.to_vec(rt.alloc())?;
-        wanted.extend_from_slice(below)?;
-        assert_eq!(rt; text.as_slice(), wanted.as_slice());
+fn texts_of_reports(rt: HostRuntime) -> Result<(), Fail> {
+    for (header, sections, explained, exact, rest) in REPORTS {
+        let report = report_of(rt.alloc(), header, sections, &explained)?;
+        let text = text_of(rt.alloc(), &report)?;
+        let wanted = joined(rt.alloc(), exact, rest)?;
+        assert_eq!(rt; text.as_slice(), wanted.as_slice(), "under {header:?}");
     }
     Ok(())
 }
 
-#[test]
-fn nothing_unknown(rt: HostRuntime) -> Result<(), Fail> {
-    let none: [Data<'_>; 0] = [];
-    let proved: [Data<'_>; 1] = [(&[], Claim::Holds)];
-    let text = printed(rt.alloc(), Header::Absent, &none, &proved, &none, None)?;
-    assert_eq!(rt;
-        text.as_slice(),
-        b"proved:\nalways: holds\nunknown:\nverdict: all inputs\n".as_slice()
-    );
-    Ok(())
-}
-
-#[test]
-fn explanation(rt: HostRuntime) -> Result<(), Fail> {
-    let none: [Data<'_>; 0] = [];
-    let asked = Counts::of(vec![in rt.alloc(); 8, 0]?);
-    let explain = Explain {
-        labels: 3,
-        families: 1,
-        asked,
-    };
-    let text = printed(
-        rt.alloc(),
-        Header::Absent,
-        &none,
-        &none,
-        &none,
-        Some(explain),
-    )?;
-    assert_eq!(rt;
-        text.as_slice(),
-        b"proved:\nunknown:\nexplain:\nlabels 3\nfamilies 1\nadviser 1 asked 8\nadviser 2 asked 0\nverdict: all inputs\n".as_slice()
-    );
-    Ok(())
-}
-
-/// A tree that is a line of nodes: each but the last has the leaf 1 on its yes side.
-fn long_line(alloc: Global, nodes: u32) -> Result<Tree<AffineRank>, Fail>
-    ensures fits { IfOk result (λ tree. ComplementsFit (plan_of tree)) }
-    ensures constant { IfOk result (λ tree. HasConstantRanks (plan_of tree)) }
-{
-    let mut tree = leaf(2);
-    for _ in 0..nodes {
-        tree = node(alloc, [1, 0, -1], leaf(1), tree)?;
-    }
-    Ok(tree)
-}
-
-#[test]
-fn claims_apart(rt: HostRuntime) -> Result<(), Fail> {
-    let data: [Data<'_>; 4] = [
-        (&[], Claim::Unknown),
-        (&[[1, 0, 0]], Claim::Holds),
-        (&[[0, 1, 0]], Claim::Unknown),
-        (&[], Claim::Exactly(3)),
-    ];
-    let (claiming, nothing) = lines_from(rt.alloc(), &data)?.parted(rt.alloc())?;
-    let wanted: [Data<'_>; 2] = [(&[[1, 0, 0]], Claim::Holds), (&[], Claim::Exactly(3))];
-    assert!(rt; are_from(&claiming, &wanted)?);
-    let wanted: [Data<'_>; 2] = [(&[], Claim::Unknown), (&[[0, 1, 0]], Claim::Unknown)];
-    assert!(rt; are_from(&nothing, &wanted)?);
-    Ok(())
-}
-
-#[test]
-fn lines_of_a_deep_tree(rt: HostRuntime) -> Result<(), Fail> {
-    // The walk goes 32,767 nodes deep. Each leaf between the first and the last has opposed rows.
-    let tree = long_line(rt.alloc(), 32_767)?;
-    let found = lines(rt.alloc(), &tree, Top::Exact)?;
-    let wanted: [Data<'_>; 2] = [
-        (&[[1, 0, -1]], Claim::Exactly(1)),
-        (&[[-1, 0, 0]], Claim::Exactly(2)),
-    ];
-    assert!(rt; are_from(&found, &wanted)?);
-    Ok(())
-}
-
-#[test]
-fn many_lines(rt: HostRuntime) -> Result<(), Fail> {
-    let mut lines = Vec::new(rt.alloc());
-    for number in 0..65_536u32 {
+/// The lines `always: exactly 0 steps` and so on.
+fn many_lines(alloc: Global, count: u32) -> Result<Lines, AllocError> {
+    let mut lines = Vec::new(alloc);
+    for steps in 0..count {
         lines.push(Line {
-            rows: Rows::of(Vec::new(rt.alloc())),
-            claim: Claim::Exactly(i128::from(number)),
+            rows: Rows::of(Vec::new(alloc)),
+            claim: Claim::Exactly(i128::from(steps)),
         })?;
     }
-    let report = Report {
-        header: Header::Absent,
-        exact: Lines::of(Vec::new(rt.alloc())),
-        proved: Lines::of(lines),
-        unknown: Lines::of(Vec::new(rt.alloc())),
-        explain: None,
-    };
-    let names = names(rt.alloc())?;
-    let text = text_of(rt.alloc(), &report, &names)?;
+    Ok(Lines::of(lines))
+}
+
+#[test]
+fn text_of_many_lines(rt: HostRuntime) -> Result<(), Fail> {
+    let mut report = report_of(rt.alloc(), Header::Absent, [&[], &[], &[]], &None)?;
+    report.proved = many_lines(rt.alloc(), 65_536)?;
+    let text = text_of(rt.alloc(), &report)?;
     // Lines of 23 bytes beside their digits, of which there are 316,570, but 22 where `step` stands; and 37 bytes around them.
     assert_eq!(rt; text.len(), 65_536 * 23 - 1 + 316_570 + 37);
     Ok(())
