@@ -1,0 +1,127 @@
+//! Trees for the labels of the programs, and what they are checked for.
+ghost use Rattle.std.specs.Prelude.{◌≡◌, IfOk};
+ghost use Rattle.ctl_formula.specs.Formulas as formulas;
+ghost use Rattle.ctl_formula.specs.Mirror.{ctl};
+
+use ctl_formula::Formula;
+use decision_tree::{AffineRank, Family, Pick, Tree, TreeList, Why};
+use linear_cons::{Affine, Row, RowKind};
+use std::alloc::{AllocError, Global};
+
+/// Whether the claims of a family are true.
+#[derive(Clone, Copy)]
+pub enum Claims {
+    /// Each is.
+    True,
+    /// All but the one of a single step, which promises none.
+    WrongAtEnd,
+}
+
+/// The trees for so many labels in a line. Where x is at most 0 the rank of a label is the number of steps to the end, and else x more.
+pub fn line_trees(
+    alloc: Global,
+    labels: u32,
+    claims: Claims,
+) -> Result<Vec<Tree<AffineRank>>, AllocError> {
+    let mut trees = trees_with_end(alloc)?;
+    for label in 1..labels {
+        let steps = i128::from(labels) - i128::from(label);
+        let rank = line(1, steps);
+        trees.push(split(alloc, &rank, steps, claims)?)?;
+    }
+    Ok(trees)
+}
+
+/// The trees for so many labels of nested loops. Where x is at most 0 a label is left in as many steps as its number says, one for each
+/// loop on the way out; else the innermost loop is entered first, and takes two steps in each of its x turns.
+pub fn loop_trees(
+    alloc: Global,
+    labels: u32,
+    claims: Claims,
+) -> Result<Vec<Tree<AffineRank>>, AllocError> {
+    let depth = i128::from(labels) - 2;
+    let mut trees = trees_with_end(alloc)?;
+    for label in 1..labels {
+        let steps = i128::from(label);
+        let rank = line(2, 2 * depth - steps);
+        trees.push(split(alloc, &rank, steps, claims)?)?;
+    }
+    Ok(trees)
+}
+
+/// A list with the tree of label 0, where the goal holds now.
+fn trees_with_end(alloc: Global) -> Result<Vec<Tree<AffineRank>>, AllocError> {
+    let mut trees = Vec::new(alloc);
+    trees.push(leaf(Why::Now, &Affine::constant(0)))?;
+    Ok(trees)
+}
+
+/// A tree with the rank where x is at least 1, and so many steps elsewhere.
+fn split(
+    alloc: Global,
+    rank: &Affine,
+    steps: i128,
+    claims: Claims,
+) -> Result<Tree<AffineRank>, AllocError> {
+    let steps = match claims {
+        Claims::WrongAtEnd if steps == 1 => 0,
+        _ => steps,
+    };
+    let step = Why::Step(Pick::All);
+    let yes = leaf(step, rank);
+    let no = leaf(step, &Affine::constant(steps));
+    match Row::of(line(1, -1)) {
+        RowKind::Row(row) => Tree::branch(alloc, row, yes, no),
+        RowKind::Always | RowKind::Never => Ok(yes),
+    }
+}
+
+/// `factor * x + constant`.
+fn line(factor: i128, constant: i128) -> Affine {
+    let mut function = Affine::constant(constant);
+    function.coef[0] = factor;
+    function
+}
+
+fn leaf(why: Why, rank: &Affine) -> Tree<AffineRank> {
+    Tree::Leaf {
+        why,
+        rank: AffineRank { value: *rank },
+    }
+}
+
+/// `AF exit`.
+pub fn af_exit(alloc: Global) -> Result<Formula, AllocError>
+    ensures { IfOk result (λ formula. ctl formula ≡ formulas.af_exit) }
+{
+    Ok(Formula::Until {
+        all: true,
+        keep: Box::new(alloc, Formula::True)?,
+        goal: Box::new(alloc, Formula::Exit)?,
+    })
+}
+
+/// The families of its parts for so many labels: the truth holds everywhere, and the end is at label 0.
+pub fn parts(alloc: Global, labels: u32) -> Result<Vec<Family<AffineRank>>, AllocError> {
+    let none = Affine::constant(0);
+    let mut truth = Vec::new(alloc);
+    let mut end = Vec::new(alloc);
+    for label in 0..labels {
+        truth.push(leaf(Why::Atom, &none))?;
+        end.push(if label == 0 {
+            leaf(Why::End, &none)
+        } else {
+            Tree::Bottom
+        })?;
+    }
+    let mut parts = Vec::new(alloc);
+    parts.push(Family {
+        part: 0,
+        trees: TreeList::of(truth),
+    })?;
+    parts.push(Family {
+        part: 1,
+        trees: TreeList::of(end),
+    })?;
+    Ok(parts)
+}
