@@ -20,6 +20,7 @@ use Rattle.concrete_syntax.specs.declared.simple.Start.TheVariants as S
 use Rattle.concrete_syntax.specs.declared.statement.Statement.{Statement}
 use Rattle.concrete_syntax.specs.declared.statement.StatementKind.{StatementKind, Conditional', While', Do', For'}
 use Rattle.concrete_syntax.specs.declared.statement.StatementKind.TheVariants as V
+use Rattle.concrete_syntax.specs.declared.statement.ForLoop.{ForLoop}
 use Rattle.concrete_syntax.specs.declared.statement.Otherwise.{Otherwise, Else'}
 use Rattle.concrete_syntax.specs.declared.statement.Otherwise.TheVariants as O
 use Rattle.concrete_syntax.specs.declared.statement.Items.{Items, Declaration', Statement'}
@@ -107,7 +108,7 @@ abbrev mutual
       tree.conditional (expression test) (tree.statement_at at (statement_kind first)) (otherwise other)
   statement_kind (While' test p at body) = tree.while_loop (expression test) (tree.statement_at at (statement_kind body))
   statement_kind (Do' p at body end test) = tree.do_loop (tree.statement_at at (statement_kind body)) end (expression test)
-  statement_kind (For' first test step p at body) =
+  statement_kind (For' p first test step at body) =
       tree.for_loop (start first) (optional test) (optional_simple step) (tree.statement_at at (statement_kind body))
   statement_kind (V.Return value) = tree.return (optional value)
 
@@ -122,6 +123,9 @@ abbrev mutual
 
 abbrev pub statement : Statement → tree.Statement
 statement s = tree.statement_at s.at (statement_kind s.kind)
+
+abbrev pub for_loop : ForLoop → tree.StatementKind
+for_loop l = tree.for_loop (start l.start) (optional l.test) (optional_simple l.step) (statement l.body)
 
 abbrev pub item : Item → chain.Item
 item (One.Declaration d) = declared (declaration d)

@@ -15,4 +15,4 @@ pub use expression::{End, Expression, Link, Operand, OperandKind, Tail};
 pub use program::{Prelude, Program};
 pub use sign::{Assignment, Operator, Prefix, Step};
 pub use simple::{Action, Declaration, Name, Part, Simple, Start};
-pub use statement::{Item, Items, Otherwise, Statement, StatementKind};
+pub use statement::{ForLoop, Item, Items, Otherwise, Statement, StatementKind};

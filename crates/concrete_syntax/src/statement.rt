@@ -39,13 +39,18 @@ pub enum StatementKind {
         end: usize,
         test: Expression,
     },
-    For {
-        start: Start,
-        test: Option<Expression>,
-        step: Option<Simple>,
-        body: Box<Statement>,
-    },
+    For(Box<ForLoop>),
     Return(Option<Expression>),
+}
+
+/// A `for`. It stands in a box, since it is three times as large as any other statement.
+#[cycle(statements)]
+#[derive(Drop)]
+pub struct ForLoop {
+    pub start: Start,
+    pub test: Option<Expression>,
+    pub step: Option<Simple>,
+    pub body: Statement,
 }
 
 /// The second part of an `if`, where it has one.

@@ -1,4 +1,4 @@
--- The least of places, list after list.
+-- The least of offsets, list after list.
 use Rattle.std.proofs.Common.{◌≡◌, ℕ, List, [], ◌∷◌, ◌++◌, Option, Some, refl}
 use Rattle.control_flow.specs.Faults.{least_from, lesser}
 

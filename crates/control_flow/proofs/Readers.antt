@@ -23,13 +23,13 @@ pub node_at : (nodes : List Node) (body : Statements) → IsTableOf nodes body �
 node_at nodes body table i d low = let count = table_length nodes body table in same_at nodes (all_labels body) table.labels i d (omega arith)
 
 -- there is no least place where there is none
-some_least : (at : ℕ) (places : List ℕ) → least_from (Some at) places ≡ None → ⊥
+some_least : (at : ℕ) (offsets : List ℕ) → least_from (Some at) offsets ≡ None → ⊥
 some_least at [] h = absurd (cc)
-some_least at (x ∷ places) h = some_least (lesser (Some at) x) places h
+some_least at (x ∷ offsets) h = some_least (lesser (Some at) x) offsets h
 
-pub none_wide : (places : List ℕ) → least_from None places ≡ None → places ≡ []
+pub none_wide : (offsets : List ℕ) → least_from None offsets ≡ None → offsets ≡ []
 none_wide [] h = refl
-none_wide (at ∷ places) h = absurd (some_least (lesser None at) places h)
+none_wide (at ∷ offsets) h = absurd (some_least (lesser None at) offsets h)
 
 pub few_nodes : (nodes : List Node) (body : Statements) → IsTableOf nodes body → length nodes ≤ 1024
 few_nodes nodes body table =

@@ -6,7 +6,7 @@ use Rattle.step_meaning.specs.declared.statement.Block.TheVariants.{End}
 use Rattle.step_meaning.specs.declared.statement.StmtKind.{StmtKind}
 use Rattle.step_meaning.specs.declared.statement.StmtKind.TheVariants.{Assign, Skip, Return, If, While, Do}
 use Rattle.step_meaning.specs.Syntax.{statements, statement, size_of, size_of_statement}
-use Rattle.step_meaning.specs.Places.{places, places_at}
+use Rattle.step_meaning.specs.Offsets.{offsets, offsets_at}
 
 pub get_first : (xs ys : List ℕ) (n : ℕ) (x : ℕ) → slice_get xs n ≡ Some x → slice_get (xs ++ ys) n ≡ Some x
 get_first [] ys n x h = absurd (cc)
@@ -28,29 +28,29 @@ behind_test (Ok x) xs m at k l e f h = omega arith
 behind_test (Err x) xs m at k l e f h = get_behind xs (at ∷ []) m 0 k e (omega (arith, h.0)) ∙ ap Some (sym h.1)
 
 mutual
-  pub length-places_at : (at : ℕ) (kind : StmtKind) → length (places_at at kind) ≡ size_of_statement (statement kind)
-  length-places_at at (Assign x e) = refl
-  length-places_at at Skip = refl
-  length-places_at at Return = refl
-  length-places_at at (If c y z) =
-      let both = length-append (places y) (places z) in
-      let first = length-places y in
-      let second = length-places z in
+  pub length-offsets_at : (at : ℕ) (kind : StmtKind) → length (offsets_at at kind) ≡ size_of_statement (statement kind)
+  length-offsets_at at (Assign x e) = refl
+  length-offsets_at at Skip = refl
+  length-offsets_at at Return = refl
+  length-offsets_at at (If c y z) =
+      let both = length-append (offsets y) (offsets z) in
+      let first = length-offsets y in
+      let second = length-offsets z in
       omega arith
-  length-places_at at (While c y z) =
-      let both = length-append (places y) (places z) in
-      let first = length-places y in
-      let second = length-places z in
+  length-offsets_at at (While c y z) =
+      let both = length-append (offsets y) (offsets z) in
+      let first = length-offsets y in
+      let second = length-offsets z in
       omega arith
-  length-places_at at (Do y c) =
-      let both = length-append (places y) (at ∷ []) in
-      let first = length-places y in
+  length-offsets_at at (Do y c) =
+      let both = length-append (offsets y) (at ∷ []) in
+      let first = length-offsets y in
       omega arith
 
-  pub length-places : (b : Block) → length (places b) ≡ size_of (statements b)
-  length-places End = refl
-  length-places (Then' p at kind q more) =
-      let both = length-append (places_at at kind) (places more) in
-      let first = length-places_at at kind in
-      let others = length-places more in
+  pub length-offsets : (b : Block) → length (offsets b) ≡ size_of (statements b)
+  length-offsets End = refl
+  length-offsets (Then' p at kind q more) =
+      let both = length-append (offsets_at at kind) (offsets more) in
+      let first = length-offsets_at at kind in
+      let others = length-offsets more in
       omega arith

@@ -42,7 +42,7 @@ fn block(alloc: Global, block: &Block) -> Result<Block, AllocError>
     Ok(twin)
 }
 
-// An equal statement at the same place.
+// An equal statement at the same offset.
 #[cycle(blocks)]
 fn one(alloc: Global, stmt: &Stmt) -> Result<Stmt, AllocError>
     ensures { IfOk result (λ twin. statement twin.kind ≡ statement stmt.now.kind) }

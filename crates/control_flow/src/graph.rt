@@ -3,7 +3,7 @@
 ghost use Rattle.std.specs.Prelude.{◌≡◌, ◌<◌, ◌≤◌, [], IfOk, IfErr, OnOk, option_map, length};
 ghost use Rattle.step_meaning.specs.Syntax.{expression, size_of, statements};
 ghost use Rattle.control_flow.specs.Edges.{assigned_by, choice_by, choice_of_test, choice_of_value, edges_from, is_head_by, test_by};
-ghost use Rattle.control_flow.specs.Faults.{IsFlowFault, wide_places};
+ghost use Rattle.control_flow.specs.Faults.{IsFlowFault, wide_offsets};
 ghost use Rattle.control_flow.specs.Labels.{action_at, all_labels, entry_of};
 ghost use Rattle.control_flow.specs.Tables.{action_of};
 
@@ -55,7 +55,7 @@ impl Graph {
         ensures names { IfOk result (λ graph. graph.names ≡ program.now.names) }
         ensures body { IfOk result (λ graph. statements graph.body ≡ statements program.now.body) }
         ensures labels { OnOk result (size_of (statements program.now.body) < 1024) }
-        ensures conjunctions { OnOk result (wide_places program.now.body ≡ []) }
+        ensures conjunctions { OnOk result (wide_offsets program.now.body ≡ []) }
         ensures fault { IfErr result (λ fault. IsFlowFault fault program.now.body) }
     {
         check(&program.body)?;
@@ -185,7 +185,7 @@ fn choice_of_value(value: &Expr) -> Choice
 // Whether the statements keep the limits.
 pub(crate) fn check(body: &Block) -> Result<(), FlowFault>
     ensures labels { OnOk result (size_of (statements body.now) < 1024) }
-    ensures conjunctions { OnOk result (wide_places body.now ≡ []) }
+    ensures conjunctions { OnOk result (wide_offsets body.now ≡ []) }
     ensures fault { IfErr result (λ fault. IsFlowFault fault body.now) }
 {
     match room_behind(body, LABELS - 1) {

@@ -3,7 +3,7 @@
 ghost use Rattle.std.specs.Prelude.{◌≡◌, ◌+◌, ◌++◌, MatchResult, Some, slice_get};
 ghost use Rattle.step_meaning.specs.Syntax.{expression, statements, statement, size_of, size_of_statement};
 ghost use Rattle.control_flow.specs.Faults as faults;
-ghost use Rattle.step_meaning.specs.Places.{places, places_at};
+ghost use Rattle.step_meaning.specs.Offsets.{offsets, offsets_at};
 
 use linear_forms::conjunctions;
 use step_meaning::{Block, Expr, Stmt, StmtKind};
@@ -11,12 +11,12 @@ use step_meaning::{Block, Expr, Stmt, StmtKind};
 /// The most conjunctions that a test may spread to.
 pub(crate) const CONJUNCTIONS: u32 = 64;
 
-/// How much of the room for labels is left behind the statements, or the place of the first one that finds none.
+/// How much of the room for labels is left behind the statements, or the offset of the first one that finds none.
 #[cycle(rooms)]
 pub(crate) fn room_behind(block: &Block, room: u32) -> Result<u32, u32>
     ensures { MatchResult result
         (λ left. left + size_of (statements block.now) ≡ room)
-        (λ at. slice_get (places block.now) room ≡ Some at) }
+        (λ at. slice_get (offsets block.now) room ≡ Some at) }
 {
     let mut room = room;
     let mut left = block;
@@ -32,7 +32,7 @@ pub(crate) fn room_behind(block: &Block, room: u32) -> Result<u32, u32>
 fn room_behind_one(stmt: &Stmt, room: u32) -> Result<u32, u32>
     ensures { MatchResult result
         (λ left. left + size_of_statement (statement stmt.now.kind) ≡ room)
-        (λ at. slice_get (places_at stmt.now.at stmt.now.kind) room ≡ Some at) }
+        (λ at. slice_get (offsets_at stmt.now.at stmt.now.kind) room ≡ Some at) }
 {
     match &stmt.kind {
         StmtKind::Assign { .. } | StmtKind::Skip | StmtKind::Return => one_less(room, stmt.at),
@@ -60,7 +60,7 @@ fn room_behind_one(stmt: &Stmt, room: u32) -> Result<u32, u32>
 fn room_behind_both(first: &Block, second: &Block, room: u32) -> Result<u32, u32>
     ensures { MatchResult result
         (λ left. left + (size_of (statements first.now) + size_of (statements second.now)) ≡ room)
-        (λ at. slice_get (places first.now ++ places second.now) room ≡ Some at) }
+        (λ at. slice_get (offsets first.now ++ offsets second.now) room ≡ Some at) }
 {
     match room_behind(first, room) {
         Ok(room) => room_behind(second, room),
@@ -68,18 +68,18 @@ fn room_behind_both(first: &Block, second: &Block, room: u32) -> Result<u32, u32
     }
 }
 
-// The room behind one label, or the place where there is none.
+// The room behind one label, or the offset where there is none.
 fn one_less(room: u32, at: u32) -> Result<u32, u32>
-    ensures { MatchResult result (λ left. left + 1 ≡ room) (λ place. (room ≡ 0) × (place ≡ at)) }
+    ensures { MatchResult result (λ left. left + 1 ≡ room) (λ offset. (room ≡ 0) × (offset ≡ at)) }
 {
     if room == 0 { Err(at) } else { Ok(room - 1) }
 }
 
-/// The least of the place and of the places of the statements whose test is too wide.
+/// The least of the offset and of the offsets of the statements whose test is too wide.
 #[cycle(widths)]
 #[tactic(auto, using(crate::proofs::Leasts::least_from_both))]
 pub(crate) fn least_wide(block: &Block, least: Option<u32>) -> Option<u32>
-    ensures { result ≡ faults.least_from least (faults.wide_places block.now) }
+    ensures { result ≡ faults.least_from least (faults.wide_offsets block.now) }
 {
     let mut least = least;
     let mut left = block;
@@ -90,11 +90,11 @@ pub(crate) fn least_wide(block: &Block, least: Option<u32>) -> Option<u32>
     least
 }
 
-// The least of the place and of the places of such statements in this one.
+// The least of the offset and of the offsets of such statements in this one.
 #[cycle(widths)]
 #[tactic(auto, using(crate::proofs::Leasts::least_from_both))]
 fn least_wide_of_one(stmt: &Stmt, least: Option<u32>) -> Option<u32>
-    ensures { result ≡ faults.least_from least (faults.wide_places_of stmt.now.at stmt.now.kind) }
+    ensures { result ≡ faults.least_from least (faults.wide_offsets_of stmt.now.at stmt.now.kind) }
 {
     match &stmt.kind {
         StmtKind::Assign { .. } | StmtKind::Skip | StmtKind::Return => least,
@@ -108,9 +108,9 @@ fn least_wide_of_one(stmt: &Stmt, least: Option<u32>) -> Option<u32>
     }
 }
 
-// The lesser of the place and of the statement's, where its test is too wide.
+// The lesser of the offset and of the statement's, where its test is too wide.
 fn with_test(test: &Expr, at: u32, least: Option<u32>) -> Option<u32>
-    ensures { result ≡ faults.least_from least (faults.place_if_wide at (expression test.now)) }
+    ensures { result ≡ faults.least_from least (faults.offset_if_wide at (expression test.now)) }
 {
     if !is_wide(test) {
         return least;

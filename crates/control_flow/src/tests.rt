@@ -19,13 +19,13 @@ fn link(alloc: Global, at: u32, kind: StmtKind, rest: Block) -> Result<Block, Al
     Ok(Block::Then { first, rest })
 }
 
-// So many `;` at places from `at` on, followed by the others.
+// So many `;` at offsets from `at` on, followed by the others.
 fn skips(alloc: Global, at: u32, count: u32, rest: Block) -> Result<Block, AllocError>
     requires { at + count < 2 ^ 32 }
 {
     let mut block = rest;
-    for place in 0..count {
-        block = link(alloc, at + (count - 1 - place), StmtKind::Skip, block)?;
+    for index in 0..count {
+        block = link(alloc, at + (count - 1 - index), StmtKind::Skip, block)?;
     }
     Ok(block)
 }
@@ -104,7 +104,7 @@ fn at_most_64_conjunctions(rt: HostRuntime) -> Result<(), Fail> {
         let past = FlowFault::Conjunctions { at: 20, count: 65 };
         assert_eq!(rt; check(&link(alloc, 20, many, Block::End)?), Err(past));
     }
-    // The least place counts, not the first label.
+    // The least offset counts, not the first label.
     let later = tested(comparisons(alloc, true, 7)?);
     let later = link(alloc, 30, later, Block::End)?;
     let inner = link(alloc, 90, tested(comparisons(alloc, false, 7)?), later)?;

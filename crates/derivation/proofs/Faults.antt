@@ -125,7 +125,7 @@ fronts (x ∷ xs) (y ∷ ys) cs ds e =
     let heads : x ≡ y = cc in
     behind_one x y xs ys cs ds heads (fronts xs ys cs ds tails)
 
--- Of two faults at one place the one is Expected only where the other is, and the one is of nesting only where the other isn't of operators.
+-- Of two faults at one word the one is Expected only where the other is, and the one is of nesting only where the other isn't of operators.
 module _ {L : Language} {A : Phrase L} {all to other : List L.Word} where
   not_expected : (rule : Rule) (f : FirstFault A all Expected to) (g : FirstFault A all rule other) → spelling f.front ≡ spelling g.front → first to ≡ first other
       → (t : Token L) (more : List (Piece L)) → g.rest ≡ token t ∷ more → first other ≡ Some t.word → ⊥

@@ -13,11 +13,11 @@ spelled Unknown = unknown
 abbrev pub all_spelled : List Lexeme → List Word
 all_spelled lexemes = map spelled lexemes
 
--- the words from a place on
+-- the words from a number on
 abbrev pub words_from : List Lexeme → ℕ → List Word
 words_from lexemes at = all_spelled (drop at lexemes)
 
--- the second place is behind the first, and no farther than the end
+-- the second number is behind the first, and no farther than the end
 pub record IsBehind (lexemes : List Lexeme) (at next : ℕ) : Type 0 where
   pub forward : at < next
   pub inside : next ≤ length lexemes

@@ -1,4 +1,4 @@
--- The words that a parser reads: the tokens of a text without their places, told apart by what they are.
+-- The words that a parser reads: the tokens of a text without their offsets, told apart by what they are.
 use Rattle.std.specs.Prelude.{ℕ, ℤ, List, Option, None, Some, map}
 use Rattle.source_lex.specs.declared.token.Kind.{Kind}
 use Rattle.source_lex.specs.declared.token.Kind.TheVariants.{Number, Name, Sign}

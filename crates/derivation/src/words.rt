@@ -7,7 +7,7 @@ ghost use Rattle.derivation.specs.Spelled.{words_from, IsBehind};
 use crate::lexeme::Lexeme;
 use crate::symbol::Symbol;
 
-/// The place behind this symbol, where it stands at the place of the list of words; `None` where it doesn't.
+/// The number behind, where the word of this number is the symbol; `None` where it isn't.
 pub fn after(words: &[Lexeme<'_>], at: usize, wanted: Symbol) -> Option<usize>
     ensures read { MatchOption result
         ((rest : List Word) → words_from words.now at ≢ symbol wanted ∷ rest)

@@ -10,7 +10,7 @@ use Rattle.elaboration.specs.declared.fault.Rule.TheVariants.{Twice, Variables}
 use Rattle.elaboration.specs.Scopes.{Scope, is_among, place_of, with_variable, most_variables, declare}
 use Rattle.elaboration.specs.Faults.{fault}
 use Rattle.elaboration.specs.Expressions.{unknown_name, expression_typed, expression_faults}
-use Rattle.elaboration.specs.Statements.{assigned, stepped, action_meaning, action_faults, simple_meaning, simple_faults, optional_simple_meaning, optional_simple_faults, name_faults, again_faults, initialiser_faults, initialiser_meaning, part_faults, part_meaning, part_scope, parts_scope, parts_faults, parts_meaning, declaration_scope, declaration_faults, declaration_meaning, start_scope, start_faults, start_meaning, optional_faults, optional_test, statement_scope, otherwise_scope, items_scope, statement_faults, otherwise_faults, items_faults, statement_meaning, otherwise_meaning, items_meaning}
+use Rattle.elaboration.specs.Statements.{assigned, stepped, action_meaning, action_faults, simple_meaning, simple_faults, optional_simple_walked, name_faults, again_faults, initialiser_walked, part_walked, parts_walked, declaration_walked, start_walked, optional_faults, optional_test, statement_walked, otherwise_walked, items_walked}
 use Rattle.elaboration.proofs.Names.{among_last, among_cases, place_below}
 use Rattle.elaboration.proofs.Scoping.{statement_visible}
 use Rattle.elaboration.proofs.Declared.{among_kept, no_fewer, parts_keep, statement_keeps, otherwise_keeps, items_keep}
@@ -43,7 +43,7 @@ action_number vars scope sound room x (assigns assignment e) below clean =
 action_number vars scope sound room x (steps step) below clean = stepped_number vars x step below
 
 simple_valid : (vars : ℕ) (scope : Scope) → IsSound scope → length scope.declared ≤ vars → (s : Simple)
-    → simple_faults scope s ≡ [] → AllValid vars (simple_meaning scope s)
+    → simple_faults scope s ≡ [] → AllValid vars (simple_meaning scope s ∷ [])
 simple_valid vars scope sound room (acts x action) clean =
     let parts = both_none (unknown_name scope x.at x.bytes) (action_faults scope action) clean in
     let named = name_typed vars scope x.at x.bytes sound room parts.0 in
@@ -53,7 +53,7 @@ simple_valid vars scope sound room (steps_before at step x) clean =
     ((named.1, stepped_number vars (place_of scope.declared x.bytes) step named.1), tt)
 
 optional_simple_valid : (vars : ℕ) (scope : Scope) → IsSound scope → length scope.declared ≤ vars → (s : Option Simple)
-    → optional_simple_faults scope s ≡ [] → AllValid vars (optional_simple_meaning scope s)
+    → (optional_simple_walked scope s).faults ≡ [] → AllValid vars (optional_simple_walked scope s).body
 optional_simple_valid vars scope sound room (Some s) clean = simple_valid vars scope sound room s clean
 optional_simple_valid vars scope sound room None clean = tt
 
@@ -92,44 +92,40 @@ sound_behind scope x sound known y seen =
 
 initialiser_valid : (vars : ℕ) (scope : Scope) → IsSound scope → length scope.declared ≤ vars → (x : Name) (e : Option Expression)
     → length (with_variable scope.declared x.bytes) ≤ vars → is_among (with_variable scope.declared x.bytes) x.bytes ≡ true
-    → initialiser_faults scope e ≡ [] → AllValid vars (initialiser_meaning scope x e)
+    → (initialiser_walked scope x e).faults ≡ [] → AllValid vars (initialiser_walked scope x e).body
 initialiser_valid vars scope sound room x (Some e) later known clean =
     let below = place_below (with_variable scope.declared x.bytes) x.bytes known in
     ((omega arith, expression_is_number vars scope sound room e clean), tt)
 initialiser_valid vars scope sound room x None later known clean = tt
 
 -- a declared name, where the names behind it are at most so many
-part_valid : (vars : ℕ) (scope : Scope) → IsSound scope → (part : Part) → length (part_scope scope part).declared ≤ vars
-    → part_faults scope part ≡ [] → AllValid vars (part_meaning scope part) × IsSound (part_scope scope part)
+part_valid : (vars : ℕ) (scope : Scope) → IsSound scope → (part : Part) → length (part_walked scope part).scope.declared ≤ vars
+    → (part_walked scope part).faults ≡ [] → AllValid vars (part_walked scope part).body × IsSound (part_walked scope part).scope
 part_valid vars scope sound part later clean =
     let x = part.declared in
-    let faultless = both_none (name_faults scope x part.initialiser) (initialiser_faults scope part.initialiser) clean in
+    let faultless = both_none (name_faults scope x part.initialiser) (initialiser_walked scope x part.initialiser).faults clean in
     let known = declared_known scope x part.initialiser faultless.0 in
     let grown = no_fewer (length scope.declared) scope.declared x.bytes (omega arith) in (
       initialiser_valid vars scope sound (omega (arith, grown, later)) x part.initialiser later known faultless.1,
       sound_behind scope x.bytes sound known,
     )
 
-parts_valid : (vars : ℕ) (scope : Scope) → IsSound scope → (parts : List Part) → length (parts_scope scope parts).declared ≤ vars
-    → parts_faults scope parts ≡ [] → AllValid vars (parts_meaning scope parts) × IsSound (parts_scope scope parts)
+parts_valid : (vars : ℕ) (scope : Scope) → IsSound scope → (parts : List Part) → length (parts_walked scope parts).scope.declared ≤ vars
+    → (parts_walked scope parts).faults ≡ [] → AllValid vars (parts_walked scope parts).body × IsSound (parts_walked scope parts).scope
 parts_valid vars scope sound [] later clean = (tt, sound)
 parts_valid vars scope sound (part ∷ more) later clean =
-    let behind = part_scope scope part in
-    let faultless = both_none (part_faults scope part) (parts_faults behind more) clean in
+    let behind = (part_walked scope part).scope in
+    let faultless = both_none (part_walked scope part).faults (parts_walked behind more).faults clean in
     let grown = parts_keep (λ names. length behind.declared ≤ length names) (no_fewer (length behind.declared)) behind more (omega arith) in
     let first = part_valid vars scope sound part (omega (arith, grown, later)) faultless.0 in
     let rest = parts_valid vars behind first.1 more later faultless.1 in
-    (valid_append vars (part_meaning scope part) (parts_meaning behind more) first.0 rest.0, rest.1)
+    (valid_append vars (part_walked scope part).body (parts_walked behind more).body first.0 rest.0, rest.1)
 
-declaration_valid : (vars : ℕ) (scope : Scope) → IsSound scope → (d : Declaration) → length (declaration_scope scope d).declared ≤ vars
-    → declaration_faults scope d ≡ [] → AllValid vars (declaration_meaning scope d) × IsSound (declaration_scope scope d)
-declaration_valid vars scope sound d later clean = parts_valid vars scope sound (d.part ∷ d.more) later clean
-
-start_valid : (vars : ℕ) (scope : Scope) → IsSound scope → (start : Start) → length (start_scope scope start).declared ≤ vars
-    → start_faults scope start ≡ [] → AllValid vars (start_meaning scope start) × IsSound (start_scope scope start)
+start_valid : (vars : ℕ) (scope : Scope) → IsSound scope → (start : Start) → length (start_walked scope start).scope.declared ≤ vars
+    → (start_walked scope start).faults ≡ [] → AllValid vars (start_walked scope start).body × IsSound (start_walked scope start).scope
 start_valid vars scope sound starts_with_nothing later clean = (tt, sound)
 start_valid vars scope sound (starts_with s) later clean = (simple_valid vars scope sound later s clean, sound)
-start_valid vars scope sound (declares d) later clean = declaration_valid vars scope sound d later clean
+start_valid vars scope sound (declares d) later clean = parts_valid vars scope sound (d.part ∷ d.more) later clean
 
 optional_valid : (vars : ℕ) (scope : Scope) → IsSound scope → length scope.declared ≤ vars → (test : Option Expression)
     → optional_faults scope test ≡ [] → IsTest vars (optional_test scope test)
@@ -139,24 +135,24 @@ optional_valid vars scope sound room None clean = tt
 -- ── Statements ──
 
 -- behind a statement what may be used is still a variable
-statement_sound : (scope : Scope) (s : Statement) → IsSound scope → IsSound (statement_scope scope s)
+statement_sound : (scope : Scope) (s : Statement) → IsSound scope → IsSound (statement_walked scope s).scope
 statement_sound scope s sound x seen =
     statement_keeps (λ names. is_among names x ≡ true) (among_kept x) scope s
     (sound x (subst (λ names. is_among names x ≡ true) (statement_visible scope s) seen))
 
-statement_grows : (scope : Scope) (s : Statement) → length scope.declared ≤ length (statement_scope scope s).declared
+statement_grows : (scope : Scope) (s : Statement) → length scope.declared ≤ length (statement_walked scope s).scope.declared
 statement_grows scope s = statement_keeps (λ names. length scope.declared ≤ length names) (no_fewer (length scope.declared)) scope s (omega arith)
 
 mutual
-  pub statement_valid : (vars : ℕ) (scope : Scope) → IsSound scope → (s : Statement) → length (statement_scope scope s).declared ≤ vars
-      → statement_faults scope s ≡ [] → AllValid vars (statement_meaning scope s)
+  pub statement_valid : (vars : ℕ) (scope : Scope) → IsSound scope → (s : Statement) → length (statement_walked scope s).scope.declared ≤ vars
+      → (statement_walked scope s).faults ≡ [] → AllValid vars (statement_walked scope s).body
   statement_valid vars scope sound (statement_at at (simple s)) later clean = simple_valid vars scope sound later s clean
   statement_valid vars scope sound (statement_at at skip) later clean = (tt, tt)
   statement_valid vars scope sound (statement_at at (braces all)) later clean = items_valid vars scope sound all later clean
   statement_valid vars scope sound (statement_at at (conditional test part other)) later clean =
-      let middle = statement_scope scope part in
-      let outer = both_none (expression_faults scope test) (statement_faults scope part ++ otherwise_faults middle other) clean in
-      let inner = both_none (statement_faults scope part) (otherwise_faults middle other) outer.1 in
+      let middle = (statement_walked scope part).scope in
+      let outer = both_none (expression_faults scope test) ((statement_walked scope part).faults ++ (otherwise_walked middle other).faults) clean in
+      let inner = both_none (statement_walked scope part).faults (otherwise_walked middle other).faults outer.1 in
       let first = statement_grows scope part in
       let second = otherwise_keeps (λ names. length middle.declared ≤ length names) (no_fewer (length middle.declared)) middle other (omega arith) in (
         (
@@ -167,12 +163,12 @@ mutual
         tt,
       )
   statement_valid vars scope sound (statement_at at (while_loop test body)) later clean =
-      let faultless = both_none (expression_faults scope test) (statement_faults scope body) clean in
+      let faultless = both_none (expression_faults scope test) (statement_walked scope body).faults clean in
       let grown = statement_grows scope body in
       ((expression_is_test vars scope sound (omega (arith, grown, later)) test faultless.0, statement_valid vars scope sound body later faultless.1, tt), tt)
   statement_valid vars scope sound (statement_at at (do_loop body end test)) later clean =
-      let middle = statement_scope scope body in
-      let faultless = both_none (statement_faults scope body) (expression_faults middle test) clean in (
+      let middle = (statement_walked scope body).scope in
+      let faultless = both_none (statement_walked scope body).faults (expression_faults middle test) clean in (
         (
           statement_valid vars scope sound body later faultless.0,
           expression_is_test vars middle (statement_sound scope body sound) later test faultless.1,
@@ -180,14 +176,14 @@ mutual
         tt,
       )
   statement_valid vars scope sound (statement_at at (for_loop start test step body)) later clean =
-      let inside = start_scope scope start in
-      let outer = both_none (start_faults scope start) (optional_faults inside test ++ (optional_simple_faults inside step ++ statement_faults inside body)) clean in
-      let inner = both_none (optional_faults inside test) (optional_simple_faults inside step ++ statement_faults inside body) outer.1 in
-      let last = both_none (optional_simple_faults inside step) (statement_faults inside body) inner.1 in
+      let inside = (start_walked scope start).scope in
+      let outer = both_none (start_walked scope start).faults (optional_faults inside test ++ ((optional_simple_walked inside step).faults ++ (statement_walked inside body).faults)) clean in
+      let inner = both_none (optional_faults inside test) ((optional_simple_walked inside step).faults ++ (statement_walked inside body).faults) outer.1 in
+      let last = both_none (optional_simple_walked inside step).faults (statement_walked inside body).faults inner.1 in
       let grown = statement_grows inside body in
       let room : length inside.declared ≤ vars = omega (arith, grown, later) in
       let first = start_valid vars scope sound start room outer.0 in
-      valid_append vars (start_meaning scope start) (syntax.while_loop _ _ _ ∷ []) first.0 (
+      valid_append vars (start_walked scope start).body (syntax.while_loop _ _ _ ∷ []) first.0 (
         (
           optional_valid vars inside first.1 room test inner.0,
           statement_valid vars inside first.1 body later last.1,
@@ -197,24 +193,24 @@ mutual
       )
   statement_valid vars scope sound (statement_at at (return value)) later clean = (tt, tt)
 
-  otherwise_valid : (vars : ℕ) (scope : Scope) → IsSound scope → (other : Otherwise) → length (otherwise_scope scope other).declared ≤ vars
-      → otherwise_faults scope other ≡ [] → AllValid vars (otherwise_meaning scope other)
+  otherwise_valid : (vars : ℕ) (scope : Scope) → IsSound scope → (other : Otherwise) → length (otherwise_walked scope other).scope.declared ≤ vars
+      → (otherwise_walked scope other).faults ≡ [] → AllValid vars (otherwise_walked scope other).body
   otherwise_valid vars scope sound without later clean = tt
   otherwise_valid vars scope sound (otherwise s) later clean = statement_valid vars scope sound s later clean
 
-  pub items_valid : (vars : ℕ) (scope : Scope) → IsSound scope → (all : Items) → length (items_scope scope all).declared ≤ vars
-      → items_faults scope all ≡ [] → AllValid vars (items_meaning scope all)
+  pub items_valid : (vars : ℕ) (scope : Scope) → IsSound scope → (all : Items) → length (items_walked scope all).scope.declared ≤ vars
+      → (items_walked scope all).faults ≡ [] → AllValid vars (items_walked scope all).body
   items_valid vars scope sound none later faultless = tt
   items_valid vars scope sound (declaration d more) later faultless =
-      let behind = declaration_scope scope d in
-      let parts = both_none (declaration_faults scope d) (items_faults behind more) faultless in
+      let behind = (declaration_walked scope d).scope in
+      let parts = both_none (declaration_walked scope d).faults (items_walked behind more).faults faultless in
       let grown = items_keep (λ names. length behind.declared ≤ length names) (no_fewer (length behind.declared)) behind more (omega arith) in
-      let first = declaration_valid vars scope sound d (omega (arith, grown, later)) parts.0 in
-      valid_append vars (declaration_meaning scope d) (items_meaning behind more) first.0 (items_valid vars behind first.1 more later parts.1)
+      let first = parts_valid vars scope sound (d.part ∷ d.more) (omega (arith, grown, later)) parts.0 in
+      valid_append vars (declaration_walked scope d).body (items_walked behind more).body first.0 (items_valid vars behind first.1 more later parts.1)
   items_valid vars scope sound (statement s more) later faultless =
-      let behind = statement_scope scope s in
-      let parts = both_none (statement_faults scope s) (items_faults behind more) faultless in
+      let behind = (statement_walked scope s).scope in
+      let parts = both_none (statement_walked scope s).faults (items_walked behind more).faults faultless in
       let grown = items_keep (λ names. length behind.declared ≤ length names) (no_fewer (length behind.declared)) behind more (omega arith) in
-      valid_append vars (statement_meaning scope s) (items_meaning behind more)
+      valid_append vars (statement_walked scope s).body (items_walked behind more).body
       (statement_valid vars scope sound s (omega (arith, grown, later)) parts.0)
       (items_valid vars behind (statement_sound scope s sound) more later parts.1)

@@ -3,9 +3,9 @@ use Rattle.std.proofs.Common.{◌≡◌, ◌≢◌, ℕ, ◌≤◌, Bool, true, 
 use Rattle.std.proofs.lemmas.Bool.{ltb-true}
 use Rattle.std.proofs.lemmas.List.{length-append}
 use Rattle.std.proofs.lemmas.List.Quantifiers.{all_pairs_push}
-use Rattle.concrete_syntax.specs.Trees.{Part, Declaration, Statement, statement_at, simple, skip, braces, conditional, while_loop, do_loop, for_loop, return, Otherwise, without, otherwise, Items, none, declaration, statement, Start, starts_with_nothing, starts_with, declares}
+use Rattle.concrete_syntax.specs.Trees.{Part, Statement, statement_at, simple, skip, braces, conditional, while_loop, do_loop, for_loop, return, Otherwise, without, otherwise, Items, none, declaration, statement, Start, starts_with_nothing, starts_with, declares}
 use Rattle.elaboration.specs.Scopes.{Scope, Name, is_among, with_variable, most_variables}
-use Rattle.elaboration.specs.Statements.{part_scope, parts_scope, declaration_scope, statement_scope, otherwise_scope, items_scope, start_scope}
+use Rattle.elaboration.specs.Statements.{part_walked, parts_walked, declaration_walked, statement_walked, otherwise_walked, items_walked, start_walked}
 use Rattle.elaboration.proofs.Names.{among_front, differs}
 
 -- a predicate that one more variable keeps
@@ -13,39 +13,36 @@ abbrev pub IsKept : (List Name → Type 0) → Type 0
 IsKept P = (names : List Name) (x : Name) → P names → P (with_variable names x)
 
 -- is kept by all that declares
-pub parts_keep : (P : List Name → Type 0) → IsKept P → (scope : Scope) (parts : List Part) → P scope.declared → P (parts_scope scope parts).declared
+pub parts_keep : (P : List Name → Type 0) → IsKept P → (scope : Scope) (parts : List Part) → P scope.declared → P (parts_walked scope parts).scope.declared
 parts_keep P kept scope [] h = h
-parts_keep P kept scope (part ∷ more) h = parts_keep P kept (part_scope scope part) more (kept scope.declared part.declared.bytes h)
+parts_keep P kept scope (part ∷ more) h = parts_keep P kept (part_walked scope part).scope more (kept scope.declared part.declared.bytes h)
 
-pub declaration_keeps : (P : List Name → Type 0) → IsKept P → (scope : Scope) (d : Declaration) → P scope.declared → P (declaration_scope scope d).declared
-declaration_keeps P kept scope d h = parts_keep P kept scope (d.part ∷ d.more) h
-
-pub start_keeps : (P : List Name → Type 0) → IsKept P → (scope : Scope) (start : Start) → P scope.declared → P (start_scope scope start).declared
+pub start_keeps : (P : List Name → Type 0) → IsKept P → (scope : Scope) (start : Start) → P scope.declared → P (start_walked scope start).scope.declared
 start_keeps P kept scope starts_with_nothing h = h
 start_keeps P kept scope (starts_with s) h = h
-start_keeps P kept scope (declares d) h = declaration_keeps P kept scope d h
+start_keeps P kept scope (declares d) h = parts_keep P kept scope (d.part ∷ d.more) h
 
 mutual
-  pub statement_keeps : (P : List Name → Type 0) → IsKept P → (scope : Scope) (s : Statement) → P scope.declared → P (statement_scope scope s).declared
+  pub statement_keeps : (P : List Name → Type 0) → IsKept P → (scope : Scope) (s : Statement) → P scope.declared → P (statement_walked scope s).scope.declared
   statement_keeps P kept scope (statement_at at (simple s)) h = h
   statement_keeps P kept scope (statement_at at skip) h = h
   statement_keeps P kept scope (statement_at at (braces all)) h = items_keep P kept scope all h
   statement_keeps P kept scope (statement_at at (conditional test part other)) h =
-      otherwise_keeps P kept (statement_scope scope part) other (statement_keeps P kept scope part h)
+      otherwise_keeps P kept (statement_walked scope part).scope other (statement_keeps P kept scope part h)
   statement_keeps P kept scope (statement_at at (while_loop test body)) h = statement_keeps P kept scope body h
   statement_keeps P kept scope (statement_at at (do_loop body end test)) h = statement_keeps P kept scope body h
   statement_keeps P kept scope (statement_at at (for_loop start test step body)) h =
-      statement_keeps P kept (start_scope scope start) body (start_keeps P kept scope start h)
+      statement_keeps P kept (start_walked scope start).scope body (start_keeps P kept scope start h)
   statement_keeps P kept scope (statement_at at (return value)) h = h
 
-  pub otherwise_keeps : (P : List Name → Type 0) → IsKept P → (scope : Scope) (other : Otherwise) → P scope.declared → P (otherwise_scope scope other).declared
+  pub otherwise_keeps : (P : List Name → Type 0) → IsKept P → (scope : Scope) (other : Otherwise) → P scope.declared → P (otherwise_walked scope other).scope.declared
   otherwise_keeps P kept scope without h = h
   otherwise_keeps P kept scope (otherwise s) h = statement_keeps P kept scope s h
 
-  pub items_keep : (P : List Name → Type 0) → IsKept P → (scope : Scope) (all : Items) → P scope.declared → P (items_scope scope all).declared
+  pub items_keep : (P : List Name → Type 0) → IsKept P → (scope : Scope) (all : Items) → P scope.declared → P (items_walked scope all).scope.declared
   items_keep P kept scope none h = h
-  items_keep P kept scope (declaration d more) h = items_keep P kept (declaration_scope scope d) more (declaration_keeps P kept scope d h)
-  items_keep P kept scope (statement s more) h = items_keep P kept (statement_scope scope s) more (statement_keeps P kept scope s h)
+  items_keep P kept scope (declaration d more) h = items_keep P kept (declaration_walked scope d).scope more (parts_keep P kept scope (d.part ∷ d.more) h)
+  items_keep P kept scope (statement s more) h = items_keep P kept (statement_walked scope s).scope more (statement_keeps P kept scope s h)
 
 -- a name stays a variable
 pub among_kept : (y : Name) → IsKept (λ names. is_among names y ≡ true)

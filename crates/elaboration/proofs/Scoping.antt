@@ -2,23 +2,23 @@
 use Rattle.std.proofs.Common.{◌≡◌, ℕ, List, [], ◌∷◌, ◌++◌, length, take, refl, ap, sym, ◌∙◌}
 use Rattle.std.proofs.lemmas.List.{append-nil, append_assoc}
 use Rattle.std.proofs.Math.Seq.{take-append_seam}
-use Rattle.concrete_syntax.specs.Trees.{Part, Declaration, Statement, statement_at, simple, skip, braces, conditional, while_loop, do_loop, for_loop, return, Otherwise, without, otherwise, Items, none, declaration, statement, Start, starts_with_nothing, starts_with, declares}
+use Rattle.concrete_syntax.specs.Trees.{Part, Statement, statement_at, simple, skip, braces, conditional, while_loop, do_loop, for_loop, return, Otherwise, without, otherwise, Items, none, declaration, statement, Start, starts_with_nothing, starts_with, declares}
 use Rattle.elaboration.specs.Scopes.{Scope, Name, close}
-use Rattle.elaboration.specs.Statements.{part_scope, parts_scope, declaration_scope, statement_scope, otherwise_scope, items_scope, start_scope}
+use Rattle.elaboration.specs.Statements.{part_walked, parts_walked, declaration_walked, statement_walked, otherwise_walked, items_walked, start_walked}
 
 -- a statement leaves what may be used as it is
 mutual
-  pub statement_visible : (scope : Scope) (s : Statement) → (statement_scope scope s).visible ≡ scope.visible
+  pub statement_visible : (scope : Scope) (s : Statement) → (statement_walked scope s).scope.visible ≡ scope.visible
   statement_visible scope (statement_at at (simple s)) = refl
   statement_visible scope (statement_at at skip) = refl
   statement_visible scope (statement_at at (braces all)) = refl
-  statement_visible scope (statement_at at (conditional test part other)) = otherwise_visible (statement_scope scope part) other ∙ statement_visible scope part
+  statement_visible scope (statement_at at (conditional test part other)) = otherwise_visible (statement_walked scope part).scope other ∙ statement_visible scope part
   statement_visible scope (statement_at at (while_loop test body)) = statement_visible scope body
   statement_visible scope (statement_at at (do_loop body end test)) = statement_visible scope body
   statement_visible scope (statement_at at (for_loop start test step body)) = refl
   statement_visible scope (statement_at at (return value)) = refl
 
-  otherwise_visible : (scope : Scope) (other : Otherwise) → (otherwise_scope scope other).visible ≡ scope.visible
+  otherwise_visible : (scope : Scope) (other : Otherwise) → (otherwise_walked scope other).scope.visible ≡ scope.visible
   otherwise_visible scope without = refl
   otherwise_visible scope (otherwise s) = statement_visible scope s
 
@@ -32,41 +32,38 @@ extends_same xs = ([], sym (append-nil xs))
 extends_on : (xs ys zs : List Name) → Extends xs ys → Extends ys zs → Extends xs zs
 extends_on xs ys zs (more, is) (further, then_is) = (more ++ further, then_is ∙ ap (λ t. t ++ further) is ∙ append_assoc xs more further)
 
-parts_extend : (scope : Scope) (parts : List Part) → Extends scope.visible (parts_scope scope parts).visible
+parts_extend : (scope : Scope) (parts : List Part) → Extends scope.visible (parts_walked scope parts).scope.visible
 parts_extend scope [] = extends_same scope.visible
 parts_extend scope (part ∷ more) =
-    extends_on scope.visible (part_scope scope part).visible (parts_scope (part_scope scope part) more).visible
-    (part.declared.bytes ∷ [], refl) (parts_extend (part_scope scope part) more)
+    extends_on scope.visible (part_walked scope part).scope.visible (parts_walked (part_walked scope part).scope more).scope.visible
+    (part.declared.bytes ∷ [], refl) (parts_extend (part_walked scope part).scope more)
 
-declaration_extends : (scope : Scope) (d : Declaration) → Extends scope.visible (declaration_scope scope d).visible
-declaration_extends scope d = parts_extend scope (d.part ∷ d.more)
-
-items_extend : (scope : Scope) (all : Items) → Extends scope.visible (items_scope scope all).visible
+items_extend : (scope : Scope) (all : Items) → Extends scope.visible (items_walked scope all).scope.visible
 items_extend scope none = extends_same scope.visible
 items_extend scope (declaration d more) =
-    extends_on scope.visible (declaration_scope scope d).visible (items_scope (declaration_scope scope d) more).visible
-    (declaration_extends scope d) (items_extend (declaration_scope scope d) more)
+    extends_on scope.visible (declaration_walked scope d).scope.visible (items_walked (declaration_walked scope d).scope more).scope.visible
+    (parts_extend scope (d.part ∷ d.more)) (items_extend (declaration_walked scope d).scope more)
 items_extend scope (statement s more) =
-    extends_on scope.visible (statement_scope scope s).visible (items_scope (statement_scope scope s) more).visible
-    ([], statement_visible scope s ∙ sym (append-nil scope.visible)) (items_extend (statement_scope scope s) more)
+    extends_on scope.visible (statement_walked scope s).scope.visible (items_walked (statement_walked scope s).scope more).scope.visible
+    ([], statement_visible scope s ∙ sym (append-nil scope.visible)) (items_extend (statement_walked scope s).scope more)
 
-start_extends : (scope : Scope) (start : Start) → Extends scope.visible (start_scope scope start).visible
+start_extends : (scope : Scope) (start : Start) → Extends scope.visible (start_walked scope start).scope.visible
 start_extends scope starts_with_nothing = extends_same scope.visible
 start_extends scope (starts_with s) = extends_same scope.visible
-start_extends scope (declares d) = declaration_extends scope d
+start_extends scope (declares d) = parts_extend scope (d.part ∷ d.more)
 
 -- the first names are those that could be used before
 first_names : (outer inner : List Name) → Extends outer inner → take (length outer) inner ≡ outer
 first_names outer inner (more, is) = ap (take (length outer)) is ∙ take-append_seam outer more
 
-pub items_kept : (scope : Scope) (all : Items) → take (length scope.visible) (items_scope scope all).visible ≡ scope.visible
-items_kept scope all = first_names scope.visible (items_scope scope all).visible (items_extend scope all)
+pub items_kept : (scope : Scope) (all : Items) → take (length scope.visible) (items_walked scope all).scope.visible ≡ scope.visible
+items_kept scope all = first_names scope.visible (items_walked scope all).scope.visible (items_extend scope all)
 
 pub start_kept : (scope : Scope) (start : Start) (body : Statement)
-    → take (length scope.visible) (statement_scope (start_scope scope start) body).visible ≡ scope.visible
+    → take (length scope.visible) (statement_walked (start_walked scope start).scope body).scope.visible ≡ scope.visible
 start_kept scope start body =
-    ap (take (length scope.visible)) (statement_visible (start_scope scope start) body)
-    ∙ first_names scope.visible (start_scope scope start).visible (start_extends scope start)
+    ap (take (length scope.visible)) (statement_visible (start_walked scope start).scope body)
+    ∙ first_names scope.visible (start_walked scope start).scope.visible (start_extends scope start)
 
 abbrev names_and : List Name → List Name → Scope
 names_and declared visible = record { declared = declared; visible = visible }

@@ -1,83 +1,61 @@
--- Walks along parts and items: what is left makes, behind what was made, what the whole makes.
-use Rattle.std.proofs.Common.{◌≡◌, ℕ, ◌<◌, ◌+◌, List, ◌∷◌, ◌++◌, Option, length, drop, suc, slice_index_or, ap, sym, ◌∙◌, subst, arith}
+-- Walks along parts and items: what is left finds, behind what was found, what the whole finds.
+use Rattle.std.proofs.Common.{◌≡◌, ℕ, ◌<◌, ◌+◌, List, [], ◌∷◌, ◌++◌, length, drop, suc, slice_index_or, ap, sym, ◌∙◌, subst, arith}
 use Rattle.std.proofs.Math.Seq.{drop-cons}
 use Rattle.std.proofs.lemmas.List.{append_assoc, map-append}
 use Rattle.step_meaning.specs.declared.statement.Stmt.{Stmt}
-use Rattle.step_meaning.specs.Syntax as syntax
-use Rattle.step_meaning.specs.Places.{all_places}
-use Rattle.concrete_syntax.specs.Trees.{Part, Declaration, Statement, Items}
-use Rattle.source_lex.specs.declared.token.Token.{Token}
+use Rattle.step_meaning.specs.Syntax.{parts}
+use Rattle.step_meaning.specs.Offsets.{all_offsets}
 use Rattle.elaboration.specs.declared.fault.Fault.{Fault}
+use Rattle.elaboration.specs.declared.walk.Walk.{Walk}
 use Rattle.elaboration.specs.Scopes.{Scope}
 use Rattle.elaboration.specs.Faults.{earliest}
-use Rattle.elaboration.specs.Statements.{part_scope, part_meaning, part_faults, parts_scope, parts_meaning, parts_faults, statement_scope, statement_meaning, statement_faults, items_scope, items_meaning, items_faults}
-use Rattle.elaboration.specs.Places.{place_in, places_in, part_tokens, parts_tokens, statement_tokens, items_tokens}
+use Rattle.elaboration.specs.Statements.{Walked, joined}
+use Rattle.elaboration.specs.Offsets.{offset_in, offsets_in}
+use Rattle.elaboration.specs.Walking.{HasGone, HasAdded}
 use Rattle.elaboration.proofs.Firsts.{earliest_more}
 
--- where a walk stands: the names, what was made, and the first fault
-pub record Stand : Type 0 where
-  pub scope : Scope
-  pub out : List Stmt
-  pub least : Option Fault
+-- the names stay
+abbrev pub staying : Scope → List Fault → Walked
+staying scope faults = record { scope = scope; faults = faults; body = []; tokens = [] }
 
--- what a tree makes: the names behind it, the statements, their tokens, and the faults
-pub record Made : Type 0 where
-  pub scope : Scope
-  pub body : List syntax.Statement
-  pub tokens : List ℕ
-  pub faults : List Fault
+-- one walk and then another
+pub both_gone : (a b c : Walk) (first : Walked) (second : Scope → Walked) → HasGone a b first → HasGone b c (second b.scope)
+    → HasGone a c (joined first (second first.scope))
+both_gone a b c first second one two =
+    let there : HasGone b c (second first.scope) = subst (λ s. HasGone b c (second s)) one.1 two in (
+      there.0 ∙ one.0,
+      there.1,
+      there.2 ∙ ap (λ least. earliest least (second first.scope).faults) one.2 ∙ sym (earliest_more a.least first.faults (second first.scope).faults),
+    )
 
-abbrev pub part_makes : Scope → Part → Made
-part_makes scope part = record { scope = part_scope scope part; body = part_meaning scope part; tokens = part_tokens part; faults = part_faults scope part }
-
-abbrev pub parts_make : Scope → List Part → Made
-parts_make scope all = record { scope = parts_scope scope all; body = parts_meaning scope all; tokens = parts_tokens all; faults = parts_faults scope all }
-
-abbrev pub declaration_makes : Scope → Declaration → Made
-declaration_makes scope d = parts_make scope (d.part ∷ d.more)
-
-abbrev pub statement_makes : Scope → Statement → Made
-statement_makes scope s = record { scope = statement_scope scope s; body = statement_meaning scope s; tokens = statement_tokens s; faults = statement_faults scope s }
-
-abbrev pub items_make : Scope → Items → Made
-items_make scope all = record { scope = items_scope scope all; body = items_meaning scope all; tokens = items_tokens all; faults = items_faults scope all }
-
-abbrev pub both : Made → Made → Made
-both a b = record { scope = b.scope; body = a.body ++ b.body; tokens = a.tokens ++ b.tokens; faults = a.faults ++ b.faults }
-
--- the walk went from the one place to the other over a tree that makes this
-abbrev pub HasMade : List Token → Stand → Stand → Made → Type 0
-HasMade tokens old new made =
-    (new.scope ≡ made.scope)
-    × (syntax.parts new.out ≡ syntax.parts old.out ++ made.body)
-    × (all_places new.out ≡ all_places old.out ++ places_in tokens made.tokens)
-    × (new.least ≡ earliest old.least made.faults)
-
--- what is left makes from here on what the whole makes from the first place on
-pub record IsLeft (tokens : List Token) (now : Stand) (left : Made) (first : Stand) (whole : Made) : Type 0 where
+-- what is left finds from here on what the whole finds from the first on
+pub record IsLeft (now : Walk) (out : List Stmt) (left : Walked) (first : Walk) (before : List Stmt) (whole : Walked) : Type 0 where
+  pub reads : now.tokens.now ≡ first.tokens.now
   pub goes : left.scope ≡ whole.scope
-  pub makes : syntax.parts now.out ++ left.body ≡ syntax.parts first.out ++ whole.body
-  pub stands : all_places now.out ++ places_in tokens left.tokens ≡ all_places first.out ++ places_in tokens whole.tokens
   pub finds : earliest now.least left.faults ≡ earliest first.least whole.faults
+  pub makes : parts out ++ left.body ≡ parts before ++ whole.body
+  pub stands : all_offsets out ++ offsets_in first.tokens.now left.tokens ≡ all_offsets before ++ offsets_in first.tokens.now whole.tokens
 
 append_step : {A : Type 0} (out out' piece more whole : List A) → out' ≡ out ++ piece → out ++ (piece ++ more) ≡ whole → out' ++ more ≡ whole
 append_step out out' piece more whole is all = ap (λ t. t ++ more) is ∙ append_assoc out piece more ∙ all
 
 -- one step of a walk
-pub step_on : (tokens : List Token) (now next first : Stand) (piece : Made) (more : Scope → Made) (left whole : Made)
-    → HasMade tokens now next piece → left ≡ both piece (more piece.scope) → IsLeft tokens now left first whole
-    → IsLeft tokens next (more next.scope) first whole
-step_on tokens now next first piece more left whole made is before =
+pub step_on : (now next first : Walk) (out out' before : List Stmt) (piece : Walked) (more : Scope → Walked) (left whole : Walked)
+    → HasGone now next piece → HasAdded now out out' piece → left ≡ joined piece (more piece.scope) → IsLeft now out left first before whole
+    → IsLeft next out' (more next.scope) first before whole
+step_on now next first out out' before piece more left whole gone added is so_far =
     let rest = more piece.scope in
-    let all : IsLeft tokens now (both piece rest) first whole = subst (λ t. IsLeft tokens now t first whole) is before in
-    rw made.0 record {
+    let all : IsLeft now out (joined piece rest) first before whole = subst (λ t. IsLeft now out t first before whole) is so_far in
+    rw gone.1 record {
+      reads = gone.0 ∙ all.reads;
       goes = all.goes;
-      makes = append_step (syntax.parts now.out) (syntax.parts next.out) piece.body rest.body (syntax.parts first.out ++ whole.body) made.1 all.makes;
+      finds = ap (λ t. earliest t rest.faults) gone.2 ∙ sym (earliest_more now.least piece.faults rest.faults) ∙ all.finds;
+      makes = append_step (parts out) (parts out') piece.body rest.body (parts before ++ whole.body) added.0 all.makes;
       stands =
-          append_step (all_places now.out) (all_places next.out) (places_in tokens piece.tokens) (places_in tokens rest.tokens)
-          (all_places first.out ++ places_in tokens whole.tokens) made.2
-          (ap (λ t. all_places now.out ++ t) (sym (map-append (place_in tokens) piece.tokens rest.tokens)) ∙ all.stands);
-      finds = ap (λ t. earliest t rest.faults) made.3 ∙ sym (earliest_more now.least piece.faults rest.faults) ∙ all.finds;
+          append_step (all_offsets out) (all_offsets out') (offsets_in first.tokens.now piece.tokens) (offsets_in first.tokens.now rest.tokens)
+          (all_offsets before ++ offsets_in first.tokens.now whole.tokens)
+          (added.1 ∙ ap (λ t. all_offsets out ++ offsets_in t piece.tokens) all.reads)
+          (ap (λ t. all_offsets out ++ t) (sym (map-append (offset_in first.tokens.now) piece.tokens rest.tokens)) ∙ all.stands);
     }
 
 -- what is left of a list from a place on

@@ -6,34 +6,47 @@ use Rattle.step_meaning.specs.Syntax.{Statement, Statements, of_list, statements
 use Rattle.step_meaning.specs.Valid.{IsBody, IsValid}
 use Rattle.concrete_syntax.specs.Trees.{Program}
 use Rattle.elaboration.specs.declared.fault.Fault.{Fault}
-use Rattle.elaboration.specs.Scopes.{Scope, Name}
+use Rattle.elaboration.specs.declared.walk.Walk.{Walk}
+use Rattle.elaboration.specs.Scopes.{Name}
 use Rattle.elaboration.specs.Faults.{IsFirstOf, earliest}
-use Rattle.elaboration.specs.Statements.{items_scope, items_faults, items_meaning}
-use Rattle.elaboration.specs.Elaborates.{no_names, faults_of, names_of, body_of, StandsFor}
+use Rattle.elaboration.specs.Statements.{items_walked}
+use Rattle.elaboration.specs.Elaborates.{no_names, walked, faults_of, names_of, body_of, StandsFor}
+use Rattle.elaboration.specs.Walking.{HasGone}
 use Rattle.elaboration.proofs.Firsts.{first_is, none_is}
 use Rattle.elaboration.proofs.Declared.{distinct_kept, few_kept, items_keep}
 use Rattle.elaboration.proofs.Valid.{IsSound}
 use Rattle.elaboration.proofs.Bodies.{items_valid}
 
--- the first fault that was found, from no names on
-found_faults : (p : Program) (scope : Scope) (least : Option Fault) → scope ≡ no_names → least ≡ earliest None (items_faults scope p.items)
-    → least ≡ earliest None (faults_of p)
-found_faults p scope least empty found = found ∙ ap (λ s. earliest None (items_faults s p.items)) empty
+-- a walk over a whole program, from no names and no fault on
+record Walks (p : Program) (first last : Walk) : Type 0 where
+  pub empty : first.scope ≡ no_names
+  pub clean : first.least ≡ None
+  pub gone : HasGone first last (items_walked first.scope p.items)
 
-pub refused : (p : Program) (scope : Scope) (least : Option Fault) (f : Fault) → scope ≡ no_names
-    → least ≡ earliest None (items_faults scope p.items) → least ≡ Some f → IsFirstOf (faults_of p) f
-refused p scope least f empty found is = first_is (faults_of p) f (sym (found_faults p scope least empty found) ∙ is)
+goes : (p : Program) (first last : Walk) → Walks p first last → (last.scope ≡ (walked p).scope) × (last.least ≡ earliest None (faults_of p))
+goes p first last w =
+    let gone : HasGone first last (walked p) = subst (λ s. HasGone first last (items_walked s p.items)) w.empty w.gone in
+    (gone.1, gone.2 ∙ ap (λ least. earliest least (faults_of p)) w.clean)
+
+pub refused : (p : Program) (first last : Walk) (f : Fault) → first.scope ≡ no_names → first.least ≡ None
+    → HasGone first last (items_walked first.scope p.items) → last.least ≡ Some f → IsFirstOf (faults_of p) f
+refused p first last f empty clean gone is =
+    first_is (faults_of p) f (sym (goes p first last record { empty = empty; clean = clean; gone = gone }).1 ∙ is)
 
 -- where no fault was found
-pub stands : (p : Program) (scope behind : Scope) (least : Option Fault) (names : List Name) (before out : List Statement) (body : Statements)
-    → scope ≡ no_names → least ≡ earliest None (items_faults scope p.items) → least ≡ None
-    → behind ≡ items_scope scope p.items → names ≡ behind.declared
-    → before ≡ [] → out ≡ before ++ items_meaning scope p.items → body ≡ of_list out → StandsFor p names body
-stands p scope behind least names before out body empty found clean goes named fresh made is = record {
-  faultless = none_is (faults_of p) (sym (found_faults p scope least empty found) ∙ clean);
-  declares = named ∙ ap (λ s. s.declared) goes ∙ ap (λ s. (items_scope s p.items).declared) empty;
-  means = is ∙ ap of_list (made ∙ ap (λ xs. xs ++ items_meaning scope p.items) fresh) ∙ ap (λ s. of_list (items_meaning s p.items)) empty;
-}
+pub stands : (p : Program) (first last : Walk) (names : List Name) (before out : List Statement) (body : Statements)
+    → first.scope ≡ no_names → first.least ≡ None → HasGone first last (items_walked first.scope p.items) → last.least ≡ None
+    → names ≡ last.scope.declared → before ≡ [] → out ≡ before ++ (items_walked first.scope p.items).body → body ≡ of_list out
+    → StandsFor p names body
+stands p first last names before out body empty clean gone none named fresh made is =
+    let found = goes p first last record { empty = empty; clean = clean; gone = gone } in
+    record {
+      faultless = none_is (faults_of p) (sym found.1 ∙ none);
+      declares = named ∙ ap (λ s. s.declared) found.0;
+      means =
+          is ∙ ap of_list (made ∙ ap (λ xs. xs ++ (items_walked first.scope p.items).body) fresh)
+          ∙ ap (λ s. of_list (items_walked s p.items).body) empty;
+    }
 
 nothing_sound : IsSound no_names
 nothing_sound x seen = absurd (false≢true seen)

@@ -1,28 +1,38 @@
 -- Which program a concrete tree stands for, or its first fault of names and sorts.
-use Rattle.std.specs.Prelude.{◌≡◌, List, [], ⊤}
+use Rattle.std.specs.Prelude.{◌≡◌, ℕ, List, [], ⊤}
 use Rattle.step_meaning.specs.Syntax.{Statements, of_list}
+use Rattle.source_lex.specs.declared.token.Token.{Token}
 use Rattle.concrete_syntax.specs.Trees.{Program}
 use Rattle.elaboration.specs.declared.fault.Fault as faults
 use Rattle.elaboration.specs.declared.front.Refusal.{Refusal}
 use Rattle.elaboration.specs.declared.front.Refusal.TheVariants.{Fault, Memory}
 use Rattle.elaboration.specs.Scopes.{Scope, Name}
 use Rattle.elaboration.specs.Faults.{IsFirstOf}
-use Rattle.elaboration.specs.Statements.{items_scope, items_faults, items_meaning}
+use Rattle.elaboration.specs.Statements.{Walked, items_walked}
+use Rattle.elaboration.specs.Offsets.{offsets_in}
 
 -- before the first item no name is declared
 abbrev pub no_names : Scope
 no_names = record { declared = []; visible = [] }
 
--- all faults of names and sorts of a program
-abbrev pub faults_of : Program → List faults.Fault
-faults_of p = items_faults no_names p.items
+-- what a walk over a whole program finds
+abbrev pub walked : Program → Walked
+walked p = items_walked no_names p.items
 
--- the program's names and body
+-- all its faults of names and sorts
+abbrev pub faults_of : Program → List faults.Fault
+faults_of p = (walked p).faults
+
+-- its names and its body
 abbrev pub names_of : Program → List Name
-names_of p = (items_scope no_names p.items).declared
+names_of p = (walked p).scope.declared
 
 abbrev pub body_of : Program → Statements
-body_of p = of_list (items_meaning no_names p.items)
+body_of p = of_list (walked p).body
+
+-- the offsets in the text of its statements
+abbrev pub program_offsets : List Token → Program → List ℕ
+program_offsets tokens p = offsets_in tokens (walked p).tokens
 
 -- the tree has no such fault, and stands for the program of these names and this body
 pub record StandsFor (p : Program) (names : List Name) (body : Statements) : Type 0 where

@@ -4,7 +4,7 @@ use Rattle.elaboration.specs.declared.fault.Rule.{Rule}
 use Rattle.elaboration.specs.declared.fault.Rule.TheVariants.{Unknown, Twice, Mixed, BadRange, Variables}
 use Rattle.elaboration.specs.declared.fault.Fault.{Fault}
 
--- the rules in their order: of two faults at one place the one of the earlier rule comes first
+-- the rules in their order: of two faults at one token the one of the earlier rule comes first
 abbrev pub order_of : Rule → ℕ
 order_of Unknown = 0
 order_of Twice = 1
@@ -12,7 +12,7 @@ order_of Mixed = 2
 order_of BadRange = 3
 order_of Variables = 4
 
--- the one fault comes before the other: it stands at an earlier place, or at the same place and its rule is the earlier one
+-- the one fault comes before the other: it stands at an earlier token, or at the same one and its rule is the earlier one
 abbrev pub is_before : Fault → Fault → Bool
 is_before f g = nat_lt f.token g.token || (nat_eq f.token g.token && nat_lt (order_of f.rule) (order_of g.rule))
 

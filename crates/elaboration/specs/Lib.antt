@@ -4,5 +4,6 @@ pub mod Faults
 pub mod Expressions
 pub mod Typing
 pub mod Statements
-pub mod Places
+pub mod Offsets
+pub mod Walking
 pub mod Elaborates

@@ -1,4 +1,4 @@
--- What statements stand for, which names they declare, and their faults.
+-- What statements tell: the names behind them, their faults, what they stand for, and the tokens at which that stands.
 use Rattle.std.specs.Prelude.{ℕ, nat_lt, true, if◌then◌else◌, List, [], ◌∷◌, ◌++◌, length, Option, None, Some, pos}
 use Rattle.step_meaning.specs.declared.expression.Op2.TheVariants.{Add, Sub, Mul}
 use Rattle.step_meaning.specs.Syntax as syntax
@@ -11,6 +11,29 @@ use Rattle.elaboration.specs.declared.fault.Rule.TheVariants.{Twice, Variables}
 use Rattle.elaboration.specs.Scopes.{Scope, is_among, place_of, most_variables, declare, close}
 use Rattle.elaboration.specs.Faults.{fault}
 use Rattle.elaboration.specs.Expressions.{as_test, unknown_name, expression_typed, expression_faults, number_faults}
+
+-- What a walk over a tree finds: the names behind it, its faults, the statements that it stands for, and their tokens by their numbers:
+-- that of a statement, then those of its parts, but that of a `do` behind those of its body.
+pub record Walked : Type 0 where
+  pub scope : Scope
+  pub faults : List Fault
+  pub body : List syntax.Statement
+  pub tokens : List ℕ
+
+abbrev pub nothing : Scope → Walked
+nothing scope = record { scope = scope; faults = []; body = []; tokens = [] }
+
+-- one statement without parts
+abbrev pub single : Scope → ℕ → List Fault → syntax.Statement → Walked
+single scope at faults s = record { scope = scope; faults = faults; body = s ∷ []; tokens = at ∷ [] }
+
+-- one walk and then another
+abbrev pub joined : Walked → Walked → Walked
+joined a b = record { scope = b.scope; faults = a.faults ++ b.faults; body = a.body ++ b.body; tokens = a.tokens ++ b.tokens }
+
+-- behind the end of a block or a `for`, whose walk this was
+abbrev pub enclosed : Scope → Walked → Walked
+enclosed outer w = record { scope = close outer w.scope; faults = w.faults; body = w.body; tokens = w.tokens }
 
 -- ── Simple statements: `x += e` means `x = x + (e)`, and `x++` and `++x` mean `x = x + 1` ──
 
@@ -32,23 +55,26 @@ abbrev pub action_faults : Scope → Action → List Fault
 action_faults scope (assigns assignment e) = number_faults scope e
 action_faults scope (steps step) = []
 
-abbrev pub simple_meaning : Scope → Simple → List syntax.Statement
+abbrev pub simple_meaning : Scope → Simple → syntax.Statement
 simple_meaning scope (acts x action) =
-    syntax.assign (place_of scope.declared x.bytes) (action_meaning scope (place_of scope.declared x.bytes) action) ∷ []
-simple_meaning scope (steps_before at step x) =
-    syntax.assign (place_of scope.declared x.bytes) (stepped (place_of scope.declared x.bytes) step) ∷ []
+    let place = place_of scope.declared x.bytes in syntax.assign place (action_meaning scope place action)
+simple_meaning scope (steps_before sign step x) = let place = place_of scope.declared x.bytes in syntax.assign place (stepped place step)
 
 abbrev pub simple_faults : Scope → Simple → List Fault
 simple_faults scope (acts x action) = unknown_name scope x.at x.bytes ++ action_faults scope action
-simple_faults scope (steps_before at step x) = unknown_name scope x.at x.bytes
+simple_faults scope (steps_before sign step x) = unknown_name scope x.at x.bytes
 
-abbrev pub optional_simple_meaning : Scope → Option Simple → List syntax.Statement
-optional_simple_meaning scope (Some s) = simple_meaning scope s
-optional_simple_meaning scope None = []
+-- one at this token; in the start or the last part of a `for` that is its first
+abbrev pub simple_walked : Scope → ℕ → Simple → Walked
+simple_walked scope at s = single scope at (simple_faults scope s) (simple_meaning scope s)
 
-abbrev pub optional_simple_faults : Scope → Option Simple → List Fault
-optional_simple_faults scope (Some s) = simple_faults scope s
-optional_simple_faults scope None = []
+abbrev pub simple_at : Simple → ℕ
+simple_at (acts x action) = x.at
+simple_at (steps_before sign step x) = sign
+
+abbrev pub optional_simple_walked : Scope → Option Simple → Walked
+optional_simple_walked scope (Some s) = simple_walked scope (simple_at s) s
+optional_simple_walked scope None = nothing scope
 
 -- ── Declarations: a name may be used from behind its own initialiser on ──
 
@@ -65,62 +91,36 @@ name_faults scope x initialiser =
     else if is_among scope.declared x.bytes then again_faults x.at initialiser
     else if nat_lt (length scope.declared) most_variables then [] else fault Variables x.at ∷ []
 
-abbrev pub initialiser_faults : Scope → Option Expression → List Fault
-initialiser_faults scope (Some e) = number_faults scope e
-initialiser_faults scope None = []
+-- an initialised name is assigned, and that stands at the name; one without an initialiser is no statement
+abbrev pub initialiser_walked : Scope → Name → Option Expression → Walked
+initialiser_walked scope x (Some e) =
+    let behind = declare scope x.bytes in
+    single behind x.at (number_faults scope e) (syntax.assign (place_of behind.declared x.bytes) (expression_typed scope e).meaning)
+initialiser_walked scope x None = nothing (declare scope x.bytes)
 
--- an initialised name is assigned; one without an initialiser is no statement
-abbrev pub initialiser_meaning : Scope → Name → Option Expression → List syntax.Statement
-initialiser_meaning scope x (Some e) =
-    syntax.assign (place_of (declare scope x.bytes).declared x.bytes) (expression_typed scope e).meaning ∷ []
-initialiser_meaning scope x None = []
+abbrev pub part_walked : Scope → Part → Walked
+part_walked scope part =
+    let w = initialiser_walked scope part.declared part.initialiser in
+    record {
+      scope = declare scope part.declared.bytes;
+      faults = name_faults scope part.declared part.initialiser ++ w.faults;
+      body = w.body;
+      tokens = w.tokens;
+    }
 
-abbrev pub part_faults : Scope → Part → List Fault
-part_faults scope part = name_faults scope part.declared part.initialiser ++ initialiser_faults scope part.initialiser
+abbrev pub parts_walked : Scope → List Part → Walked
+parts_walked scope [] = nothing scope
+parts_walked scope (part ∷ more) = let w = part_walked scope part in joined w (parts_walked w.scope more)
 
-abbrev pub part_meaning : Scope → Part → List syntax.Statement
-part_meaning scope part = initialiser_meaning scope part.declared part.initialiser
-
-abbrev pub part_scope : Scope → Part → Scope
-part_scope scope part = declare scope part.declared.bytes
-
--- further parts
-abbrev pub parts_scope : Scope → List Part → Scope
-parts_scope scope [] = scope
-parts_scope scope (part ∷ more) = parts_scope (part_scope scope part) more
-
-abbrev pub parts_faults : Scope → List Part → List Fault
-parts_faults scope [] = []
-parts_faults scope (part ∷ more) = part_faults scope part ++ parts_faults (part_scope scope part) more
-
-abbrev pub parts_meaning : Scope → List Part → List syntax.Statement
-parts_meaning scope [] = []
-parts_meaning scope (part ∷ more) = part_meaning scope part ++ parts_meaning (part_scope scope part) more
-
-abbrev pub declaration_scope : Scope → Declaration → Scope
-declaration_scope scope d = parts_scope scope (d.part ∷ d.more)
-
-abbrev pub declaration_faults : Scope → Declaration → List Fault
-declaration_faults scope d = parts_faults scope (d.part ∷ d.more)
-
-abbrev pub declaration_meaning : Scope → Declaration → List syntax.Statement
-declaration_meaning scope d = parts_meaning scope (d.part ∷ d.more)
+abbrev pub declaration_walked : Scope → Declaration → Walked
+declaration_walked scope d = parts_walked scope (d.part ∷ d.more)
 
 -- ── The start and the test of a `for` ──
 
-abbrev pub start_scope : Scope → Start → Scope
-start_scope scope (declares d) = declaration_scope scope d
-start_scope scope _ = scope
-
-abbrev pub start_faults : Scope → Start → List Fault
-start_faults scope starts_with_nothing = []
-start_faults scope (starts_with s) = simple_faults scope s
-start_faults scope (declares d) = declaration_faults scope d
-
-abbrev pub start_meaning : Scope → Start → List syntax.Statement
-start_meaning scope starts_with_nothing = []
-start_meaning scope (starts_with s) = simple_meaning scope s
-start_meaning scope (declares d) = declaration_meaning scope d
+abbrev pub start_walked : Scope → Start → Walked
+start_walked scope starts_with_nothing = nothing scope
+start_walked scope (starts_with s) = simple_walked scope (simple_at s) s
+start_walked scope (declares d) = declaration_walked scope d
 
 abbrev pub optional_faults : Scope → Option Expression → List Fault
 optional_faults scope (Some e) = expression_faults scope e
@@ -131,85 +131,64 @@ abbrev pub optional_test : Scope → Option Expression → syntax.Expression
 optional_test scope (Some e) = as_test (expression_typed scope e)
 optional_test scope None = syntax.truth true
 
--- ── Statements: braces leave no trace; a `for` is its start, and then a loop with its step ──
+-- ── Statements: braces leave no trace; a `for` is its start, and then a loop with its step, which a `while` has none of ──
+
+-- an `if` at this token, by the faults of its test, its test, and what walks over its parts find
+abbrev pub chosen : ℕ → List Fault → syntax.Expression → Walked → Walked → Walked
+chosen at faults test first second = record {
+  scope = second.scope;
+  faults = faults ++ (first.faults ++ second.faults);
+  body = syntax.if_else test (syntax.of_list first.body) (syntax.of_list second.body) ∷ [];
+  tokens = at ∷ (first.tokens ++ second.tokens);
+}
+
+-- a loop, by its test, its step and its body
+abbrev pub looped : ℕ → List Fault → syntax.Expression → Walked → Walked → Walked
+looped at faults test step body = record {
+  scope = body.scope;
+  faults = faults ++ (step.faults ++ body.faults);
+  body = syntax.while_loop test (syntax.of_list body.body) (syntax.of_list step.body) ∷ [];
+  tokens = at ∷ (body.tokens ++ step.tokens);
+}
+
+-- a `do` whose `while` is this token, by its body, and its test behind that
+abbrev pub done : ℕ → Walked → List Fault → syntax.Expression → Walked
+done end body faults test = record {
+  scope = body.scope;
+  faults = body.faults ++ faults;
+  body = syntax.do_while (syntax.of_list body.body) test ∷ [];
+  tokens = body.tokens ++ end ∷ [];
+}
 
 abbrev mutual
-  pub statement_scope : Scope → Statement → Scope
-  statement_scope scope (statement_at at kind) = kind_scope scope kind
+  pub statement_walked : Scope → Statement → Walked
+  statement_walked scope (statement_at at kind) = kind_walked scope at kind
 
-  pub kind_scope : Scope → StatementKind → Scope
-  kind_scope scope (braces all) = close scope (items_scope scope all)
-  kind_scope scope (conditional test part other) = otherwise_scope (statement_scope scope part) other
-  kind_scope scope (while_loop test body) = statement_scope scope body
-  kind_scope scope (do_loop body end test) = statement_scope scope body
-  kind_scope scope (for_loop start test step body) = close scope (statement_scope (start_scope scope start) body)
-  kind_scope scope _ = scope
+  pub kind_walked : Scope → ℕ → StatementKind → Walked
+  kind_walked scope at (simple s) = simple_walked scope at s
+  kind_walked scope at skip = single scope at [] syntax.skip
+  kind_walked scope at (braces all) = enclosed scope (items_walked scope all)
+  kind_walked scope at (conditional test part other) =
+      let first = statement_walked scope part in
+      chosen at (expression_faults scope test) (as_test (expression_typed scope test)) first (otherwise_walked first.scope other)
+  kind_walked scope at (while_loop test body) =
+      looped at (expression_faults scope test) (as_test (expression_typed scope test)) (nothing scope) (statement_walked scope body)
+  kind_walked scope at (do_loop body end test) =
+      let inner = statement_walked scope body in
+      done end inner (expression_faults inner.scope test) (as_test (expression_typed inner.scope test))
+  kind_walked scope at (for_loop start test step body) =
+      let before = start_walked scope start in
+      let inside = before.scope in
+      enclosed scope
+      (joined before
+      (looped at (optional_faults inside test) (optional_test inside test) (optional_simple_walked inside step) (statement_walked inside body)))
+  kind_walked scope at (return value) = single scope at (optional_faults scope value) syntax.return
 
-  pub otherwise_scope : Scope → Otherwise → Scope
-  otherwise_scope scope without = scope
-  otherwise_scope scope (otherwise s) = statement_scope scope s
+  pub otherwise_walked : Scope → Otherwise → Walked
+  otherwise_walked scope without = nothing scope
+  otherwise_walked scope (otherwise s) = statement_walked scope s
 
-  pub items_scope : Scope → Items → Scope
-  items_scope scope none = scope
-  items_scope scope (declaration d more) = items_scope (declaration_scope scope d) more
-  items_scope scope (statement s more) = items_scope (statement_scope scope s) more
-
-abbrev mutual
-  pub statement_faults : Scope → Statement → List Fault
-  statement_faults scope (statement_at at kind) = kind_faults scope kind
-
-  pub kind_faults : Scope → StatementKind → List Fault
-  kind_faults scope (simple s) = simple_faults scope s
-  kind_faults scope skip = []
-  kind_faults scope (braces all) = items_faults scope all
-  kind_faults scope (conditional test part other) =
-      expression_faults scope test ++ (statement_faults scope part ++ otherwise_faults (statement_scope scope part) other)
-  kind_faults scope (while_loop test body) = expression_faults scope test ++ statement_faults scope body
-  kind_faults scope (do_loop body end test) = statement_faults scope body ++ expression_faults (statement_scope scope body) test
-  kind_faults scope (for_loop start test step body) =
-      start_faults scope start
-      ++ (optional_faults (start_scope scope start) test
-      ++ (optional_simple_faults (start_scope scope start) step ++ statement_faults (start_scope scope start) body))
-  kind_faults scope (return value) = optional_faults scope value
-
-  pub otherwise_faults : Scope → Otherwise → List Fault
-  otherwise_faults scope without = []
-  otherwise_faults scope (otherwise s) = statement_faults scope s
-
-  pub items_faults : Scope → Items → List Fault
-  items_faults scope none = []
-  items_faults scope (declaration d more) = declaration_faults scope d ++ items_faults (declaration_scope scope d) more
-  items_faults scope (statement s more) = statement_faults scope s ++ items_faults (statement_scope scope s) more
-
-abbrev mutual
-  pub statement_meaning : Scope → Statement → List syntax.Statement
-  statement_meaning scope (statement_at at kind) = kind_meaning scope kind
-
-  pub kind_meaning : Scope → StatementKind → List syntax.Statement
-  kind_meaning scope (simple s) = simple_meaning scope s
-  kind_meaning scope skip = syntax.skip ∷ []
-  kind_meaning scope (braces all) = items_meaning scope all
-  kind_meaning scope (conditional test part other) =
-      syntax.if_else (as_test (expression_typed scope test)) (syntax.of_list (statement_meaning scope part))
-      (syntax.of_list (otherwise_meaning (statement_scope scope part) other))
-      ∷ []
-  kind_meaning scope (while_loop test body) =
-      syntax.while_loop (as_test (expression_typed scope test)) (syntax.of_list (statement_meaning scope body)) syntax.empty ∷ []
-  kind_meaning scope (do_loop body end test) =
-      syntax.do_while (syntax.of_list (statement_meaning scope body)) (as_test (expression_typed (statement_scope scope body) test)) ∷ []
-  kind_meaning scope (for_loop start test step body) =
-      start_meaning scope start
-      ++ syntax.while_loop (optional_test (start_scope scope start) test)
-      (syntax.of_list (statement_meaning (start_scope scope start) body))
-      (syntax.of_list (optional_simple_meaning (start_scope scope start) step))
-      ∷ []
-  kind_meaning scope (return value) = syntax.return ∷ []
-
-  pub otherwise_meaning : Scope → Otherwise → List syntax.Statement
-  otherwise_meaning scope without = []
-  otherwise_meaning scope (otherwise s) = statement_meaning scope s
-
-  pub items_meaning : Scope → Items → List syntax.Statement
-  items_meaning scope none = []
-  items_meaning scope (declaration d more) = declaration_meaning scope d ++ items_meaning (declaration_scope scope d) more
-  items_meaning scope (statement s more) = statement_meaning scope s ++ items_meaning (statement_scope scope s) more
+  pub items_walked : Scope → Items → Walked
+  items_walked scope none = nothing scope
+  items_walked scope (declaration d more) = let w = declaration_walked scope d in joined w (items_walked w.scope more)
+  items_walked scope (statement s more) = let w = statement_walked scope s in joined w (items_walked w.scope more)

@@ -5,86 +5,126 @@ ghost use Rattle.concrete_syntax.specs.Mirror.{operand as operand_of, tail as ta
 ghost use Rattle.step_meaning.specs.Syntax as syntax;
 ghost use Rattle.elaboration.specs.Expressions.{value, mixed_in, op_of, operand_typed, operand_faults, tail_grouped, tail_faults, expression_typed, expression_faults, number_faults, as_test, end_value, range_faults, is_infinite_as, in_order, signed_typed, signed_faults};
 ghost use Rattle.elaboration.specs.Grouping.{leaf};
-ghost use Rattle.elaboration.specs.Faults.{earliest};
 ghost use Rattle.elaboration.specs.Typing.{typed_of};
+ghost use Rattle.elaboration.specs.Walking.{HasFound};
 
-use crate::fault::{Fault, Rule, report};
+use crate::fault::Rule;
 use crate::grouping::Grouping;
-use crate::scope::Scope;
 use crate::typed::{Sort, Typed};
+use crate::walk::Walk;
 use concrete_syntax::{End, Expression, Link, Operand, OperandKind, Operator, Prefix, Tail};
-use std::alloc::{AllocError, Global};
+use std::alloc::AllocError;
 use step_meaning::{Expr, Op2};
 
-/// An expression in the place of a number. Faults are reported.
-#[tactic(auto, using(crate::proofs::Firsts::earliest_more))]
-pub fn number(
-    alloc: Global,
-    scope: &Scope,
-    tree: &Expression,
-    least: &mut Option<Fault>,
-) -> Result<Expr, AllocError>
-    ensures meaning { IfOk result (λ made. syntax.expression made ≡ (expression_typed scope.now (expression_of tree.now)).meaning) }
-    ensures faults { OnOk result (least.new ≡ earliest least.old (number_faults scope.now (expression_of tree.now))) }
-{
-    let typed = expression(alloc, scope, tree, least)?;
-    Ok(typed.into_number(least))
-}
-
-/// An expression in the place of a test. Faults are reported.
-pub fn test(
-    alloc: Global,
-    scope: &Scope,
-    tree: &Expression,
-    least: &mut Option<Fault>,
-) -> Result<Expr, AllocError>
-    ensures meaning { IfOk result (λ made. syntax.expression made ≡ as_test (expression_typed scope.now (expression_of tree.now))) }
-    ensures faults { OnOk result (least.new ≡ earliest least.old (expression_faults scope.now (expression_of tree.now))) }
-{
-    let typed = expression(alloc, scope, tree, least)?;
-    typed.into_test(alloc)
-}
-
-/// An expression with the sort that it has. Faults are reported.
-#[tactic(auto, using(crate::proofs::Firsts::earliest_more))]
-pub fn expression(
-    alloc: Global,
-    scope: &Scope,
-    tree: &Expression,
-    least: &mut Option<Fault>,
-) -> Result<Typed, AllocError>
-    ensures typed { IfOk result (λ typed. typed_of typed ≡ expression_typed scope.now (expression_of tree.now)) }
-    ensures faults { OnOk result (least.new ≡ earliest least.old (expression_faults scope.now (expression_of tree.now))) }
-{
-    let first = operand(alloc, scope, &tree.operand, least)?;
-    grouped(alloc, scope, first, &tree.tail, least)
-}
-
-// What an operand and the tail behind it are together.
-#[cycle(expressions)]
-#[tactic(auto, using(crate::proofs::Firsts::earliest_more))]
-fn grouped(
-    alloc: Global,
-    scope: &Scope,
-    first: Typed,
-    tail: &Tail,
-    least: &mut Option<Fault>,
-) -> Result<Typed, AllocError>
-    ensures typed { IfOk result (λ typed. typed_of typed ≡ value (tail_grouped scope.now (leaf (typed_of first)) (tail_of tail.now))) }
-    ensures faults { OnOk result (least.new ≡ earliest least.old (tail_faults scope.now (tail_of tail.now) ++ mixed_in (tail_grouped scope.now (leaf (typed_of first)) (tail_of tail.now)))) }
-{
-    let mut group = Grouping::Operand(first);
-    let mut left = tail;
-    while let Tail::Further {
-        link: Link::Operation { op, operand: e },
-        rest,
-    } = left
+impl<'a> Walk<'a> {
+    /// An expression in the place of a number. Faults are reported.
+    #[tactic(auto, using(crate::proofs::Firsts::earliest_more))]
+    pub fn number(&mut self, tree: &Expression) -> Result<Expr, AllocError>
+        ensures meaning { IfOk result (λ made. syntax.expression made ≡ (expression_typed self.old.scope (expression_of tree.now)).meaning) }
+        ensures found { OnOk result (HasFound self.old self.new (number_faults self.old.scope (expression_of tree.now))) }
     {
-        let right = operand(alloc, scope, e, least)?;
-        group = group.attach(alloc, op_of(*op), right)?;
-        left = rest;
+        let typed = self.expression(tree)?;
+        Ok(typed.into_number(self))
     }
-    group.value(alloc, least)
+
+    /// An expression in the place of a test. Faults are reported.
+    pub fn test(&mut self, tree: &Expression) -> Result<Expr, AllocError>
+        ensures meaning { IfOk result (λ made. syntax.expression made ≡ as_test (expression_typed self.old.scope (expression_of tree.now))) }
+        ensures found { OnOk result (HasFound self.old self.new (expression_faults self.old.scope (expression_of tree.now))) }
+    {
+        let typed = self.expression(tree)?;
+        typed.into_test(self.alloc)
+    }
+
+    /// An expression with the sort that it has. Faults are reported.
+    #[tactic(auto, using(crate::proofs::Firsts::earliest_more))]
+    pub fn expression(&mut self, tree: &Expression) -> Result<Typed, AllocError>
+        ensures typed { IfOk result (λ typed. typed_of typed ≡ expression_typed self.old.scope (expression_of tree.now)) }
+        ensures found { OnOk result (HasFound self.old self.new (expression_faults self.old.scope (expression_of tree.now))) }
+    {
+        let first = self.operand(&tree.operand)?;
+        self.grouped(first, &tree.tail)
+    }
+
+    // What an operand and the tail behind it are together.
+    #[cycle(expressions)]
+    #[tactic(auto, using(crate::proofs::Firsts::earliest_more))]
+    fn grouped(&mut self, first: Typed, tail: &Tail) -> Result<Typed, AllocError>
+        ensures typed { IfOk result (λ typed. typed_of typed ≡ value (tail_grouped self.old.scope (leaf (typed_of first)) (tail_of tail.now))) }
+        ensures found { OnOk result (HasFound self.old self.new (tail_faults self.old.scope (tail_of tail.now) ++ mixed_in (tail_grouped self.old.scope (leaf (typed_of first)) (tail_of tail.now)))) }
+    {
+        let mut group = Grouping::Operand(first);
+        let mut left = tail;
+        while let Tail::Further {
+            link: Link::Operation { op, operand },
+            rest,
+        } = left
+        {
+            let right = self.operand(operand)?;
+            group = group.attach(self.alloc, op_of(*op), right)?;
+            left = rest;
+        }
+        group.value(self)
+    }
+
+    // An operand.
+    #[cycle(expressions)]
+    #[tactic(auto, using(crate::proofs::Firsts::earliest_more))]
+    fn operand(&mut self, tree: &Operand) -> Result<Typed, AllocError>
+        ensures typed { IfOk result (λ typed. typed_of typed ≡ operand_typed self.old.scope (operand_of tree.now)) }
+        ensures found { OnOk result (HasFound self.old self.new (operand_faults self.old.scope (operand_of tree.now))) }
+    {
+        let at = tree.at;
+        match &tree.kind {
+            OperandKind::Number(value) => Ok(typed(at, Sort::Number, Expr::Number(*value))),
+            OperandKind::Name(name) => {
+                self.need_visible(name, at);
+                Ok(typed(at, Sort::Number, Expr::Name(self.scope.place(name))))
+            }
+            OperandKind::Truth(value) => Ok(typed(at, Sort::Truth, truth(*value))),
+            OperandKind::Unknown | OperandKind::Call => Ok(typed(at, Sort::Either, Expr::Free)),
+            OperandKind::Signed { prefix, operand } => {
+                let inner = self.operand(operand)?;
+                self.signed(*prefix, at, inner)
+            }
+            OperandKind::Parentheses { operand, tail } => {
+                let first = self.operand(operand)?;
+                let inner = self.grouped(first, tail)?;
+                Ok(typed(at, inner.sort, inner.expr))
+            }
+            OperandKind::Range { low, high } => Ok(self.range(*low, *high, at)),
+        }
+    }
+
+    // A sign at the token `at` and the operand behind it.
+    fn signed(&mut self, prefix: Prefix, at: usize, operand: Typed) -> Result<Typed, AllocError>
+        ensures typed { IfOk result (λ found. typed_of found ≡ signed_typed prefix at (typed_of operand)) }
+        ensures found { OnOk result (HasFound self.old self.new (signed_faults prefix (typed_of operand))) }
+    {
+        match prefix {
+            Prefix::Plus => Ok(typed(at, Sort::Number, operand.into_number(self))),
+            Prefix::Minus => {
+                let inner = Box::new(self.alloc, operand.into_number(self))?;
+                Ok(typed(at, Sort::Number, Expr::Neg(inner)))
+            }
+            Prefix::Not => {
+                let inner = Box::new(self.alloc, operand.into_test(self.alloc)?)?;
+                Ok(typed(at, Sort::Truth, Expr::Not(inner)))
+            }
+        }
+    }
+
+    // A range that begins at the token `at`.
+    fn range(&mut self, low: End, high: End, at: usize) -> Typed
+        ensures typed { typed_of result ≡ record { first = at; sort = Sort.Number; meaning = syntax.range (end_value (range_end low)) (end_value (range_end high)) } }
+        ensures found { HasFound self.old self.new (range_faults at (range_end low) (range_end high)) }
+    {
+        let (lo, hi) = (value_of(low), value_of(high));
+        if !(is_infinite_as(true, low) && is_infinite_as(false, high) && in_order(lo, hi)) {
+            self.report(Rule::BadRange, at);
+        }
+        typed(at, Sort::Number, Expr::Range { lo, hi })
+    }
 }
 
 // What a written operator means.
@@ -106,40 +146,6 @@ fn op_of(op: Operator) -> Op2
     }
 }
 
-// An operand.
-#[cycle(expressions)]
-#[tactic(auto, using(crate::proofs::Firsts::earliest_more))]
-fn operand(
-    alloc: Global,
-    scope: &Scope,
-    tree: &Operand,
-    least: &mut Option<Fault>,
-) -> Result<Typed, AllocError>
-    ensures typed { IfOk result (λ typed. typed_of typed ≡ operand_typed scope.now (operand_of tree.now)) }
-    ensures faults { OnOk result (least.new ≡ earliest least.old (operand_faults scope.now (operand_of tree.now))) }
-{
-    let at = tree.at;
-    match &tree.kind {
-        OperandKind::Number(value) => Ok(typed(at, Sort::Number, Expr::Number(*value))),
-        OperandKind::Name(name) => {
-            scope.need_visible(name, at, least);
-            Ok(typed(at, Sort::Number, Expr::Name(scope.place(name))))
-        }
-        OperandKind::Truth(value) => Ok(typed(at, Sort::Truth, truth(*value))),
-        OperandKind::Unknown | OperandKind::Call => Ok(typed(at, Sort::Either, Expr::Free)),
-        OperandKind::Signed { prefix, operand: e } => {
-            let inner = operand(alloc, scope, e, least)?;
-            signed(alloc, *prefix, at, inner, least)
-        }
-        OperandKind::Parentheses { operand: e, tail } => {
-            let first = operand(alloc, scope, e, least)?;
-            let inner = grouped(alloc, scope, first, tail, least)?;
-            Ok(typed(at, inner.sort, inner.expr))
-        }
-        OperandKind::Range { low, high } => Ok(range(*low, *high, at, least)),
-    }
-}
-
 fn typed(first: usize, sort: Sort, expr: Expr) -> Typed
     ensures { typed_of result ≡ record { first = first; sort = sort; meaning = syntax.expression expr } }
 {
@@ -150,42 +156,6 @@ fn truth(value: bool) -> Expr
     ensures { syntax.expression result ≡ syntax.truth value }
 {
     if value { Expr::True } else { Expr::False }
-}
-
-// A sign at the token `at` and the operand behind it.
-fn signed(
-    alloc: Global,
-    prefix: Prefix,
-    at: usize,
-    operand: Typed,
-    least: &mut Option<Fault>,
-) -> Result<Typed, AllocError>
-    ensures typed { IfOk result (λ found. typed_of found ≡ signed_typed prefix at (typed_of operand)) }
-    ensures faults { IfOk result (λ _. least.new ≡ earliest least.old (signed_faults prefix (typed_of operand))) }
-{
-    match prefix {
-        Prefix::Plus => Ok(typed(at, Sort::Number, operand.into_number(least))),
-        Prefix::Minus => {
-            let inner = Box::new(alloc, operand.into_number(least))?;
-            Ok(typed(at, Sort::Number, Expr::Neg(inner)))
-        }
-        Prefix::Not => {
-            let inner = Box::new(alloc, operand.into_test(alloc)?)?;
-            Ok(typed(at, Sort::Truth, Expr::Not(inner)))
-        }
-    }
-}
-
-// A range that begins at the token `at`.
-fn range(low: End, high: End, at: usize, least: &mut Option<Fault>) -> Typed
-    ensures typed { typed_of result ≡ record { first = at; sort = Sort.Number; meaning = syntax.range (end_value (range_end low)) (end_value (range_end high)) } }
-    ensures faults { least.new ≡ earliest least.old (range_faults at (range_end low) (range_end high)) }
-{
-    let (lo, hi) = (value_of(low), value_of(high));
-    if !(is_infinite_as(true, low) && is_infinite_as(false, high) && in_order(lo, hi)) {
-        report(least, Rule::BadRange, at);
-    }
-    typed(at, Sort::Number, Expr::Range { lo, hi })
 }
 
 // The number of an end with its sign, or `None` for an infinite one.

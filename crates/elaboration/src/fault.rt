@@ -1,7 +1,7 @@
 //! Faults of names and sorts.
 
-ghost use Rattle.std.specs.Prelude.{◌≡◌, ◌∷◌, []};
-ghost use Rattle.elaboration.specs.Faults.{order_of, is_before, earliest};
+ghost use Rattle.std.specs.Prelude.{◌≡◌};
+ghost use Rattle.elaboration.specs.Faults.{order_of, is_before};
 
 /// The rules on names and sorts, each by what breaks it.
 #[derive(Clone, Copy, PartialEq, Eq, Debug)]
@@ -41,22 +41,11 @@ impl Rule {
 }
 
 impl Fault {
-    // Whether this fault comes before the other.
-    fn is_before(&self, other: &Fault) -> bool
+    /// Whether this fault comes before the other.
+    pub fn is_before(&self, other: &Fault) -> bool
         ensures { result ≡ is_before self.now other.now }
     {
         self.token < other.token
             || (self.token == other.token && self.rule.order() < other.rule.order())
-    }
-}
-
-/// Keeps the first of the faults that were reported.
-pub fn report(least: &mut Option<Fault>, rule: Rule, token: usize)
-    ensures { least.new ≡ earliest least.old (record { rule = rule; token = token } ∷ []) }
-{
-    let fault = Fault { rule, token };
-    match least {
-        Some(first) if !fault.is_before(first) => {}
-        _ => *least = Some(fault),
     }
 }

@@ -3,13 +3,11 @@
 ghost use Rattle.std.specs.Prelude.{◌≡◌, IfOk, IfErr};
 ghost use Rattle.concrete_syntax.specs.Mirror.{program as program_of};
 ghost use Rattle.step_meaning.specs.Syntax.{statements};
-ghost use Rattle.step_meaning.specs.Places.{places};
-ghost use Rattle.elaboration.specs.Places.{program_places};
-ghost use Rattle.elaboration.specs.Elaborates.{StandsFor, IsRefusalOf};
+ghost use Rattle.step_meaning.specs.Offsets.{offsets};
+ghost use Rattle.elaboration.specs.Elaborates.{StandsFor, IsRefusalOf, program_offsets};
 
 use crate::fault::Fault;
-use crate::scope::Scope;
-use crate::statement::items;
+use crate::walk::Walk;
 use concrete_syntax::Program as Tree;
 use source_lex::Token;
 use std::alloc::{AllocError, Global};
@@ -35,31 +33,23 @@ impl From<AllocError> for Refusal {
 }
 
 /// The program that a concrete tree stands for: its variables in the order of their first declarations, and its statements, each with
-/// the place in the text of its first token (for a `do` of the `while` that ends it, for a declared name of the name). `tokens` are
+/// the offset in the text of its first token (for a `do` of the `while` that ends it, for a declared name of the name). `tokens` are
 /// the text's. Time is linear in the tree, times the number of names in scope, which is at most 15 where there is no fault.
 ///
 /// `Fault` comes exactly where a name is used outside its scope or declared twice, a truth value stands where a number is needed, a
 /// range is upside down or infinite the wrong way, or a sixteenth name is declared; `Memory` where memory runs out.
 pub fn elaborate(alloc: Global, tree: &Tree, tokens: &[Token]) -> Result<Program, Refusal>
     ensures program { IfOk result (λ program. StandsFor (program_of tree.now) program.names (statements program.body)) }
-    ensures places { IfOk result (λ program. places program.body ≡ program_places tokens.now (program_of tree.now)) }
+    ensures offsets { IfOk result (λ program. offsets program.body ≡ program_offsets tokens.now (program_of tree.now)) }
     ensures refusal { IfErr result (IsRefusalOf (program_of tree.now)) }
 {
-    let mut scope = Scope::new(alloc);
-    let mut least = None;
+    let mut walk = Walk::new(alloc, tokens);
     let mut list = Vec::new(alloc);
-    items(
-        alloc,
-        tokens,
-        &mut scope,
-        &tree.items,
-        &mut least,
-        &mut list,
-    )?;
-    if let Some(fault) = least {
+    walk.items(&tree.items, &mut list)?;
+    if let Some(fault) = walk.least {
         return Err(Refusal::Fault(fault));
     }
-    let names = scope.into_names(alloc)?;
+    let names = walk.scope.into_names(alloc)?;
     let body = Block::of(alloc, list)?;
     Ok(Program { names, body })
 }

@@ -1,13 +1,13 @@
 //! Operands and operators, grouped.
 
-ghost use Rattle.std.specs.Prelude.{◌≡◌, IfOk};
+ghost use Rattle.std.specs.Prelude.{◌≡◌, IfOk, OnOk};
 ghost use Rattle.elaboration.specs.Expressions.{value, mixed_in, pair_of, mixed_operands};
 ghost use Rattle.elaboration.specs.Grouping.{attach, tightness};
-ghost use Rattle.elaboration.specs.Faults.{earliest};
 ghost use Rattle.elaboration.specs.Typing.{typed_of, grouping_of};
+ghost use Rattle.elaboration.specs.Walking.{HasFound};
 
-use crate::fault::Fault;
 use crate::typed::{Sort, Typed};
+use crate::walk::Walk;
 use std::alloc::{AllocError, Global};
 use step_meaning::{Expr, Op2};
 
@@ -68,16 +68,16 @@ impl Grouping {
     /// What the group is as one expression. Truth values in the places of numbers are reported.
     #[cycle(valuing)]
     #[tactic(auto, using(crate::proofs::Firsts::earliest_more))]
-    pub fn value(self, alloc: Global, least: &mut Option<Fault>) -> Result<Typed, AllocError>
+    pub fn value(self, walk: &mut Walk) -> Result<Typed, AllocError>
         ensures value { IfOk result (λ typed. typed_of typed ≡ value (grouping_of self)) }
-        ensures faults { IfOk result (λ _. least.new ≡ earliest least.old (mixed_in (grouping_of self))) }
+        ensures found { OnOk result (HasFound walk.old walk.new (mixed_in (grouping_of self))) }
     {
         match self {
             Grouping::Operand(typed) => Ok(typed),
             Grouping::Pair { op, left, right } => {
-                let left = Box::into_inner(left).value(alloc, least)?;
-                let right = Box::into_inner(right).value(alloc, least)?;
-                let typed = pair(alloc, op, left, right, least)?;
+                let left = Box::into_inner(left).value(walk)?;
+                let right = Box::into_inner(right).value(walk)?;
+                let typed = pair(walk, op, left, right)?;
                 Ok(typed)
             }
         }
@@ -85,16 +85,12 @@ impl Grouping {
 }
 
 // What an operator makes of its operands.
-fn pair(
-    alloc: Global,
-    op: Op2,
-    left: Typed,
-    right: Typed,
-    least: &mut Option<Fault>,
-) -> Result<Typed, AllocError>
+#[tactic(auto, using(crate::proofs::Firsts::earliest_more))]
+fn pair(walk: &mut Walk, op: Op2, left: Typed, right: Typed) -> Result<Typed, AllocError>
     ensures value { IfOk result (λ typed. typed_of typed ≡ pair_of op (typed_of left) (typed_of right)) }
-    ensures faults { IfOk result (λ _. least.new ≡ earliest least.old (mixed_operands op (typed_of left) (typed_of right))) }
+    ensures found { OnOk result (HasFound walk.old walk.new (mixed_operands op (typed_of left) (typed_of right))) }
 {
+    let alloc = walk.alloc;
     let first = left.first;
     let sort = match op {
         Op2::Add | Op2::Sub | Op2::Mul => Sort::Number,
@@ -102,7 +98,7 @@ fn pair(
     };
     let (left, right) = match op {
         Op2::And | Op2::Or => (left.into_test(alloc)?, right.into_test(alloc)?),
-        _ => (left.into_number(least), right.into_number(least)),
+        _ => (left.into_number(walk), right.into_number(walk)),
     };
     let expr = Expr::Pair {
         op,

@@ -1,7 +1,8 @@
 //! Elaboration: names and sorts of a concrete tree, and the program that it stands for.
 //! Front door: `elaborate`. Stands on the concrete trees of `concrete_syntax` and the programs of `step_meaning`. In `specs/`: how
-//! operators group (Grouping), which names may be used where (Scopes), what expressions and statements stand for, with their faults
-//! (Expressions, Statements, Faults), where statements stand in the text (Places), and all of it at a program (Elaborates).
+//! operators group (Grouping), which names may be used where (Scopes), what expressions stand for (Expressions), what a walk over
+//! statements finds: names, faults, meaning and tokens (Statements, Faults), where tokens stand in the text (Offsets), and all of it at a
+//! program (Elaborates). Inside the crate: what the walk of the code does (Walking, Typing).
 #![tactic(auto)]
 
 mod expression;
@@ -13,6 +14,7 @@ mod scope;
 mod simple;
 mod statement;
 mod typed;
+mod walk;
 
 pub use fault::{Fault, Rule};
 pub use front::{Refusal, elaborate};

@@ -3,8 +3,6 @@
 ghost use Rattle.std.specs.Prelude.{◌≡◌, ◌≤◌, ◌<◌, IfSome, IfNone, OnOk, IfOk, length, map, vec_items, take, true, false};
 ghost use Rattle.elaboration.specs.Scopes.{is_among, place_of};
 
-use crate::fault::{Fault, Rule, report};
-use concrete_syntax::Part;
 use indexmap::IndexSet;
 use std::alloc::{AllocError, Global};
 use std::marker::Model;
@@ -32,13 +30,9 @@ impl Model for Scope {
 }
 
 impl Scope {
-    ghost use Rattle.std.specs.Prelude.{◌≡◌, ◌≤◌, OnOk, IfOk, length, take, false};
-    ghost use Rattle.concrete_syntax.specs.Mirror.{name, optional};
-    ghost use Rattle.elaboration.specs.Expressions.{unknown_name};
+    ghost use Rattle.std.specs.Prelude.{◌≡◌, ◌≤◌, OnOk, IfOk, length, take, false, not, nat_lt};
     ghost use Rattle.elaboration.specs.Elaborates.{no_names};
-    ghost use Rattle.elaboration.specs.Faults.{earliest};
-    ghost use Rattle.elaboration.specs.Scopes.{declare, is_among, place_of, with_variable};
-    ghost use Rattle.elaboration.specs.Statements.{name_faults};
+    ghost use Rattle.elaboration.specs.Scopes.{declare, is_among, place_of, with_variable, most_variables};
 
     /// Before the first declaration.
     pub fn new(alloc: Global) -> Scope
@@ -60,36 +54,25 @@ impl Scope {
         }
     }
 
-    // Whether the name is that of a variable.
-    fn is_declared(&self, name: &[u8]) -> bool
+    /// Whether the name is that of a variable.
+    pub fn is_declared(&self, name: &[u8]) -> bool
         ensures { result ≡ is_among self.now.declared name.now }
     {
         self.declared.contains(name)
     }
 
-    /// Reports a name that may not be used here.
-    pub fn need_visible(&self, name: &[u8], token: usize, least: &mut Option<Fault>)
-        ensures { least.new ≡ earliest least.old (unknown_name self.now token name.now) }
+    /// Whether the name may be used here.
+    pub fn is_visible(&self, name: &[u8]) -> bool
+        ensures { result ≡ is_among self.now.visible name.now }
     {
-        if position(&self.visible, name).is_none() {
-            report(least, Rule::Unknown, token);
-        }
+        position(&self.visible, name).is_some()
     }
 
-    /// Reports a name that may not be declared here.
-    pub fn need_new(&self, part: &Part, least: &mut Option<Fault>)
-        ensures { least.new ≡ earliest least.old (name_faults self.now (name part.now.declared) (optional part.now.initialiser)) }
+    /// Whether no more names may become variables.
+    pub fn is_full(&self) -> bool
+        ensures { result ≡ not (nat_lt (length self.now.declared) most_variables) }
     {
-        let name = &part.declared;
-        if position(&self.visible, &name.bytes).is_some() {
-            report(least, Rule::Twice, name.at);
-        } else if self.is_declared(&name.bytes) {
-            if part.initialiser.is_none() {
-                report(least, Rule::Twice, name.at);
-            }
-        } else if self.declared.len() >= MOST_VARIABLES {
-            report(least, Rule::Variables, name.at);
-        }
+        self.declared.len() >= MOST_VARIABLES
     }
 
     /// Declares a name. `AllocError` where it finds no room in memory.

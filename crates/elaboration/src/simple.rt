@@ -3,47 +3,99 @@
 ghost use Rattle.std.specs.Prelude.{◌≡◌, ◌++◌, ◌∷◌, [], IfOk, OnOk};
 ghost use Rattle.concrete_syntax.specs.Mirror.{action as action_of, simple as simple_of, part as part_of, declaration as declaration_of};
 ghost use Rattle.step_meaning.specs.Syntax as syntax;
-ghost use Rattle.step_meaning.specs.Places.{all_places, statement_places};
-ghost use Rattle.elaboration.specs.Faults.{earliest};
-ghost use Rattle.elaboration.specs.Statements.{action_meaning, action_faults, simple_meaning, simple_faults, part_scope, part_meaning, part_faults, declaration_scope, declaration_meaning, declaration_faults, stepped, assigned};
-ghost use Rattle.elaboration.specs.Places.{place_in, places_in, simple_at, part_tokens, declaration_tokens};
+ghost use Rattle.step_meaning.specs.Offsets.{all_offsets, offsets_at};
+ghost use Rattle.elaboration.specs.Offsets.{offset_in};
+ghost use Rattle.elaboration.specs.Statements.{action_meaning, action_faults, simple_walked, part_walked, declaration_walked, stepped, assigned, simple_at};
+ghost use Rattle.elaboration.specs.Walking.{HasFound, HasGone, HasAdded};
 
-use crate::expression::number;
-use crate::fault::Fault;
-use crate::scope::Scope;
+use crate::walk::Walk;
 use concrete_syntax::{Action, Assignment, Declaration, Part, Simple, Step};
-use source_lex::{Token, start_of};
 use std::alloc::{AllocError, Global};
 use step_meaning::{Expr, Op2, Stmt, StmtKind};
 
-/// A simple statement: its assignment is added to `out`, at this place in the text. Faults are reported.
-#[tactic(auto, using(crate::proofs::Firsts::earliest_more))]
-pub fn simple(
-    alloc: Global,
-    scope: &Scope,
-    tree: &Simple,
-    place: u32,
-    least: &mut Option<Fault>,
-    out: &mut Vec<Stmt>,
-) -> Result<(), AllocError>
-    ensures meaning { OnOk result (syntax.parts out.new.items ≡ syntax.parts out.old.items ++ simple_meaning scope.now (simple_of tree.now)) }
-    ensures places { OnOk result (all_places out.new.items ≡ all_places out.old.items ++ place ∷ []) }
-    ensures faults { OnOk result (least.new ≡ earliest least.old (simple_faults scope.now (simple_of tree.now))) }
-{
-    match tree {
-        Simple::Acts { name, action: acts } => {
-            scope.need_visible(&name.bytes, name.at, least);
-            let var = scope.place(&name.bytes);
-            let value = action(alloc, scope, acts, var, least)?;
-            out.push(assign(place, var, value))?;
-        }
-        Simple::StepsBefore { step, name, .. } => {
-            scope.need_visible(&name.bytes, name.at, least);
-            let var = scope.place(&name.bytes);
-            out.push(assign(place, var, stepped(alloc, var, *step)?))?;
+impl<'a> Walk<'a> {
+    /// A simple statement at the token `at`: its assignment is added to `out`. Faults are reported.
+    #[tactic(auto, using(crate::proofs::Firsts::earliest_more))]
+    pub fn simple(
+        &mut self,
+        at: usize,
+        tree: &Simple,
+        out: &mut Vec<Stmt>,
+    ) -> Result<(), AllocError>
+        ensures gone { OnOk result (HasGone self.old self.new (simple_walked self.old.scope at (simple_of tree.now))) }
+        ensures added { OnOk result (HasAdded self.old out.old.items out.new.items (simple_walked self.old.scope at (simple_of tree.now))) }
+    {
+        match tree {
+            Simple::Acts { name, action } => {
+                let var = self.variable(name);
+                let value = self.action(action, var)?;
+                self.add(at, StmtKind::Assign { var, value }, out)
+            }
+            Simple::StepsBefore { step, name, .. } => {
+                let var = self.variable(name);
+                let value = stepped(self.alloc, var, *step)?;
+                self.add(at, StmtKind::Assign { var, value }, out)
+            }
         }
     }
-    Ok(())
+
+    // What a variable is given behind its name.
+    fn action(&mut self, tree: &Action, var: u8) -> Result<Expr, AllocError>
+        ensures meaning { IfOk result (λ made. syntax.expression made ≡ action_meaning self.old.scope var (action_of tree.now)) }
+        ensures found { OnOk result (HasFound self.old self.new (action_faults self.old.scope (action_of tree.now))) }
+    {
+        match tree {
+            Action::Assigns { assignment, value } => {
+                let value = self.number(value)?;
+                assigned(self.alloc, var, *assignment, value)
+            }
+            Action::Steps(step) => stepped(self.alloc, var, *step),
+        }
+    }
+
+    /// A declaration: its names are declared, and for each with an initialiser a statement is added to `out`. Faults are reported.
+    #[tactic(auto, using(crate::proofs::Firsts::earliest_more))]
+    pub fn declaration(&mut self, tree: &Declaration, out: &mut Vec<Stmt>) -> Result<(), AllocError>
+        ensures gone { OnOk result (HasGone self.old self.new (declaration_walked self.old.scope (declaration_of tree.now))) }
+        ensures added { OnOk result (HasAdded self.old out.old.items out.new.items (declaration_walked self.old.scope (declaration_of tree.now))) }
+    {
+        self.part(&tree.part, out)?;
+        for more in tree.more.iter() {
+            self.part(more, out)?;
+        }
+        Ok(())
+    }
+
+    // A declared name, and its initialiser.
+    #[tactic(auto, using(crate::proofs::Firsts::earliest_more))]
+    fn part(&mut self, tree: &Part, out: &mut Vec<Stmt>) -> Result<(), AllocError>
+        ensures gone { OnOk result (HasGone self.old self.new (part_walked self.old.scope (part_of tree.now))) }
+        ensures added { OnOk result (HasAdded self.old out.old.items out.new.items (part_walked self.old.scope (part_of tree.now))) }
+    {
+        self.need_new(tree);
+        let name = &tree.declared;
+        match &tree.initialiser {
+            Some(initialiser) => {
+                let value = self.number(initialiser)?;
+                self.scope.declare(self.alloc, &name.bytes)?;
+                let var = self.scope.place(&name.bytes);
+                self.add(name.at, StmtKind::Assign { var, value }, out)
+            }
+            None => self.scope.declare(self.alloc, &name.bytes),
+        }
+    }
+
+    /// Adds a statement to `out`, at the offset of the token `at`.
+    pub fn add(&self, at: usize, kind: StmtKind, out: &mut Vec<Stmt>) -> Result<(), AllocError>
+        ensures meaning { OnOk result (syntax.parts out.new.items ≡ syntax.parts out.old.items ++ syntax.statement kind ∷ []) }
+        ensures offsets { OnOk result (all_offsets out.new.items ≡ all_offsets out.old.items ++ offsets_at (offset_in self.now.tokens.now at) kind) }
+    {
+        out.push(Stmt {
+            at: self.offset(at),
+            kind,
+        })?;
+        Ok(())
+    }
 }
 
 /// The number of a simple statement's first token.
@@ -53,36 +105,6 @@ pub fn simple_at(tree: &Simple) -> usize
     match tree {
         Simple::Acts { name, .. } => name.at,
         Simple::StepsBefore { at, .. } => *at,
-    }
-}
-
-fn assign(at: u32, var: u8, value: Expr) -> Stmt
-    ensures meaning { syntax.statement result.kind ≡ syntax.assign var (syntax.expression value) }
-    ensures places { statement_places result ≡ at ∷ [] }
-{
-    Stmt {
-        at,
-        kind: StmtKind::Assign { var, value },
-    }
-}
-
-// What a variable is given behind its name.
-fn action(
-    alloc: Global,
-    scope: &Scope,
-    tree: &Action,
-    var: u8,
-    least: &mut Option<Fault>,
-) -> Result<Expr, AllocError>
-    ensures meaning { IfOk result (λ made. syntax.expression made ≡ action_meaning scope.now var (action_of tree.now)) }
-    ensures faults { OnOk result (least.new ≡ earliest least.old (action_faults scope.now (action_of tree.now))) }
-{
-    match tree {
-        Action::Assigns { assignment, value } => {
-            let value = number(alloc, scope, value, least)?;
-            assigned(alloc, var, *assignment, value)
-        }
-        Action::Steps(step) => stepped(alloc, var, *step),
     }
 }
 
@@ -117,63 +139,4 @@ fn pair(alloc: Global, op: Op2, left: Expr, right: Expr) -> Result<Expr, AllocEr
         left: Box::new(alloc, left)?,
         right: Box::new(alloc, right)?,
     })
-}
-
-/// A declaration: its names are declared, and for each with an initialiser a statement is added to `out`, with the name's place in the
-/// text. Faults are reported.
-#[tactic(auto, using(crate::proofs::Firsts::earliest_more))]
-pub fn declaration(
-    alloc: Global,
-    tokens: &[Token],
-    scope: &mut Scope,
-    tree: &Declaration,
-    least: &mut Option<Fault>,
-    out: &mut Vec<Stmt>,
-) -> Result<(), AllocError>
-    ensures scope { OnOk result (scope.new ≡ declaration_scope scope.old (declaration_of tree.now)) }
-    ensures meaning { OnOk result (syntax.parts out.new.items ≡ syntax.parts out.old.items ++ declaration_meaning scope.old (declaration_of tree.now)) }
-    ensures places { OnOk result (all_places out.new.items ≡ all_places out.old.items ++ places_in tokens.now (declaration_tokens (declaration_of tree.now))) }
-    ensures faults { OnOk result (least.new ≡ earliest least.old (declaration_faults scope.old (declaration_of tree.now))) }
-{
-    part(alloc, tokens, scope, &tree.part, least, out)?;
-    for more in tree.more.iter() {
-        part(alloc, tokens, scope, more, least, out)?;
-    }
-    Ok(())
-}
-
-// A declared name, and its initialiser.
-#[tactic(auto, using(crate::proofs::Firsts::earliest_more))]
-fn part(
-    alloc: Global,
-    tokens: &[Token],
-    scope: &mut Scope,
-    tree: &Part,
-    least: &mut Option<Fault>,
-    out: &mut Vec<Stmt>,
-) -> Result<(), AllocError>
-    ensures scope { OnOk result (scope.new ≡ part_scope scope.old (part_of tree.now)) }
-    ensures meaning { OnOk result (syntax.parts out.new.items ≡ syntax.parts out.old.items ++ part_meaning scope.old (part_of tree.now)) }
-    ensures places { OnOk result (all_places out.new.items ≡ all_places out.old.items ++ places_in tokens.now (part_tokens (part_of tree.now))) }
-    ensures faults { OnOk result (least.new ≡ earliest least.old (part_faults scope.old (part_of tree.now))) }
-{
-    scope.need_new(tree, least);
-    let name = &tree.declared;
-    match &tree.initialiser {
-        Some(initialiser) => {
-            let value = number(alloc, scope, initialiser, least)?;
-            scope.declare(alloc, &name.bytes)?;
-            let place = place_of(tokens, name.at);
-            out.push(assign(place, scope.place(&name.bytes), value))?;
-        }
-        None => scope.declare(alloc, &name.bytes)?,
-    }
-    Ok(())
-}
-
-/// The place in the text of a token, by its number.
-pub fn place_of(tokens: &[Token], number: usize) -> u32
-    ensures { result ≡ place_in tokens.now number }
-{
-    start_of(tokens, number, 0)
 }

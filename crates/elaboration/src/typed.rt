@@ -3,10 +3,10 @@
 ghost use Rattle.std.specs.Prelude.{◌≡◌, IfOk};
 ghost use Rattle.step_meaning.specs.Syntax.{expression};
 ghost use Rattle.elaboration.specs.Expressions.{as_test, mixed};
-ghost use Rattle.elaboration.specs.Faults.{earliest};
-ghost use Rattle.elaboration.specs.Typing.{typed_of};
+ghost use Rattle.elaboration.specs.Walking.{HasFound};
 
-use crate::fault::{Fault, Rule, report};
+use crate::fault::Rule;
+use crate::walk::Walk;
 use std::alloc::{AllocError, Global};
 use step_meaning::{Expr, Op2};
 
@@ -28,22 +28,17 @@ pub struct Typed {
 }
 
 impl Typed {
-    /// The expression as a number. A truth value is reported.
-    pub fn into_number(self, least: &mut Option<Fault>) -> Expr
-        ensures meaning { expression result ≡ (typed_of self).meaning }
-        ensures faults { least.new ≡ earliest least.old (mixed (typed_of self)) }
-    {
-        self.need_number(least);
-        self.expr
-    }
+    ghost use Rattle.elaboration.specs.Typing.{typed_of};
 
-    /// Reports a truth value in the place of a number.
-    pub fn need_number(&self, least: &mut Option<Fault>)
-        ensures { least.new ≡ earliest least.old (mixed (typed_of self.now)) }
+    /// The expression as a number. A truth value is reported.
+    pub fn into_number(self, walk: &mut Walk) -> Expr
+        ensures meaning { expression result ≡ (typed_of self).meaning }
+        ensures found { HasFound walk.old walk.new (mixed (typed_of self)) }
     {
         if let Sort::Truth = self.sort {
-            report(least, Rule::Mixed, self.first);
+            walk.report(Rule::Mixed, self.first);
         }
+        self.expr
     }
 
     /// The expression as a test: a number is compared with 0.

@@ -20,10 +20,10 @@ module _ (left : Option Bytes) where
   pub usage_known : EachWhole (IsKnown left) usage_text
   usage_known = one_good (IsKnown left) usage_line usage_text usage_lacks (inr (inr words)) refl
 
-  pub fault_known : (number place : ℕ) → EachWhole (IsKnown left) (fault_text number place)
-  fault_known number place =
-      one_good (IsKnown left) (fault_line number place) (fault_text number place) (fault_lacks number place)
-      (inr (inr (program number place))) refl
+  pub fault_known : (number offset : ℕ) → EachWhole (IsKnown left) (fault_text number offset)
+  fault_known number offset =
+      one_good (IsKnown left) (fault_line number offset) (fault_text number offset) (fault_lacks number offset)
+      (inr (inr (program number offset))) refl
 
   header_known : (header : Header) → All (IsKnown left) (exact_part header [])
   header_known header = all_of (IsKnown left) (exact_part header []) (λ line member. inr (inl (exact_head header line member)))

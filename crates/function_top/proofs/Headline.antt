@@ -81,7 +81,7 @@ due_true known order text names body SomeInputs bytes h due = report_on known or
 due_true known order text names body Program bytes h (inl long) = subst (EachWhole (SaysTrue names body)) (sym long.line_is) (fault_true names body known.ending 14 65536)
 due_true known order text names body Program bytes h (inr (inl other)) = absurd (other.none names body h)
 due_true known order text names body Program bytes h (inr (inr past)) =
-    subst (EachWhole (SaysTrue names body)) (sym past.line_is) (fault_true names body known.ending past.number past.place)
+    subst (EachWhole (SaysTrue names body)) (sym past.line_is) (fault_true names body known.ending past.number past.offset)
 due_true known order text names body Words bytes h due = absurd due
 due_true known order text names body Formula bytes h due = absurd due
 due_true known order text names body ReadFault bytes h due = absurd due
@@ -105,8 +105,8 @@ pub due_known : KnownTexts → (order : Order) (left : Option Bytes) (text : Byt
 due_known known order left text read AllInputs bytes due = known_report known order left text read due.0 bytes due.1
 due_known known order left text read SomeInputs bytes due = known_report known order left text read due.0 bytes due.1
 due_known known order left text read Program bytes (inl long) = subst (EachWhole (IsKnown left)) (sym long.line_is) (fault_known left 14 65536)
-due_known known order left text read Program bytes (inr (inl other)) = subst (EachWhole (IsKnown left)) (sym other.line_is) (fault_known left other.number other.place)
-due_known known order left text read Program bytes (inr (inr past)) = subst (EachWhole (IsKnown left)) (sym past.line_is) (fault_known left past.number past.place)
+due_known known order left text read Program bytes (inr (inl other)) = subst (EachWhole (IsKnown left)) (sym other.line_is) (fault_known left other.number other.offset)
+due_known known order left text read Program bytes (inr (inr past)) = subst (EachWhole (IsKnown left)) (sym past.line_is) (fault_known left past.number past.offset)
 due_known known order left text read Words bytes due = absurd due
 due_known known order left text read Formula bytes due = absurd due
 due_known known order left text read ReadFault bytes due = absurd due

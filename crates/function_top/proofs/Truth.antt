@@ -59,14 +59,14 @@ usage_lacks = tested usage_line refl
 abbrev fault_front : ℕ → Bytes
 fault_front number = codes "program: " ++ (numeral number ++ codes " at ")
 
-fault_is : (number place : ℕ) → fault_line number place ≡ fault_front number ++ numeral place
-fault_is number place = simp append_assoc
+fault_is : (number offset : ℕ) → fault_line number offset ≡ fault_front number ++ numeral offset
+fault_is number offset = simp append_assoc
 
-pub fault_lacks : (number place : ℕ) → Lacks (fault_line number place)
-fault_lacks number place =
-    both_lack (codes "program: ") (numeral number ++ (codes " at " ++ numeral place)) (tested (codes "program: ") refl)
-    (both_lack (numeral number) (codes " at " ++ numeral place) (digits_lack (numeral number) (numeral_is_numeral number).1)
-    (both_lack (codes " at ") (numeral place) (tested (codes " at ") refl) (digits_lack (numeral place) (numeral_is_numeral place).1)))
+pub fault_lacks : (number offset : ℕ) → Lacks (fault_line number offset)
+fault_lacks number offset =
+    both_lack (codes "program: ") (numeral number ++ (codes " at " ++ numeral offset)) (tested (codes "program: ") refl)
+    (both_lack (numeral number) (codes " at " ++ numeral offset) (digits_lack (numeral number) (numeral_is_numeral number).1)
+    (both_lack (codes " at ") (numeral offset) (tested (codes " at ") refl) (digits_lack (numeral offset) (numeral_is_numeral offset).1)))
 
 -- whatever the line says over the names is true of the program
 abbrev pub SaysTrue : List Bytes → Statements → Bytes → Type 0
@@ -82,12 +82,12 @@ module _ (names : List Bytes) (body : Statements) (ending : EndAsLines) where
       one_good (SaysTrue names body) usage_line usage_text usage_lacks
       (silent usage_line (other_last usage_line (λ e. omega arith) (λ e. omega arith) (λ e. omega arith))) refl
 
-  pub fault_true : (number place : ℕ) → EachWhole (SaysTrue names body) (fault_text number place)
-  fault_true number place =
-      let digits = numeral_is_numeral place in
-      one_good (SaysTrue names body) (fault_line number place) (fault_text number place) (fault_lacks number place)
-      (silent (fault_line number place)
-      (subst (λ line. EndsAsLine line → ⊥) (sym (fault_is number place)) (digit_last (fault_front number) (numeral place) digits.0 digits.1)))
+  pub fault_true : (number offset : ℕ) → EachWhole (SaysTrue names body) (fault_text number offset)
+  fault_true number offset =
+      let digits = numeral_is_numeral offset in
+      one_good (SaysTrue names body) (fault_line number offset) (fault_text number offset) (fault_lacks number offset)
+      (silent (fault_line number offset)
+      (subst (λ line. EndsAsLine line → ⊥) (sym (fault_is number offset)) (digit_last (fault_front number) (numeral offset) digits.0 digits.1)))
       refl
 
   stop_silent : (cause : Stop) → SaysTrue names body (stopped_line cause)

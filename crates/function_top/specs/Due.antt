@@ -1,10 +1,10 @@
 -- What is due on a text.
 use Rattle.std.specs.Prelude.{◌≡◌, ◌≢◌, ℕ, ◌<◌, ◌≤◌, ◌⊎◌, List, [], length, Option, None, Some}
 use Rattle.step_meaning.specs.declared.program.Program.{Program as Parsed}
-use Rattle.step_meaning.specs.Places.{places}
+use Rattle.step_meaning.specs.Offsets.{offsets}
 use Rattle.step_meaning.specs.Syntax.{Statements}
 use Rattle.source_parse.specs.declared.fault.ParseFault.{ParseFault}
-use Rattle.source_parse.specs.Derives.{Derives, DerivesNone, HasPlaces, IsTextOf}
+use Rattle.source_parse.specs.Derives.{Derives, DerivesNone, HasOffsets, IsTextOf}
 use Rattle.source_parse.specs.Faults.{IsFaultOf, numbered}
 use Rattle.control_flow.specs.declared.fault.FlowFault.{FlowFault}
 use Rattle.control_flow.specs.declared.fault.FlowFault.TheVariants.{Labels, Conjunctions, Memory}
@@ -38,30 +38,30 @@ pub record IsNoProgram (text line : List ℕ) : Type 0 where
   pub none : DerivesNone text
   pub fault : ParseFault
   pub number : ℕ
-  pub place : ℕ
+  pub offset : ℕ
   pub fault_of : IsFaultOf text fault
-  pub number_of : numbered fault ≡ Some (number, place)
-  pub line_is : line ≡ fault_text number place
+  pub number_of : numbered fault ≡ Some (number, offset)
+  pub line_is : line ≡ fault_text number offset
 
--- the number and the place of a fault of a program's graph
+-- the number and the offset of a fault of a program's graph
 abbrev pub flow_numbered : FlowFault → Option (ℕ × ℕ)
 flow_numbered (Labels at count) = Some (12, at)
 flow_numbered (Conjunctions at count) = Some (13, at)
 flow_numbered (Memory error) = None
 
--- the text is a program, whose statements stand at these places, with more labels than 1,024 or a test that spreads to more than 64
+-- the text is a program, whose statements stand at these offsets, with more labels than 1,024 or a test that spreads to more than 64
 -- conjunctions; and this is the line that says so
 pub record IsPastLimits (text line : List ℕ) : Type 0 where
   pub short : length text ≤ 65536
   pub program : Parsed
   pub derived : Derives text program
-  pub stand : HasPlaces text (places program.body)
+  pub stand : HasOffsets text (offsets program.body)
   pub fault : FlowFault
   pub number : ℕ
-  pub place : ℕ
+  pub offset : ℕ
   pub fault_of : IsFlowFault fault program.body
-  pub number_of : flow_numbered fault ≡ Some (number, place)
-  pub line_is : line ≡ fault_text number place
+  pub number_of : flow_numbered fault ≡ Some (number, offset)
+  pub line_is : line ≡ fault_text number offset
 
 -- the status of a report with these unknown lines: all inputs exactly where there is none
 abbrev pub IsVerdict : Status → List Line → Type 0
@@ -89,7 +89,7 @@ IsDueOn order text NoMemory bytes = ⊥
 -- so they are on each text of at most 65,536 bytes that is the program
 abbrev pub IsDueOnProgram : Order → Parsed → Status → List ℕ → Type 0
 IsDueOnProgram order program status bytes =
-    (text : List ℕ) → length text ≤ 65536 → Derives text program → HasPlaces text (places program.body) → IsDueOn order text status bytes
+    (text : List ℕ) → length text ≤ 65536 → Derives text program → HasOffsets text (offsets program.body) → IsDueOn order text status bytes
 
 -- The text is of at most 65,536 bytes, and past no limit of its graph.
 pub record IsWithinLimits (text : List ℕ) : Type 0 where

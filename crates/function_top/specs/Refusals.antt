@@ -9,9 +9,9 @@ usage_line = codes "usage: function [--ctl TEXT] [--domain boxes|octagons|polyhe
 abbrev pub usage_text : List ℕ
 usage_text = usage_line ++ 10 ∷ []
 
--- the line of a fault of a program: its number and its place
+-- the line of a fault of a program: its number and its offset
 abbrev pub fault_line : ℕ → ℕ → List ℕ
-fault_line number place = codes "program: " ++ (numeral number ++ (codes " at " ++ numeral place))
+fault_line number offset = codes "program: " ++ (numeral number ++ (codes " at " ++ numeral offset))
 
 abbrev pub fault_text : ℕ → ℕ → List ℕ
-fault_text number place = fault_line number place ++ 10 ∷ []
+fault_text number offset = fault_line number offset ++ 10 ∷ []

@@ -70,7 +70,7 @@ fn answer_to(
     match parse(alloc, text) {
         Ok(program) => Ok(answer_on(alloc, order, &program, advisers)?),
         Err(fault) => match fault.numbered() {
-            Some((number, place)) => Ok(refused(alloc, number, place)?),
+            Some((number, offset)) => Ok(refused(alloc, number, offset)?),
             None => Err(AllocError),
         },
     }
@@ -151,12 +151,12 @@ fn too_long(alloc: Global) -> Result<Due, AllocError>
 }
 
 // The line of a fault.
-fn refused(alloc: Global, number: u8, place: u32) -> Result<Due, AllocError>
-    ensures line { IfOk result (λ due. due.bytes.items ≡ fault_text number place) }
+fn refused(alloc: Global, number: u8, offset: u32) -> Result<Due, AllocError>
+    ensures line { IfOk result (λ due. due.bytes.items ≡ fault_text number offset) }
     ensures status { IfOk result (λ due. due.status ≡ Status.Program) }
 {
     Ok(Due {
-        bytes: fault_line(alloc, number, place)?,
+        bytes: fault_line(alloc, number, offset)?,
         status: Status::Program,
     })
 }

@@ -66,15 +66,15 @@ fn verdict(unknown: &Lines) -> Status
     }
 }
 
-/// The line of a program's fault, by its number and its place. The only error is want of memory.
-pub fn fault(alloc: Global, number: u8, place: u32) -> Result<Vec<u8>, AllocError>
-    ensures { IfOk result (λ text. text.items ≡ fault_text number place) }
+/// The line of a program's fault, by its number and its offset. The only error is want of memory.
+pub fn fault(alloc: Global, number: u8, offset: u32) -> Result<Vec<u8>, AllocError>
+    ensures { IfOk result (λ text. text.items ≡ fault_text number offset) }
 {
     let mut text = Vec::new(alloc);
     text.extend_from_slice(b"program: ")?;
     push_numeral(&mut text, u128::from(number))?;
     text.extend_from_slice(b" at ")?;
-    push_numeral(&mut text, u128::from(place))?;
+    push_numeral(&mut text, u128::from(offset))?;
     text.push(b'\n')?;
     Ok(text)
 }

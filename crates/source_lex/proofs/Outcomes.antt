@@ -1,4 +1,4 @@
--- At each place of a text the lexer meets one thing only.
+-- At each offset of a text the lexer meets one thing only.
 use Rattle.std.proofs.Common.{◌≡◌, ℕ, ◌+◌, ◌^◌, ◌<◌, ◌≤◌, Bool, true, false, List, length, slice_index, slice_range, ⊎_elim, inl, inr, refl, sym, ◌∙◌, ap, subst, arith, pos}
 use Rattle.std.specs.Prelude.{if◌then◌else◌, nat_le, ◌==◌, ◌&&◌}
 use Rattle.std.proofs.lemmas.Bool.{cases_lt, false≢true}
@@ -15,7 +15,7 @@ use Rattle.source_lex.specs.declared.token.Kind.{Kind}
 use Rattle.source_lex.specs.declared.token.Kind.TheVariants.{Number, Name, Sign}
 use Rattle.source_lex.proofs.ByteLemmas.{blank-letter, blank-digit, letter-digit, plain-single, plain-double, plain_parts, not_both, within_when}
 
--- what is met at a place: the text's end, a gap up to a place, a token up to a place, a fault
+-- what is met at an offset: the text's end, a gap up to an offset, a token up to an offset, a fault
 pub data Outcome : Type 0 where
   over : Outcome
   passed : ℕ → Outcome
@@ -110,7 +110,7 @@ rule_unique text i h o p at_double at_double = refl
 rule_unique text i h o p at_single at_single = refl
 rule_unique text i h o p at_nothing at_nothing = refl
 
--- two things that are met at one place are the same
+-- two things that are met at one offset are the same
 pub one_outcome : (text : List ℕ) (i : ℕ) (o p : Outcome) → Meets text i o → Meets text i p → o ≡ p
 one_outcome text i o p one other = rule_unique text i (head_at text i) o p one.rule other.rule
 

@@ -11,7 +11,7 @@ use Rattle.source_lex.specs.declared.fault.LexFault.TheVariants.{BadByte, BigNum
 use Rattle.source_lex.specs.declared.token.Kind.{Kind}
 use Rattle.source_lex.specs.declared.token.Token.{Token}
 
--- what is read from place i on, put behind these tokens, is what the whole text is read as
+-- what is read from offset i on, put behind these tokens, is what the whole text is read as
 pub record Reached (text : List ℕ) (i : ℕ) (tokens : List Token) : Type 0 where
   pub within : i ≤ length text
   pub reads : (rest : List Token) → TokensFrom text i rest → TokensOf text (tokens ++ rest)
@@ -37,7 +37,7 @@ reached_token text i j kind tokens within r t = record {
 pub reached_end : (text : List ℕ) (i : ℕ) (tokens : List Token) → length text ≤ i → Reached text i tokens → TokensOf text tokens
 reached_end text i tokens past r = rw append-nil at (r.reads [] (finish i (omega (arith, r.within))))
 
--- the fault that is met at this place is the answer
+-- the fault that is met at this offset is the answer
 pub reached_fault : (text : List ℕ) (i : ℕ) (tokens : List Token) (fault : LexFault) → Reached text i tokens → FaultAt text i fault → IsFaultAnswer text fault
 reached_fault text i tokens (BadByte at) r h = r.meets (BadByte at) (here i h)
 reached_fault text i tokens (BigNumber at) r h = r.meets (BigNumber at) (here i h)

@@ -17,7 +17,7 @@ tokens_within text i tokens (token _ j kind others t rest) =
     let moves = moves-token text i j kind t in
     All-cons (IsWithin text) _ others (record { nonempty = moves.forward; inside = moves.within }) (tokens_within text j others rest)
 
--- what lies in order behind a place lies in order behind an earlier one
+-- what lies in order behind an offset lies in order behind an earlier one
 in_order_earlier : (i j : ℕ) (tokens : List Token) → i ≤ j → InOrderFrom j tokens → InOrderFrom i tokens
 in_order_earlier i j [] earlier h = tt
 in_order_earlier i j (t ∷ ts) earlier h = (omega (arith, h.0), h.1)

@@ -1,4 +1,4 @@
--- Tokens by their places against tokens by their bytes.
+-- Tokens by their offsets against tokens by their bytes.
 use Rattle.std.proofs.Common.{◌≡◌, ℕ, suc, ◌+◌, ◌-◌, ◌<◌, ◌≤◌, Bool, true, false, List, [], ◌∷◌, length, slice_index, slice_range, drop, length-take-le, length-drop, get_or-take, get_or-drop, drop-cons, add-one, IsTrue, sym, refl, ap, ◌∙◌, subst, inl, inr, ⊎_elim, arith, pos, ℤ}
 use Rattle.std.specs.Prelude.{All, Contains, codes, ◌==◌, ◌&&◌, ◌⊎◌}
 use Rattle.std.specs.List.{list_any, list_all}

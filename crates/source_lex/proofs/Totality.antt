@@ -34,7 +34,7 @@ run_longer test text i j first run = record {
 run_empty : (test : ℕ → Bool) (text : List ℕ) (i : ℕ) → i ≤ length text → (i < length text → test (slice_index text i) ≡ false) → Run test text i i
 run_empty test text i within ends = record { forward = omega arith; within = within; each = λ k from below. absurd (omega arith); ends = ends }
 
--- from each place there is a run
+-- from each offset there is a run
 run_from : (n : ℕ) (test : ℕ → Bool) (text : List ℕ) (i : ℕ) → i + n ≡ length text → (j : ℕ) × Run test text i j
 run_from zero test text i room = (i, run_empty test text i (omega arith) (λ inside. absurd (omega arith)))
 run_from (suc n) test text i room =
@@ -46,7 +46,7 @@ run_from (suc n) test text i room =
 run_exists : (test : ℕ → Bool) (text : List ℕ) (i : ℕ) → i ≤ length text → (j : ℕ) × Run test text i j
 run_exists test text i within = run_from (length text - i) test text i (omega arith)
 
--- whether `*/` is at a place
+-- whether `*/` is at an offset
 closes_or_not : (text : List ℕ) (i : ℕ) → ClosesBlock text i ⊎ (ClosesBlock text i → ⊥)
 closes_or_not text i =
     ⊎_elim
@@ -54,7 +54,7 @@ closes_or_not text i =
     (λ no_star. inr (λ closes. no_star closes.0))
     (cases_eq (slice_index text i) 42)
 
--- from each place on there is a first `*/` or none
+-- from each offset on there is a first `*/` or none
 close_from : (n : ℕ) (text : List ℕ) (i : ℕ) → length text ≤ i + n → ((close : ℕ) × FirstCloseAt text i close) ⊎ NeverCloses text i
 close_from zero text i room = inr (λ k from closes. let inside = within_when text k 42 closes.0 (omega arith) in omega arith)
 close_from (suc n) text i room =
@@ -78,7 +78,7 @@ close_from (suc n) text i room =
     (close_from n text (i + 1) (omega arith)))
     (closes_or_not text i)
 
--- what is met at a place
+-- what is met at an offset
 abbrev Step : List ℕ → ℕ → Type 0
 Step text i = ((j : ℕ) × GapAt text i j) ⊎ (((j : ℕ) × (kind : Kind) × TokenAt text i j kind) ⊎ ((fault : LexFault) × FaultAt text i fault))
 
@@ -145,7 +145,7 @@ step-sign text i inside no_blank no_letter no_digit no_slash =
     (cases_Bool (is_single_sign (slice_index text i))))
     (cases_Bool (is_double_sign (slice_index text i) (slice_index text (i + 1))))
 
--- at each place within the text something is met
+-- at each offset within the text something is met
 step : (text : List ℕ) (i : ℕ) → i < length text → Step text i
 step text i inside =
     ⊎_elim
@@ -164,7 +164,7 @@ step text i inside =
     (cases_Bool (is_letter (slice_index text i))))
     (cases_Bool (is_blank (slice_index text i)))
 
--- from each place on there are tokens or a first fault
+-- from each offset on there are tokens or a first fault
 pub read_from : (n : ℕ) (text : List ℕ) (i : ℕ) → i ≤ length text → length text ≤ i + n → ((tokens : List Token) × TokensFrom text i tokens) ⊎ ((fault : LexFault) × FaultFrom text fault i)
 read_from zero text i within room = inl ([], finish i (omega arith))
 read_from (suc n) text i within room =

@@ -44,7 +44,7 @@ FaultAt text i (BigNumber at) = BigLiteralAt text i × (at ≡ i)
 FaultAt text i (OpenComment at) = UnclosedAt text i × (at ≡ i)
 FaultAt text i (Memory _) = ⊥
 
--- from place i on, gaps and tokens lead up to this fault
+-- from offset i on, gaps and tokens lead up to this fault
 pub data FaultFrom (text : List ℕ) (fault : LexFault) : ℕ → Type 0 where
   -- it is met here
   here : (i : ℕ) → FaultAt text i fault → FaultFrom text fault i

@@ -1,4 +1,4 @@
--- What the lexer meets at a place.
+-- What the lexer meets at an offset.
 use Rattle.std.specs.Prelude.{ℕ, List}
 use Rattle.source_lex.specs.Gaps.{GapAt}
 use Rattle.source_lex.specs.Words.{TokenAt}

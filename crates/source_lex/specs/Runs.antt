@@ -1,4 +1,4 @@
--- Places in a text. A place is a number of bytes from the text's start; a byte past the text's end reads as 0.
+-- Offsets in a text. An offset is a number of bytes from the text's start; a byte past the text's end reads as 0.
 use Rattle.std.specs.Prelude.{ℕ, ◌<◌, ◌≤◌, Bool, List, length, IsTrue, slice_index}
 use Rattle.std.specs.Bool.{IsFalse}
 

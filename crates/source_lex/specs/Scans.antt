@@ -4,14 +4,14 @@ use Rattle.std.specs.Bool.{IsFalse}
 use Rattle.source_lex.specs.Gaps.{ClosesBlock}
 use Rattle.source_lex.specs.Signs.{is_single_sign, is_double_sign}
 
--- the first `*/` from a place on is at close, within the text
+-- the first `*/` from an offset on is at close, within the text
 pub record FirstCloseAt (text : List ℕ) (from close : ℕ) : Type 0 where
   pub behind : from ≤ close
   pub within : close + 2 ≤ length text
   pub closes : ClosesBlock text close
   pub first : (k : ℕ) → from ≤ k → k < close → ClosesBlock text k → ⊥
 
--- there is no `*/` from a place on
+-- there is no `*/` from an offset on
 abbrev pub NeverCloses : List ℕ → ℕ → Type 0
 NeverCloses text from = (k : ℕ) → from ≤ k → ClosesBlock text k → ⊥
 

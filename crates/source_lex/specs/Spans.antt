@@ -7,7 +7,7 @@ pub record IsWithin (text : List ℕ) (token : Token) : Type 0 where
   pub nonempty : token.start < token.end
   pub inside : token.end ≤ length text
 
--- the tokens lie one behind the other, from place i on
+-- the tokens lie one behind the other, from offset i on
 abbrev pub InOrderFrom : ℕ → List Token → Type 0
 InOrderFrom i [] = Unit {0}
 InOrderFrom i (token ∷ tokens) = (i ≤ token.start) × InOrderFrom token.end tokens

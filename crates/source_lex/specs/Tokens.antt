@@ -5,7 +5,7 @@ use Rattle.source_lex.specs.Words.{TokenAt}
 use Rattle.source_lex.specs.declared.token.Kind.{Kind}
 use Rattle.source_lex.specs.declared.token.Token.{Token}
 
--- from place i to its end the text is these tokens, with only blanks and comments before, between and behind them
+-- from offset i to its end the text is these tokens, with only blanks and comments before, between and behind them
 pub data TokensFrom (text : List ℕ) : ℕ → List Token → Type 0 where
   -- nothing is left
   finish : (i : ℕ) → i ≡ length text → TokensFrom text i []

@@ -1,4 +1,4 @@
--- The tokens by their places in the text, each the longest that begins where it begins.
+-- The tokens by their offsets in the text, each the longest that begins where it begins.
 use Rattle.std.specs.Prelude.{◌≡◌, ◌≢◌, ℕ, ◌+◌, ◌-◌, ◌*◌, ◌^◌, ◌<◌, ◌⊎◌, ℤ, pos, List, length, fold, IsTrue, slice_index, slice_range}
 use Rattle.std.specs.Bool.{IsFalse}
 use Rattle.source_lex.specs.Bytes.{is_letter, is_digit, is_name_byte}

@@ -3,7 +3,7 @@
 use std::alloc::AllocError;
 use thiserror::Error;
 
-/// The first fault of a text, with its place in bytes from the text's start.
+/// The first fault of a text, with its offset in bytes from the text's start.
 #[derive(Debug, Drop, Error)]
 pub enum LexFault {
     /// A byte that begins no token, or directly behind a number a letter, `_` or, behind a leading `0`, a digit.

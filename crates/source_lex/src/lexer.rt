@@ -13,10 +13,10 @@ use std::alloc::{AllocError, Global};
 /// The tokens of the text, in order, or the first fault of the text.
 ///
 /// Blanks (space, tab, line feed, carriage return, vertical tab, form feed) and comments (`/* */`, and `//` up to
-/// the line feed) stand between tokens and are no tokens. Each token is the longest that begins at its place. The
+/// the line feed) stand between tokens and are no tokens. Each token is the longest that begins at its offset. The
 /// text has at most 65,536 bytes. Time is linear in the text; memory is the token list.
 ///
-/// Faults, each with its place: `BadByte`, `BigNumber`, `OpenComment`; `Memory` where the token list finds no room.
+/// Faults, each with its offset: `BadByte`, `BigNumber`, `OpenComment`; `Memory` where the token list finds no room.
 pub fn lex(alloc: Global, text: &[u8]) -> Result<Vec<Token>, LexFault>
     requires { length text.now ≤ 65536 }
     ensures tokens { IfOk result (λ tokens. TokensOf text.now tokens.items) }

@@ -10,7 +10,7 @@ use crate::fault::LexFault;
 use crate::scan::{ByteClass, byte_at, close_at, decimal_value, literal_end, run_end, sign_end};
 use crate::token::Kind;
 
-/// What begins at a place, with the place where it ends.
+/// What begins at an offset, with the offset where it ends.
 #[derive(Clone, Copy)]
 pub enum Piece {
     /// A blank or a comment.
@@ -19,7 +19,7 @@ pub enum Piece {
     Token(Kind, usize),
 }
 
-/// The piece that begins at a place of the text, or the fault that is met there.
+/// The piece that begins at an offset of the text, or the fault that is met there.
 pub fn next_piece(text: &[u8], at: usize) -> Result<Piece, LexFault>
     requires inside { at < length text.now }
     requires small { length text.now < 2 ^ 32 }
@@ -42,7 +42,7 @@ pub fn next_piece(text: &[u8], at: usize) -> Result<Piece, LexFault>
     }
 }
 
-// The comment that begins with the `/` at a place.
+// The comment that begins with the `/` at an offset.
 fn comment(text: &[u8], at: usize) -> Result<Piece, LexFault>
     requires slash { slice_index text.now at ≡ 47 }
     requires inside { at < length text.now }
@@ -59,7 +59,7 @@ fn comment(text: &[u8], at: usize) -> Result<Piece, LexFault>
     }
 }
 
-// The number that begins with the digit at a place.
+// The number that begins with the digit at an offset.
 fn number(text: &[u8], at: usize) -> Result<Piece, LexFault>
     requires digit { IsTrue (is_digit (slice_index text.now at)) }
     requires inside { at < length text.now }

@@ -36,14 +36,14 @@ impl ByteClass {
     }
 }
 
-/// The byte at a place, or 0 past the end.
+/// The byte at an offset, or 0 past the end.
 pub fn byte_at(text: &[u8], at: usize) -> u8
     ensures { result ≡ slice_index text.now at }
 {
     if at < text.len() { text[at] } else { 0 }
 }
 
-/// Where the run of bytes of a class ends that begins at a place.
+/// Where the run of bytes of a class ends that begins at an offset.
 pub fn run_end(text: &[u8], from: usize, class: ByteClass) -> usize
     requires { from ≤ length text.now }
     ensures { Run (has class) text.now from result }
@@ -55,7 +55,7 @@ pub fn run_end(text: &[u8], from: usize, class: ByteClass) -> usize
     at
 }
 
-/// Where the first `*/` from a place on begins.
+/// Where the first `*/` from an offset on begins.
 pub fn close_at(text: &[u8], from: usize) -> Option<usize>
     requires within { from ≤ length text.now }
     requires small { length text.now < 2 ^ 32 }
@@ -71,7 +71,7 @@ pub fn close_at(text: &[u8], from: usize) -> Option<usize>
     None
 }
 
-/// Where the decimal literal ends that begins with the digit at a place.
+/// Where the decimal literal ends that begins with the digit at an offset.
 pub fn literal_end(text: &[u8], at: usize) -> usize
     requires inside { at < length text.now }
     requires digit { IsTrue (is_digit (slice_index text.now at)) }
@@ -98,7 +98,7 @@ pub fn decimal_value(digits: &[u8]) -> u64
     value
 }
 
-/// Where the sign ends that begins at a place, the longest if there are two.
+/// Where the sign ends that begins at an offset, the longest if there are two.
 pub fn sign_end(text: &[u8], at: usize) -> Option<usize>
     requires inside { at < length text.now }
     requires small { length text.now < 2 ^ 32 }

@@ -1,4 +1,4 @@
-//! The language's rules on worked texts, with tokens and places counted by hand.
+//! The language's rules on worked texts, with tokens and offsets counted by hand.
 
 use super::Kind::{Name, Number, Sign};
 use super::*;

@@ -15,7 +15,7 @@ pub enum Kind {
     Sign,
 }
 
-/// A token of a text: the bytes from place `start` up to place `end`.
+/// A token of a text: the bytes from offset `start` up to offset `end`.
 #[derive(Clone, Copy, PartialEq, Eq, Debug)]
 pub struct Token {
     pub kind: Kind,

@@ -8,7 +8,7 @@ use Rattle.source_lex.specs.declared.fault.LexFault.TheVariants.{BadByte, BigNum
 use Rattle.source_syntax.specs.declared.fault.SyntaxFault.{SyntaxFault}
 use Rattle.source_syntax.specs.declared.fault.SyntaxFault.TheVariants as S
 use Rattle.source_syntax.specs.Laws.{IsMemory as IsSyntaxMemory, IsSameFault as IsSameSyntaxFault, ProgramsHaveNoFault as SyntaxHasNoFault, TreesAreUnique, FirstFaultsAgree}
-use Rattle.source_syntax.specs.Texts.{IsFaultOf as IsSyntaxFaultOf, place_in}
+use Rattle.source_syntax.specs.Texts.{IsFaultOf as IsSyntaxFaultOf, offset_in}
 use Rattle.elaboration.specs.declared.fault.Fault.{Fault}
 use Rattle.elaboration.specs.declared.fault.Rule.{Rule}
 use Rattle.elaboration.specs.Faults.{fault as fault_at, IsFirstOf}
@@ -68,7 +68,7 @@ same_syntax (S.Broken rule at) (S.Memory error) x y same first second = absurd (
 same_syntax (S.Lex f) (S.Lex g) x y same first second = told_same _ _ x y same first second
 same_syntax (S.Lex f) (S.Broken rule at) x y same first second = told_same _ _ x y same first second
 same_syntax (S.Broken rule at) (S.Lex g) x y same first second = told_same _ _ x y same first second
-same_syntax (S.Broken rule at) (S.Broken other place) x y same first second = told_same _ _ x y same first second
+same_syntax (S.Broken rule at) (S.Broken other offset) x y same first second = told_same _ _ x y same first second
 
 -- want of memory has no number
 memory_number : (s : SyntaxFault) (x : ℕ × ℕ) → IsSyntaxMemory s → syntax_numbered s ≡ Some x → ⊥
@@ -76,16 +76,16 @@ memory_number (S.Memory error) x is told = none-some x told
 memory_number (S.Lex f) x is told = is
 memory_number (S.Broken rule at) x is told = is
 
--- two first faults of names and sorts of one text are at one place and of one rule
-same_names : TreesAreUnique → TokensAreUnique → (text : List ℕ) (rule other : Rule) (at place : ℕ)
-    → HasNamesFault text rule at → HasNamesFault text other place → (rule ≡ other) × (at ≡ place)
-same_names unique tokens text rule other at place h k =
+-- two first faults of names and sorts of one text are at one offset and of one rule
+same_names : TreesAreUnique → TokensAreUnique → (text : List ℕ) (rule other : Rule) (at offset : ℕ)
+    → HasNamesFault text rule at → HasNamesFault text other offset → (rule ≡ other) × (at ≡ offset)
+same_names unique tokens text rule other at offset h k =
     let trees = unique text k.tree h.tree k.spelled h.spelled in
     let lists = tokens text k.tokens h.tokens k.lexed h.lexed in
     let there : IsFirstOf (faults_of h.tree) (fault_at other k.token) = subst (λ t. IsFirstOf (faults_of t) (fault_at other k.token)) trees k.first in
     let same = one_first (faults_of h.tree) (fault_at rule h.token) (fault_at other k.token) h.first there in (
       ap (λ (f : Fault). f.rule) same,
-      h.place ∙ ap (λ (f : Fault). place_in text h.tokens f.token) same ∙ ap (λ ts. place_in text ts k.token) (sym lists) ∙ sym k.place,
+      h.offset ∙ ap (λ (f : Fault). offset_in text h.tokens f.token) same ∙ ap (λ ts. offset_in text ts k.token) (sym lists) ∙ sym k.offset,
     )
 
 agree : TreesAreUnique → TokensAreUnique → SyntaxHasNoFault → FirstFaultsAgree → (text : List ℕ) (fault other : ParseFault) (x y : ℕ × ℕ)
@@ -98,8 +98,8 @@ agree unique tokens clean law text fault other x y (of_syntax s is e) (of_names 
     absurd (memory_number s x (clean text h.tree s h.spelled is) (sym e ∙ told))
 agree unique tokens clean law text fault other x y (of_names rule at h i) (of_syntax s is e) told tells =
     absurd (memory_number s y (clean text h.tree s h.spelled is) (sym e ∙ tells))
-agree unique tokens clean law text fault other x y (of_names rule at h e) (of_names another place k i) told tells =
-    let same = same_names unique tokens text rule another at place h k in
+agree unique tokens clean law text fault other x y (of_names rule at h e) (of_names another offset k i) told tells =
+    let same = same_names unique tokens text rule another at offset h k in
     same_Some x y
     (sym told ∙ e ∙ ap (λ r. Some (number_of r, at)) same.0 ∙ ap (λ n. Some (number_of another, n)) same.1 ∙ sym i ∙ tells)
 

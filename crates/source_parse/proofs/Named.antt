@@ -14,10 +14,10 @@ use Rattle.source_lex.specs.Laws.{TokensSpellTheirKinds}
 use Rattle.source_lex.specs.declared.token.Kind.{Kind}
 use Rattle.source_lex.specs.declared.token.Kind.TheVariants.{Number, Name, Sign}
 use Rattle.source_lex.specs.declared.token.Token.{Token}
-use Rattle.concrete_syntax.specs.Trees.{Part, Declaration, Start, starts_with_nothing, starts_with, declares, Statement, statement_at, StatementKind, simple, skip, braces, conditional, while_loop, do_loop, for_loop, return, Otherwise, without, otherwise, Items, none, declaration, statement, Program}
-use Rattle.source_syntax.specs.Spelling.{sign, leading, opening, optional_pieces, part_pieces, parts_pieces, declaration_pieces, start_pieces, finish_pieces, test_pieces, statement_pieces, statement_kind_pieces, otherwise_pieces, items_pieces, void_pieces, program_pieces}
+use Rattle.concrete_syntax.specs.Trees.{Part, Start, starts_with_nothing, starts_with, declares, Statement, statement_at, StatementKind, simple, skip, braces, conditional, while_loop, do_loop, for_loop, return, Otherwise, without, otherwise, Items, none, declaration, statement, Program}
+use Rattle.source_syntax.specs.Spelling.{sign, leading, opening, optional_pieces, part_pieces, parts_pieces, start_pieces, finish_pieces, test_pieces, statement_pieces, statement_kind_pieces, otherwise_pieces, items_pieces, void_pieces, program_pieces}
 use Rattle.elaboration.specs.Scopes.{Scope, Name as VariableName, is_among, with_variable, most_variables}
-use Rattle.elaboration.specs.Statements.{part_scope, parts_scope, declaration_scope, start_scope, statement_scope, kind_scope, otherwise_scope, items_scope}
+use Rattle.elaboration.specs.Statements.{part_walked, parts_walked, declaration_walked, start_walked, statement_walked, kind_walked, otherwise_walked, items_walked}
 use Rattle.elaboration.specs.Elaborates.{no_names, names_of}
 use Rattle.elaboration.proofs.Declared.{distinct_kept, items_keep}
 use Rattle.source_parse.specs.Laws.{NamesAreDistinct, NamesAreNames}
@@ -85,72 +85,68 @@ variable_named names x h spelled = by_known (is_among names x)
     by_known false = by_room (nat_lt (length names) most_variables)
 
 part_named : (scope : Scope) (levels : ℕ) (part : Part) (behind : List Piece) → Declared scope → Spelled (part_pieces levels part behind)
-    → Declared (part_scope scope part) × Spelled behind
+    → Declared (part_walked scope part).scope × Spelled behind
 part_named scope levels part behind names h =
     (variable_named scope.declared part.declared.bytes names h.0, behind_named (behind_initialiser levels part.initialiser behind) h.1)
 
 parts_named : (scope : Scope) (levels : ℕ) (parts : List Part) (behind : List Piece) → Declared scope → Spelled (parts_pieces levels parts behind)
-    → Declared (parts_scope scope parts) × Spelled behind
+    → Declared (parts_walked scope parts).scope × Spelled behind
 parts_named scope levels [] behind names h = (names, h.1)
 parts_named scope levels (part ∷ more) behind names h =
     let this = part_named scope levels part (parts_pieces levels more behind) names h.1 in
-    parts_named (part_scope scope part) levels more behind this.0 this.1
-
-declaration_named : (scope : Scope) (levels : ℕ) (d : Declaration) (behind : List Piece) → Declared scope
-    → Spelled (declaration_pieces levels d behind) → Declared (declaration_scope scope d) × Spelled behind
-declaration_named scope levels d behind names h = parts_named scope levels (d.part ∷ d.more) behind names (tt, h.1)
+    parts_named (part_walked scope part).scope levels more behind this.0 this.1
 
 start_named : (scope : Scope) (levels : ℕ) (start : Start) (behind : List Piece) → Declared scope → Spelled (start_pieces levels start behind)
-    → Declared (start_scope scope start) × Spelled behind
+    → Declared (start_walked scope start).scope × Spelled behind
 start_named scope levels starts_with_nothing behind names h = (names, h.1)
 start_named scope levels (starts_with s) behind names h = (names, (behind_named (behind_simple levels s (token (leading S.Semicolon) ∷ behind)) h).1)
-start_named scope levels (declares d) behind names h = declaration_named scope levels d behind names h
+start_named scope levels (declares d) behind names h = parts_named scope levels (d.part ∷ d.more) behind names (tt, h.1)
 
 mutual
   statement_named : (scope : Scope) (levels : ℕ) (s : Statement) (behind : List Piece) → Declared scope
-      → Spelled (statement_pieces levels s behind) → Declared (statement_scope scope s) × Spelled behind
-  statement_named scope levels (statement_at at kind) behind names h = kind_named scope levels kind behind names h
+      → Spelled (statement_pieces levels s behind) → Declared (statement_walked scope s).scope × Spelled behind
+  statement_named scope levels (statement_at at kind) behind names h = kind_named scope levels at kind behind names h
 
-  kind_named : (scope : Scope) (levels : ℕ) (kind : StatementKind) (behind : List Piece) → Declared scope
-      → Spelled (statement_kind_pieces levels kind behind) → Declared (kind_scope scope kind) × Spelled behind
-  kind_named scope levels (simple s) behind names h = (names, (behind_named (behind_simple levels s (token (sign S.Semicolon) ∷ behind)) h).1)
-  kind_named scope levels skip behind names h = (names, h.1)
-  kind_named scope levels (braces all) behind names h =
+  kind_named : (scope : Scope) (levels at : ℕ) (kind : StatementKind) (behind : List Piece) → Declared scope
+      → Spelled (statement_kind_pieces levels kind behind) → Declared (kind_walked scope at kind).scope × Spelled behind
+  kind_named scope levels at (simple s) behind names h = (names, (behind_named (behind_simple levels s (token (sign S.Semicolon) ∷ behind)) h).1)
+  kind_named scope levels at skip behind names h = (names, h.1)
+  kind_named scope levels at (braces all) behind names h =
       let this = items_named scope (levels + 1) all (token (sign S.CloseBrace) ∷ behind) names h.1 in
       (this.0, this.1.1)
-  kind_named scope levels (conditional test part other) behind names h =
+  kind_named scope levels at (conditional test part other) behind names h =
       let last = otherwise_pieces (levels + 1) other behind in
       let tested = behind_named (behind_test (levels + 1) test (statement_pieces (levels + 1) part last)) h.1 in
       let this = statement_named scope (levels + 1) part last names tested in
-      otherwise_named (statement_scope scope part) (levels + 1) other behind this.0 this.1
-  kind_named scope levels (while_loop test body) behind names h =
+      otherwise_named (statement_walked scope part).scope (levels + 1) other behind this.0 this.1
+  kind_named scope levels at (while_loop test body) behind names h =
       statement_named scope (levels + 1) body behind names (behind_named (behind_test (levels + 1) test (statement_pieces (levels + 1) body behind)) h.1)
-  kind_named scope levels (do_loop body end test) behind names h =
+  kind_named scope levels at (do_loop body end test) behind names h =
       let last = token (sign S.Semicolon) ∷ behind in
       let this = statement_named scope (levels + 1) body (look (is_at end) ∷ token (sign S.While) ∷ test_pieces (levels + 1) test last) names h.1 in
       (this.0, (behind_named (behind_test (levels + 1) test last) this.1.1).1)
-  kind_named scope levels (for_loop start test step body) behind names h =
+  kind_named scope levels at (for_loop start test step body) behind names h =
       let inner = statement_pieces (levels + 1) body behind in
       let last = token (sign S.Semicolon) ∷ finish_pieces (levels + 1) step inner in
       let started = start_named scope (levels + 1) start (optional_pieces (levels + 1) test last) names h.1.1 in
       let tested = behind_named (behind_optional (levels + 1) test last) started.1 in
-      statement_named (start_scope scope start) (levels + 1) body behind started.0 (behind_named (behind_finish (levels + 1) step inner) tested.1)
-  kind_named scope levels (return value) behind names h = (names, (behind_named (behind_optional levels value (token (sign S.Semicolon) ∷ behind)) h.1).1)
+      statement_named (start_walked scope start).scope (levels + 1) body behind started.0 (behind_named (behind_finish (levels + 1) step inner) tested.1)
+  kind_named scope levels at (return value) behind names h = (names, (behind_named (behind_optional levels value (token (sign S.Semicolon) ∷ behind)) h.1).1)
 
   otherwise_named : (scope : Scope) (levels : ℕ) (other : Otherwise) (behind : List Piece) → Declared scope
-      → Spelled (otherwise_pieces levels other behind) → Declared (otherwise_scope scope other) × Spelled behind
+      → Spelled (otherwise_pieces levels other behind) → Declared (otherwise_walked scope other).scope × Spelled behind
   otherwise_named scope levels without behind names h = (names, h)
   otherwise_named scope levels (otherwise s) behind names h = statement_named scope (levels + 1) s behind names h.1
 
   items_named : (scope : Scope) (levels : ℕ) (all : Items) (behind : List Piece) → Declared scope → Spelled (items_pieces levels all behind)
-      → Declared (items_scope scope all) × Spelled behind
+      → Declared (items_walked scope all).scope × Spelled behind
   items_named scope levels none behind names h = (names, h)
   items_named scope levels (declaration d more) behind names h =
-      let this = declaration_named scope levels d (items_pieces levels more behind) names h in
-      items_named (declaration_scope scope d) levels more behind this.0 this.1
+      let this = parts_named scope levels (d.part ∷ d.more) (items_pieces levels more behind) names (tt, h.1) in
+      items_named (declaration_walked scope d).scope levels more behind this.0 this.1
   items_named scope levels (statement s more) behind names h =
       let this = statement_named scope levels s (items_pieces levels more behind) names h in
-      items_named (statement_scope scope s) levels more behind this.0 this.1
+      items_named (statement_walked scope s).scope levels more behind this.0 this.1
 
 program_named : (p : Program) → Spelled (program_pieces p []) → All SpellsName (names_of p)
 program_named p h =

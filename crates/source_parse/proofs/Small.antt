@@ -8,11 +8,11 @@ use Rattle.source_lex.specs.Laws.{TokensAreInOrder}
 use Rattle.source_lex.specs.Spans.{IsWithin, InOrderFrom}
 use Rattle.source_lex.specs.declared.token.Token.{Token}
 use Rattle.step_meaning.specs.Syntax as syntax
-use Rattle.concrete_syntax.specs.Trees.{Expression, Name, Simple, acts, steps_before, Part, Declaration, Start, starts_with_nothing, starts_with, declares, Statement, statement_at, StatementKind, simple, skip, braces, conditional, while_loop, do_loop, for_loop, return, Otherwise, without, otherwise, Items, none, declaration, statement, Program}
+use Rattle.concrete_syntax.specs.Trees.{Expression, Name, Simple, acts, steps_before, Part, Start, starts_with_nothing, starts_with, declares, Statement, statement_at, StatementKind, simple, skip, braces, conditional, while_loop, do_loop, for_loop, return, Otherwise, without, otherwise, Items, none, declaration, statement, Program}
 use Rattle.source_syntax.specs.Language.{Piece, is_at}
-use Rattle.source_syntax.specs.Spelling.{sign, leading, opening, optional_pieces, simple_pieces, initialiser_pieces, part_pieces, parts_pieces, declaration_pieces, start_pieces, finish_pieces, test_pieces, statement_pieces, statement_kind_pieces, otherwise_pieces, items_pieces, void_pieces, program_pieces}
+use Rattle.source_syntax.specs.Spelling.{sign, leading, opening, optional_pieces, simple_pieces, initialiser_pieces, part_pieces, parts_pieces, start_pieces, finish_pieces, test_pieces, statement_pieces, statement_kind_pieces, otherwise_pieces, items_pieces, void_pieces, program_pieces}
 use Rattle.elaboration.specs.Scopes.{Scope}
-use Rattle.elaboration.specs.Statements.{simple_meaning, optional_simple_meaning, initialiser_meaning, part_scope, part_meaning, parts_meaning, declaration_scope, declaration_meaning, start_scope, start_meaning, optional_test, statement_scope, statement_meaning, kind_meaning, otherwise_meaning, items_meaning}
+use Rattle.elaboration.specs.Statements.{simple_meaning, optional_simple_walked, initialiser_walked, part_walked, parts_walked, declaration_walked, start_walked, optional_test, statement_walked, kind_walked, otherwise_walked, items_walked}
 use Rattle.elaboration.specs.Elaborates.{no_names}
 use Rattle.source_parse.specs.Derives.{IsTextOf}
 use Rattle.source_parse.proofs.Behind.{EndsWith, behind_optional, behind_action, behind_initialiser, behind_test, behind_void, behind_preludes}
@@ -39,111 +39,107 @@ fewer {pieces} {behind} h = omega (arith, ap count h.parted, count_append h.fron
 
 -- What a tree stands for has no more statements than it spells words.
 simple_size : (scope : Scope) (levels : ℕ) (s : Simple) (behind : List Piece)
-    → size (simple_meaning scope s) + count behind ≤ count (simple_pieces levels s behind)
+    → size (simple_meaning scope s ∷ []) + count behind ≤ count (simple_pieces levels s behind)
 simple_size scope levels (acts x action) behind = omega (arith, fewer (behind_action levels action behind))
 simple_size scope levels (steps_before at step x) behind = omega arith
 
 finish_size : (scope : Scope) (levels : ℕ) (s : Option Simple) (behind : List Piece)
-    → size (optional_simple_meaning scope s) + count behind ≤ count (finish_pieces levels s behind)
+    → size (optional_simple_walked scope s).body + count behind ≤ count (finish_pieces levels s behind)
 finish_size scope levels (Some s) behind = omega (arith, simple_size scope levels s (token (sign S.CloseParenthesis) ∷ behind))
 finish_size scope levels None behind = omega arith
 
 initialiser_size : (scope : Scope) (levels : ℕ) (x : Name) (e : Option Expression) (behind : List Piece)
-    → size (initialiser_meaning scope x e) + count behind ≤ 1 + count (initialiser_pieces levels e behind)
+    → size (initialiser_walked scope x e).body + count behind ≤ 1 + count (initialiser_pieces levels e behind)
 initialiser_size scope levels x (Some e) behind = omega (arith, fewer (behind_initialiser levels (Some e) behind))
 initialiser_size scope levels x None behind = omega arith
 
 part_size : (scope : Scope) (levels : ℕ) (part : Part) (behind : List Piece)
-    → size (part_meaning scope part) + count behind ≤ count (part_pieces levels part behind)
+    → size (part_walked scope part).body + count behind ≤ count (part_pieces levels part behind)
 part_size scope levels part behind = omega (arith, initialiser_size scope levels part.declared part.initialiser behind)
 
 parts_size : (scope : Scope) (levels : ℕ) (parts : List Part) (behind : List Piece)
-    → size (parts_meaning scope parts) + count behind ≤ count (parts_pieces levels parts behind)
+    → size (parts_walked scope parts).body + count behind ≤ count (parts_pieces levels parts behind)
 parts_size scope levels [] behind = omega arith
 parts_size scope levels (part ∷ more) behind =
     omega (
       arith,
-      size_append (part_meaning scope part) (parts_meaning (part_scope scope part) more),
+      size_append (part_walked scope part).body (parts_walked (part_walked scope part).scope more).body,
       part_size scope levels part (parts_pieces levels more behind),
-      parts_size (part_scope scope part) levels more behind,
+      parts_size (part_walked scope part).scope levels more behind,
     )
 
-declaration_size : (scope : Scope) (levels : ℕ) (d : Declaration) (behind : List Piece)
-    → size (declaration_meaning scope d) + count behind ≤ count (declaration_pieces levels d behind)
-declaration_size scope levels d behind = omega (arith, parts_size scope levels (d.part ∷ d.more) behind)
-
 start_size : (scope : Scope) (levels : ℕ) (start : Start) (behind : List Piece)
-    → size (start_meaning scope start) + count behind ≤ count (start_pieces levels start behind)
+    → size (start_walked scope start).body + count behind ≤ count (start_pieces levels start behind)
 start_size scope levels starts_with_nothing behind = omega arith
 start_size scope levels (starts_with s) behind = omega (arith, simple_size scope levels s (token (leading S.Semicolon) ∷ behind))
-start_size scope levels (declares d) behind = declaration_size scope levels d behind
+start_size scope levels (declares d) behind = omega (arith, parts_size scope levels (d.part ∷ d.more) behind)
 
 mutual
   statement_size : (scope : Scope) (levels : ℕ) (s : Statement) (behind : List Piece)
-      → size (statement_meaning scope s) + count behind ≤ count (statement_pieces levels s behind)
-  statement_size scope levels (statement_at at kind) behind = kind_size scope levels kind behind
+      → size (statement_walked scope s).body + count behind ≤ count (statement_pieces levels s behind)
+  statement_size scope levels (statement_at at kind) behind = kind_size scope levels at kind behind
 
-  kind_size : (scope : Scope) (levels : ℕ) (kind : StatementKind) (behind : List Piece)
-      → size (kind_meaning scope kind) + count behind ≤ count (statement_kind_pieces levels kind behind)
-  kind_size scope levels (simple s) behind = omega (arith, simple_size scope levels s (token (sign S.Semicolon) ∷ behind))
-  kind_size scope levels skip behind = omega arith
-  kind_size scope levels (braces all) behind = omega (arith, items_size scope (levels + 1) all (token (sign S.CloseBrace) ∷ behind))
-  kind_size scope levels (conditional test part other) behind =
+  kind_size : (scope : Scope) (levels at : ℕ) (kind : StatementKind) (behind : List Piece)
+      → size (kind_walked scope at kind).body + count behind ≤ count (statement_kind_pieces levels kind behind)
+  kind_size scope levels at (simple s) behind = omega (arith, simple_size scope levels s (token (sign S.Semicolon) ∷ behind))
+  kind_size scope levels at skip behind = omega arith
+  kind_size scope levels at (braces all) behind = omega (arith, items_size scope (levels + 1) all (token (sign S.CloseBrace) ∷ behind))
+  kind_size scope levels at (conditional test part other) behind =
       let last = otherwise_pieces (levels + 1) other behind in
       omega (
         arith,
         fewer (behind_test (levels + 1) test (statement_pieces (levels + 1) part last)),
         statement_size scope (levels + 1) part last,
-        otherwise_size (statement_scope scope part) (levels + 1) other behind,
+        otherwise_size (statement_walked scope part).scope (levels + 1) other behind,
       )
-  kind_size scope levels (while_loop test body) behind =
+  kind_size scope levels at (while_loop test body) behind =
       omega (arith, fewer (behind_test (levels + 1) test (statement_pieces (levels + 1) body behind)), statement_size scope (levels + 1) body behind)
-  kind_size scope levels (do_loop body end test) behind =
+  kind_size scope levels at (do_loop body end test) behind =
       let last = token (sign S.Semicolon) ∷ behind in
       omega (
         arith,
         statement_size scope (levels + 1) body (look (is_at end) ∷ token (sign S.While) ∷ test_pieces (levels + 1) test last),
         fewer (behind_test (levels + 1) test last),
       )
-  kind_size scope levels (for_loop start test step body) behind =
-      let inside = start_scope scope start in
+  kind_size scope levels at (for_loop start test step body) behind =
+      let inside = (start_walked scope start).scope in
       let inner = statement_pieces (levels + 1) body behind in
       let last = token (sign S.Semicolon) ∷ finish_pieces (levels + 1) step inner in
       omega (
         arith,
-        size_append (start_meaning scope start) (syntax.while_loop (optional_test inside test) (syntax.of_list (statement_meaning inside body))
-            (syntax.of_list (optional_simple_meaning inside step)) ∷ []),
+        size_append (start_walked scope start).body (syntax.while_loop (optional_test inside test) (syntax.of_list (statement_walked inside body).body)
+            (syntax.of_list (optional_simple_walked inside step).body) ∷ []),
         start_size scope (levels + 1) start (optional_pieces (levels + 1) test last),
         fewer (behind_optional (levels + 1) test last),
         finish_size inside (levels + 1) step inner,
         statement_size inside (levels + 1) body behind,
       )
-  kind_size scope levels (return value) behind = omega (arith, fewer (behind_optional levels value (token (sign S.Semicolon) ∷ behind)))
+  kind_size scope levels at (return value) behind = omega (arith, fewer (behind_optional levels value (token (sign S.Semicolon) ∷ behind)))
 
   otherwise_size : (scope : Scope) (levels : ℕ) (other : Otherwise) (behind : List Piece)
-      → size (otherwise_meaning scope other) + count behind ≤ count (otherwise_pieces levels other behind)
+      → size (otherwise_walked scope other).body + count behind ≤ count (otherwise_pieces levels other behind)
   otherwise_size scope levels without behind = omega arith
   otherwise_size scope levels (otherwise s) behind = omega (arith, statement_size scope (levels + 1) s behind)
 
   items_size : (scope : Scope) (levels : ℕ) (all : Items) (behind : List Piece)
-      → size (items_meaning scope all) + count behind ≤ count (items_pieces levels all behind)
+      → size (items_walked scope all).body + count behind ≤ count (items_pieces levels all behind)
   items_size scope levels none behind = omega arith
   items_size scope levels (declaration d more) behind =
       omega (
         arith,
-        size_append (declaration_meaning scope d) (items_meaning (declaration_scope scope d) more),
-        declaration_size scope levels d (items_pieces levels more behind),
-        items_size (declaration_scope scope d) levels more behind,
+        size_append (declaration_walked scope d).body (items_walked (declaration_walked scope d).scope more).body,
+        parts_size scope levels (d.part ∷ d.more) (items_pieces levels more behind),
+        items_size (declaration_walked scope d).scope levels more behind,
       )
   items_size scope levels (statement s more) behind =
       omega (
         arith,
-        size_append (statement_meaning scope s) (items_meaning (statement_scope scope s) more),
+        size_append (statement_walked scope s).body (items_walked (statement_walked scope s).scope more).body,
         statement_size scope levels s (items_pieces levels more behind),
-        items_size (statement_scope scope s) levels more behind,
+        items_size (statement_walked scope s).scope levels more behind,
       )
 
-body_size : (p : Program) → size (items_meaning no_names p.items) ≤ count (program_pieces p [])
+body_size : (p : Program) → size (items_walked no_names p.items).body ≤ count (program_pieces p [])
 body_size p =
     let close = token (sign S.CloseBrace) ∷ [] in
     let body = token (opening S.OpenBrace 1) ∷ items_pieces 1 p.items close in

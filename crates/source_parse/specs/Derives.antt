@@ -6,8 +6,7 @@ use Rattle.source_lex.specs.declared.token.Token.{Token}
 use Rattle.source_lex.specs.Tokens.{TokensOf}
 use Rattle.concrete_syntax.specs.Trees.{Program as Tree}
 use Rattle.source_syntax.specs.Texts.{IsTextOf as IsSyntaxOf}
-use Rattle.elaboration.specs.Elaborates.{StandsFor}
-use Rattle.elaboration.specs.Places.{program_places}
+use Rattle.elaboration.specs.Elaborates.{StandsFor, program_offsets}
 
 -- the text is the program of these names and this body: its tokens are what some concrete tree spells, within the limits, and that tree has
 -- no fault of names and sorts and stands for them
@@ -20,13 +19,13 @@ pub record IsTextOf (text : List ℕ) (names : List (List ℕ)) (body : Statemen
 abbrev pub Derives : List ℕ → Program → Type 0
 Derives text program = IsTextOf text program.names (statements program.body)
 
--- the text is a program, and these are the places at which its statements stand, in the order of the tree (`Places` of `step_meaning`)
-pub record HasPlaces (text places : List ℕ) : Type 0 where
+-- the text is a program, and these are the offsets at which its statements stand, in the order of the tree (`Offsets` of `step_meaning`)
+pub record HasOffsets (text offsets : List ℕ) : Type 0 where
   pub tree : Tree
   pub spelled : IsSyntaxOf text tree
   pub tokens : List Token
   pub lexed : TokensOf text tokens
-  pub stand : places ≡ program_places tokens tree
+  pub stand : offsets ≡ program_offsets tokens tree
 
 -- the text is no program
 abbrev pub DerivesNone : List ℕ → Type 0

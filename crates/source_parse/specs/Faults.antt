@@ -6,7 +6,7 @@ use Rattle.source_lex.specs.Faults.{FirstFault as FirstLexFault}
 use Rattle.source_lex.specs.declared.fault.LexFault.TheVariants.{BadByte, BigNumber, OpenComment, Memory as LexMemory}
 use Rattle.source_lex.specs.declared.token.Token.{Token}
 use Rattle.concrete_syntax.specs.Trees.{Program}
-use Rattle.source_syntax.specs.Texts.{HasFault as HasSyntaxFault, IsTextOf as IsSyntaxOf, place_in}
+use Rattle.source_syntax.specs.Texts.{HasFault as HasSyntaxFault, IsTextOf as IsSyntaxOf, offset_in}
 use Rattle.elaboration.specs.declared.fault.Rule.{Rule}
 use Rattle.elaboration.specs.Elaborates.{HasFirstFault}
 use Rattle.elaboration.specs.Faults.{fault}
@@ -14,7 +14,7 @@ use Rattle.source_parse.specs.declared.fault.ParseFault.{ParseFault}
 use Rattle.source_parse.specs.declared.fault.ParseFault.TheVariants.{Lex, Expected, Unknown, Twice, Mixed, BadRange, Limit, Memory}
 use Rattle.source_parse.specs.declared.fault.Which.{Which}
 
--- the text is a program by its syntax, and of the faults of names and sorts of its tree the first one breaks this rule at this place
+-- the text is a program by its syntax, and of the faults of names and sorts of its tree the first one breaks this rule at this offset
 pub record HasNamesFault (text : List ℕ) (rule : Rule) (at : ℕ) : Type 0 where
   pub tree : Program
   pub spelled : IsSyntaxOf text tree
@@ -22,7 +22,7 @@ pub record HasNamesFault (text : List ℕ) (rule : Rule) (at : ℕ) : Type 0 whe
   pub lexed : TokensOf text tokens
   pub token : ℕ
   pub first : HasFirstFault tree (fault rule token)
-  pub place : at ≡ place_in text tokens token
+  pub offset : at ≡ offset_in text tokens token
 
 -- What may be answered in place of a program: the first fault of the text's tokens; where it has tokens, the first fault of its syntax;
 -- where it has a tree, the tree's first fault of names and sorts; or that memory ran out. Of a count nothing is said but that it is above
@@ -52,7 +52,7 @@ number_of Rule.Mixed = 7
 number_of Rule.BadRange = 8
 number_of Rule.Variables = 9
 
--- the number of a fault, as its line says it, and its place; want of memory is no fault of a text
+-- the number of a fault, as its line says it, and its offset; want of memory is no fault of a text
 abbrev pub numbered : ParseFault → Option (ℕ × ℕ)
 numbered (Lex (BadByte at)) = Some (1, at)
 numbered (Lex (BigNumber at)) = Some (2, at)

@@ -19,7 +19,7 @@ ProgramsHaveNoFault =
     (text : List ℕ) (names : List (List ℕ)) (body : Statements) (fault : ParseFault) → IsTextOf text names body → IsFaultOf text fault
     → IsMemory fault
 
--- a text has at most one first fault: one number at one place
+-- a text has at most one first fault: one number at one offset
 abbrev pub FaultsAgree : Type 0
 FaultsAgree =
     (text : List ℕ) (fault other : ParseFault) (found there : ℕ × ℕ) → IsFaultOf text fault → IsFaultOf text other

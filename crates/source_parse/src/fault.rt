@@ -17,7 +17,7 @@ pub enum Which {
     Operators,
 }
 
-/// The first fault of a text. Places are in bytes from the text's start.
+/// The first fault of a text. Offsets are in bytes from the text's start.
 #[derive(Debug, Drop, Error)]
 pub enum ParseFault {
     /// The text has no tokens.
@@ -49,7 +49,7 @@ pub enum ParseFault {
 impl ParseFault {
     ghost use Rattle.std.specs.Prelude.{◌≡◌};
 
-    /// The fault's number, from 1 to 11, and its place; `None` where memory ran out.
+    /// The fault's number, from 1 to 11, and its offset; `None` where memory ran out.
     pub fn numbered(&self) -> Option<(u8, u32)>
         ensures { result ≡ numbered self.now }
     {

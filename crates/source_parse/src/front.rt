@@ -3,13 +3,12 @@
 ghost use Rattle.std.specs.Prelude.{◌≡◌, ◌≤◌, ◌<◌, ℕ, List, length, IfOk, IfErr};
 ghost use Rattle.source_lex.specs.Tokens.{TokensOf};
 ghost use Rattle.concrete_syntax.specs.Mirror.{program as program_tree};
-ghost use Rattle.step_meaning.specs.Places.{places};
+ghost use Rattle.step_meaning.specs.Offsets.{offsets};
 ghost use Rattle.step_meaning.specs.Syntax.{statements, size_of};
 ghost use Rattle.concrete_syntax.specs.Trees.{Program as Concrete};
-ghost use Rattle.elaboration.specs.Elaborates.{HasFirstFault, StandsFor};
-ghost use Rattle.elaboration.specs.Places.{program_places};
-ghost use Rattle.source_syntax.specs.Texts.{IsTextOf as IsSyntaxOf, IsFaultOf as IsSyntaxFaultOf, place_in};
-ghost use Rattle.source_parse.specs.Derives.{Derives, HasPlaces};
+ghost use Rattle.elaboration.specs.Elaborates.{HasFirstFault, StandsFor, program_offsets};
+ghost use Rattle.source_syntax.specs.Texts.{IsTextOf as IsSyntaxOf, IsFaultOf as IsSyntaxFaultOf, offset_in};
+ghost use Rattle.source_parse.specs.Derives.{Derives, HasOffsets};
 ghost use Rattle.source_parse.specs.Faults.{IsFaultOf};
 
 use crate::fault::{ParseFault, Which};
@@ -18,20 +17,20 @@ use concrete_syntax::Program as Tree;
 use derivation::Rule as SyntaxRule;
 use elaboration::{Fault, Refusal, Rule, elaborate};
 use source_lex::Token;
-use source_syntax::{SyntaxFault, place_in, read_syntax};
+use source_syntax::{SyntaxFault, offset_in, read_syntax};
 use std::alloc::Global;
 use step_meaning::Program;
 
 /// The program that the text is, or its first fault. The text has at most 65,536 bytes. Time is linear in the text, but that a name is
 /// looked up among those in scope, which are at most 15 where there is no fault.
 ///
-/// Faults, in their order: `Lex`, the first of its kinds by its place; `Expected` and `Limit` of `Nesting` and `Operators`, the first by its
-/// place, and `Expected` where a token is both; `Unknown`, `Twice`, `Mixed`, `BadRange` and `Limit` of `Variables`, the first by its place,
-/// and at one place the first in this order. `Memory` where memory runs out.
+/// Faults, in their order: `Lex`, the first of its kinds by its offset; `Expected` and `Limit` of `Nesting` and `Operators`, the first by its
+/// offset, and `Expected` where a token is both; `Unknown`, `Twice`, `Mixed`, `BadRange` and `Limit` of `Variables`, the first by its offset,
+/// and at one offset the first in this order. `Memory` where memory runs out.
 pub fn parse(alloc: Global, text: &[u8]) -> Result<Program, ParseFault>
     requires { length text.now ≤ 65536 }
     ensures program { IfOk result (Derives text.now) }
-    ensures places { IfOk result (λ program. HasPlaces text.now (places program.body)) }
+    ensures offsets { IfOk result (λ program. HasOffsets text.now (offsets program.body)) }
     ensures fault { IfErr result (IsFaultOf text.now) }
     ensures size { IfOk result (λ program. size_of (statements program.body) ≤ length text.now) }
 {
@@ -50,7 +49,7 @@ fn program(alloc: Global, text: &[u8], tree: &Tree, tokens: &[Token]) -> Result<
     requires lexed { TokensOf text.now tokens.now }
     requires spelled { IsSyntaxOf text.now (program_tree tree.now) }
     ensures program { IfOk result (λ program. StandsFor (program_tree tree.now) program.names (statements program.body)) }
-    ensures places { IfOk result (λ program. places program.body ≡ program_places tokens.now (program_tree tree.now)) }
+    ensures offsets { IfOk result (λ program. offsets program.body ≡ program_offsets tokens.now (program_tree tree.now)) }
     ensures fault { IfErr result (IsFaultOf text.now) }
 {
     match elaborate(alloc, tree, tokens) {
@@ -88,7 +87,7 @@ fn of_names(text: &[u8], tokens: &[Token], fault: Fault) -> ParseFault
     requires { length text.now ≤ 65536 }
     ensures { (tree : Concrete) → TokensOf text.now tokens.now → IsSyntaxOf text.now tree → HasFirstFault tree fault → IsFaultOf text.now result }
 {
-    let at = place_in(text, tokens, fault.token);
+    let at = offset_in(text, tokens, fault.token);
     match fault.rule {
         Rule::Unknown => ParseFault::Unknown { at },
         Rule::Twice => ParseFault::Twice { at },

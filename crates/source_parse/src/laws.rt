@@ -22,7 +22,7 @@ pub fn a_program_has_no_fault()
     syntax_has_no_fault();
 }
 
-/// Two faults of one text have the same number and the same place.
+/// Two faults of one text have the same number and the same offset.
 pub fn a_text_has_one_fault()
     ensures { FaultsAgree }
 {

@@ -1,11 +1,11 @@
-//! Worked texts: the program that each is, with the places of its statements, and the faults of others.
+//! Worked texts: the program that each is, with the offsets of its statements, and the faults of others.
 
 use super::*;
 use std::alloc::AllocError;
 use std::test::Fail;
 use step_meaning::{Block, Expr, Names, Op2, Stmt, StmtKind};
 
-// The items of `main`, what they stand for, and the places of the statements from behind the `{` of `main`, an outer one before those in
+// The items of `main`, what they stand for, and the offsets of the statements from behind the `{` of `main`, an outer one before those in
 // it. Operators have parentheses, the parts of a statement braces, and a missing end of a range is `*`.
 const PROGRAMS: [(&str, &str, &[u32]); 12] = [
     ("int a, b, c; a = a - b - c;", "a=((a-b)-c);", &[13]),
@@ -50,7 +50,7 @@ const PROGRAMS: [(&str, &str, &[u32]); 12] = [
     ),
 ];
 
-// Texts with the number of their fault and its place.
+// Texts with the number of their fault and its offset.
 const FAULTS: [(&str, u8, u32); 53] = [
     ("int main() { int x = x; }", 5, 21),
     ("int main() { { int x; } x = 1; }", 5, 24),
@@ -212,7 +212,7 @@ fn sign_of(op: Op2) -> &'static str {
 struct Shown<'n> {
     names: &'n Names,
     text: Vec<u8>,
-    places: Vec<u32>,
+    offsets: Vec<u32>,
 }
 
 impl Shown<'_> {
@@ -273,7 +273,7 @@ impl Shown<'_> {
 
     #[cycle(showing)]
     fn show_statement(&mut self, statement: &Stmt) -> Result<(), AllocError> {
-        self.places.push(statement.at)?;
+        self.offsets.push(statement.at)?;
         match &statement.kind {
             StmtKind::Skip => self.push(";"),
             StmtKind::Return => self.push("return;"),
@@ -324,7 +324,7 @@ impl Shown<'_> {
 
 #[test]
 fn texts_are_their_programs(rt: HostRuntime) -> Result<(), Fail> {
-    for (items, shown, places) in PROGRAMS {
+    for (items, shown, offsets) in PROGRAMS {
         let text = format!(in rt.alloc(); "int main() {{{items}}}")?;
         assert!(rt; text.len() <= 65536);
         let Ok(program) = parse(rt.alloc(), text.as_bytes()) else {
@@ -333,25 +333,25 @@ fn texts_are_their_programs(rt: HostRuntime) -> Result<(), Fail> {
         let mut found = Shown {
             names: &program.names,
             text: Vec::new(rt.alloc()),
-            places: Vec::new(rt.alloc()),
+            offsets: Vec::new(rt.alloc()),
         };
         found.show_block(&program.body)?;
         assert_eq!(rt; found.text.as_slice(), shown.as_bytes(), "of {text}");
-        let starts: Vec<u32> = places
+        let starts: Vec<u32> = offsets
             .iter()
-            .map(|place| place.wrapping_add(12))
+            .map(|offset| offset.wrapping_add(12))
             .collect(rt.alloc())?;
-        assert_eq!(rt; found.places.as_slice(), starts.as_slice(), "of {text}");
+        assert_eq!(rt; found.offsets.as_slice(), starts.as_slice(), "of {text}");
     }
     Ok(())
 }
 
 #[test]
 fn texts_that_are_no_programs_have_their_first_faults(rt: HostRuntime) {
-    for (text, number, place) in FAULTS {
+    for (text, number, offset) in FAULTS {
         assert!(rt; text.len() <= 65536);
         match parse(rt.alloc(), text.as_bytes()) {
-            Err(fault) => assert_eq!(rt; fault.numbered(), Some((number, place)), "of {text}"),
+            Err(fault) => assert_eq!(rt; fault.numbered(), Some((number, offset)), "of {text}"),
             Ok(_) => panic!(rt; "{text} is a program"),
         }
     }

@@ -83,7 +83,7 @@ pub record Held (A B : List Pending) (fill : ℕ → Trees B → Trees A) : Type
   pub view : (f : Trees A) → (m : ℕ) × (g : Trees B) × (f ≡ fill m g)
 
 module _ {A B : List Pending} {fill : ℕ → Trees B → Trees A} (x : Held A B fill) where
-  -- what fits holds the number of its place
+  -- what fits holds the number of its token
   pub placed : (n : ℕ) (f : Trees A) → Fits n (pieces A f) → (g : Trees B) × (f ≡ fill n g) × Fits n (pieces B g)
   placed n f fits =
       let way = x.view f in

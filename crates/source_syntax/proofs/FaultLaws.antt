@@ -8,7 +8,7 @@ use Rattle.derivation.proofs.Faults.{spelled_has_no_fault, faults_agree}
 use Rattle.source_lex.proofs.Readings.{tokens_unique, fault_unique, tokens_or_fault}
 use Rattle.concrete_syntax.specs.Trees.{Program}
 use Rattle.source_syntax.specs.declared.fault.SyntaxFault.TheVariants.{Lex, Broken, Memory}
-use Rattle.source_syntax.specs.Texts.{programs, place_in, IsTextOf, HasFault}
+use Rattle.source_syntax.specs.Texts.{programs, offset_in, IsTextOf, HasFault}
 use Rattle.source_syntax.proofs.OneTree.{one_program}
 use Rattle.source_syntax.specs.Laws.{TreesAreUnique, ProgramsHaveNoFault, FirstFaultsAgree}
 
@@ -30,24 +30,24 @@ programs_have_no_fault text tree (Lex fault) h k = absurd (tokens_or_fault text 
 programs_have_no_fault text tree (Broken rule at) h k = absurd (no_fault text tree rule at h k)
 programs_have_no_fault text tree (Memory error) h k = tt
 
--- two places with the same behind them are one place
-same_place : {X : Type 0} (f : X → Word) (g : X → ℕ) (xs : List X) (n m end : ℕ) → drop n (map f xs) ≡ drop m (map f xs)
+-- two numbers with the same behind them are one
+same_number : {X : Type 0} (f : X → Word) (g : X → ℕ) (xs : List X) (n m end : ℕ) → drop n (map f xs) ≡ drop m (map f xs)
     → slice_index_or (map g xs) n end ≡ slice_index_or (map g xs) m end
-same_place f g [] n m end e = refl
-same_place f g (x ∷ xs) zero zero end e = refl
-same_place f g (x ∷ xs) zero (suc m) end e = absurd (omega (arith, ap length e, length-drop m (map f xs)))
-same_place f g (x ∷ xs) (suc n) zero end e = absurd (omega (arith, ap length e, length-drop n (map f xs)))
-same_place f g (x ∷ xs) (suc n) (suc m) end e = same_place f g xs n m end e
+same_number f g [] n m end e = refl
+same_number f g (x ∷ xs) zero zero end e = refl
+same_number f g (x ∷ xs) zero (suc m) end e = absurd (omega (arith, ap length e, length-drop m (map f xs)))
+same_number f g (x ∷ xs) (suc n) zero end e = absurd (omega (arith, ap length e, length-drop n (map f xs)))
+same_number f g (x ∷ xs) (suc n) (suc m) end e = same_number f g xs n m end e
 
-faults_meet : (text : List ℕ) (rule other : Rule) (at place : ℕ) → HasFault text rule at → HasFault text other place → (rule ≡ other) × (at ≡ place)
-faults_meet text rule other at place h k =
+faults_meet : (text : List ℕ) (rule other : Rule) (at offset : ℕ) → HasFault text rule at → HasFault text other offset → (rule ≡ other) × (at ≡ offset)
+faults_meet text rule other at offset h k =
     let same : k.tokens ≡ h.tokens = tokens_unique text 0 k.tokens h.tokens k.lexed h.lexed in
     let fault : FirstFault programs (words text h.tokens) other (drop k.number (words text h.tokens)) =
     subst (λ ts. FirstFault programs (words text ts) other (drop k.number (words text ts))) same k.fault in
     let agree = faults_agree rule other h.fault fault in (
       agree.0,
-      h.place ∙ same_place (word text) (λ token. token.start) h.tokens h.number k.number (length text) agree.1
-          ∙ ap (λ ts. place_in text ts k.number) (sym same) ∙ sym k.place,
+      h.offset ∙ same_number (word text) (λ token. token.start) h.tokens h.number k.number (length text) agree.1
+          ∙ ap (λ ts. offset_in text ts k.number) (sym same) ∙ sym k.offset,
     )
 
 pub first_faults_agree : FirstFaultsAgree
@@ -55,7 +55,7 @@ first_faults_agree text (Lex fault) (Lex other) h k = ap Lex (fault_unique text 
 first_faults_agree text (Lex fault) (Broken rule at) h k = absurd (tokens_or_fault text 0 k.tokens fault k.lexed h)
 first_faults_agree text (Lex fault) (Memory error) h k = tt
 first_faults_agree text (Broken rule at) (Lex other) h k = absurd (tokens_or_fault text 0 h.tokens other h.lexed k)
-first_faults_agree text (Broken rule at) (Broken other place) h k =
-    let same = faults_meet text rule other at place h k in ap (λ r. Broken r at) same.0 ∙ ap (Broken other) same.1
+first_faults_agree text (Broken rule at) (Broken other offset) h k =
+    let same = faults_meet text rule other at offset h k in ap (λ r. Broken r at) same.0 ∙ ap (Broken other) same.1
 first_faults_agree text (Broken rule at) (Memory error) h k = tt
 first_faults_agree text (Memory error) other h k = tt

@@ -60,6 +60,6 @@ Phrase = PhraseOf language
 abbrev pub IsQuiet : Option Word → Type 0
 IsQuiet next = (binary_operator next ≡ None) × IsFalse (is_else next)
 
--- what is left from a place of a list of words on
+-- what is left of a list of words from a number on
 abbrev pub rest_from : List Lexeme → ℕ → Rest
 rest_from lexemes at = record { number = at; words = words_from lexemes at }

@@ -23,17 +23,17 @@ pub record IsTextOf (text : List ℕ) (tree : Program) : Type 0 where
   pub lexed : TokensOf text tokens
   pub spelled : IsSpelledBy programs (words text tokens) tree
 
--- the place in the text of the token of this number, counted from 0; the end is a token too, at the text's length
-abbrev pub place_in : List ℕ → List Token → ℕ → ℕ
-place_in text tokens number = start_of tokens number (length text)
+-- the offset in the text of the token of this number, counted from 0; the end is a token too, at the text's length
+abbrev pub offset_in : List ℕ → List Token → ℕ → ℕ
+offset_in text tokens number = start_of tokens number (length text)
 
--- the text has tokens, and its first fault breaks this rule at this place
+-- the text has tokens, and its first fault breaks this rule at this offset
 pub record HasFault (text : List ℕ) (rule : Rule) (at : ℕ) : Type 0 where
   pub tokens : List Token
   pub lexed : TokensOf text tokens
   pub number : ℕ
   pub fault : FirstFault programs (words text tokens) rule (drop number (words text tokens))
-  pub place : at ≡ place_in text tokens number
+  pub offset : at ≡ offset_in text tokens number
 
 -- what may be answered in place of Ok: the first fault of the text, or that memory ran out
 abbrev pub IsFaultOf : List ℕ → SyntaxFault → Type 0

@@ -25,7 +25,7 @@ use std::alloc::Global;
 pub const MOST_OPERATORS: u32 = 256;
 
 /// Reads an expression where `levels` levels are open, behind `operators` operators of the same whole expression. Answers the
-/// expression, the place behind it and the count of operators by then.
+/// expression, the number of the word behind it and the count of operators by then.
 #[cycle(expressions)]
 pub fn expression(
     alloc: Global,
@@ -204,7 +204,7 @@ fn call(words: &[Lexeme<'_>], at: usize, levels: u32) -> Result<usize, Fault>
     Ok(next)
 }
 
-// Reads `[a, b]`. Answers both ends and the place behind.
+// Reads `[a, b]`. Answers both ends and the number behind.
 fn range(words: &[Lexeme<'_>], at: usize, levels: u32) -> Result<(End, End, usize), Fault>
     requires opens { Bracket ≡ opening_of_operand (first (words_from words.now at)) }
     ensures read { IfOk result (λ found. (count : ℕ) → ReadsCounting count (an_operand_kind levels) (range_tree (end_tree found.0) (end_tree found.1)) (rest_from words.now at) count (rest_from words.now found.2)) }

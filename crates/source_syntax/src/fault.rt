@@ -7,7 +7,7 @@ use source_lex::LexFault;
 use std::alloc::{AllocError, AllocFailed};
 use thiserror::Error;
 
-/// The first fault of a text, with its place in bytes from the text's start.
+/// The first fault of a text, with its offset in bytes from the text's start.
 #[derive(Debug, Drop, Error)]
 pub enum SyntaxFault {
     /// The text has no tokens.
@@ -21,7 +21,7 @@ pub enum SyntaxFault {
     Memory(AllocError),
 }
 
-/// The first rule that words break, and the place in their list of the word that breaks it; the end is a place too.
+/// The first rule that words break, and the number of the word that breaks it; the end has a number too.
 #[derive(Clone, Copy, PartialEq, Eq, Debug)]
 pub struct Fault {
     pub rule: Rule,

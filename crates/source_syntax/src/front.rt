@@ -7,7 +7,7 @@ ghost use Rattle.derivation.specs.Spelled.{all_spelled, words_from};
 ghost use Rattle.source_lex.specs.Tokens.{TokensOf};
 ghost use Rattle.concrete_syntax.specs.Mirror.{program as program_tree};
 ghost use Rattle.source_syntax.specs.Failures.{IfFault};
-ghost use Rattle.source_syntax.specs.Texts.{programs, place_in, IsTextOf, IsFaultOf};
+ghost use Rattle.source_syntax.specs.Texts.{programs, offset_in, IsTextOf, IsFaultOf};
 
 use crate::fault::{Failure, Fault, SyntaxFault};
 use crate::program::program;
@@ -65,7 +65,7 @@ fn read_words(alloc: Global, words: &[Lexeme<'_>]) -> Result<Program, Failure>
     Ok(tree)
 }
 
-// The fault with its place in the text.
+// The fault with its offset in the text.
 fn placed(text: &[u8], tokens: &[Token], fault: Fault) -> SyntaxFault
     requires short { length text.now ≤ 65536 }
     requires lexed { TokensOf text.now tokens.now }
@@ -74,14 +74,14 @@ fn placed(text: &[u8], tokens: &[Token], fault: Fault) -> SyntaxFault
 {
     SyntaxFault::Broken {
         rule: fault.rule,
-        at: place_in(text, tokens, fault.at),
+        at: offset_in(text, tokens, fault.at),
     }
 }
 
-/// The place in the text of a token by its number, or the text's length behind the last.
-pub fn place_in(text: &[u8], tokens: &[Token], number: usize) -> u32
+/// The offset in the text of a token by its number, or the text's length behind the last.
+pub fn offset_in(text: &[u8], tokens: &[Token], number: usize) -> u32
     requires { length text.now ≤ 65536 }
-    ensures { result ≡ place_in text.now tokens.now number }
+    ensures { result ≡ offset_in text.now tokens.now number }
 {
     start_of(tokens, number, text.len() as u32)
 }

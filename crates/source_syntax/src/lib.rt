@@ -17,5 +17,5 @@ mod statement;
 mod tests;
 
 pub use fault::SyntaxFault;
-pub use front::{Syntax, place_in, read_syntax};
+pub use front::{Syntax, offset_in, read_syntax};
 pub use laws::{first_faults_agree, programs_have_no_fault, trees_are_unique};

@@ -85,7 +85,7 @@ pub enum PreludeOpening {
     Main,
 }
 
-/// How an operand opens at this place.
+/// How an operand opens at this word.
 pub fn opening_of_operand(words: &[Lexeme<'_>], at: usize) -> OperandOpening
     ensures { result ≡ opening_of_operand (first (words_from words.now at)) }
 {
@@ -108,7 +108,7 @@ pub fn opening_of_operand(words: &[Lexeme<'_>], at: usize) -> OperandOpening
     }
 }
 
-/// The binary operator at this place.
+/// The binary operator at this word.
 pub fn binary_operator(words: &[Lexeme<'_>], at: usize) -> Option<Operator>
     ensures { result ≡ binary_operator (first (words_from words.now at)) }
 {
@@ -145,7 +145,7 @@ pub fn size_opening(words: &[Lexeme<'_>], at: usize) -> SizeOpening
     }
 }
 
-/// How a simple statement opens at this place.
+/// How a simple statement opens at this word.
 pub fn opening_of_simple(words: &[Lexeme<'_>], at: usize) -> SimpleOpening
     ensures { result ≡ opening_of_simple (first (words_from words.now at)) }
 {
@@ -178,7 +178,7 @@ pub fn opening_of_action(words: &[Lexeme<'_>], at: usize) -> ActionOpening
     }
 }
 
-/// How a statement opens at this place.
+/// How a statement opens at this word.
 pub fn opening_of_statement(words: &[Lexeme<'_>], at: usize) -> StatementOpening
     ensures { result ≡ opening_of_statement (first (words_from words.now at)) }
 {
@@ -200,7 +200,7 @@ pub fn opening_of_statement(words: &[Lexeme<'_>], at: usize) -> StatementOpening
     }
 }
 
-/// How what stands in braces goes on at this place.
+/// How what stands in braces goes on at this word.
 pub fn opening_of_item(words: &[Lexeme<'_>], at: usize) -> ItemOpening
     ensures { result ≡ opening_of_item (first (words_from words.now at)) }
 {
@@ -228,7 +228,7 @@ pub fn opening_of_start(words: &[Lexeme<'_>], at: usize) -> StartOpening
     }
 }
 
-/// How a program goes on at this place.
+/// How a program goes on at this word.
 pub fn opening_of_prelude(words: &[Lexeme<'_>], at: usize) -> PreludeOpening
     ensures { result ≡ opening_of_prelude (first (words_from words.now at)) }
 {

@@ -55,7 +55,7 @@ pub fn program(alloc: Global, words: &[Lexeme<'_>], at: usize) -> Result<(Progra
     }
 }
 
-// Reads the declaration of `__VERIFIER_nondet_int`. Answers whether `void` is written in its parentheses, and the place behind it.
+// Reads the declaration of `__VERIFIER_nondet_int`. Answers whether `void` is written in its parentheses, and the number of the word behind it.
 fn extern_call(words: &[Lexeme<'_>], at: usize) -> Result<(bool, usize), Fault>
     requires opens { PreludeOpening.Extern ≡ opening_of_prelude (first (words_from words.now at)) }
     ensures read { IfOk result (λ found. Continues a_program (behind_preludes (extern_tree found.0 ∷ [])) (rest_from words.now at) (rest_from words.now found.1)) }
@@ -96,7 +96,7 @@ fn typedef_bool(words: &[Lexeme<'_>], at: usize) -> Result<usize, Fault>
     Ok(next)
 }
 
-// Reads `main`. Answers whether `void` is written in its parentheses, its items, and the place behind it.
+// Reads `main`. Answers whether `void` is written in its parentheses, its items, and the number of the word behind it.
 fn main_function(
     alloc: Global,
     words: &[Lexeme<'_>],
@@ -115,7 +115,7 @@ fn main_function(
     Ok((written, all, next))
 }
 
-// Reads a `)`, and before it the word `void` where it stands. Answers whether it does, and the place behind the `)`.
+// Reads a `)`, and before it the word `void` where it stands. Answers whether it does, and the number behind the `)`.
 fn void(words: &[Lexeme<'_>], at: usize) -> Result<(bool, usize), Fault>
     ensures read { IfOk result (λ found. Reads a_void found.0 (rest_from words.now at) (rest_from words.now found.1)) }
     ensures forward { IfOk result (λ found. IsBehind words.now at found.1) }

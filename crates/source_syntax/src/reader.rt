@@ -1,4 +1,4 @@
-//! Readers of single words. Each reads at a place of the list of words and answers the place behind.
+//! Readers of single words. Each reads from a word on, by its number, and answers the number of the word behind.
 
 ghost use Rattle.std.specs.Prelude.{◌≡◌, ◌+◌, ◌<◌, ◌≤◌, length, IfOk, IfErr};
 ghost use Rattle.derivation.specs.Word.{symbol, name as named};
@@ -15,7 +15,7 @@ use std::alloc::Global;
 /// How many levels of nesting may be open at a word.
 pub const MOST_LEVELS: u32 = 64;
 
-/// The place behind a sign or reserved word that has to stand here.
+/// The number behind a sign or reserved word that has to stand here.
 pub fn sign(words: &[Lexeme<'_>], at: usize, wanted: Symbol) -> Result<usize, Fault>
     ensures read { IfOk result (λ next. IsNext (symbol wanted) (rest_from words.now at) (rest_from words.now next)) }
     ensures forward { IfOk result (IsBehind words.now at) }
@@ -30,7 +30,7 @@ pub fn sign(words: &[Lexeme<'_>], at: usize, wanted: Symbol) -> Result<usize, Fa
     }
 }
 
-/// The place behind signs and reserved words that have to stand here, one behind the other.
+/// The number behind signs and reserved words that have to stand here, one behind the other.
 pub fn signs(words: &[Lexeme<'_>], at: usize, wanted: &[Symbol]) -> Result<usize, Fault>
     ensures read { IfOk result (λ next. AreNext wanted.now (rest_from words.now at) (rest_from words.now next)) }
     ensures forward { IfOk result (λ next. at + length wanted.now ≤ next) }
@@ -44,7 +44,7 @@ pub fn signs(words: &[Lexeme<'_>], at: usize, wanted: &[Symbol]) -> Result<usize
     Ok(here)
 }
 
-/// The place behind a sign or reserved word that has to stand here and opens this level.
+/// The number behind a sign or reserved word that has to stand here and opens this level.
 pub fn opening(words: &[Lexeme<'_>], at: usize, wanted: Symbol, level: u32) -> Result<usize, Fault>
     ensures read { IfOk result (λ next. IsNext (symbol wanted) (rest_from words.now at) (rest_from words.now next)) }
     ensures shallow { IfOk result (λ _. level ≤ 64) }
@@ -69,7 +69,7 @@ pub fn opening(words: &[Lexeme<'_>], at: usize, wanted: Symbol, level: u32) -> R
     Ok(next)
 }
 
-/// A name that has to stand here, and the place behind it.
+/// A name that has to stand here, and the number of the word behind it.
 pub fn name<'t>(words: &[Lexeme<'t>], at: usize) -> Result<(&'t [u8], usize), Fault>
     ensures read { IfOk result (λ found. IsNext (named found.0.now) (rest_from words.now at) (rest_from words.now found.1)) }
     ensures forward { IfOk result (λ found. IsBehind words.now at found.1) }
@@ -88,7 +88,7 @@ pub fn name<'t>(words: &[Lexeme<'t>], at: usize) -> Result<(&'t [u8], usize), Fa
     }
 }
 
-/// A name that has to stand here, as bytes of its own, and the place behind it.
+/// A name that has to stand here, as bytes of its own, and the number of the word behind it.
 pub fn owned_name(
     alloc: Global,
     words: &[Lexeme<'_>],

@@ -17,7 +17,7 @@ use crate::fault::{Failure, Fault};
 use crate::opening::{ItemOpening, StatementOpening, opening_of_item, opening_of_statement};
 use crate::reader::{MOST_LEVELS, opening, sign};
 use crate::simple::{finish, optional, simple, test};
-use concrete_syntax::{Item, Items, Otherwise, Statement, StatementKind};
+use concrete_syntax::{ForLoop, Item, Items, Otherwise, Statement, StatementKind};
 use derivation::{Lexeme, Rule, Symbol, after};
 use std::alloc::Global;
 
@@ -301,15 +301,13 @@ fn for_loop(
     let (start, second) = start(alloc, words, first, levels + 1)?;
     let (test, third) = optional(alloc, words, second, levels + 1)?;
     let (step, inner) = finish(alloc, words, third, levels + 1)?;
-    let (repeated, next) = statement(alloc, words, inner, levels + 1)?;
-    let body = Box::new(alloc, repeated)?;
-    Ok((
-        StatementKind::For {
-            start,
-            test,
-            step,
-            body,
-        },
-        next,
-    ))
+    let (body, next) = statement(alloc, words, inner, levels + 1)?;
+    let made = ForLoop {
+        start,
+        test,
+        step,
+        body,
+    };
+    let boxed = Box::new(alloc, made)?;
+    Ok((StatementKind::For(boxed), next))
 }

@@ -1,4 +1,4 @@
-//! The syntax of worked texts, with the places of faults counted by hand.
+//! The syntax of worked texts, with the offsets of faults counted by hand.
 
 use super::*;
 use concrete_syntax::{
@@ -65,7 +65,7 @@ const EXPECTED: [(&[u8], u32); 27] = [
     (b"int main() { while (x) }", 23),
 ];
 
-// A front, a part so many times, and a back: with the number of the text's fault, or 0, and its place.
+// A front, a part so many times, and a back: with the number of the text's fault, or 0, and its offset.
 const REPEATED: [(&[u8], &[u8], usize, &[u8], (u32, u32)); 12] = [
     (b"int main() { int x; x = 1", b"+1", 256, b"; }", (0, 0)),
     (b"int main() { int x; x = 1", b"+1", 257, b"; }", (11, 537)),
@@ -112,7 +112,7 @@ int main() {
 }
 ";
 
-// The fault's number in the table of faults, and its place.
+// The fault's number in the table of faults, and its offset.
 fn fault_of(rt: &(impl Abort + AllocGlobal), text: &[u8]) -> (u32, u32) {
     assert!(rt; text.len() <= 65536);
     match read_syntax(rt.alloc(), text) {

@@ -4,7 +4,7 @@ pub mod Step
 pub mod Run
 pub mod Valid
 pub mod ValidOnce
-pub mod Places
+pub mod Offsets
 pub mod Naming
 pub mod AffineExpressions
 pub mod Counts

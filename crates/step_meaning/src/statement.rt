@@ -10,8 +10,8 @@ pub enum Block {
     Then { first: Box<Stmt>, rest: Box<Block> },
 }
 
-/// A statement with `at`, the place of its first byte in the text. For a `do` it is the place of the `while` that ends it, and for a
-/// name declared with an initialiser the place of that name. The place has no part in the meaning.
+/// A statement with `at`, the offset of its first byte in the text. For a `do` it is the offset of the `while` that ends it, and for a
+/// name declared with an initialiser the offset of that name. The offset has no part in the meaning.
 #[cycle(statements)]
 #[derive(Drop)]
 pub struct Stmt {
@@ -49,12 +49,12 @@ pub enum StmtKind {
 impl Block {
     ghost use Rattle.std.specs.Prelude.{◌≡◌, IfOk};
     ghost use Rattle.step_meaning.specs.Syntax.{statements, of_list, parts};
-    ghost use Rattle.step_meaning.specs.Places.{places, all_places};
+    ghost use Rattle.step_meaning.specs.Offsets.{offsets, all_offsets};
 
     /// The list of these statements, in their order.
     pub fn of(alloc: Global, mut list: Vec<Stmt>) -> Result<Block, AllocError>
         ensures meaning { IfOk result (λ block. statements block ≡ of_list (parts list.items)) }
-        ensures places { IfOk result (λ block. places block ≡ all_places list.items) }
+        ensures offsets { IfOk result (λ block. offsets block ≡ all_offsets list.items) }
     {
         let mut block = Block::End;
         while let Some(last) = list.pop() {

@@ -1,6 +1,6 @@
 use Rattle.std.proofs.Common.{◌≡◌, ◌+◌, ◌*◌, ◌≤◌}
 use Rattle.step_meaning.specs.Syntax.{statements, statement, size_of, size_of_statement}
-use Rattle.control_flow.specs.Faults.{least_from, wide_places}
+use Rattle.control_flow.specs.Faults.{least_from, wide_offsets}
 use Rattle.control_flow.proofs.limit.+widths.Given as goal
 
 abbrev pub decreases-least_wide : goal.decreases-least_wide
@@ -13,5 +13,5 @@ decreases-least_wide_of_one l = 2 * size_of_statement (statement l.stmt.now.kind
 abbrev pub invariant-least_wide-loop-left : goal.invariant-least_wide-loop-left
 invariant-least_wide-loop-left l = record {
   fewer : size_of (statements l.left) ≤ size_of (statements l.block);
-  least : least_from l.least (wide_places l.left) ≡ least_from l.initial.least (wide_places l.block);
+  least : least_from l.least (wide_offsets l.left) ≡ least_from l.initial.least (wide_offsets l.block);
 }

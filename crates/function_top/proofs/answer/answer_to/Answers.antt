@@ -6,13 +6,13 @@ use Rattle.function_top.proofs.answer.answer_to.Goals as goal
 
 pub returns-in_ok-refused-in-Some-clause-due : goal.returns-in_ok-refused-in-Some-clause-due
 returns-in_ok-refused-in-Some-clause-due g c =
-    let told : numbered c.in-Err.fault ≡ Some (c.in-Some.number, c.in-Some.place) = sym c.numbered.ensures ∙ c.in-Some.is in
+    let told : numbered c.in-Err.fault ≡ Some (c.in-Some.number, c.in-Some.offset) = sym c.numbered.ensures ∙ c.in-Some.is in
     rw (c.in_ok-refused-in-Some.ensures.status) (inr (inl record {
       short = c.requires.size;
       none = refused c.args.text.now c.in-Err.fault _ c.a_program_has_no_fault.ensures c.in-Err.ensures.fault told;
       fault = c.in-Err.fault;
       number = c.in-Some.number;
-      place = c.in-Some.place;
+      offset = c.in-Some.offset;
       fault_of = c.in-Err.ensures.fault;
       number_of = told;
       line_is = c.in_ok-refused-in-Some.ensures.line;

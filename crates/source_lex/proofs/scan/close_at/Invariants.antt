@@ -2,7 +2,7 @@ use Rattle.std.proofs.Common.{ℕ, ◌-◌, ◌<◌, ◌≤◌, length}
 use Rattle.source_lex.specs.Gaps.{ClosesBlock}
 use Rattle.source_lex.proofs.scan.close_at.Given as goal
 
--- no `*/` begins before this place
+-- no `*/` begins before this offset
 abbrev pub invariant-loop-at : goal.invariant-loop-at
 invariant-loop-at l = record {
   forward : l.from ≤ l.at;

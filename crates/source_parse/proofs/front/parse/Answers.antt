@@ -10,12 +10,12 @@ returns-clause-size c =
     c.a_program_is_no_larger_than_its_text.ensures c.args.text.now c.in_ok-program.program.names (statements c.in_ok-program.program.body)
     record { tree = program_tree c.in-Ok.syntax.tree; spelled = c.in-Ok.ensures.syntax; stands = c.in_ok-program.ensures.program }
 
-pub returns-clause-places : goal.returns-clause-places
-returns-clause-places c =
+pub returns-clause-offsets : goal.returns-clause-offsets
+returns-clause-offsets c =
     record {
       tree = program_tree c.in-Ok.syntax.tree;
       spelled = c.in-Ok.ensures.syntax;
       tokens = c.in-Ok.syntax.tokens.items;
       lexed = c.in-Ok.ensures.tokens;
-      stand = rw c.deref.ensures.value at c.in_ok-program.ensures.places;
+      stand = rw c.deref.ensures.value at c.in_ok-program.ensures.offsets;
     }

@@ -3,8 +3,8 @@ use Rattle.derivation.specs.declared.symbol.Symbol.TheVariants as Sym
 use Rattle.source_syntax.specs.declared.opening.StatementOpening.TheVariants as StatementOpening
 use Rattle.source_syntax.specs.declared.opening.ItemOpening.TheVariants as ItemOpening
 use Rattle.concrete_syntax.specs.declared.statement.Item.TheVariants as Item
-use Rattle.concrete_syntax.specs.Mirror.{item, statement, expression, start, optional, optional_simple, otherwise as otherwise_tree}
-use Rattle.concrete_syntax.specs.Trees.{conditional, while_loop, do_loop, for_loop, otherwise}
+use Rattle.concrete_syntax.specs.Mirror.{item, statement, expression, for_loop as for_kind, otherwise as otherwise_tree}
+use Rattle.concrete_syntax.specs.Trees.{conditional, while_loop, do_loop, otherwise}
 use Rattle.source_syntax.proofs.Calculus.{over, fails}
 use Rattle.source_syntax.proofs.Choices.{goes, stuck, held}
 use Rattle.source_syntax.proofs.Statements.{statements, located_statements, all_items, otherwise_ends, else_read, else_too_deep, not_else}
@@ -133,16 +133,19 @@ for_loop-returns-in_err-step-clause-refused t c =
     passed_on _ _ _ _ c.from_residual-in_err-step.ensures c.in_err-step.ensures.refused
     (λ fault refused count behind. fails (goes (statements _ behind) count _ StatementOpening.For c.requires.opens) (fails (opening_reads Sym.For _ (refl, refl) c.in_ok-open.ensures.read c.in_ok-open.ensures.shallow) (fails (sign_reads Sym.OpenParenthesis (refl, refl) c.in_ok-first.ensures.read) (fails (c.in_ok-start.ensures.read.comes _ _) (fails (c.in_ok-test.ensures.read.comes _).1 (refused _ _))))))
 
-pub for_loop-returns-in_err-repeated-clause-refused : goal.for_loop-returns-in_err-repeated-clause-refused
-for_loop-returns-in_err-repeated-clause-refused t c =
-    passed_on _ _ _ _ c.from_residual-in_err-repeated.ensures c.in_err-repeated.ensures.refused
+pub for_loop-returns-in_err-body-clause-refused : goal.for_loop-returns-in_err-body-clause-refused
+for_loop-returns-in_err-body-clause-refused t c =
+    passed_on _ _ _ _ c.from_residual-in_err-body.ensures c.in_err-body.ensures.refused
     (λ fault refused count behind. fails (goes (statements _ behind) count _ StatementOpening.For c.requires.opens) (fails (opening_reads Sym.For _ (refl, refl) c.in_ok-open.ensures.read c.in_ok-open.ensures.shallow) (fails (sign_reads Sym.OpenParenthesis (refl, refl) c.in_ok-first.ensures.read) (fails (c.in_ok-start.ensures.read.comes _ _) (fails (c.in_ok-test.ensures.read.comes _).1 (fails (c.in_ok-step.ensures.read.comes _ _).1 (refused _ _)))))))
 
 pub for_loop-returns-clause-read : goal.for_loop-returns-clause-read
 for_loop-returns-clause-read t c =
-    let kept : c.in_ok-body.body.value ≡ c.in_ok-repeated.repeated = search rules in
-    told_reads (ap (λ s. for_loop (start c.in_ok-start.start) (optional c.in_ok-test.test) (optional_simple c.in_ok-step.step) (statement s)) kept) (record {
-      comes = λ count behind. (_, over (goes (statements _ behind) count _ StatementOpening.For c.requires.opens) (over (opening_reads Sym.For _ (refl, refl) c.in_ok-open.ensures.read c.in_ok-open.ensures.shallow) (over (sign_reads Sym.OpenParenthesis (refl, refl) c.in_ok-first.ensures.read) (over (c.in_ok-start.ensures.read.comes _ _) (over (c.in_ok-test.ensures.read.comes _).1 (over (c.in_ok-step.ensures.read.comes _ _).1 (c.in_ok-repeated.ensures.read.comes _ _).1))))));
+    let kept : c.in_ok-boxed.boxed.value
+    ≡ record { start = c.in_ok-start.start; test = c.in_ok-test.test; step = c.in_ok-step.step; body = c.in_ok-body.body } =
+    search rules
+    in
+    told_reads (ap for_kind kept) (record {
+      comes = λ count behind. (_, over (goes (statements _ behind) count _ StatementOpening.For c.requires.opens) (over (opening_reads Sym.For _ (refl, refl) c.in_ok-open.ensures.read c.in_ok-open.ensures.shallow) (over (sign_reads Sym.OpenParenthesis (refl, refl) c.in_ok-first.ensures.read) (over (c.in_ok-start.ensures.read.comes _ _) (over (c.in_ok-test.ensures.read.comes _).1 (over (c.in_ok-step.ensures.read.comes _ _).1 (c.in_ok-body.ensures.read.comes _ _).1))))));
     })
 
 pub otherwise-returns-in_err-second-clause-refused : goal.otherwise-returns-in_err-second-clause-refused

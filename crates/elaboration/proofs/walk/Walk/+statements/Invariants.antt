@@ -1,8 +1,9 @@
 use Rattle.std.proofs.Common.{◌≤◌, ◌+◌, ◌*◌}
 use Rattle.concrete_syntax.specs.Mirror.{statement as statement_of, otherwise as otherwise_of, items as items_of}
-use Rattle.elaboration.proofs.Walks.{IsLeft, items_make}
+use Rattle.elaboration.specs.Statements.{items_walked}
+use Rattle.elaboration.proofs.Walks.{IsLeft}
 use Rattle.elaboration.proofs.Weights.{statement_weight, otherwise_weight, items_weight}
-use Rattle.elaboration.proofs.statement.+statements.Given as goal
+use Rattle.elaboration.proofs.walk.Walk.+statements.Given as goal
 
 abbrev pub decreases-statement : goal.decreases-statement
 decreases-statement l = 3 * statement_weight (statement_of l.tree.now)
@@ -17,7 +18,7 @@ abbrev pub decreases-do_loop : goal.decreases-do_loop
 decreases-do_loop l = 3 * statement_weight (statement_of l.part.now) + 2
 
 abbrev pub decreases-for_loop : goal.decreases-for_loop
-decreases-for_loop l = 3 * statement_weight (statement_of l.part.now) + 2
+decreases-for_loop l = 3 * statement_weight (statement_of l.tree.now.body) + 2
 
 abbrev pub decreases-body : goal.decreases-body
 decreases-body l = 3 * statement_weight (statement_of l.tree.now) + 1
@@ -28,12 +29,9 @@ decreases-otherwise l = 3 * otherwise_weight (otherwise_of l.tree.now)
 abbrev pub decreases-items : goal.decreases-items
 decreases-items l = 3 * items_weight (items_of l.tree.now)
 
--- the items that are left make, behind what was made, what the whole makes
+-- the items that are left find, behind what was found, what the whole finds
 abbrev pub invariant-items-loop-left : goal.invariant-items-loop-left
 invariant-items-loop-left l =
-    IsLeft l.tokens
-    record { scope = l.scope; out = l.out.items; least = l.least }
-    (items_make l.scope (items_of l.left))
-    record { scope = l.fn.scope; out = l.fn.out.items; least = l.fn.least }
-    (items_make l.fn.scope (items_of l.tree))
+    IsLeft l.self l.out.items (items_walked l.self.scope (items_of l.left))
+    l.fn.self l.fn.out.items (items_walked l.fn.self.scope (items_of l.tree))
     × (items_weight (items_of l.left) ≤ items_weight (items_of l.tree))

@@ -5,7 +5,7 @@ use Rattle.elaboration.specs.Grouping.{leaf}
 use Rattle.elaboration.specs.Faults.{earliest}
 use Rattle.elaboration.specs.Typing.{typed_of, grouping_of}
 use Rattle.elaboration.proofs.Weights.{operand_weight, tail_weight}
-use Rattle.elaboration.proofs.expression.+expressions.Given as goal
+use Rattle.elaboration.proofs.walk.Walk.+expressions.Given as goal
 
 abbrev pub decreases-grouped : goal.decreases-grouped
 decreases-grouped l = tail_weight (tail_of l.tail.now)
@@ -16,6 +16,8 @@ decreases-operand l = operand_weight (operand_of l.tree.now)
 -- what is left, behind what is grouped and reported so far, makes what the whole makes
 abbrev pub invariant-grouped-loop-left : goal.invariant-grouped-loop-left
 invariant-grouped-loop-left l =
-    (tail_grouped l.scope (grouping_of l.group) (tail_of l.left) ≡ tail_grouped l.scope (leaf (typed_of l.fn.first)) (tail_of l.tail))
-    × (earliest l.least (tail_faults l.scope (tail_of l.left)) ≡ earliest l.fn.least (tail_faults l.scope (tail_of l.tail)))
+    (l.self.tokens.now ≡ l.fn.self.tokens.now)
+    × (l.self.scope ≡ l.fn.self.scope)
+    × (tail_grouped l.fn.self.scope (grouping_of l.group) (tail_of l.left) ≡ tail_grouped l.fn.self.scope (leaf (typed_of l.fn.first)) (tail_of l.tail))
+    × (earliest l.self.least (tail_faults l.fn.self.scope (tail_of l.left)) ≡ earliest l.fn.self.least (tail_faults l.fn.self.scope (tail_of l.tail)))
     × (tail_weight (tail_of l.left) ≤ tail_weight (tail_of l.tail))

@@ -1,0 +1,106 @@
+use Rattle.std.proofs.Common.{◌≡◌, take, ap, sym, ◌∙◌, subst, arith}
+use Rattle.concrete_syntax.specs.Mirror.{expression as expression_of, declaration as declaration_of, start as start_of, optional, optional_simple as optional_simple_of, statement as statement_of, statement_kind, otherwise as otherwise_of, items as items_of}
+use Rattle.concrete_syntax.specs.Trees as tree
+use Rattle.elaboration.specs.Statements.{joined, declaration_walked, statement_walked, kind_walked, items_walked, start_walked, optional_faults, optional_simple_walked}
+use Rattle.elaboration.specs.Walking.{HasGone, HasAdded}
+use Rattle.elaboration.proofs.Scoping.{closed, items_kept, start_kept}
+use Rattle.elaboration.proofs.Walks.{staying, both_gone, step_on}
+use Rattle.elaboration.proofs.Weights.{items_weight}
+use Rattle.elaboration.proofs.walk.Walk.+statements.Goals as goal
+
+pub items-loop-left-preserved-in-Declaration : goal.items-loop-left-preserved-in-Declaration
+items-loop-left-preserved-in-Declaration t c =
+    let now = c.loop-left.self in
+    let rest = items_of c.deref-left.result.now in
+    let split : items_of c.loop-left.left.now ≡ tree.declaration (declaration_of c.in-Declaration.first) rest =
+    rw (c.deref-left.ensures) (ap items_of c.in-Declaration.is)
+    in
+    let made = c.in_ok-declaration-in-Declaration.ensures in
+    let weight = ap items_weight split in
+    let lighter = c.loop-left.invariant.1 in (
+      step_on now c.declaration.new.self _ c.loop-left.out.items c.declaration.new.out.items _
+          (declaration_walked now.scope (declaration_of c.in-Declaration.first)) (λ s. items_walked s rest)
+          (items_walked now.scope (items_of c.loop-left.left.now)) _
+          made.gone made.added (ap (items_walked now.scope) split) c.loop-left.invariant.0,
+      omega (arith, weight, lighter),
+    )
+
+pub items-loop-left-preserved : goal.items-loop-left-preserved
+items-loop-left-preserved t c =
+    let now = c.loop-left.self in
+    let rest = items_of c.deref-left-in-Statement.result.now in
+    let split : items_of c.loop-left.left.now ≡ tree.statement (statement_of c.deref.result.now) rest =
+    rw (c.deref.ensures, c.deref-left-in-Statement.ensures) (ap items_of c.in-Statement.is)
+    in
+    let made = c.in_ok-statement-in-Statement.ensures in
+    let weight = ap items_weight split in
+    let lighter = c.loop-left.invariant.1 in (
+      step_on now c.statement.new.self _ c.loop-left.out.items c.statement.new.out.items _
+          (statement_walked now.scope (statement_of c.deref.result.now)) (λ s. items_walked s rest)
+          (items_walked now.scope (items_of c.loop-left.left.now)) _
+          made.gone made.added (ap (items_walked now.scope) split) c.loop-left.invariant.0,
+      omega (arith, weight, lighter),
+    )
+
+pub statement-returns-in_ok-conditional-in-Conditional-clause-gone : goal.statement-returns-in_ok-conditional-in-Conditional-clause-gone
+statement-returns-in_ok-conditional-in-Conditional-clause-gone t c =
+    let is : statement_kind c.args.tree.now.kind
+    ≡ tree.conditional (expression_of c.in-Conditional.test) (statement_of c.deref.result.now) (otherwise_of c.in-Conditional.other) =
+    rw (c.deref.ensures) (ap statement_kind c.in-Conditional.is)
+    in
+    subst (λ kind. HasGone c.args.self.now c.conditional.new.self (kind_walked c.args.self.now.scope c.args.tree.now.at kind)) (sym is)
+    c.in_ok-conditional-in-Conditional.ensures.gone
+
+pub statement-returns-in_ok-conditional-in-Conditional-clause-added : goal.statement-returns-in_ok-conditional-in-Conditional-clause-added
+statement-returns-in_ok-conditional-in-Conditional-clause-added t c =
+    let is : statement_kind c.args.tree.now.kind
+    ≡ tree.conditional (expression_of c.in-Conditional.test) (statement_of c.deref.result.now) (otherwise_of c.in-Conditional.other) =
+    rw (c.deref.ensures) (ap statement_kind c.in-Conditional.is)
+    in
+    subst
+    (λ kind. HasAdded c.args.self.now c.args.out.now.items c.conditional.new.out.items (kind_walked c.args.self.now.scope c.args.tree.now.at kind))
+    (sym is) c.in_ok-conditional-in-Conditional.ensures.added
+
+pub statement-returns-in_ok-items-in-Braces-clause-gone : goal.statement-returns-in_ok-items-in-Braces-clause-gone
+statement-returns-in_ok-items-in-Braces-clause-gone t c =
+    let outer = c.args.self.now.scope in
+    let all = items_of c.in-Braces.all in
+    let gone = c.in_ok-items-in-Braces.ensures.gone in
+    let is : statement_kind c.args.tree.now.kind ≡ tree.braces all = ap statement_kind c.in-Braces.is in
+    rw is (
+      gone.0,
+      closed outer (items_walked outer all).scope c.close.new.self c.depth-depth.result c.depth-depth.ensures
+          (c.close.ensures.declared ∙ ap (λ s. s.declared) gone.1)
+          (c.close.ensures.visible ∙ ap (λ s. take c.depth-depth.result s.visible) gone.1)
+          (items_kept outer all),
+      gone.2,
+    )
+
+pub for_loop-returns-clause-gone : goal.for_loop-returns-clause-gone
+for_loop-returns-clause-gone t c =
+    let old = c.args.self.now in
+    let begun = c.for_start.new.self in
+    let tested = c.optional_test.new.self in
+    let last = c.body.new.self in
+    let start = start_of c.args.tree.now.start in
+    let test = optional c.args.tree.now.test in
+    let step = optional_simple_of c.args.tree.now.step in
+    let part = statement_of c.args.tree.now.body in
+    let inside = start_walked old.scope start in
+    let gone =
+    both_gone old begun last inside
+    (λ s. joined (staying s (optional_faults s test)) (joined (staying s (optional_simple_walked s step).faults) (statement_walked s part)))
+    c.in_ok-for_start.ensures.gone
+    (both_gone begun tested last (staying begun.scope (optional_faults begun.scope test))
+    (λ s. joined (staying s (optional_simple_walked s step).faults) (statement_walked s part))
+    c.in_ok-test.ensures.found
+    (both_gone tested c.last_part.new.self last (staying tested.scope (optional_simple_walked tested.scope step).faults) (λ s. statement_walked s part)
+    c.in_ok-step.ensures.found c.in_ok-body.ensures.gone))
+    in (
+      gone.0,
+      closed old.scope (statement_walked inside.scope part).scope c.close.new.self c.depth-depth.result c.depth-depth.ensures
+          (c.close.ensures.declared ∙ ap (λ s. s.declared) gone.1)
+          (c.close.ensures.visible ∙ ap (λ s. take c.depth-depth.result s.visible) gone.1)
+          (start_kept old.scope start part),
+      gone.2,
+    )

@@ -1,0 +1,27 @@
+-- What the walk of the elaborator does: it knows the names so far and the first fault so far, and adds statements behind those so far.
+use Rattle.std.specs.Prelude.{◌≡◌, List, ◌++◌}
+use Rattle.step_meaning.specs.declared.statement.Block.{Block}
+use Rattle.step_meaning.specs.declared.statement.Stmt.{Stmt}
+use Rattle.step_meaning.specs.Syntax.{parts, statements, of_list}
+use Rattle.step_meaning.specs.Offsets.{offsets, all_offsets}
+use Rattle.elaboration.specs.declared.fault.Fault.{Fault}
+use Rattle.elaboration.specs.declared.walk.Walk.{Walk}
+use Rattle.elaboration.specs.Faults.{earliest}
+use Rattle.elaboration.specs.Statements.{Walked}
+use Rattle.elaboration.specs.Offsets.{offsets_in}
+
+-- the names stay, and behind the faults so far come these
+abbrev pub HasFound : Walk → Walk → List Fault → Type 0
+HasFound old new faults = (new.tokens.now ≡ old.tokens.now) × (new.scope ≡ old.scope) × (new.least ≡ earliest old.least faults)
+
+-- the names are those behind the tree, and behind the faults so far come its faults
+abbrev pub HasGone : Walk → Walk → Walked → Type 0
+HasGone old new w = (new.tokens.now ≡ old.tokens.now) × (new.scope ≡ w.scope) × (new.least ≡ earliest old.least w.faults)
+
+-- behind the statements so far come those of the tree
+abbrev pub HasAdded : Walk → List Stmt → List Stmt → Walked → Type 0
+HasAdded walk old new w = (parts new ≡ parts old ++ w.body) × (all_offsets new ≡ all_offsets old ++ offsets_in walk.tokens.now w.tokens)
+
+-- the block is of the statements of the tree alone
+abbrev pub IsMade : Walk → Block → Walked → Type 0
+IsMade walk block w = (statements block ≡ of_list w.body) × (offsets block ≡ offsets_in walk.tokens.now w.tokens)

@@ -1,0 +1,96 @@
+//! A walk over a tree: what it knows, and what it reports.
+
+ghost use Rattle.std.specs.Prelude.{◌≡◌, ◌∷◌, []};
+ghost use Rattle.elaboration.specs.Expressions.{unknown_name};
+ghost use Rattle.elaboration.specs.Faults.{fault};
+
+use crate::fault::{Fault, Rule};
+use crate::scope::Scope;
+use concrete_syntax::{Name, Part};
+use source_lex::{Token, start_of};
+use std::alloc::Global;
+
+/// A walk over a tree: the text's tokens, the names so far, and the first fault so far.
+#[derive(Drop)]
+pub struct Walk<'a> {
+    pub alloc: Global,
+    pub tokens: &'a [Token],
+    pub scope: Scope,
+    pub least: Option<Fault>,
+}
+
+impl<'a> Walk<'a> {
+    ghost use Rattle.std.specs.Prelude.{◌≡◌, ◌∷◌, [], None};
+    ghost use Rattle.concrete_syntax.specs.Mirror.{name as name_of, optional};
+    ghost use Rattle.elaboration.specs.Elaborates.{no_names};
+    ghost use Rattle.elaboration.specs.Offsets.{offset_in};
+    ghost use Rattle.elaboration.specs.Scopes.{place_of};
+    ghost use Rattle.elaboration.specs.Statements.{name_faults};
+    ghost use Rattle.elaboration.specs.Walking.{HasFound};
+
+    /// Before the first declaration.
+    pub fn new(alloc: Global, tokens: &'a [Token]) -> Walk<'a>
+        ensures tokens { result.tokens.now ≡ tokens.now }
+        ensures scope { result.scope ≡ no_names }
+        ensures least { result.least ≡ None }
+    {
+        Walk {
+            alloc,
+            tokens,
+            scope: Scope::new(alloc),
+            least: None,
+        }
+    }
+
+    /// Keeps the fault where it is the first so far.
+    pub fn report(&mut self, rule: Rule, token: usize)
+        ensures { HasFound self.old self.new (fault rule token ∷ []) }
+    {
+        let fault = Fault { rule, token };
+        match &self.least {
+            Some(first) if !fault.is_before(first) => {}
+            _ => self.least = Some(fault),
+        }
+    }
+
+    /// Reports a name that may not be used here.
+    pub fn need_visible(&mut self, name: &[u8], token: usize)
+        ensures { HasFound self.old self.new (unknown_name self.old.scope token name.now) }
+    {
+        if !self.scope.is_visible(name) {
+            self.report(Rule::Unknown, token);
+        }
+    }
+
+    /// Reports a name that may not be declared here.
+    pub fn need_new(&mut self, part: &Part)
+        ensures { HasFound self.old self.new (name_faults self.old.scope (name_of part.now.declared) (optional part.now.initialiser)) }
+    {
+        let name = &part.declared;
+        if self.scope.is_visible(&name.bytes) {
+            self.report(Rule::Twice, name.at);
+        } else if self.scope.is_declared(&name.bytes) {
+            if part.initialiser.is_none() {
+                self.report(Rule::Twice, name.at);
+            }
+        } else if self.scope.is_full() {
+            self.report(Rule::Variables, name.at);
+        }
+    }
+
+    /// The place of the variable that a name is. A name that may not be used here is reported.
+    pub fn variable(&mut self, name: &Name) -> u8
+        ensures place { result ≡ place_of self.old.scope.declared name.now.bytes.items }
+        ensures found { HasFound self.old self.new (unknown_name self.old.scope name.now.at name.now.bytes.items) }
+    {
+        self.need_visible(&name.bytes, name.at);
+        self.scope.place(&name.bytes)
+    }
+
+    /// Where a token stands in the text, by its number.
+    pub fn offset(&self, number: usize) -> u32
+        ensures { result ≡ offset_in self.now.tokens.now number }
+    {
+        start_of(self.tokens, number, 0)
+    }
+}
