@@ -23,7 +23,7 @@ pub fn reached_states_are_of_the_program()
 
 /// An outcome of a comparison by `<`, `<=`, `>` or `>=` of affine expressions whose numbers fit comes down to the same rows whatever the
 /// bounds are: those of the functions of its sides. So a label behind the edge of such an outcome lies behind its row, if that is plain.
-pub fn comparisons_come_down_to_one_row()
+pub fn comparisons_come_down_to_the_same_rows()
     ensures { (bounds : Bounds) (op : Op2) (l r : Expression) (outcome : Bool) → IsInequality op → IsAffine l → IsAffine r → ComparisonFits l r
         → spread_of bounds (pair op l r) outcome ≡ compared op (form_of l) (form_of r) outcome }
 {}
