@@ -1,0 +1,290 @@
+-- Each tree can be given the numbers of its tokens.
+use Rattle.std.proofs.Common.{◌≡◌, ℕ, ◌+◌, ℤ, Bool, true, false, List, [], ◌∷◌, Option, None, Some, refl, ap, sym, ◌∙◌, subst}
+use Rattle.std.specs.Bool.{IsFalse}
+use Rattle.derivation.specs.declared.symbol.Symbol.TheVariants as S
+use Rattle.derivation.specs.Pieces.{token, look, first_before, Fits}
+use Rattle.concrete_syntax.specs.Trees.{End, Operand, operand_at, OperandKind, number, name, truth, unknown, call, signed, parentheses, range, operation, Tail, ended, further, Expression, Name, Action, assigns, steps, Simple, acts, steps_before, Part, Declaration, Start, starts_with_nothing, starts_with, declares, Statement, statement_at, StatementKind, simple, skip, braces, conditional, while_loop, do_loop, for_loop, return, Otherwise, without, otherwise, Items, none, declaration, statement, Prelude, extern_call, typedef_bool, Program}
+use Rattle.source_syntax.specs.Language.{Piece, is_at, no_operator, no_else, binary_operator, is_else}
+use Rattle.source_syntax.specs.Spelling.{sign, leading, opening, leading_opening, operator, prefix_sign, assignment_sign, size_pieces, minus_pieces, end_pieces, operand_pieces, operand_kind_pieces, tail_pieces, expression_pieces, optional_pieces, action_pieces, name_pieces, simple_pieces, initialiser_pieces, part_pieces, parts_pieces, declaration_pieces, start_pieces, finish_pieces, test_pieces, statement_pieces, statement_kind_pieces, otherwise_pieces, items_pieces, void_pieces, prelude_pieces, preludes_pieces, program_pieces}
+use Rattle.syntax_laws.specs.Numbering.{FitsButForNumbers, tokens_in, TreesCanBeNumbered}
+
+-- the same pieces, where each number that is asked for is the right one
+abbrev renumbered : ℕ → List Piece → List Piece
+renumbered n [] = []
+renumbered n (token t ∷ more) = token t ∷ renumbered (n + 1) more
+renumbered n (look (is_at m) ∷ more) = look (is_at n) ∷ renumbered n more
+renumbered n (look no_operator ∷ more) = look no_operator ∷ renumbered n more
+renumbered n (look no_else ∷ more) = look no_else ∷ renumbered n more
+
+same_first : (n : ℕ) (pieces : List Piece) → first_before (renumbered n pieces) None ≡ first_before pieces None
+same_first n [] = refl
+same_first n (token t ∷ more) = refl
+same_first n (look (is_at m) ∷ more) = same_first n more
+same_first n (look no_operator ∷ more) = same_first n more
+same_first n (look no_else ∷ more) = same_first n more
+
+same_tokens : (n : ℕ) (pieces : List Piece) → tokens_in (renumbered n pieces) ≡ tokens_in pieces
+same_tokens n [] = refl
+same_tokens n (token t ∷ more) = ap (λ ts. t ∷ ts) (same_tokens (n + 1) more)
+same_tokens n (look (is_at m) ∷ more) = same_tokens n more
+same_tokens n (look no_operator ∷ more) = same_tokens n more
+same_tokens n (look no_else ∷ more) = same_tokens n more
+
+fits : (n : ℕ) (pieces : List Piece) → FitsButForNumbers pieces → Fits n (renumbered n pieces)
+fits n [] h = tt
+fits n (token t ∷ more) h = fits (n + 1) more h
+fits n (look (is_at m) ∷ more) h = (refl, fits n more h)
+fits n (look no_operator ∷ more) h = (ap binary_operator (same_first n more) ∙ h.0, fits n more h.1)
+fits n (look no_else ∷ more) h = (subst (λ next. IsFalse (is_else next)) (sym (same_first n more)) h.0, fits n more h.1)
+
+-- What a tree spells before others, with right numbers, is what another one spells before these, from a number on.
+abbrev IsNumbered : {X : Type 0} → (X → List Piece → List Piece) → ℕ → X → List Piece → Type 0
+IsNumbered {X} pieces n x behind = (y : X) × (m : ℕ) × (renumbered n (pieces x behind) ≡ pieces y (renumbered m behind))
+
+-- and what holds no numbers is spelled as it was
+abbrev IsKept : (List Piece → List Piece) → ℕ → List Piece → Type 0
+IsKept pieces n behind = (m : ℕ) × (renumbered n (pieces behind) ≡ pieces (renumbered m behind))
+
+size_kept : (n : ℕ) (size : Option ℤ) (behind : List Piece) → IsKept (size_pieces size) n behind
+size_kept n (Some z) behind = (n + 1, refl)
+size_kept n None behind = (n + 1, refl)
+
+minus_kept : (n : ℕ) (negative : Bool) (behind : List Piece) → IsKept (minus_pieces negative) n behind
+minus_kept n true behind = (n + 1, refl)
+minus_kept n false behind = (n, refl)
+
+end_kept : (n : ℕ) (end : End) (behind : List Piece) → IsKept (end_pieces end) n behind
+end_kept n end behind =
+    let minus = minus_kept n end.negative (size_pieces end.size behind) in
+    let size = size_kept minus.0 end.size behind in
+    (size.0, minus.1 ∙ ap (minus_pieces end.negative) size.1)
+
+void_kept : (n : ℕ) (void : Bool) (behind : List Piece) → IsKept (void_pieces void) n behind
+void_kept n true behind = (n + 1 + 1, refl)
+void_kept n false behind = (n + 1, refl)
+
+prelude_kept : (n : ℕ) (prelude : Prelude) (behind : List Piece) → IsKept (prelude_pieces prelude) n behind
+prelude_kept n (extern_call void) behind =
+    let rest = void_kept (n + 1 + 1 + 1 + 1) void (token (sign S.Semicolon) ∷ behind) in (
+      rest.0 + 1,
+      ap (λ ps. token (sign S.Extern) ∷ token (sign S.Int) ∷ token (sign S.Nondeterministic) ∷ token (sign S.OpenParenthesis) ∷ ps) rest.1,
+    )
+prelude_kept n typedef_bool behind = (n + 1 + 1 + 1 + 1 + 1 + 1 + 1 + 1 + 1, refl)
+
+preludes_kept : (n : ℕ) (preludes : List Prelude) (behind : List Piece) → IsKept (preludes_pieces preludes) n behind
+preludes_kept n [] behind = (n, refl)
+preludes_kept n (prelude ∷ more) behind =
+    let this = prelude_kept n prelude (preludes_pieces more behind) in
+    let rest = preludes_kept this.0 more behind in
+    (rest.0, this.1 ∙ ap (prelude_pieces prelude) rest.1)
+
+-- ── Expressions ──
+
+mutual
+  operand_numbered : (levels n : ℕ) (e : Operand) (behind : List Piece) → IsNumbered (operand_pieces levels) n e behind
+  operand_numbered levels n (operand_at at kind) behind =
+      let this = operand_kind_numbered levels n kind behind in
+      (operand_at n this.0, this.1, ap (λ ps. look (is_at n) ∷ ps) this.2)
+
+  operand_kind_numbered : (levels n : ℕ) (kind : OperandKind) (behind : List Piece) → IsNumbered (operand_kind_pieces levels) n kind behind
+  operand_kind_numbered levels n (number z) behind = (number z, n + 1, refl)
+  operand_kind_numbered levels n (name x) behind = (name x, n + 1, refl)
+  operand_kind_numbered levels n (truth b) behind = (truth b, n + 1, refl)
+  operand_kind_numbered levels n unknown behind = (unknown, n + 1, refl)
+  operand_kind_numbered levels n call behind = (call, n + 1 + 1 + 1, refl)
+  operand_kind_numbered levels n (signed prefix e) behind =
+      let this = operand_numbered (levels + 1) (n + 1) e behind in
+      (signed prefix this.0, this.1, ap (λ ps. token (opening (prefix_sign prefix) (levels + 1)) ∷ ps) this.2)
+  operand_kind_numbered levels n (parentheses e more) behind =
+      let last = token (sign S.CloseParenthesis) ∷ behind in
+      let this = operand_numbered (levels + 1) (n + 1) e (tail_pieces (levels + 1) more last) in
+      let rest = tail_numbered (levels + 1) this.1 more last in (
+        parentheses this.0 rest.0,
+        rest.1 + 1,
+        ap (λ ps. token (opening S.OpenParenthesis (levels + 1)) ∷ ps) (this.2 ∙ ap (operand_pieces (levels + 1) this.0) rest.2),
+      )
+  operand_kind_numbered levels n (range lo hi) behind =
+      let last = token (sign S.CloseBracket) ∷ behind in
+      let low = end_kept (n + 1) lo (token (sign S.Comma) ∷ end_pieces hi last) in
+      let high = end_kept (low.0 + 1) hi last in (
+        range lo hi,
+        high.0 + 1,
+        ap (λ ps. token (sign S.OpenBracket) ∷ ps) (low.1 ∙ ap (λ ps. end_pieces lo (token (sign S.Comma) ∷ ps)) high.1),
+      )
+
+  tail_numbered : (levels n : ℕ) (more : Tail) (behind : List Piece) → IsNumbered (tail_pieces levels) n more behind
+  tail_numbered levels n ended behind = (ended, n, refl)
+  tail_numbered levels n (further (operation op e) more) behind =
+      let this = operand_numbered levels (n + 1) e (tail_pieces levels more behind) in
+      let rest = tail_numbered levels this.1 more behind in (
+        further (operation op this.0) rest.0,
+        rest.1,
+        ap (λ ps. token (operator op) ∷ ps) (this.2 ∙ ap (operand_pieces levels this.0) rest.2),
+      )
+
+expression_numbered : (levels n : ℕ) (e : Expression) (behind : List Piece) → IsNumbered (expression_pieces levels) n e behind
+expression_numbered levels n e behind =
+    let this = operand_numbered levels n e.operand (tail_pieces levels e.tail behind) in
+    let rest = tail_numbered levels this.1 e.tail behind in
+    (record { operand = this.0; tail = rest.0 }, rest.1, this.2 ∙ ap (operand_pieces levels this.0) rest.2)
+
+optional_numbered : (levels n : ℕ) (e : Option Expression) (behind : List Piece) → IsNumbered (optional_pieces levels) n e behind
+optional_numbered levels n (Some e) behind = let this = expression_numbered levels n e behind in (Some this.0, this.1, this.2)
+optional_numbered levels n None behind = (None, n, refl)
+
+test_numbered : (levels n : ℕ) (e : Expression) (behind : List Piece) → IsNumbered (test_pieces levels) n e behind
+test_numbered levels n e behind =
+    let this = expression_numbered (levels + 1) (n + 1) e (token (sign S.CloseParenthesis) ∷ behind) in
+    (this.0, this.1 + 1, ap (λ ps. token (leading_opening S.OpenParenthesis (levels + 1)) ∷ ps) this.2)
+
+-- ── Simple statements and declarations ──
+
+abbrev at_number : ℕ → Name → Name
+at_number n x = record { at = n; bytes = x.bytes }
+
+action_numbered : (levels n : ℕ) (action : Action) (behind : List Piece) → IsNumbered (action_pieces levels) n action behind
+action_numbered levels n (assigns assignment e) behind =
+    let this = expression_numbered levels (n + 1) e behind in
+    (assigns assignment this.0, this.1, ap (λ ps. token (leading (assignment_sign assignment)) ∷ ps) this.2)
+action_numbered levels n (steps step) behind = (steps step, n + 1, refl)
+
+simple_numbered : (levels n : ℕ) (s : Simple) (behind : List Piece) → IsNumbered (simple_pieces levels) n s behind
+simple_numbered levels n (acts x action) behind =
+    let this = action_numbered levels (n + 1) action behind in
+    (acts (at_number n x) this.0, this.1, ap (name_pieces (at_number n x)) this.2)
+simple_numbered levels n (steps_before at step x) behind = (steps_before n step (at_number (n + 1) x), n + 1 + 1, refl)
+
+initialiser_numbered : (levels n : ℕ) (e : Option Expression) (behind : List Piece) → IsNumbered (initialiser_pieces levels) n e behind
+initialiser_numbered levels n (Some e) behind =
+    let this = expression_numbered levels (n + 1) e behind in
+    (Some this.0, this.1, ap (λ ps. token (leading S.Assign) ∷ ps) this.2)
+initialiser_numbered levels n None behind = (None, n, refl)
+
+part_numbered : (levels n : ℕ) (part : Part) (behind : List Piece) → IsNumbered (part_pieces levels) n part behind
+part_numbered levels n part behind =
+    let this = initialiser_numbered levels (n + 1) part.initialiser behind in
+    (record { declared = at_number n part.declared; initialiser = this.0 }, this.1, ap (name_pieces (at_number n part.declared)) this.2)
+
+parts_numbered : (levels n : ℕ) (parts : List Part) (behind : List Piece) → IsNumbered (parts_pieces levels) n parts behind
+parts_numbered levels n [] behind = ([], n + 1, refl)
+parts_numbered levels n (part ∷ more) behind =
+    let this = part_numbered levels (n + 1) part (parts_pieces levels more behind) in
+    let rest = parts_numbered levels this.1 more behind in
+    (this.0 ∷ rest.0, rest.1, ap (λ ps. token (sign S.Comma) ∷ ps) (this.2 ∙ ap (part_pieces levels this.0) rest.2))
+
+declaration_numbered : (levels n : ℕ) (d : Declaration) (behind : List Piece) → IsNumbered (declaration_pieces levels) n d behind
+declaration_numbered levels n d behind =
+    let this = part_numbered levels (n + 1) d.part (parts_pieces levels d.more behind) in
+    let rest = parts_numbered levels this.1 d.more behind in
+    (record { part = this.0; more = rest.0 }, rest.1, ap (λ ps. token (sign S.Int) ∷ ps) (this.2 ∙ ap (part_pieces levels this.0) rest.2))
+
+start_numbered : (levels n : ℕ) (start : Start) (behind : List Piece) → IsNumbered (start_pieces levels) n start behind
+start_numbered levels n starts_with_nothing behind = (starts_with_nothing, n + 1, refl)
+start_numbered levels n (starts_with s) behind =
+    let this = simple_numbered levels n s (token (leading S.Semicolon) ∷ behind) in (starts_with this.0, this.1 + 1, this.2)
+start_numbered levels n (declares d) behind = let this = declaration_numbered levels n d behind in (declares this.0, this.1, this.2)
+
+finish_numbered : (levels n : ℕ) (s : Option Simple) (behind : List Piece) → IsNumbered (finish_pieces levels) n s behind
+finish_numbered levels n (Some s) behind =
+    let this = simple_numbered levels n s (token (sign S.CloseParenthesis) ∷ behind) in (Some this.0, this.1 + 1, this.2)
+finish_numbered levels n None behind = (None, n + 1, refl)
+
+-- ── Statements ──
+
+mutual
+  statement_numbered : (levels n : ℕ) (s : Statement) (behind : List Piece) → IsNumbered (statement_pieces levels) n s behind
+  statement_numbered levels n (statement_at at kind) behind =
+      let this = statement_kind_numbered levels n kind behind in
+      (statement_at n this.0, this.1, ap (λ ps. look (is_at n) ∷ ps) this.2)
+
+  statement_kind_numbered : (levels n : ℕ) (kind : StatementKind) (behind : List Piece) → IsNumbered (statement_kind_pieces levels) n kind behind
+  statement_kind_numbered levels n (simple s) behind =
+      let this = simple_numbered levels n s (token (sign S.Semicolon) ∷ behind) in (simple this.0, this.1 + 1, this.2)
+  statement_kind_numbered levels n skip behind = (skip, n + 1, refl)
+  statement_kind_numbered levels n (braces all) behind =
+      let this = items_numbered (levels + 1) (n + 1) all (token (sign S.CloseBrace) ∷ behind) in
+      (braces this.0, this.1 + 1, ap (λ ps. token (opening S.OpenBrace (levels + 1)) ∷ ps) this.2)
+  statement_kind_numbered levels n (conditional test part other) behind =
+      let last = otherwise_pieces (levels + 1) other behind in
+      let tested = test_numbered (levels + 1) (n + 1) test (statement_pieces (levels + 1) part last) in
+      let this = statement_numbered (levels + 1) tested.1 part last in
+      let rest = otherwise_numbered (levels + 1) this.1 other behind in (
+        conditional tested.0 this.0 rest.0,
+        rest.1,
+        ap (λ ps. token (opening S.If (levels + 1)) ∷ ps)
+            (tested.2 ∙ ap (test_pieces (levels + 1) tested.0) (this.2 ∙ ap (statement_pieces (levels + 1) this.0) rest.2)),
+      )
+  statement_kind_numbered levels n (while_loop test body) behind =
+      let tested = test_numbered (levels + 1) (n + 1) test (statement_pieces (levels + 1) body behind) in
+      let this = statement_numbered (levels + 1) tested.1 body behind in (
+        while_loop tested.0 this.0,
+        this.1,
+        ap (λ ps. token (opening S.While (levels + 1)) ∷ ps) (tested.2 ∙ ap (test_pieces (levels + 1) tested.0) this.2),
+      )
+  statement_kind_numbered levels n (do_loop body end test) behind =
+      let last = token (sign S.Semicolon) ∷ behind in
+      let this = statement_numbered (levels + 1) (n + 1) body (look (is_at end) ∷ token (sign S.While) ∷ test_pieces (levels + 1) test last) in
+      let tested = test_numbered (levels + 1) (this.1 + 1) test last in (
+        do_loop this.0 this.1 tested.0,
+        tested.1 + 1,
+        ap (λ ps. token (opening S.Do (levels + 1)) ∷ ps)
+            (this.2 ∙ ap (λ ps. statement_pieces (levels + 1) this.0 (look (is_at this.1) ∷ token (sign S.While) ∷ ps)) tested.2),
+      )
+  statement_kind_numbered levels n (for_loop start test step body) behind =
+      let inner = statement_pieces (levels + 1) body behind in
+      let last = token (sign S.Semicolon) ∷ finish_pieces (levels + 1) step inner in
+      let begun = start_numbered (levels + 1) (n + 1 + 1) start (optional_pieces (levels + 1) test last) in
+      let tested = optional_numbered (levels + 1) begun.1 test last in
+      let stepped = finish_numbered (levels + 1) (tested.1 + 1) step inner in
+      let this = statement_numbered (levels + 1) stepped.1 body behind in (
+        for_loop begun.0 tested.0 stepped.0 this.0,
+        this.1,
+        ap (λ ps. token (opening S.For (levels + 1)) ∷ token (sign S.OpenParenthesis) ∷ ps)
+            (begun.2
+            ∙ ap (start_pieces (levels + 1) begun.0)
+            (tested.2
+            ∙ ap (λ ps. optional_pieces (levels + 1) tested.0 (token (sign S.Semicolon) ∷ ps))
+            (stepped.2 ∙ ap (finish_pieces (levels + 1) stepped.0) this.2))),
+      )
+  statement_kind_numbered levels n (return value) behind =
+      let this = optional_numbered levels (n + 1) value (token (sign S.Semicolon) ∷ behind) in
+      (return this.0, this.1 + 1, ap (λ ps. token (leading S.Return) ∷ ps) this.2)
+
+  otherwise_numbered : (levels n : ℕ) (other : Otherwise) (behind : List Piece) → IsNumbered (otherwise_pieces levels) n other behind
+  otherwise_numbered levels n without behind = (without, n, refl)
+  otherwise_numbered levels n (otherwise s) behind =
+      let this = statement_numbered (levels + 1) (n + 1) s behind in
+      (otherwise this.0, this.1, ap (λ ps. token (opening S.Else (levels + 1)) ∷ ps) this.2)
+
+  items_numbered : (levels n : ℕ) (all : Items) (behind : List Piece) → IsNumbered (items_pieces levels) n all behind
+  items_numbered levels n none behind = (none, n, refl)
+  items_numbered levels n (declaration d more) behind =
+      let this = declaration_numbered levels n d (items_pieces levels more behind) in
+      let rest = items_numbered levels this.1 more behind in
+      (declaration this.0 rest.0, rest.1, this.2 ∙ ap (declaration_pieces levels this.0) rest.2)
+  items_numbered levels n (statement s more) behind =
+      let this = statement_numbered levels n s (items_pieces levels more behind) in
+      let rest = items_numbered levels this.1 more behind in
+      (statement this.0 rest.0, rest.1, this.2 ∙ ap (statement_pieces levels this.0) rest.2)
+
+program_numbered : (n : ℕ) (p : Program) (behind : List Piece) → IsNumbered program_pieces n p behind
+program_numbered n p behind =
+    let last = token (sign S.CloseBrace) ∷ behind in
+    let body = token (opening S.OpenBrace 1) ∷ items_pieces 1 p.items last in
+    let main = preludes_kept n p.preludes (token (sign S.Int) ∷ token (sign S.Main) ∷ token (sign S.OpenParenthesis) ∷ void_pieces p.void body) in
+    let void = void_kept (main.0 + 1 + 1 + 1) p.void body in
+    let items = items_numbered 1 (void.0 + 1) p.items last in (
+      record { preludes = p.preludes; void = p.void; items = items.0 },
+      items.1 + 1,
+      main.1
+          ∙ ap (λ ps. preludes_pieces p.preludes (token (sign S.Int) ∷ token (sign S.Main) ∷ token (sign S.OpenParenthesis) ∷ ps))
+          (void.1 ∙ ap (λ ps. void_pieces p.void (token (opening S.OpenBrace 1) ∷ ps)) items.2),
+    )
+
+pub trees_can_be_numbered : TreesCanBeNumbered
+trees_can_be_numbered p h =
+    let numbered = program_numbered 0 p [] in (
+      numbered.0,
+      subst (Fits 0) numbered.2 (fits 0 (program_pieces p []) h),
+      ap tokens_in (sym numbered.2) ∙ same_tokens 0 (program_pieces p []),
+    )
