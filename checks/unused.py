@@ -1,7 +1,7 @@
 #!/usr/bin/env python3
 """Names that nothing else names: definitions of specs/, public calls, and imports.
 
-By text alone: a name that is spelled elsewhere counts as used. Prints each with its file, and ends with 1 where there is one. A name that docs/WORKING.md
+By text alone: a name that is spelled elsewhere counts as used, an imported one if it is spelled in the file outside comments and imports. Prints each with its file, and ends with 1 where there is one. A name that docs/WORKING.md
 lists as waiting for its user counts as used.
 """
 import re
@@ -18,7 +18,7 @@ WORD = re.compile(r"[\w◌≡≢≤<+\-*^ℤ∷⊎↔|&×/%∣¬⊤⊥ℕ']+")
 # A name before the `<` of its type parameters.
 PLAIN_WORD = re.compile(r"\w+")
 # What is syntax, and traits whose methods are called without their name.
-SILENT = {"if◌then◌else◌", "self", "*", "NumDomain", "Rank", "Write", "Read", "Source", "Sink", "Adviser"}
+SILENT = {"if◌then◌else◌", "self", "*", "NumDomain", "Rank", "Write", "Read", "Source", "Sink", "Adviser", "BufRead"}
 
 
 def sources():
@@ -39,11 +39,22 @@ def core(name):
     return name.strip("◌")
 
 
-def unused_imports(lines):
-    rest = "\n".join(line for line in lines if not IMPORT.match(line))
+def is_named(name, text, suffix):
+    """Whether the text names it: a word as a whole word, an operator anywhere."""
+    if not PLAIN_WORD.match(name):
+        return core(name) in text
+    # Words of proofs may hold a hyphen, and a field's name stands behind a dot.
+    part = r"[\w'-]" if suffix == ".antt" else r"\w"
+    return re.search(rf"(?<!{part}){re.escape(name)}(?!{part})", text) is not None
+
+
+def unused_imports(lines, suffix):
+    # Texts in quotes go first: one of them may hold the sign of a comment.
+    silent = re.compile(r'"[^"]*"|' + ("--.*" if suffix == ".antt" else "//.*"))
+    rest = "\n".join(silent.sub("", line) for line in lines if not IMPORT.match(line))
     for line in lines:
         if "pub use" not in line:
-            yield from (name for name in imported(line) if name not in SILENT and core(name) and core(name) not in rest)
+            yield from (name for name in imported(line) if name not in SILENT and core(name) and not is_named(name, rest, suffix))
 
 
 def definitions(path, lines):
@@ -70,7 +81,7 @@ def main():
             is_field = own == 1 and "specs" in path.parts
             if named[name] <= own and not is_field and name not in waiting:
                 found.append(f"{path.relative_to(TOP)}: {name} is named nowhere else")
-        found += [f"{path.relative_to(TOP)}: {name} is imported for nothing" for name in unused_imports(lines) if name not in waiting]
+        found += [f"{path.relative_to(TOP)}: {name} is imported for nothing" for name in unused_imports(lines, path.suffix) if name not in waiting]
     print("\n".join(found))
     return 1 if found else 0
 

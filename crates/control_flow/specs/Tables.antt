@@ -1,7 +1,5 @@
 -- Labels as a graph keeps them.
 use Rattle.std.specs.Prelude.{◌≡◌, ◌<◌, List, map}
-use Rattle.step_meaning.specs.declared.statement.Block.TheVariants.{End}
-use Rattle.step_meaning.specs.declared.statement.StmtKind.TheVariants.{Assign}
 use Rattle.step_meaning.specs.Syntax.{Statements, expression, size_of}
 use Rattle.control_flow.specs.declared.node.Node.{Node}
 use Rattle.control_flow.specs.declared.node.Node.TheVariants.{End as Ends, Assign as Assigns, Pass as Passes, Test as Tests}

@@ -1,6 +1,6 @@
 //! Laws of the definitions, each the contract of a function that does nothing: what labels, edges and steps have to do with each other.
 
-ghost use Rattle.std.specs.Prelude.{◌≡◌, ◌⊎◌, ℕ, ℤ, ◌<◌, ◌+◌, Bool, Some, [], length, slice_set};
+ghost use Rattle.std.specs.Prelude.{◌≡◌, ◌⊎◌, ℕ, ℤ, ◌<◌, ◌+◌, Bool, [], length, slice_set};
 ghost use Rattle.step_meaning.specs.Syntax.{Expression, Statements, free, list_of, size_of};
 ghost use Rattle.step_meaning.specs.Outcome.{Store, May};
 ghost use Rattle.step_meaning.specs.Run.{EndsWithin};

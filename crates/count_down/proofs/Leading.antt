@@ -3,7 +3,6 @@ use Rattle.std.proofs.Common.{◌≡◌, ℕ, ◌+◌, ◌*◌, ◌^◌, ◌<◌
 use Rattle.std.proofs.Math.Nat.{mul_assoc, mul_comm, mul-le-mul, le_refl, suc-mul}
 use Rattle.linear_cons.specs.declared.affine.Affine.{Affine}
 use Rattle.linear_cons.specs.declared.row.Row.{Row}
-use Rattle.linear_cons.specs.Functions.{substituted}
 use Rattle.linear_cons.proofs.Sizes.{sizes_fit, sizes_grown, sizes_products, sizes_substituted}
 use Rattle.linear_cons.specs.Sizes.{SizesAtMost, total_size}
 use Rattle.step_meaning.specs.Counts.{before, none}

@@ -2,7 +2,7 @@
 use Rattle.std.proofs.Common.{ℕ, ◌+◌, ◌*◌, ◌^◌, ◌≤◌, ℤ, pos, unsigned_abs, arith}
 use Rattle.std.proofs.Math.Nat.{le_refl}
 use Rattle.linear_cons.specs.declared.affine.Affine.{Affine}
-use Rattle.linear_cons.specs.Functions.{NumbersFit, coefficient, constant_of, multiple_of}
+use Rattle.linear_cons.specs.Functions.{NumbersFit, constant_of, multiple_of}
 use Rattle.linear_cons.proofs.Sizes.{sizes_constant, sizes_fit, sizes_grown, sizes_multiple, sizes_sum}
 use Rattle.linear_cons.specs.Sizes.{SizesAtMost}
 use Rattle.step_meaning.specs.Countdown.{IsSmall}

@@ -5,7 +5,7 @@ use Rattle.step_meaning.specs.Valid.{IsNumber, IsTest, IsBody}
 use Rattle.concrete_syntax.specs.declared.sign.Assignment.{Assignment}
 use Rattle.concrete_syntax.specs.declared.sign.Step.{Step}
 use Rattle.concrete_syntax.specs.declared.sign.Step.TheVariants.{Increment, Decrement}
-use Rattle.concrete_syntax.specs.Trees.{Expression, Name, Action, assigns, steps, Simple, acts, steps_before, Part, Declaration, Start, starts_with_nothing, starts_with, declares, Statement, statement_at, simple, skip, braces, conditional, while_loop, do_loop, for_loop, return, Otherwise, without, otherwise, Items, none, declaration, statement}
+use Rattle.concrete_syntax.specs.Trees.{Expression, Name, Action, assigns, steps, Simple, acts, steps_before, Part, Start, starts_with_nothing, starts_with, declares, Statement, statement_at, simple, skip, braces, conditional, while_loop, do_loop, for_loop, return, Otherwise, without, otherwise, Items, none, declaration, statement}
 use Rattle.elaboration.specs.declared.fault.Rule.TheVariants.{Twice, Variables}
 use Rattle.elaboration.specs.Scopes.{Scope, is_among, place_of, with_variable, most_variables, declare}
 use Rattle.elaboration.specs.Faults.{fault}

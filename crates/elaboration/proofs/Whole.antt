@@ -1,5 +1,5 @@
 -- From the items of a program to the program.
-use Rattle.std.proofs.Common.{◌≡◌, ◌≢◌, ◌≤◌, List, [], ◌++◌, Option, None, Some, length, AllPairs, ap, sym, ◌∙◌, subst, arith}
+use Rattle.std.proofs.Common.{◌≡◌, ◌≢◌, ◌≤◌, List, [], ◌++◌, None, Some, length, AllPairs, ap, sym, ◌∙◌, subst, arith}
 use Rattle.std.proofs.lemmas.Bool.{false≢true}
 use Rattle.step_meaning.specs.declared.statement.Block.{Block}
 use Rattle.step_meaning.specs.Syntax.{Statement, Statements, of_list, statements}
@@ -18,20 +18,17 @@ use Rattle.elaboration.proofs.Valid.{IsSound}
 use Rattle.elaboration.proofs.Bodies.{items_valid}
 
 -- a walk over a whole program, from no names and no fault on
-record Walks (p : Program) (first last : Walk) : Type 0 where
-  pub empty : first.scope ≡ no_names
-  pub clean : first.least ≡ None
-  pub gone : HasGone first last (items_walked first.scope p.items)
-
-goes : (p : Program) (first last : Walk) → Walks p first last → (last.scope ≡ (walked p).scope) × (last.least ≡ earliest None (faults_of p))
-goes p first last w =
-    let gone : HasGone first last (walked p) = subst (λ s. HasGone first last (items_walked s p.items)) w.empty w.gone in
-    (gone.1, gone.2 ∙ ap (λ least. earliest least (faults_of p)) w.clean)
+goes : (p : Program) (first last : Walk) → first.scope ≡ no_names → first.least ≡ None
+    → HasGone first last (items_walked first.scope p.items)
+    → (last.scope ≡ (walked p).scope) × (last.least ≡ earliest None (faults_of p))
+goes p first last empty clean gone =
+    let whole : HasGone first last (walked p) = subst (λ s. HasGone first last (items_walked s p.items)) empty gone in
+    (whole.1, whole.2 ∙ ap (λ least. earliest least (faults_of p)) clean)
 
 pub refused : (p : Program) (first last : Walk) (f : Fault) → first.scope ≡ no_names → first.least ≡ None
     → HasGone first last (items_walked first.scope p.items) → last.least ≡ Some f → IsFirstOf (faults_of p) f
 refused p first last f empty clean gone is =
-    first_is (faults_of p) f (sym (goes p first last record { empty = empty; clean = clean; gone = gone }).1 ∙ is)
+    first_is (faults_of p) f (sym (goes p first last empty clean gone).1 ∙ is)
 
 -- where no fault was found
 pub stands : (p : Program) (first last : Walk) (names : List Name) (before out : List Statement) (body : Statements)
@@ -39,7 +36,7 @@ pub stands : (p : Program) (first last : Walk) (names : List Name) (before out :
     → names ≡ last.scope.declared → before ≡ [] → out ≡ before ++ (items_walked first.scope p.items).body → body ≡ of_list out
     → StandsFor p names body
 stands p first last names before out body empty clean gone none named fresh made is =
-    let found = goes p first last record { empty = empty; clean = clean; gone = gone } in
+    let found = goes p first last empty clean gone in
     record {
       faultless = none_is (faults_of p) (sym found.1 ∙ none);
       declares = named ∙ ap (λ s. s.declared) found.0;

@@ -1,5 +1,5 @@
 -- Inductive sets have each store with which their label is reached.
-use Rattle.std.proofs.Common.{◌≡◌, ℕ, ◌≤◌, ℤ, inl, inr, List, [], ◌∷◌, length, slice_get, slice_set, Option, None, Some, IfSome, IsSomeAnd, length-set, subst, ◌∙◌}
+use Rattle.std.proofs.Common.{◌≡◌, ℕ, ◌≤◌, ℤ, inl, inr, List, [], ◌∷◌, slice_get, slice_set, Option, None, Some, IfSome, IsSomeAnd, length-set, subst, ◌∙◌}
 use Rattle.step_meaning.specs.Syntax.{Statements}
 use Rattle.step_meaning.specs.Outcome.{Store}
 use Rattle.step_meaning.specs.Valid.{IsBody}

@@ -8,7 +8,6 @@ use Rattle.linear_cons.specs.declared.bounds.Linear.{Linear}
 use Rattle.linear_cons.specs.declared.row.Row.{Row}
 use Rattle.linear_cons.specs.Bounds.{Covers, LiesIn}
 use Rattle.linear_cons.specs.Functions.{complement_of, value_at}
-use Rattle.linear_cons.specs.Rows.{Meets}
 use Rattle.linear_cons.proofs.RowLaws.{complement_met}
 use Rattle.linear_forms.specs.Linearising.{linear_of}
 use Rattle.linear_forms.specs.Spreading.{spread_of}

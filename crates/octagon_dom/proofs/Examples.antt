@@ -1,5 +1,5 @@
 -- What assignments of one's own number say of `x0 = x0 + 3`.
-use Rattle.std.proofs.Common.{◌≡◌, ◌<◌, ℤ, pos, ◌+ℤ◌, List, length, arith, eqb, cond, refl, set, ◌∙◌, ap, unsigned_abs}
+use Rattle.std.proofs.Common.{◌≡◌, ◌<◌, ℤ, pos, ◌+ℤ◌, List, arith, eqb, cond, refl, set, ◌∙◌, ap, unsigned_abs}
 use Rattle.std.specs.Bool.{⊤}
 use Rattle.std.proofs.lemmas.Int.{ints}
 use Rattle.linear_cons.specs.declared.bounds.Linear.{Linear}

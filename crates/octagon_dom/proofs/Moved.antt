@@ -11,7 +11,7 @@ use Rattle.linear_cons.proofs.EndLaws.{up_to_same}
 use Rattle.linear_cons.proofs.KnownEnds.{known_end}
 use Rattle.num_domain.specs.declared.bound.Bound.{Bound}
 use Rattle.octagon_dom.specs.Assignments.{ComesFromAssigned, HasModerateBounds, IsModerate, IsStepOf, above_terms, below_terms}
-use Rattle.octagon_dom.specs.Cells.{AreCellsOf, IsBelow, bound, cell, exchanged, flipped, negative_end, rise, shifted, signed, sum_end, turned}
+use Rattle.octagon_dom.specs.Cells.{AreCellsOf, IsBelow, cell, exchanged, flipped, negative_end, rise, shifted, signed, sum_end, turned}
 use Rattle.octagon_dom.specs.Terms.{AreTwoTerms, IsOneTerm}
 use Rattle.octagon_dom.specs.Laws.Members.{below_of_cells, bound_apart, bound_same, signed_negative, signed_own, signed_turned}
 use Rattle.octagon_dom.proofs.Assigned.{one_value}

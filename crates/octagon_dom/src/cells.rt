@@ -1,5 +1,5 @@
 //! The matrix of bounds on differences of signed places, in one flat list of cells.
-ghost use Rattle.std.specs.Prelude.{◌≡◌, ℕ, ◌<◌, pos, length};
+ghost use Rattle.std.specs.Prelude.{◌≡◌, ℕ, ◌<◌, length};
 ghost use Rattle.num_domain.specs.Ends.{some_end};
 ghost use Rattle.octagon_dom.specs.Cells.{AreCellsOf, bound, cell, is_negative, is_void, least_end, sum_end, tightened, turned};
 

@@ -2,5 +2,4 @@ pub mod Tightening
 pub mod Walking
 pub mod Standing
 pub mod Spelling
-pub mod Testing
 pub mod Cutting

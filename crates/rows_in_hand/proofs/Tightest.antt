@@ -1,5 +1,5 @@
 -- The tightest of some rows: what they give as a reason all of them give, and a row that they refute is opposed to one of them.
-use Rattle.std.proofs.Common.{◌+◌, ◌*◌, ◌≤◌, ◌^◌, pos, List, [], ◌∷◌, ◌++◌, length, Contains, subst, sym, arith, ⊎_elim}
+use Rattle.std.proofs.Common.{◌+◌, ◌*◌, ◌≤◌, ◌^◌, List, [], ◌∷◌, ◌++◌, length, Contains, subst, sym, arith, ⊎_elim}
 use Rattle.std.proofs.lemmas.Int.{ints}
 use Rattle.std.proofs.lemmas.List.Elements.{Contains-push_cases}
 use Rattle.linear_cons.specs.declared.row.Row.{Row}

@@ -1,5 +1,5 @@
 //! The check.
-ghost use Rattle.std.specs.Prelude.{◌≡◌, ℕ, ◌-◌, ◌^◌, ◌<◌, List, length, IfOk, OnOk, OnErr};
+ghost use Rattle.std.specs.Prelude.{◌≡◌, ℕ, ◌-◌, ◌^◌, ◌<◌, length, IfOk, OnOk, OnErr};
 ghost use Rattle.step_meaning.specs.Syntax.{statements};
 ghost use Rattle.control_flow.specs.Labels.{all_labels};
 ghost use Rattle.ctl_formula.specs.Mirror.{ctl};

@@ -1,13 +1,13 @@
 -- Paths of rows that agree: none is opposed to another.
 use Rattle.std.specs.Prelude.{unsigned_abs}
 use Rattle.std.specs.Int.{◌∣◌}
-use Rattle.std.proofs.Common.{◌≡◌, ◌⊎◌, inl, inr, ⊎_elim, ℕ, ◌<◌, ℤ, pos, negsuc, ◌-ℤ◌, Bool, true, false, ◌||◌, cond, List, [], ◌∷◌, ◌++◌, Option, None, Some, length, refl, sym, ap, subst, ◌∙◌, arith}
+use Rattle.std.proofs.Common.{◌≡◌, ◌⊎◌, inl, inr, ⊎_elim, ℕ, ◌<◌, pos, negsuc, ◌-ℤ◌, Bool, true, false, ◌||◌, cond, List, [], ◌∷◌, ◌++◌, Option, None, Some, length, refl, sym, ap, subst, ◌∙◌, arith}
 use Rattle.std.proofs.lemmas.Int.{ints}
 use Rattle.std.proofs.lemmas.Nat.Gcd.{dvd-zero}
 use Rattle.linear_cons.specs.Divisor.{DividesAll}
 use Rattle.linear_cons.specs.Functions.{coefficient, complement_of, constant_of}
 use Rattle.linear_cons.specs.Numbers.{number_at}
-use Rattle.linear_cons.specs.Rows.{AreOpposed, complement}
+use Rattle.linear_cons.specs.Rows.{AreOpposed}
 use Rattle.linear_cons.specs.Settling.{functions_of_rows, settled, settles, tells}
 use Rattle.linear_cons.specs.declared.affine.Affine.{Affine}
 use Rattle.linear_cons.specs.declared.row.Row.{Row}

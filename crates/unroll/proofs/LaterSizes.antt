@@ -5,7 +5,6 @@ use Rattle.std.proofs.Math.Nat.{add-mul, le_refl, mul-le-mul, mul-suc, suc-mul}
 use Rattle.linear_cons.specs.Functions.{IsConstant, constant_of}
 use Rattle.linear_cons.specs.Rows.{complement, row_kind_of}
 use Rattle.linear_cons.specs.Settling.{settles}
-use Rattle.linear_cons.specs.declared.affine.Affine.{Affine}
 use Rattle.linear_cons.specs.declared.row.Row.{Row}
 use Rattle.linear_cons.specs.declared.row.RowKind.{RowKind}
 use Rattle.linear_cons.specs.declared.row.RowKind.TheVariants.{Always, Never, Row as Kept}

@@ -1,5 +1,5 @@
 -- How large the numbers of rows are: with a function put in, of complements, and in tests.
-use Rattle.std.proofs.Common.{◌≡◌, ℕ, ◌+◌, ◌*◌, ◌^◌, ◌<◌, ◌≤◌, max, List, [], ◌∷◌, length, unsigned_abs, refl, ap, ◌∙◌, arith}
+use Rattle.std.proofs.Common.{◌≡◌, ℕ, ◌+◌, ◌*◌, ◌^◌, ◌<◌, ◌≤◌, max, List, [], ◌∷◌, length, unsigned_abs, ap, ◌∙◌, arith}
 use Rattle.std.proofs.Math.Nat.{add-mul, le_refl, le_trans, mul-add, mul-le-mul, mul_assoc, mul_comm, one-mul}
 use Rattle.linear_cons.specs.Functions.{NumbersFit, SubstitutionFits, coefficient, complement_of, substituted}
 use Rattle.linear_cons.specs.Rows.{IsRowOf, row_kind_of}
