@@ -1,14 +1,16 @@
 -- What the readers of the parser answer, for whatever is to be read behind.
-use Rattle.std.specs.Prelude.{◌≡◌, ◌≢◌, ◌⊎◌, ℕ, ◌<◌, List, [], ◌∷◌, ◌++◌}
+use Rattle.std.specs.Prelude.{◌≡◌, ◌≢◌, ◌⊎◌, refl, ℕ, ◌<◌, Option, List, [], ◌∷◌, ◌++◌}
 use Rattle.derivation.specs.declared.rule.Rule.{Rule}
 use Rattle.derivation.specs.declared.rule.Rule.TheVariants.{Expected, Nesting, Operators}
 use Rattle.derivation.specs.declared.symbol.Symbol.{Symbol}
+use Rattle.derivation.specs.declared.symbol.Symbol.TheVariants as S
 use Rattle.derivation.specs.Word.{Word, symbol, name as named}
 use Rattle.derivation.specs.Comes.{IsNext}
 use Rattle.source_syntax.specs.Language.{Rest}
-use Rattle.concrete_syntax.specs.Trees.{Operand, Link, Part, Prelude, Program}
+use Rattle.concrete_syntax.specs.Trees.{Operand, Link, Expression, Simple, Part, Start, Prelude, Program}
 use Rattle.concrete_syntax.specs.Chains.{tail_of}
-use Rattle.source_syntax.specs.Pending.{Pending, an_expression, a_tail, a_name, a_part_end, parts, a_declaration, TreeOf}
+use Rattle.source_syntax.specs.Spelling.{sign}
+use Rattle.source_syntax.specs.Pending.{Pending, exactly, exactly_at, an_expression, a_tail, an_optional, a_test, a_name, a_part_end, parts, a_declaration, a_start, a_finish, TreeOf}
 use Rattle.source_syntax.specs.Leads.{Leads, Stops}
 
 -- the words up to `to` are this tree of a `p`, and its operators raise the count of their expression from `count` to `now`
@@ -89,3 +91,27 @@ pub record ComesToParts (levels : ℕ) (part : Part) (so_far : List Part) (from 
   pub comes : (count : ℕ) (behind : List Pending)
       → (now : ℕ) × Leads count (a_declaration levels ∷ behind) from now (parts levels ∷ behind) to
       (λ trees. (record { part = part; more = so_far ++ trees.0 }, trees.1))
+
+-- what stands behind the body of a `do`
+abbrev pub end_of_do : ℕ → List Pending → List Pending
+end_of_do levels behind = exactly_at (sign S.While) (refl, refl) ∷ a_test levels ∷ exactly (sign S.Semicolon) (refl, refl) ∷ behind
+
+-- the words up to `to` are the end of a `do` with this test
+pub record ReadsEndOfDo (levels : ℕ) (test : Expression) (from to : Rest) : Type 0 where
+  pub comes : (count : ℕ) (behind : List Pending)
+      → (now : ℕ) × Leads count (end_of_do levels behind) from now behind to (λ trees. (from.number, (test, (tt, trees))))
+
+abbrev pub RefusesEndOfDo : ℕ → Rest → Rule → Rest → Type 0
+RefusesEndOfDo levels from rule to = (count : ℕ) (behind : List Pending) → Stops count (end_of_do levels behind) from rule to
+
+-- what stands between a `for` and its body
+abbrev pub head_of_for : ℕ → List Pending → List Pending
+head_of_for levels behind = exactly (sign S.OpenParenthesis) (refl, refl) ∷ a_start levels ∷ an_optional levels ∷ a_finish levels ∷ behind
+
+-- the words up to `to` are these parts of a `for`, in its parentheses
+pub record ReadsHeadOfFor (levels : ℕ) (start : Start) (test : Option Expression) (step : Option Simple) (from to : Rest) : Type 0 where
+  pub comes : (count : ℕ) (behind : List Pending)
+      → (now : ℕ) × Leads count (head_of_for levels behind) from now behind to (λ trees. (tt, (start, (test, (step, trees)))))
+
+abbrev pub RefusesHeadOfFor : ℕ → Rest → Rule → Rest → Type 0
+RefusesHeadOfFor levels from rule to = (count : ℕ) (behind : List Pending) → Stops count (head_of_for levels behind) from rule to

@@ -154,13 +154,14 @@ fn signed(
     ensures forward { IfOk result (λ found. IsBehind words.now at found.1) }
     ensures refused { IfFault result (λ fault. RefusesCounting operators (an_operand_kind levels) (rest_from words.now at) fault.rule (rest_from words.now fault.at)) }
 {
-    if levels + 1 > MOST_LEVELS {
+    let inner_levels = levels + 1;
+    if inner_levels > MOST_LEVELS {
         return Err(Failure::Fault(Fault {
             rule: Rule::Nesting,
             at,
         }));
     }
-    let (inner, next, count) = operand(alloc, words, at + 1, levels + 1, operators)?;
+    let (inner, next, count) = operand(alloc, words, at + 1, inner_levels, operators)?;
     let operand = Box::new(alloc, inner)?;
     Ok((OperandKind::Signed { prefix, operand }, next, count))
 }
@@ -182,8 +183,9 @@ fn parentheses(
     ensures forward { IfOk result (λ found. IsBehind words.now at found.1) }
     ensures refused { IfFault result (λ fault. RefusesCounting operators (an_operand_kind levels) (rest_from words.now at) fault.rule (rest_from words.now fault.at)) }
 {
-    let inner = opening(words, at, Symbol::OpenParenthesis, levels + 1)?;
-    let (value, behind, count) = expression(alloc, words, inner, levels + 1, operators)?;
+    let inner_levels = levels + 1;
+    let inner = opening(words, at, Symbol::OpenParenthesis, inner_levels)?;
+    let (value, behind, count) = expression(alloc, words, inner, inner_levels, operators)?;
     let next = sign(words, behind, Symbol::CloseParenthesis)?;
     let operand = Box::new(alloc, value.operand)?;
     let tail = Box::new(alloc, value.tail)?;

@@ -1,7 +1,8 @@
 //! How each kind of phrase opens, by its first word.
 
-ghost use Rattle.std.specs.Prelude.{◌≡◌};
+ghost use Rattle.std.specs.Prelude.{◌≡◌, Some};
 ghost use Rattle.derivation.specs.Spelled.{words_from};
+ghost use Rattle.derivation.specs.Word.{symbol};
 ghost use Rattle.source_syntax.specs.Language.{binary_operator};
 ghost use Rattle.derivation.specs.Pieces.{first};
 ghost use Rattle.source_syntax.specs.Openings.{opening_of_operand, opening_of_simple, opening_of_action, opening_of_statement, opening_of_item, opening_of_prelude, size_opening, opening_of_start};
@@ -95,15 +96,25 @@ pub fn opening_of_operand(words: &[Lexeme<'_>], at: usize) -> OperandOpening
     match *word {
         Lexeme::Number(value) => OperandOpening::Number(value),
         Lexeme::Name(_) => OperandOpening::Name,
-        Lexeme::Symbol(Symbol::True) => OperandOpening::Truth(true),
-        Lexeme::Symbol(Symbol::False) => OperandOpening::Truth(false),
-        Lexeme::Symbol(Symbol::Question) => OperandOpening::Unknown,
-        Lexeme::Symbol(Symbol::Nondeterministic) => OperandOpening::Call,
-        Lexeme::Symbol(Symbol::Plus) => OperandOpening::Signed(Prefix::Plus),
-        Lexeme::Symbol(Symbol::Minus) => OperandOpening::Signed(Prefix::Minus),
-        Lexeme::Symbol(Symbol::Not) => OperandOpening::Signed(Prefix::Not),
-        Lexeme::Symbol(Symbol::OpenParenthesis) => OperandOpening::Parenthesis,
-        Lexeme::Symbol(Symbol::OpenBracket) => OperandOpening::Bracket,
+        Lexeme::Symbol(sign) => operand_with(sign),
+        _ => OperandOpening::Nothing,
+    }
+}
+
+// How an operand opens that begins with this sign.
+fn operand_with(sign: Symbol) -> OperandOpening
+    ensures { result ≡ opening_of_operand (Some (symbol sign)) }
+{
+    match sign {
+        Symbol::True => OperandOpening::Truth(true),
+        Symbol::False => OperandOpening::Truth(false),
+        Symbol::Question => OperandOpening::Unknown,
+        Symbol::Nondeterministic => OperandOpening::Call,
+        Symbol::Plus => OperandOpening::Signed(Prefix::Plus),
+        Symbol::Minus => OperandOpening::Signed(Prefix::Minus),
+        Symbol::Not => OperandOpening::Signed(Prefix::Not),
+        Symbol::OpenParenthesis => OperandOpening::Parenthesis,
+        Symbol::OpenBracket => OperandOpening::Bracket,
         _ => OperandOpening::Nothing,
     }
 }
@@ -116,17 +127,27 @@ pub fn binary_operator(words: &[Lexeme<'_>], at: usize) -> Option<Operator>
         return None;
     };
     match *word {
-        Lexeme::Symbol(Symbol::Plus) => Some(Operator::Add),
-        Lexeme::Symbol(Symbol::Minus) => Some(Operator::Subtract),
-        Lexeme::Symbol(Symbol::Times) => Some(Operator::Multiply),
-        Lexeme::Symbol(Symbol::Less) => Some(Operator::Less),
-        Lexeme::Symbol(Symbol::LessEqual) => Some(Operator::LessEqual),
-        Lexeme::Symbol(Symbol::Greater) => Some(Operator::Greater),
-        Lexeme::Symbol(Symbol::GreaterEqual) => Some(Operator::GreaterEqual),
-        Lexeme::Symbol(Symbol::Equal) => Some(Operator::Equal),
-        Lexeme::Symbol(Symbol::NotEqual) => Some(Operator::NotEqual),
-        Lexeme::Symbol(Symbol::And) => Some(Operator::And),
-        Lexeme::Symbol(Symbol::Or) => Some(Operator::Or),
+        Lexeme::Symbol(sign) => operator_of(sign),
+        _ => None,
+    }
+}
+
+// The binary operator that a sign is.
+fn operator_of(sign: Symbol) -> Option<Operator>
+    ensures { result ≡ binary_operator (Some (symbol sign)) }
+{
+    match sign {
+        Symbol::Plus => Some(Operator::Add),
+        Symbol::Minus => Some(Operator::Subtract),
+        Symbol::Times => Some(Operator::Multiply),
+        Symbol::Less => Some(Operator::Less),
+        Symbol::LessEqual => Some(Operator::LessEqual),
+        Symbol::Greater => Some(Operator::Greater),
+        Symbol::GreaterEqual => Some(Operator::GreaterEqual),
+        Symbol::Equal => Some(Operator::Equal),
+        Symbol::NotEqual => Some(Operator::NotEqual),
+        Symbol::And => Some(Operator::And),
+        Symbol::Or => Some(Operator::Or),
         _ => None,
     }
 }

@@ -30,8 +30,9 @@ pub fn test(
     ensures forward { IfOk result (λ found. IsBehind words.now at found.1) }
     ensures refused { IfFault result (λ fault. Refuses (a_test levels) (rest_from words.now at) fault.rule (rest_from words.now fault.at)) }
 {
-    let inner = opening(words, at, Symbol::OpenParenthesis, levels + 1)?;
-    let (tested, behind, _) = expression(alloc, words, inner, levels + 1, 0)?;
+    let inner_levels = levels + 1;
+    let inner = opening(words, at, Symbol::OpenParenthesis, inner_levels)?;
+    let (tested, behind, _) = expression(alloc, words, inner, inner_levels, 0)?;
     let next = sign(words, behind, Symbol::CloseParenthesis)?;
     Ok((tested, next))
 }

@@ -5,19 +5,21 @@ ghost use Rattle.derivation.specs.Pieces.{first};
 ghost use Rattle.derivation.specs.Spelled.{words_from, IsBehind};
 ghost use Rattle.source_syntax.specs.Language.{rest_from};
 ghost use Rattle.concrete_syntax.specs.Trees.{skip as skip_tree};
-ghost use Rattle.concrete_syntax.specs.Mirror.{statement as statement_tree, statement_kind as kind_tree, otherwise as otherwise_tree, items as items_tree};
+ghost use Rattle.concrete_syntax.specs.Mirror.{expression as expression_tree, optional as optional_tree, optional_simple as step_tree, start as start_tree, statement as statement_tree, statement_kind as kind_tree, otherwise as otherwise_tree, items as items_tree};
 ghost use Rattle.source_syntax.specs.Openings.{opening_of_statement};
 ghost use Rattle.source_syntax.specs.declared.opening.StatementOpening.TheVariants as StatementOpening;
 ghost use Rattle.source_syntax.specs.Failures.{IfFault};
 ghost use Rattle.source_syntax.specs.Pending.{a_statement, a_statement_kind, an_otherwise, items as pending_items};
-ghost use Rattle.source_syntax.specs.Reads.{Reads, Refuses};
+ghost use Rattle.source_syntax.specs.Reads.{Reads, Refuses, ReadsEndOfDo, RefusesEndOfDo, ReadsHeadOfFor, RefusesHeadOfFor};
 
 use crate::declaration::{declaration, start};
 use crate::fault::{Failure, Fault};
 use crate::opening::{ItemOpening, StatementOpening, opening_of_item, opening_of_statement};
 use crate::reader::{MOST_LEVELS, opening, sign};
 use crate::simple::{finish, optional, simple, test};
-use concrete_syntax::{ForLoop, Item, Items, Otherwise, Statement, StatementKind};
+use concrete_syntax::{
+    Expression, ForLoop, Item, Items, Otherwise, Simple, Start, Statement, StatementKind,
+};
 use derivation::{Lexeme, Rule, Symbol, after};
 use std::alloc::Global;
 
@@ -36,6 +38,24 @@ fn statement(
 {
     let (kind, next) = statement_kind(alloc, words, at, levels)?;
     Ok((Statement { at, kind }, next))
+}
+
+// Reads a statement into a box.
+#[cycle(statements)]
+fn boxed_statement(
+    alloc: Global,
+    words: &[Lexeme<'_>],
+    at: usize,
+    levels: u32,
+) -> Result<(Box<Statement>, usize), Failure>
+    requires shallow { levels ≤ 64 }
+    ensures read { IfOk result (λ found. Reads (a_statement levels) (statement_tree found.0.value) (rest_from words.now at) (rest_from words.now found.1)) }
+    ensures forward { IfOk result (λ found. IsBehind words.now at found.1) }
+    ensures refused { IfFault result (λ fault. Refuses (a_statement levels) (rest_from words.now at) fault.rule (rest_from words.now fault.at)) }
+{
+    let (inner, next) = statement(alloc, words, at, levels)?;
+    let boxed = Box::new(alloc, inner)?;
+    Ok((boxed, next))
 }
 
 // Reads what a statement is.
@@ -132,8 +152,9 @@ fn braces(
     ensures forward { IfOk result (λ found. IsBehind words.now at found.1) }
     ensures refused { IfFault result (λ fault. Refuses (a_statement_kind levels) (rest_from words.now at) fault.rule (rest_from words.now fault.at)) }
 {
-    let inner = opening(words, at, Symbol::OpenBrace, levels + 1)?;
-    let (all, next) = items(alloc, words, inner, levels + 1)?;
+    let inner_levels = levels + 1;
+    let inner = opening(words, at, Symbol::OpenBrace, inner_levels)?;
+    let (all, next) = items(alloc, words, inner, inner_levels)?;
     Ok((StatementKind::Braces(all), next))
 }
 
@@ -187,11 +208,11 @@ fn conditional(
     ensures forward { IfOk result (λ found. IsBehind words.now at found.1) }
     ensures refused { IfFault result (λ fault. Refuses (a_statement_kind levels) (rest_from words.now at) fault.rule (rest_from words.now fault.at)) }
 {
-    let open = opening(words, at, Symbol::If, levels + 1)?;
-    let (tested, inner) = test(alloc, words, open, levels + 1)?;
-    let (first, behind) = statement(alloc, words, inner, levels + 1)?;
-    let (other, next) = otherwise(alloc, words, behind, levels + 1)?;
-    let part = Box::new(alloc, first)?;
+    let inner_levels = levels + 1;
+    let open = opening(words, at, Symbol::If, inner_levels)?;
+    let (tested, inner) = test(alloc, words, open, inner_levels)?;
+    let (part, behind) = boxed_statement(alloc, words, inner, inner_levels)?;
+    let (other, next) = otherwise(alloc, words, behind, inner_levels)?;
     Ok((
         StatementKind::Conditional {
             test: tested,
@@ -220,14 +241,14 @@ fn otherwise(
     let Some(inner) = after(words, at, Symbol::Else) else {
         return Ok((Otherwise::Nothing, at));
     };
-    if levels + 1 > MOST_LEVELS {
+    let inner_levels = levels + 1;
+    if inner_levels > MOST_LEVELS {
         return Err(Failure::Fault(Fault {
             rule: Rule::Nesting,
             at,
         }));
     }
-    let (second, next) = statement(alloc, words, inner, levels + 1)?;
-    let part = Box::new(alloc, second)?;
+    let (part, next) = boxed_statement(alloc, words, inner, inner_levels)?;
     Ok((Otherwise::Else(part), next))
 }
 
@@ -245,10 +266,10 @@ fn while_loop(
     ensures forward { IfOk result (λ found. IsBehind words.now at found.1) }
     ensures refused { IfFault result (λ fault. Refuses (a_statement_kind levels) (rest_from words.now at) fault.rule (rest_from words.now fault.at)) }
 {
-    let open = opening(words, at, Symbol::While, levels + 1)?;
-    let (tested, inner) = test(alloc, words, open, levels + 1)?;
-    let (repeated, next) = statement(alloc, words, inner, levels + 1)?;
-    let body = Box::new(alloc, repeated)?;
+    let inner_levels = levels + 1;
+    let open = opening(words, at, Symbol::While, inner_levels)?;
+    let (tested, inner) = test(alloc, words, open, inner_levels)?;
+    let (body, next) = boxed_statement(alloc, words, inner, inner_levels)?;
     Ok((StatementKind::While { test: tested, body }, next))
 }
 
@@ -266,20 +287,29 @@ fn do_loop(
     ensures forward { IfOk result (λ found. IsBehind words.now at found.1) }
     ensures refused { IfFault result (λ fault. Refuses (a_statement_kind levels) (rest_from words.now at) fault.rule (rest_from words.now fault.at)) }
 {
-    let inner = opening(words, at, Symbol::Do, levels + 1)?;
-    let (repeated, behind) = statement(alloc, words, inner, levels + 1)?;
-    let open = sign(words, behind, Symbol::While)?;
-    let (tested, closed) = test(alloc, words, open, levels + 1)?;
-    let next = sign(words, closed, Symbol::Semicolon)?;
-    let body = Box::new(alloc, repeated)?;
-    Ok((
-        StatementKind::Do {
-            body,
-            end: behind,
-            test: tested,
-        },
-        next,
-    ))
+    let inner_levels = levels + 1;
+    let inner = opening(words, at, Symbol::Do, inner_levels)?;
+    let (body, end) = boxed_statement(alloc, words, inner, inner_levels)?;
+    let (test, next) = end_of_do(alloc, words, end, inner_levels)?;
+    Ok((StatementKind::Do { body, end, test }, next))
+}
+
+// Reads what stands behind the body of a `do`: `while`, the test and a `;`. Answers the test.
+fn end_of_do(
+    alloc: Global,
+    words: &[Lexeme<'_>],
+    at: usize,
+    levels: u32,
+) -> Result<(Expression, usize), Failure>
+    requires shallow { levels ≤ 64 }
+    ensures read { IfOk result (λ found. ReadsEndOfDo levels (expression_tree found.0) (rest_from words.now at) (rest_from words.now found.1)) }
+    ensures forward { IfOk result (λ found. IsBehind words.now at found.1) }
+    ensures refused { IfFault result (λ fault. RefusesEndOfDo levels (rest_from words.now at) fault.rule (rest_from words.now fault.at)) }
+{
+    let open = sign(words, at, Symbol::While)?;
+    let (tested, behind) = test(alloc, words, open, levels)?;
+    let next = sign(words, behind, Symbol::Semicolon)?;
+    Ok((tested, next))
 }
 
 // Reads a `for`.
@@ -296,18 +326,43 @@ fn for_loop(
     ensures forward { IfOk result (λ found. IsBehind words.now at found.1) }
     ensures refused { IfFault result (λ fault. Refuses (a_statement_kind levels) (rest_from words.now at) fault.rule (rest_from words.now fault.at)) }
 {
-    let open = opening(words, at, Symbol::For, levels + 1)?;
-    let first = sign(words, open, Symbol::OpenParenthesis)?;
-    let (start, second) = start(alloc, words, first, levels + 1)?;
-    let (test, third) = optional(alloc, words, second, levels + 1)?;
-    let (step, inner) = finish(alloc, words, third, levels + 1)?;
-    let (body, next) = statement(alloc, words, inner, levels + 1)?;
+    let inner_levels = levels + 1;
+    let open = opening(words, at, Symbol::For, inner_levels)?;
+    let (head, inner) = head_of_for(alloc, words, open, inner_levels)?;
+    let (body, next) = statement(alloc, words, inner, inner_levels)?;
     let made = ForLoop {
-        start,
-        test,
-        step,
+        start: head.start,
+        test: head.test,
+        step: head.step,
         body,
     };
     let boxed = Box::new(alloc, made)?;
     Ok((StatementKind::For(boxed), next))
+}
+
+/// What stands in the parentheses of a `for`.
+#[derive(Drop)]
+struct HeadOfFor {
+    start: Start,
+    test: Option<Expression>,
+    step: Option<Simple>,
+}
+
+// Reads the parentheses of a `for`, with what stands in them.
+fn head_of_for(
+    alloc: Global,
+    words: &[Lexeme<'_>],
+    at: usize,
+    levels: u32,
+) -> Result<(HeadOfFor, usize), Failure>
+    requires shallow { levels ≤ 64 }
+    ensures read { IfOk result (λ found. ReadsHeadOfFor levels (start_tree found.0.start) (optional_tree found.0.test) (step_tree found.0.step) (rest_from words.now at) (rest_from words.now found.1)) }
+    ensures forward { IfOk result (λ found. IsBehind words.now at found.1) }
+    ensures refused { IfFault result (λ fault. RefusesHeadOfFor levels (rest_from words.now at) fault.rule (rest_from words.now fault.at)) }
+{
+    let first = sign(words, at, Symbol::OpenParenthesis)?;
+    let (start, second) = start(alloc, words, first, levels)?;
+    let (test, third) = optional(alloc, words, second, levels)?;
+    let (step, next) = finish(alloc, words, third, levels)?;
+    Ok((HeadOfFor { start, test, step }, next))
 }

@@ -123,19 +123,19 @@ parentheses-returns-clause-read t c =
           (over (c.in_ok-value.ensures.read.comes _) (sign_reads Sym.CloseParenthesis (refl, refl) c.in_ok-next.ensures.read)));
     })
 
-pub signed-returns-then-levels-gt-MOST_LEVELS-clause-refused : goal.signed-returns-then-levels-gt-MOST_LEVELS-clause-refused
-signed-returns-then-levels-gt-MOST_LEVELS-clause-refused t c =
-    prefix_stops c.args.words.now c.args.at _ c.args.prefix c.requires.opens c.if-levels-gt-MOST_LEVELS.true _
+pub signed-returns-then-inner_levels-gt-MOST_LEVELS-clause-refused : goal.signed-returns-then-inner_levels-gt-MOST_LEVELS-clause-refused
+signed-returns-then-inner_levels-gt-MOST_LEVELS-clause-refused t c =
+    prefix_stops c.args.words.now c.args.at _ c.args.prefix c.requires.opens c.if-inner_levels-gt-MOST_LEVELS.true _
 
 pub signed-returns-in_err-inner-clause-refused : goal.signed-returns-in_err-inner-clause-refused
 signed-returns-in_err-inner-clause-refused t c =
-    let step = behind_prefix c.args.words.now c.args.at c.args.levels c.args.prefix c.requires.opens c.if-levels-gt-MOST_LEVELS.false in
+    let step = behind_prefix c.args.words.now c.args.at c.args.levels c.args.prefix c.requires.opens c.if-inner_levels-gt-MOST_LEVELS.false in
     passed_on _ _ _ _ c.from_residual.ensures c.in_err-inner.ensures.refused
     (λ fault refused behind. fails (step.0 c.args.operators behind) (refused behind))
 
 pub signed-returns-clause-read : goal.signed-returns-clause-read
 signed-returns-clause-read t c =
-    let step = behind_prefix c.args.words.now c.args.at c.args.levels c.args.prefix c.requires.opens c.if-levels-gt-MOST_LEVELS.false in
+    let step = behind_prefix c.args.words.now c.args.at c.args.levels c.args.prefix c.requires.opens c.if-inner_levels-gt-MOST_LEVELS.false in
     let kept : c.in_ok-operand.operand.value ≡ c.in_ok-inner.inner = search rules in
     told (ap (λ e. signed c.args.prefix (operand e)) kept) (record {
       comes = λ behind. over (step.0 c.args.operators behind) (c.in_ok-inner.ensures.read.comes behind);

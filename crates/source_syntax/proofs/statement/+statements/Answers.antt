@@ -3,12 +3,11 @@ use Rattle.derivation.specs.declared.symbol.Symbol.TheVariants as Sym
 use Rattle.source_syntax.specs.declared.opening.StatementOpening.TheVariants as StatementOpening
 use Rattle.source_syntax.specs.declared.opening.ItemOpening.TheVariants as ItemOpening
 use Rattle.concrete_syntax.specs.declared.statement.Item.TheVariants as Item
-use Rattle.concrete_syntax.specs.Mirror.{item, statement, expression, for_loop as for_kind, otherwise as otherwise_tree}
-use Rattle.concrete_syntax.specs.Trees.{conditional, while_loop, do_loop, otherwise}
+use Rattle.concrete_syntax.specs.Mirror.{item, statement, for_loop as for_kind}
 use Rattle.source_syntax.proofs.Calculus.{over, fails}
 use Rattle.source_syntax.proofs.Choices.{goes, stuck, held}
 use Rattle.source_syntax.proofs.Statements.{statements, located_statements, all_items, otherwise_ends, else_read, else_too_deep, not_else}
-use Rattle.source_syntax.proofs.Answering.{failed_on, passed_on, sign_reads, sign_at_reads, opening_reads, sign_refused, sign_at_refused, opening_refused}
+use Rattle.source_syntax.proofs.Answering.{failed_on, passed_on, opening_reads, opening_refused}
 use Rattle.source_syntax.proofs.Loops.{told_reads, items_from, one_item_more, items_declaration, items_statement, items_close}
 use Rattle.source_syntax.proofs.statement.+statements.Goals as goal
 
@@ -37,22 +36,20 @@ conditional-returns-in_err-tested-clause-refused t c =
     passed_on _ _ _ _ c.from_residual-in_err-tested.ensures c.in_err-tested.ensures.refused
     (λ fault refused count behind. fails (goes (statements _ behind) count _ StatementOpening.If c.requires.opens) (fails (opening_reads Sym.If _ (refl, refl) c.in_ok-open.ensures.read c.in_ok-open.ensures.shallow) (refused _ _)))
 
-pub conditional-returns-in_err-first-clause-refused : goal.conditional-returns-in_err-first-clause-refused
-conditional-returns-in_err-first-clause-refused t c =
-    passed_on _ _ _ _ c.from_residual-in_err-first.ensures c.in_err-first.ensures.refused
+pub conditional-returns-in_err-part-clause-refused : goal.conditional-returns-in_err-part-clause-refused
+conditional-returns-in_err-part-clause-refused t c =
+    passed_on _ _ _ _ c.from_residual-in_err-part.ensures c.in_err-part.ensures.refused
     (λ fault refused count behind. fails (goes (statements _ behind) count _ StatementOpening.If c.requires.opens) (fails (opening_reads Sym.If _ (refl, refl) c.in_ok-open.ensures.read c.in_ok-open.ensures.shallow) (fails (c.in_ok-tested.ensures.read.comes _ _).1 (refused _ _))))
 
 pub conditional-returns-in_err-other-clause-refused : goal.conditional-returns-in_err-other-clause-refused
 conditional-returns-in_err-other-clause-refused t c =
     passed_on _ _ _ _ c.from_residual-in_err-other.ensures c.in_err-other.ensures.refused
-    (λ fault refused count behind. fails (goes (statements _ behind) count _ StatementOpening.If c.requires.opens) (fails (opening_reads Sym.If _ (refl, refl) c.in_ok-open.ensures.read c.in_ok-open.ensures.shallow) (fails (c.in_ok-tested.ensures.read.comes _ _).1 (fails (c.in_ok-first.ensures.read.comes _ _).1 (refused _ _)))))
+    (λ fault refused count behind. fails (goes (statements _ behind) count _ StatementOpening.If c.requires.opens) (fails (opening_reads Sym.If _ (refl, refl) c.in_ok-open.ensures.read c.in_ok-open.ensures.shallow) (fails (c.in_ok-tested.ensures.read.comes _ _).1 (fails (c.in_ok-part.ensures.read.comes _ _).1 (refused _ _)))))
 
 pub conditional-returns-clause-read : goal.conditional-returns-clause-read
-conditional-returns-clause-read t c =
-    let kept : c.in_ok-part.part.value ≡ c.in_ok-first.first = search rules in
-    told_reads (ap (λ s. conditional (expression c.in_ok-tested.tested) (statement s) (otherwise_tree c.in_ok-other.other)) kept) (record {
-      comes = λ count behind. (_, over (goes (statements _ behind) count _ StatementOpening.If c.requires.opens) (over (opening_reads Sym.If _ (refl, refl) c.in_ok-open.ensures.read c.in_ok-open.ensures.shallow) (over (c.in_ok-tested.ensures.read.comes _ _).1 (over (c.in_ok-first.ensures.read.comes _ _).1 (c.in_ok-other.ensures.read.comes _ _).1))));
-    })
+conditional-returns-clause-read t c = record {
+  comes = λ count behind. (_, over (goes (statements _ behind) count _ StatementOpening.If c.requires.opens) (over (opening_reads Sym.If _ (refl, refl) c.in_ok-open.ensures.read c.in_ok-open.ensures.shallow) (over (c.in_ok-tested.ensures.read.comes _ _).1 (over (c.in_ok-part.ensures.read.comes _ _).1 (c.in_ok-other.ensures.read.comes _ _).1))));
+}
 
 pub while_loop-returns-in_err-open-clause-refused : goal.while_loop-returns-in_err-open-clause-refused
 while_loop-returns-in_err-open-clause-refused t c =
@@ -64,94 +61,65 @@ while_loop-returns-in_err-tested-clause-refused t c =
     passed_on _ _ _ _ c.from_residual-in_err-tested.ensures c.in_err-tested.ensures.refused
     (λ fault refused count behind. fails (goes (statements _ behind) count _ StatementOpening.While c.requires.opens) (fails (opening_reads Sym.While _ (refl, refl) c.in_ok-open.ensures.read c.in_ok-open.ensures.shallow) (refused _ _)))
 
-pub while_loop-returns-in_err-repeated-clause-refused : goal.while_loop-returns-in_err-repeated-clause-refused
-while_loop-returns-in_err-repeated-clause-refused t c =
-    passed_on _ _ _ _ c.from_residual-in_err-repeated.ensures c.in_err-repeated.ensures.refused
+pub while_loop-returns-in_err-body-clause-refused : goal.while_loop-returns-in_err-body-clause-refused
+while_loop-returns-in_err-body-clause-refused t c =
+    passed_on _ _ _ _ c.from_residual-in_err-body.ensures c.in_err-body.ensures.refused
     (λ fault refused count behind. fails (goes (statements _ behind) count _ StatementOpening.While c.requires.opens) (fails (opening_reads Sym.While _ (refl, refl) c.in_ok-open.ensures.read c.in_ok-open.ensures.shallow) (fails (c.in_ok-tested.ensures.read.comes _ _).1 (refused _ _))))
 
 pub while_loop-returns-clause-read : goal.while_loop-returns-clause-read
-while_loop-returns-clause-read t c =
-    let kept : c.in_ok-body.body.value ≡ c.in_ok-repeated.repeated = search rules in
-    told_reads (ap (λ s. while_loop (expression c.in_ok-tested.tested) (statement s)) kept) (record {
-      comes = λ count behind. (_, over (goes (statements _ behind) count _ StatementOpening.While c.requires.opens) (over (opening_reads Sym.While _ (refl, refl) c.in_ok-open.ensures.read c.in_ok-open.ensures.shallow) (over (c.in_ok-tested.ensures.read.comes _ _).1 (c.in_ok-repeated.ensures.read.comes _ _).1)));
-    })
+while_loop-returns-clause-read t c = record {
+  comes = λ count behind. (_, over (goes (statements _ behind) count _ StatementOpening.While c.requires.opens) (over (opening_reads Sym.While _ (refl, refl) c.in_ok-open.ensures.read c.in_ok-open.ensures.shallow) (over (c.in_ok-tested.ensures.read.comes _ _).1 (c.in_ok-body.ensures.read.comes _ _).1)));
+}
 
 pub do_loop-returns-in_err-inner-clause-refused : goal.do_loop-returns-in_err-inner-clause-refused
 do_loop-returns-in_err-inner-clause-refused t c =
     failed_on _ _ _ c.from_residual.ensures
     (λ count behind. fails (goes (statements _ behind) count _ StatementOpening.Do c.requires.opens) (opening_refused _ _ c.in_err-inner.field-0.0 Sym.Do _ (refl, refl) c.in_err-inner.ensures.missed))
 
-pub do_loop-returns-in_err-repeated-clause-refused : goal.do_loop-returns-in_err-repeated-clause-refused
-do_loop-returns-in_err-repeated-clause-refused t c =
-    passed_on _ _ _ _ c.from_residual-in_err-repeated.ensures c.in_err-repeated.ensures.refused
+pub do_loop-returns-in_err-body-clause-refused : goal.do_loop-returns-in_err-body-clause-refused
+do_loop-returns-in_err-body-clause-refused t c =
+    passed_on _ _ _ _ c.from_residual-in_err-body.ensures c.in_err-body.ensures.refused
     (λ fault refused count behind. fails (goes (statements _ behind) count _ StatementOpening.Do c.requires.opens) (fails (opening_reads Sym.Do _ (refl, refl) c.in_ok-inner.ensures.read c.in_ok-inner.ensures.shallow) (refused _ _)))
 
-pub do_loop-returns-in_err-open-clause-refused : goal.do_loop-returns-in_err-open-clause-refused
-do_loop-returns-in_err-open-clause-refused t c =
-    failed_on _ _ _ c.from_residual-in_err-open.ensures
-    (λ count behind. fails (goes (statements _ behind) count _ StatementOpening.Do c.requires.opens) (fails (opening_reads Sym.Do _ (refl, refl) c.in_ok-inner.ensures.read c.in_ok-inner.ensures.shallow) (fails (c.in_ok-repeated.ensures.read.comes _ _).1 (sign_at_refused _ _ c.in_err-open.field-0.0 Sym.While (refl, refl) c.in_err-open.ensures.missed))))
-
-pub do_loop-returns-in_err-tested-clause-refused : goal.do_loop-returns-in_err-tested-clause-refused
-do_loop-returns-in_err-tested-clause-refused t c =
-    passed_on _ _ _ _ c.from_residual-in_err-tested.ensures c.in_err-tested.ensures.refused
-    (λ fault refused count behind. fails (goes (statements _ behind) count _ StatementOpening.Do c.requires.opens) (fails (opening_reads Sym.Do _ (refl, refl) c.in_ok-inner.ensures.read c.in_ok-inner.ensures.shallow) (fails (c.in_ok-repeated.ensures.read.comes _ _).1 (fails (sign_at_reads Sym.While (refl, refl) c.in_ok-open.ensures.read) (refused _ _)))))
-
-pub do_loop-returns-in_err-next-clause-refused : goal.do_loop-returns-in_err-next-clause-refused
-do_loop-returns-in_err-next-clause-refused t c =
-    failed_on _ _ _ c.from_residual-in_err-next.ensures
-    (λ count behind. fails (goes (statements _ behind) count _ StatementOpening.Do c.requires.opens) (fails (opening_reads Sym.Do _ (refl, refl) c.in_ok-inner.ensures.read c.in_ok-inner.ensures.shallow) (fails (c.in_ok-repeated.ensures.read.comes _ _).1 (fails (sign_at_reads Sym.While (refl, refl) c.in_ok-open.ensures.read) (fails (c.in_ok-tested.ensures.read.comes _ _).1 (sign_refused _ _ c.in_err-next.field-0.0 Sym.Semicolon (refl, refl) c.in_err-next.ensures.missed))))))
+pub do_loop-returns-in_err-test-clause-refused : goal.do_loop-returns-in_err-test-clause-refused
+do_loop-returns-in_err-test-clause-refused t c =
+    passed_on _ _ _ _ c.from_residual-in_err-test.ensures c.in_err-test.ensures.refused
+    (λ fault refused count behind. fails (goes (statements _ behind) count _ StatementOpening.Do c.requires.opens) (fails (opening_reads Sym.Do _ (refl, refl) c.in_ok-inner.ensures.read c.in_ok-inner.ensures.shallow) (fails (c.in_ok-body.ensures.read.comes _ _).1 (refused _ _))))
 
 pub do_loop-returns-clause-read : goal.do_loop-returns-clause-read
-do_loop-returns-clause-read t c =
-    let kept : c.in_ok-body.body.value ≡ c.in_ok-repeated.repeated = search rules in
-    told_reads (ap (λ s. do_loop (statement s) c.in_ok-repeated.behind (expression c.in_ok-tested.tested)) kept) (record {
-      comes = λ count behind. (_, over (goes (statements _ behind) count _ StatementOpening.Do c.requires.opens) (over (opening_reads Sym.Do _ (refl, refl) c.in_ok-inner.ensures.read c.in_ok-inner.ensures.shallow) (over (c.in_ok-repeated.ensures.read.comes _ _).1 (over (sign_at_reads Sym.While (refl, refl) c.in_ok-open.ensures.read) (over (c.in_ok-tested.ensures.read.comes _ _).1 (sign_reads Sym.Semicolon (refl, refl) c.in_ok-next.ensures.read))))));
-    })
+do_loop-returns-clause-read t c = record {
+  comes = λ count behind. (_, over (goes (statements _ behind) count _ StatementOpening.Do c.requires.opens) (over (opening_reads Sym.Do _ (refl, refl) c.in_ok-inner.ensures.read c.in_ok-inner.ensures.shallow) (over (c.in_ok-body.ensures.read.comes _ _).1 (c.in_ok-test.ensures.read.comes _ _).1)));
+}
 
 pub for_loop-returns-in_err-open-clause-refused : goal.for_loop-returns-in_err-open-clause-refused
 for_loop-returns-in_err-open-clause-refused t c =
     failed_on _ _ _ c.from_residual.ensures
     (λ count behind. fails (goes (statements _ behind) count _ StatementOpening.For c.requires.opens) (opening_refused _ _ c.in_err-open.field-0.0 Sym.For _ (refl, refl) c.in_err-open.ensures.missed))
 
-pub for_loop-returns-in_err-first-clause-refused : goal.for_loop-returns-in_err-first-clause-refused
-for_loop-returns-in_err-first-clause-refused t c =
-    failed_on _ _ _ c.from_residual-in_err-first.ensures
-    (λ count behind. fails (goes (statements _ behind) count _ StatementOpening.For c.requires.opens) (fails (opening_reads Sym.For _ (refl, refl) c.in_ok-open.ensures.read c.in_ok-open.ensures.shallow) (sign_refused _ _ c.in_err-first.field-0.0 Sym.OpenParenthesis (refl, refl) c.in_err-first.ensures.missed)))
-
-pub for_loop-returns-in_err-start-clause-refused : goal.for_loop-returns-in_err-start-clause-refused
-for_loop-returns-in_err-start-clause-refused t c =
-    passed_on _ _ _ _ c.from_residual-in_err-start.ensures c.in_err-start.ensures.refused
-    (λ fault refused count behind. fails (goes (statements _ behind) count _ StatementOpening.For c.requires.opens) (fails (opening_reads Sym.For _ (refl, refl) c.in_ok-open.ensures.read c.in_ok-open.ensures.shallow) (fails (sign_reads Sym.OpenParenthesis (refl, refl) c.in_ok-first.ensures.read) (refused _ _))))
-
-pub for_loop-returns-in_err-test-clause-refused : goal.for_loop-returns-in_err-test-clause-refused
-for_loop-returns-in_err-test-clause-refused t c =
-    passed_on _ _ _ _ c.from_residual-in_err-test.ensures c.in_err-test.ensures.refused
-    (λ fault refused count behind. fails (goes (statements _ behind) count _ StatementOpening.For c.requires.opens) (fails (opening_reads Sym.For _ (refl, refl) c.in_ok-open.ensures.read c.in_ok-open.ensures.shallow) (fails (sign_reads Sym.OpenParenthesis (refl, refl) c.in_ok-first.ensures.read) (fails (c.in_ok-start.ensures.read.comes _ _) (refused _)))))
-
-pub for_loop-returns-in_err-step-clause-refused : goal.for_loop-returns-in_err-step-clause-refused
-for_loop-returns-in_err-step-clause-refused t c =
-    passed_on _ _ _ _ c.from_residual-in_err-step.ensures c.in_err-step.ensures.refused
-    (λ fault refused count behind. fails (goes (statements _ behind) count _ StatementOpening.For c.requires.opens) (fails (opening_reads Sym.For _ (refl, refl) c.in_ok-open.ensures.read c.in_ok-open.ensures.shallow) (fails (sign_reads Sym.OpenParenthesis (refl, refl) c.in_ok-first.ensures.read) (fails (c.in_ok-start.ensures.read.comes _ _) (fails (c.in_ok-test.ensures.read.comes _).1 (refused _ _))))))
+pub for_loop-returns-in_err-head-clause-refused : goal.for_loop-returns-in_err-head-clause-refused
+for_loop-returns-in_err-head-clause-refused t c =
+    passed_on _ _ _ _ c.from_residual-in_err-head.ensures c.in_err-head.ensures.refused
+    (λ fault refused count behind. fails (goes (statements _ behind) count _ StatementOpening.For c.requires.opens) (fails (opening_reads Sym.For _ (refl, refl) c.in_ok-open.ensures.read c.in_ok-open.ensures.shallow) (refused _ _)))
 
 pub for_loop-returns-in_err-body-clause-refused : goal.for_loop-returns-in_err-body-clause-refused
 for_loop-returns-in_err-body-clause-refused t c =
     passed_on _ _ _ _ c.from_residual-in_err-body.ensures c.in_err-body.ensures.refused
-    (λ fault refused count behind. fails (goes (statements _ behind) count _ StatementOpening.For c.requires.opens) (fails (opening_reads Sym.For _ (refl, refl) c.in_ok-open.ensures.read c.in_ok-open.ensures.shallow) (fails (sign_reads Sym.OpenParenthesis (refl, refl) c.in_ok-first.ensures.read) (fails (c.in_ok-start.ensures.read.comes _ _) (fails (c.in_ok-test.ensures.read.comes _).1 (fails (c.in_ok-step.ensures.read.comes _ _).1 (refused _ _)))))))
+    (λ fault refused count behind. fails (goes (statements _ behind) count _ StatementOpening.For c.requires.opens) (fails (opening_reads Sym.For _ (refl, refl) c.in_ok-open.ensures.read c.in_ok-open.ensures.shallow) (fails (c.in_ok-head.ensures.read.comes _ _).1 (refused _ _))))
 
 pub for_loop-returns-clause-read : goal.for_loop-returns-clause-read
 for_loop-returns-clause-read t c =
     let kept : c.in_ok-boxed.boxed.value
-    ≡ record { start = c.in_ok-start.start; test = c.in_ok-test.test; step = c.in_ok-step.step; body = c.in_ok-body.body } =
+    ≡ record { start = c.in_ok-head.head.start; test = c.in_ok-head.head.test; step = c.in_ok-head.head.step; body = c.in_ok-body.body } =
     search rules
     in
     told_reads (ap for_kind kept) (record {
-      comes = λ count behind. (_, over (goes (statements _ behind) count _ StatementOpening.For c.requires.opens) (over (opening_reads Sym.For _ (refl, refl) c.in_ok-open.ensures.read c.in_ok-open.ensures.shallow) (over (sign_reads Sym.OpenParenthesis (refl, refl) c.in_ok-first.ensures.read) (over (c.in_ok-start.ensures.read.comes _ _) (over (c.in_ok-test.ensures.read.comes _).1 (over (c.in_ok-step.ensures.read.comes _ _).1 (c.in_ok-body.ensures.read.comes _ _).1))))));
+      comes = λ count behind. (_, over (goes (statements _ behind) count _ StatementOpening.For c.requires.opens) (over (opening_reads Sym.For _ (refl, refl) c.in_ok-open.ensures.read c.in_ok-open.ensures.shallow) (over (c.in_ok-head.ensures.read.comes _ _).1 (c.in_ok-body.ensures.read.comes _ _).1)));
     })
 
-pub otherwise-returns-in_err-second-clause-refused : goal.otherwise-returns-in_err-second-clause-refused
-otherwise-returns-in_err-second-clause-refused t c =
-    passed_on _ _ _ _ c.from_residual.ensures c.in_err-second.ensures.refused
-    (λ fault refused count behind. fails (else_read _ count behind _ _ c.in-Some.ensures.read c.if-levels-gt-MOST_LEVELS.false) (refused count behind))
+pub otherwise-returns-in_err-part-clause-refused : goal.otherwise-returns-in_err-part-clause-refused
+otherwise-returns-in_err-part-clause-refused t c =
+    passed_on _ _ _ _ c.from_residual.ensures c.in_err-part.ensures.refused
+    (λ fault refused count behind. fails (else_read _ count behind _ _ c.in-Some.ensures.read c.if-inner_levels-gt-MOST_LEVELS.false) (refused count behind))
 
 pub items-further-init : goal.items-further-init
 items-further-init t c = record { forward = omega arith; comes = items_from _ _ _ (let none : c.new-list.result.items ≡ [] = search rules in ap (map item) none) }
@@ -165,6 +133,11 @@ pub statement-returns-clause-read : goal.statement-returns-clause-read
 statement-returns-clause-read t c = record {
   comes = λ count behind. (_, over (held (located_statements _ behind) count _) (c.in_ok-kind.ensures.read.comes count behind).1);
 }
+
+pub boxed_statement-returns-clause-read : goal.boxed_statement-returns-clause-read
+boxed_statement-returns-clause-read t c =
+    let kept : c.in_ok-boxed.boxed.value ≡ c.in_ok-inner.inner = search rules in
+    told_reads (ap statement kept) c.in_ok-inner.ensures.read
 
 pub statement_kind-returns-in-Nothing-clause-refused : goal.statement_kind-returns-in-Nothing-clause-refused
 statement_kind-returns-in-Nothing-clause-refused t c = λ count behind. stuck (statements _ behind) count _ _ (λ shut. shut) (sym c.in-Nothing.is ∙ c.opening_of_statement.ensures)
@@ -199,15 +172,13 @@ items-returns-in_err-further-in-Statement-clause-refused t c =
     (fails (goes (all_items _ behind) _ _ ItemOpening.Statement (sym c.in-Statement.is ∙ c.opening_of_item.ensures)) (refused _ _)))
 
 pub otherwise-returns-clause-read : goal.otherwise-returns-clause-read
-otherwise-returns-clause-read t c =
-    let kept : c.in_ok-part.part.value ≡ c.in_ok-second.second = search rules in
-    told_reads (ap (λ s. otherwise (statement s)) kept) (record {
-      comes = λ count behind. (_, over (else_read _ count behind _ _ c.in-Some.ensures.read c.if-levels-gt-MOST_LEVELS.false) (c.in_ok-second.ensures.read.comes count behind).1);
-    })
+otherwise-returns-clause-read t c = record {
+  comes = λ count behind. (_, over (else_read _ count behind _ _ c.in-Some.ensures.read c.if-inner_levels-gt-MOST_LEVELS.false) (c.in_ok-part.ensures.read.comes count behind).1);
+}
 
-pub otherwise-returns-then-levels-gt-MOST_LEVELS-clause-refused : goal.otherwise-returns-then-levels-gt-MOST_LEVELS-clause-refused
-otherwise-returns-then-levels-gt-MOST_LEVELS-clause-refused t c =
-    λ count behind. else_too_deep _ count behind _ _ c.in-Some.ensures.read c.if-levels-gt-MOST_LEVELS.true
+pub otherwise-returns-then-inner_levels-gt-MOST_LEVELS-clause-refused : goal.otherwise-returns-then-inner_levels-gt-MOST_LEVELS-clause-refused
+otherwise-returns-then-inner_levels-gt-MOST_LEVELS-clause-refused t c =
+    λ count behind. else_too_deep _ count behind _ _ c.in-Some.ensures.read c.if-inner_levels-gt-MOST_LEVELS.true
 
 pub otherwise-returns-in_default-clause-read : goal.otherwise-returns-in_default-clause-read
 otherwise-returns-in_default-clause-read t c = record {

@@ -9,6 +9,9 @@ use Rattle.source_syntax.proofs.statement.+statements.Given as goal
 abbrev pub decreases-statement : goal.decreases-statement
 decreases-statement l = 4 * (length l.words.now - l.at) + 2
 
+abbrev pub decreases-boxed_statement : goal.decreases-boxed_statement
+decreases-boxed_statement l = 4 * (length l.words.now - l.at) + 3
+
 abbrev pub decreases-statement_kind : goal.decreases-statement_kind
 decreases-statement_kind l = 4 * (length l.words.now - l.at) + 1
 
