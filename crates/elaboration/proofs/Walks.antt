@@ -1,7 +1,7 @@
 -- Walks along parts and items: what is left finds, behind what was found, what the whole finds.
 use Rattle.std.proofs.Common.{◌≡◌, ℕ, ◌<◌, ◌+◌, List, [], ◌∷◌, ◌++◌, length, drop, suc, slice_index_or, ap, sym, ◌∙◌, subst, arith}
 use Rattle.std.proofs.Math.Seq.{drop-cons}
-use Rattle.std.proofs.lemmas.List.{append_assoc, map-append}
+use Rattle.std.proofs.lemmas.List.{append-nil, append_assoc, map-append}
 use Rattle.step_meaning.specs.declared.statement.Stmt.{Stmt}
 use Rattle.step_meaning.specs.Syntax.{parts}
 use Rattle.step_meaning.specs.Offsets.{all_offsets}
@@ -9,9 +9,9 @@ use Rattle.elaboration.specs.declared.fault.Fault.{Fault}
 use Rattle.elaboration.specs.declared.walk.Walk.{Walk}
 use Rattle.elaboration.specs.Scopes.{Scope}
 use Rattle.elaboration.specs.Faults.{earliest}
-use Rattle.elaboration.specs.Statements.{Walked, joined}
+use Rattle.elaboration.specs.Statements.{Walked, joined, nothing}
 use Rattle.elaboration.specs.Offsets.{offset_in, offsets_in}
-use Rattle.elaboration.specs.Walking.{HasGone, HasAdded}
+use Rattle.elaboration.specs.Walking.{HasFound, HasGone, HasAdded}
 use Rattle.elaboration.proofs.Firsts.{earliest_more}
 
 -- the names stay
@@ -27,6 +27,14 @@ both_gone a b c first second one two =
       there.1,
       there.2 ∙ ap (λ least. earliest least (second first.scope).faults) one.2 ∙ sym (earliest_more a.least first.faults (second first.scope).faults),
     )
+
+-- faults and then others, where the names stay
+pub both_found : (a b c : Walk) (first second : List Fault) → HasFound a b first → HasFound b c second → HasFound a c (first ++ second)
+both_found a b c first second one two = (
+  two.0 ∙ one.0,
+  two.1 ∙ one.1,
+  two.2 ∙ ap (λ least. earliest least second) one.2 ∙ sym (earliest_more a.least first second),
+)
 
 -- what is left finds from here on what the whole finds from the first on
 pub record IsLeft (now : Walk) (out : List Stmt) (left : Walked) (first : Walk) (before : List Stmt) (whole : Walked) : Type 0 where
@@ -57,6 +65,15 @@ step_on now next first out out' before piece more left whole gone added is so_fa
           (added.1 ∙ ap (λ t. all_offsets out ++ offsets_in t piece.tokens) all.reads)
           (ap (λ t. all_offsets out ++ t) (sym (map-append (offset_in first.tokens.now) piece.tokens rest.tokens)) ∙ all.stands);
     }
+
+-- where nothing is left, the whole was found
+pub all_gone : (now first : Walk) (out before : List Stmt) (whole : Walked) → IsLeft now out (nothing now.scope) first before whole
+    → HasGone first now whole
+all_gone now first out before whole left = (left.reads, left.goes, left.finds)
+
+pub all_added : (now first : Walk) (out before : List Stmt) (whole : Walked) → IsLeft now out (nothing now.scope) first before whole
+    → HasAdded first before out whole
+all_added now first out before whole left = (sym (append-nil (parts out)) ∙ left.makes, sym (append-nil (all_offsets out)) ∙ left.stands)
 
 -- what is left of a list from a place on
 pub drop_next : {A : Type 0} (xs : List A) (i : ℕ) (item : A) → i < length xs → item ≡ slice_index_or xs i item → drop i xs ≡ item ∷ drop (i + 1) xs

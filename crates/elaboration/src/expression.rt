@@ -13,7 +13,7 @@ use crate::grouping::Grouping;
 use crate::typed::{Sort, Typed};
 use crate::walk::Walk;
 use concrete_syntax::{End, Expression, Link, Operand, OperandKind, Operator, Prefix, Tail};
-use std::alloc::AllocError;
+use std::alloc::{AllocError, Global};
 use step_meaning::{Expr, Op2};
 
 impl<'a> Walk<'a> {
@@ -125,6 +125,17 @@ impl<'a> Walk<'a> {
         }
         typed(at, Sort::Number, Expr::Range { lo, hi })
     }
+}
+
+/// An operator between two operands.
+pub fn operation(alloc: Global, op: Op2, left: Expr, right: Expr) -> Result<Expr, AllocError>
+    ensures { IfOk result (λ made. syntax.expression made ≡ syntax.pair op (syntax.expression left) (syntax.expression right)) }
+{
+    Ok(Expr::Pair {
+        op,
+        left: Box::new(alloc, left)?,
+        right: Box::new(alloc, right)?,
+    })
 }
 
 // What a written operator means.

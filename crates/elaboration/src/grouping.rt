@@ -6,10 +6,11 @@ ghost use Rattle.elaboration.specs.Grouping.{attach, tightness};
 ghost use Rattle.elaboration.specs.Typing.{typed_of, grouping_of};
 ghost use Rattle.elaboration.specs.Walking.{HasFound};
 
+use crate::expression::operation;
 use crate::typed::{Sort, Typed};
 use crate::walk::Walk;
 use std::alloc::{AllocError, Global};
-use step_meaning::{Expr, Op2};
+use step_meaning::Op2;
 
 /// Operands with the operators between them, grouped. What stands in parentheses is an operand.
 #[cycle(groupings)]
@@ -77,8 +78,7 @@ impl Grouping {
             Grouping::Pair { op, left, right } => {
                 let left = Box::into_inner(left).value(walk)?;
                 let right = Box::into_inner(right).value(walk)?;
-                let typed = pair(walk, op, left, right)?;
-                Ok(typed)
+                pair(walk, op, left, right)
             }
         }
     }
@@ -100,10 +100,6 @@ fn pair(walk: &mut Walk, op: Op2, left: Typed, right: Typed) -> Result<Typed, Al
         Op2::And | Op2::Or => (left.into_test(alloc)?, right.into_test(alloc)?),
         _ => (left.into_number(walk), right.into_number(walk)),
     };
-    let expr = Expr::Pair {
-        op,
-        left: Box::new(alloc, left)?,
-        right: Box::new(alloc, right)?,
-    };
+    let expr = operation(alloc, op, left, right)?;
     Ok(Typed { first, sort, expr })
 }

@@ -8,6 +8,7 @@ ghost use Rattle.elaboration.specs.Offsets.{offset_in};
 ghost use Rattle.elaboration.specs.Statements.{action_meaning, action_faults, simple_walked, part_walked, declaration_walked, stepped, assigned, simple_at};
 ghost use Rattle.elaboration.specs.Walking.{HasFound, HasGone, HasAdded};
 
+use crate::expression::operation;
 use crate::walk::Walk;
 use concrete_syntax::{Action, Assignment, Declaration, Part, Simple, Step};
 use std::alloc::{AllocError, Global};
@@ -114,9 +115,9 @@ fn assigned(alloc: Global, var: u8, assignment: Assignment, value: Expr) -> Resu
 {
     match assignment {
         Assignment::Assign => Ok(value),
-        Assignment::Add => pair(alloc, Op2::Add, Expr::Name(var), value),
-        Assignment::Subtract => pair(alloc, Op2::Sub, Expr::Name(var), value),
-        Assignment::Multiply => pair(alloc, Op2::Mul, Expr::Name(var), value),
+        Assignment::Add => operation(alloc, Op2::Add, Expr::Name(var), value),
+        Assignment::Subtract => operation(alloc, Op2::Sub, Expr::Name(var), value),
+        Assignment::Multiply => operation(alloc, Op2::Mul, Expr::Name(var), value),
     }
 }
 
@@ -128,15 +129,5 @@ fn stepped(alloc: Global, var: u8, step: Step) -> Result<Expr, AllocError>
         Step::Increment => Op2::Add,
         Step::Decrement => Op2::Sub,
     };
-    pair(alloc, op, Expr::Name(var), Expr::Number(1))
-}
-
-fn pair(alloc: Global, op: Op2, left: Expr, right: Expr) -> Result<Expr, AllocError>
-    ensures { IfOk result (λ made. syntax.expression made ≡ syntax.pair op (syntax.expression left) (syntax.expression right)) }
-{
-    Ok(Expr::Pair {
-        op,
-        left: Box::new(alloc, left)?,
-        right: Box::new(alloc, right)?,
-    })
+    operation(alloc, op, Expr::Name(var), Expr::Number(1))
 }

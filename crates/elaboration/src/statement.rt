@@ -5,7 +5,7 @@ ghost use Rattle.concrete_syntax.specs.Trees.{conditional as conditional_tree, w
 ghost use Rattle.concrete_syntax.specs.Mirror.{expression as expression_of, start as start_of, optional, optional_simple as optional_simple_of, statement as statement_of, for_loop as for_tree, otherwise as otherwise_of, items as items_of};
 ghost use Rattle.step_meaning.specs.Syntax as syntax;
 ghost use Rattle.elaboration.specs.Statements.{statement_walked, kind_walked, otherwise_walked, items_walked, start_walked, optional_test, optional_faults, optional_simple_walked};
-ghost use Rattle.elaboration.specs.Walking.{HasFound, HasGone, HasAdded, IsMade};
+ghost use Rattle.elaboration.specs.Walking.{HasFound, HasGone, HasAdded, HasLooped, IsMade};
 
 use crate::simple::simple_at;
 use crate::walk::Walk;
@@ -25,25 +25,25 @@ impl<'a> Walk<'a> {
     {
         let at = tree.at;
         match &tree.kind {
-            StatementKind::Simple(tree) => self.simple(at, tree, out)?,
-            StatementKind::Skip => self.add(at, StmtKind::Skip, out)?,
+            StatementKind::Simple(tree) => self.simple(at, tree, out),
+            StatementKind::Skip => self.add(at, StmtKind::Skip, out),
             StatementKind::Braces(all) => {
                 let depth = self.scope.depth();
                 self.items(all, out)?;
                 self.scope.close(depth);
+                Ok(())
             }
             StatementKind::Conditional { test, part, other } => {
-                self.conditional(at, test, part, other, out)?
+                self.conditional(at, test, part, other, out)
             }
-            StatementKind::While { test, body } => self.while_loop(at, test, body, out)?,
-            StatementKind::Do { body, end, test } => self.do_loop(body, *end, test, out)?,
-            StatementKind::For(tree) => self.for_loop(at, tree, out)?,
+            StatementKind::While { test, body } => self.while_loop(at, test, body, out),
+            StatementKind::Do { body, end, test } => self.do_loop(body, *end, test, out),
+            StatementKind::For(tree) => self.for_loop(at, tree, out),
             StatementKind::Return(value) => {
                 self.unused(value)?;
-                self.add(at, StmtKind::Return, out)?;
+                self.add(at, StmtKind::Return, out)
             }
         }
-        Ok(())
     }
 
     // An `if` whose word is the token `at`.
@@ -80,9 +80,7 @@ impl<'a> Walk<'a> {
         ensures added { OnOk result (HasAdded self.old out.old.items out.new.items (kind_walked self.old.scope at (while_tree (expression_of condition.now) (statement_of part.now)))) }
     {
         let test = self.test(condition)?;
-        let body = self.body(part)?;
-        let step = Block::End;
-        self.add(at, StmtKind::While { test, body, step }, out)
+        self.looped(at, test, Block::End, part, out)
     }
 
     // A `do` that ends with the `while` of the token `end`, whose offset is its own.
@@ -114,10 +112,26 @@ impl<'a> Walk<'a> {
         self.for_start(&tree.start, out)?;
         let test = self.optional_test(&tree.test)?;
         let step = self.last_part(&tree.step)?;
-        let body = self.body(&tree.body)?;
-        self.add(at, StmtKind::While { test, body, step }, out)?;
+        self.looped(at, test, step, &tree.body, out)?;
         self.scope.close(depth);
         Ok(())
+    }
+
+    // The loop that a `while` or a `for` at the token `at` is, by its test, its step and its body.
+    #[cycle(statements)]
+    fn looped(
+        &mut self,
+        at: usize,
+        test: Expr,
+        step: Block,
+        part: &Statement,
+        out: &mut Vec<Stmt>,
+    ) -> Result<(), AllocError>
+        ensures gone { OnOk result (HasGone self.old self.new (statement_walked self.old.scope (statement_of part.now))) }
+        ensures looped { OnOk result (HasLooped self.old out.old.items out.new.items at test step (statement_walked self.old.scope (statement_of part.now))) }
+    {
+        let body = self.body(part)?;
+        self.add(at, StmtKind::While { test, body, step }, out)
     }
 
     // A statement as a list of its own.

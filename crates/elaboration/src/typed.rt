@@ -5,6 +5,7 @@ ghost use Rattle.step_meaning.specs.Syntax.{expression};
 ghost use Rattle.elaboration.specs.Expressions.{as_test, mixed};
 ghost use Rattle.elaboration.specs.Walking.{HasFound};
 
+use crate::expression::operation;
 use crate::fault::Rule;
 use crate::walk::Walk;
 use std::alloc::{AllocError, Global};
@@ -46,11 +47,7 @@ impl Typed {
         ensures { IfOk result (λ made. expression made ≡ as_test (typed_of self)) }
     {
         match self.sort {
-            Sort::Number => Ok(Expr::Pair {
-                op: Op2::NotEqual,
-                left: Box::new(alloc, self.expr)?,
-                right: Box::new(alloc, Expr::Number(0))?,
-            }),
+            Sort::Number => operation(alloc, Op2::NotEqual, self.expr, Expr::Number(0)),
             Sort::Truth | Sort::Either => Ok(self.expr),
         }
     }

@@ -1,4 +1,4 @@
-use Rattle.std.proofs.Common.{ap}
+use Rattle.std.proofs.Common.{ap, ◌∙◌}
 use Rattle.concrete_syntax.specs.Mirror.{program as program_of}
 use Rattle.step_meaning.specs.Syntax.{statements, parts}
 use Rattle.elaboration.proofs.Whole.{refused, stands, valid}
@@ -25,3 +25,8 @@ returns-clause-program c =
     (parts c.new-list.result.items) (parts c.items.new.out.items) (statements c.in_ok-body.body)
     c.new-walk.ensures.scope c.new-walk.ensures.least c.in_ok-items.ensures.gone c.in_default.is c.in_ok-names.ensures.names
     (ap parts c.new-list.ensures.items) c.in_ok-items.ensures.added.0 c.in_ok-body.ensures.meaning
+
+pub returns-clause-offsets : goal.returns-clause-offsets
+returns-clause-offsets c =
+    c.in_ok-body.ensures.offsets
+    ∙ rw (c.new-list.ensures.items, c.new-walk.ensures.tokens, c.new-walk.ensures.scope) at c.in_ok-items.ensures.added.1

@@ -1,8 +1,9 @@
-use Rattle.std.proofs.Common.{◌≡◌, take, ap, sym, ◌∙◌, subst, arith}
+use Rattle.std.proofs.Common.{◌≡◌, take, ap, ◌∙◌, arith}
+use Rattle.std.proofs.lemmas.Result.{on_ok_weaker}
 use Rattle.concrete_syntax.specs.Mirror.{expression as expression_of, declaration as declaration_of, start as start_of, optional, optional_simple as optional_simple_of, statement as statement_of, statement_kind, otherwise as otherwise_of, items as items_of}
 use Rattle.concrete_syntax.specs.Trees as tree
-use Rattle.elaboration.specs.Statements.{joined, declaration_walked, statement_walked, kind_walked, items_walked, start_walked, optional_faults, optional_simple_walked}
-use Rattle.elaboration.specs.Walking.{HasGone, HasAdded}
+use Rattle.elaboration.specs.Expressions.{expression_faults}
+use Rattle.elaboration.specs.Statements.{joined, declaration_walked, statement_walked, otherwise_walked, items_walked, start_walked, optional_faults, optional_simple_walked}
 use Rattle.elaboration.proofs.Scoping.{closed, items_kept, start_kept}
 use Rattle.elaboration.proofs.Walks.{staying, both_gone, step_on}
 use Rattle.elaboration.proofs.Weights.{items_weight}
@@ -42,24 +43,21 @@ items-loop-left-preserved t c =
       omega (arith, weight, lighter),
     )
 
-pub statement-returns-in_ok-conditional-in-Conditional-clause-gone : goal.statement-returns-in_ok-conditional-in-Conditional-clause-gone
-statement-returns-in_ok-conditional-in-Conditional-clause-gone t c =
+pub statement-returns-in-Conditional-clause-gone : goal.statement-returns-in-Conditional-clause-gone
+statement-returns-in-Conditional-clause-gone t c =
     let is : statement_kind c.args.tree.now.kind
     ≡ tree.conditional (expression_of c.in-Conditional.test) (statement_of c.deref.result.now) (otherwise_of c.in-Conditional.other) =
     rw (c.deref.ensures) (ap statement_kind c.in-Conditional.is)
     in
-    subst (λ kind. HasGone c.args.self.now c.conditional.new.self (kind_walked c.args.self.now.scope c.args.tree.now.at kind)) (sym is)
-    c.in_ok-conditional-in-Conditional.ensures.gone
+    rw is c.conditional.ensures.gone
 
-pub statement-returns-in_ok-conditional-in-Conditional-clause-added : goal.statement-returns-in_ok-conditional-in-Conditional-clause-added
-statement-returns-in_ok-conditional-in-Conditional-clause-added t c =
+pub statement-returns-in-Conditional-clause-added : goal.statement-returns-in-Conditional-clause-added
+statement-returns-in-Conditional-clause-added t c =
     let is : statement_kind c.args.tree.now.kind
     ≡ tree.conditional (expression_of c.in-Conditional.test) (statement_of c.deref.result.now) (otherwise_of c.in-Conditional.other) =
     rw (c.deref.ensures) (ap statement_kind c.in-Conditional.is)
     in
-    subst
-    (λ kind. HasAdded c.args.self.now c.args.out.now.items c.conditional.new.out.items (kind_walked c.args.self.now.scope c.args.tree.now.at kind))
-    (sym is) c.in_ok-conditional-in-Conditional.ensures.added
+    rw is c.conditional.ensures.added
 
 pub statement-returns-in_ok-items-in-Braces-clause-gone : goal.statement-returns-in_ok-items-in-Braces-clause-gone
 statement-returns-in_ok-items-in-Braces-clause-gone t c =
@@ -81,7 +79,7 @@ for_loop-returns-clause-gone t c =
     let old = c.args.self.now in
     let begun = c.for_start.new.self in
     let tested = c.optional_test.new.self in
-    let last = c.body.new.self in
+    let last = c.looped.new.self in
     let start = start_of c.args.tree.now.start in
     let test = optional c.args.tree.now.test in
     let step = optional_simple_of c.args.tree.now.step in
@@ -95,7 +93,7 @@ for_loop-returns-clause-gone t c =
     (λ s. joined (staying s (optional_simple_walked s step).faults) (statement_walked s part))
     c.in_ok-test.ensures.found
     (both_gone tested c.last_part.new.self last (staying tested.scope (optional_simple_walked tested.scope step).faults) (λ s. statement_walked s part)
-    c.in_ok-step.ensures.found c.in_ok-body.ensures.gone))
+    c.in_ok-step.ensures.found c.in_ok-looped.ensures.gone))
     in (
       gone.0,
       closed old.scope (statement_walked inside.scope part).scope c.close.new.self c.depth-depth.result c.depth-depth.ensures
@@ -104,3 +102,28 @@ for_loop-returns-clause-gone t c =
           (start_kept old.scope start part),
       gone.2,
     )
+
+pub conditional-returns-clause-gone : goal.conditional-returns-clause-gone
+conditional-returns-clause-gone t c =
+    let old = c.args.self.now in
+    let tested = c.test.new.self in
+    let last = c.otherwise.new.self in
+    let part = statement_of c.args.part.now in
+    let other = otherwise_of c.args.other.now in
+    let faults = expression_faults old.scope (expression_of c.args.condition.now) in
+    on_ok_weaker c.add.result
+    (λ added. both_gone old tested last (staying old.scope faults)
+    (λ s. joined (statement_walked s part) (otherwise_walked (statement_walked s part).scope other))
+    c.in_ok-test.ensures.found
+    (both_gone tested c.body.new.self last (statement_walked tested.scope part) (λ s. otherwise_walked s other)
+    c.in_ok-yes.ensures.gone c.in_ok-no.ensures.gone))
+    c.add.ensures.meaning
+
+pub do_loop-returns-clause-gone : goal.do_loop-returns-clause-gone
+do_loop-returns-clause-gone t c =
+    let old = c.args.self.now in
+    let condition = expression_of c.args.condition.now in
+    on_ok_weaker c.add.result
+    (λ added. both_gone old c.body.new.self c.test.new.self (statement_walked old.scope (statement_of c.args.part.now))
+    (λ s. staying s (expression_faults s condition)) c.in_ok-body.ensures.gone c.in_ok-test.ensures.found)
+    c.add.ensures.meaning

@@ -6,28 +6,31 @@ use Rattle.elaboration.proofs.Weights.{statement_weight, otherwise_weight, items
 use Rattle.elaboration.proofs.walk.Walk.+statements.Given as goal
 
 abbrev pub decreases-statement : goal.decreases-statement
-decreases-statement l = 3 * statement_weight (statement_of l.tree.now)
+decreases-statement l = 4 * statement_weight (statement_of l.tree.now)
 
 abbrev pub decreases-conditional : goal.decreases-conditional
-decreases-conditional l = 3 * (statement_weight (statement_of l.part.now) + otherwise_weight (otherwise_of l.other.now)) + 2
+decreases-conditional l = 4 * (statement_weight (statement_of l.part.now) + otherwise_weight (otherwise_of l.other.now)) + 3
 
 abbrev pub decreases-while_loop : goal.decreases-while_loop
-decreases-while_loop l = 3 * statement_weight (statement_of l.part.now) + 2
+decreases-while_loop l = 4 * statement_weight (statement_of l.part.now) + 3
 
 abbrev pub decreases-do_loop : goal.decreases-do_loop
-decreases-do_loop l = 3 * statement_weight (statement_of l.part.now) + 2
+decreases-do_loop l = 4 * statement_weight (statement_of l.part.now) + 3
 
 abbrev pub decreases-for_loop : goal.decreases-for_loop
-decreases-for_loop l = 3 * statement_weight (statement_of l.tree.now.body) + 2
+decreases-for_loop l = 4 * statement_weight (statement_of l.tree.now.body) + 3
+
+abbrev pub decreases-looped : goal.decreases-looped
+decreases-looped l = 4 * statement_weight (statement_of l.part.now) + 2
 
 abbrev pub decreases-body : goal.decreases-body
-decreases-body l = 3 * statement_weight (statement_of l.tree.now) + 1
+decreases-body l = 4 * statement_weight (statement_of l.tree.now) + 1
 
 abbrev pub decreases-otherwise : goal.decreases-otherwise
-decreases-otherwise l = 3 * otherwise_weight (otherwise_of l.tree.now)
+decreases-otherwise l = 4 * otherwise_weight (otherwise_of l.tree.now)
 
 abbrev pub decreases-items : goal.decreases-items
-decreases-items l = 3 * items_weight (items_of l.tree.now)
+decreases-items l = 4 * items_weight (items_of l.tree.now)
 
 -- the items that are left find, behind what was found, what the whole finds
 abbrev pub invariant-items-loop-left : goal.invariant-items-loop-left

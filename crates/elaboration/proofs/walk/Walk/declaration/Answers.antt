@@ -1,7 +1,8 @@
 use Rattle.std.proofs.Common.{◌+◌, ◌∷◌, drop, refl, ap}
+use Rattle.std.proofs.lemmas.List.{drop_all}
 use Rattle.concrete_syntax.specs.Mirror.{part as part_of, parts as parts_of}
 use Rattle.elaboration.specs.Statements.{part_walked, parts_walked}
-use Rattle.elaboration.proofs.Walks.{step_on, drop_next}
+use Rattle.elaboration.proofs.Walks.{step_on, drop_next, all_gone, all_added}
 use Rattle.elaboration.proofs.walk.Walk.declaration.Goals as goal
 
 pub loop-more-init : goal.loop-more-init
@@ -28,3 +29,17 @@ loop-more-preserved c =
     made.gone made.added
     (ap (λ t. parts_walked now.scope (parts_of t)) (drop_next items i item c.loop-more-test.true c.more-item.is))
     c.loop-more.invariant
+
+pub returns-clause-gone : goal.returns-clause-gone
+returns-clause-gone c =
+    let items = c.deref-more-items.result.now in
+    let done = drop_all c.loop-more.more-index items c.loop-more-test.false in
+    all_gone c.loop-more.self c.args.self.now c.loop-more.out.items c.args.out.now.items
+    (parts_walked c.args.self.now.scope (part_of c.args.tree.now.part ∷ parts_of c.args.tree.now.more.items)) (rw done at c.loop-more.invariant)
+
+pub returns-clause-added : goal.returns-clause-added
+returns-clause-added c =
+    let items = c.deref-more-items.result.now in
+    let done = drop_all c.loop-more.more-index items c.loop-more-test.false in
+    all_added c.loop-more.self c.args.self.now c.loop-more.out.items c.args.out.now.items
+    (parts_walked c.args.self.now.scope (part_of c.args.tree.now.part ∷ parts_of c.args.tree.now.more.items)) (rw done at c.loop-more.invariant)
