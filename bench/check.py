@@ -3,7 +3,7 @@
 
     python3 bench/check.py [PROGRAM]
 
-PROGRAM is the built program, crates/check_cli/out/check_cli by default (`rt run < stdin` in crates/check_cli builds it). A family is for a program of
+PROGRAM is the built program, crates/timing_cli/out/timing_cli by default (`rt run < stdin` in crates/timing_cli builds it). A family is for a program of
 100 or 1,000 labels, and each label but the end has a tree of one row and two leaves. `check` drops nothing of the family of a line of assignments;
 in `fall` a claim at its end is wrong, and all the others that rest on it fall in one round. `loops` drops nothing of the family of nested loops; in
 `rounds` the claim at the outermost loop is wrong, and each round drops one label's leaf. What it takes to make and to copy the families is left out.
@@ -12,7 +12,8 @@ Nothing is asserted: machines differ and are shared.
 import os
 import subprocess
 import sys
-from pathlib import Path
+
+from timing import layers
 
 FEW, MANY = 100, 1000
 TIMES = 100
@@ -32,7 +33,7 @@ def seconds(program, job, labels, times):
     best = float("inf")
     for _ in range(RUNS):
         child = subprocess.Popen([program], stdin=subprocess.PIPE, stdout=subprocess.PIPE)
-        child.stdin.write(f"{job} {labels} {times}\n".encode())
+        child.stdin.write(f"checks {job} {labels} {times}\n".encode())
         child.stdin.close()
         told = tuple(map(int, child.stdout.read().split()))
         _, status, usage = os.wait4(child.pid, 0)
@@ -48,8 +49,7 @@ def milliseconds(program, job, labels):
 
 
 def main():
-    default = Path(__file__).resolve().parent.parent / "crates/check_cli/out/check_cli"
-    program = sys.argv[1] if len(sys.argv) > 1 else str(default)
+    program = layers()
     copy = {labels: milliseconds(program, "copy", labels) for labels in (FEW, MANY)}
     print(f"copy of a family: {copy[FEW]:.3f} ms at {FEW} labels, {copy[MANY]:.3f} ms at {MANY}")
     print(f"job      {FEW} labels (ms)   {MANY} labels (ms)   {MANY} / {FEW}   {MANY} / copy")

@@ -4,9 +4,8 @@
 Each ratio is one of medians over several runs, less the time for an empty program. Nothing is asserted: machines differ and are shared.
 """
 import sys
-import tempfile
 
-from timing import built, median_seconds
+from timing import built, median_seconds_on
 
 RUNS = 41
 
@@ -18,10 +17,7 @@ def program(count):
 
 
 def seconds(binary, text):
-    with tempfile.NamedTemporaryFile("w", suffix=".c") as file:
-        file.write(text)
-        file.flush()
-        return median_seconds([binary], file.name, RUNS)
+    return median_seconds_on([binary], text, RUNS)
 
 
 def main():

@@ -5,20 +5,16 @@ how the time under boxes grows.
 Each ratio is one of medians over several runs, less the time for an empty program. Nothing is asserted: machines differ and are shared.
 """
 import sys
-import tempfile
 
 from loops import one_after_another, straight
-from timing import built, median_seconds
+from timing import built, median_seconds_on
 
 RUNS = 5
 KINDS = [(straight, (100, 300, 1000)), (one_after_another, (5, 10, 20))]
 
 
 def seconds(command, text):
-    with tempfile.NamedTemporaryFile("w", suffix=".c") as file:
-        file.write(text)
-        file.flush()
-        return median_seconds(command, file.name, RUNS)
+    return median_seconds_on(command, text, RUNS)
 
 
 def main():

@@ -3,7 +3,7 @@
 
     python3 bench/joins.py [PROGRAM]
 
-PROGRAM is the built program, crates/tree_cli/out/tree_cli by default (`rt run < stdin` in crates/tree_cli
+PROGRAM is the built program, crates/timing_cli/out/timing_cli by default (`rt run < stdin` in crates/timing_cli
 builds it). A line of 65,535 nodes is trimmed by paths of 10 and of 1,000 rows that settle nothing, no two
 of them with one linear part, and joined with itself; two trees of 201 nodes that share no row are joined
 to one of 40,201; a line of 4,095 nodes is pruned by a box of all stores; and a line of 5,001 nodes is
@@ -14,9 +14,8 @@ the memory that a join takes which is refused, of 1,000 rows with nodes on their
 
 import os
 import subprocess
-import sys
-import time
-from pathlib import Path
+
+from timing import layers, least_seconds
 
 # What is timed: a job with how often it is done, and the copy that it is compared with.
 LINE = 32767
@@ -31,14 +30,8 @@ JOBS = [
 
 
 def seconds(program, job, times, rest=""):
-    """What the job takes when it is done that many times: the least of five runs."""
-    line = f"{job} {times} {rest}\n".encode()
-    best = float("inf")
-    for _ in range(5):
-        start = time.perf_counter()
-        subprocess.run([program], input=line, check=True, stdout=subprocess.DEVNULL)
-        best = min(best, time.perf_counter() - start)
-    return best
+    """What the job takes when it is done that many times."""
+    return least_seconds(program, f"trees {job} {times} {rest}\n")
 
 
 def each(program, job, times, rest=""):
@@ -49,15 +42,14 @@ def each(program, job, times, rest=""):
 def megabytes(program, job):
     """The most memory that the job takes at one time."""
     child = subprocess.Popen([program], stdin=subprocess.PIPE, stdout=subprocess.DEVNULL)
-    child.stdin.write(f"{job}\n".encode())
+    child.stdin.write(f"trees {job}\n".encode())
     child.stdin.close()
     _, _, usage = os.wait4(child.pid, 0)
     return usage.ru_maxrss / 1000
 
 
 def main():
-    default = Path(__file__).resolve().parent.parent / "crates/tree_cli/out/tree_cli"
-    program = sys.argv[1] if len(sys.argv) > 1 else str(default)
+    program = layers()
     for name, job, times, rest, copy in JOBS:
         one = each(program, copy, 4 * times)
         took = each(program, job, times, rest)

@@ -6,9 +6,8 @@ Each ratio is one of medians over several runs, less the time for an empty progr
 """
 import subprocess
 import sys
-import tempfile
 
-from timing import built, median_seconds
+from timing import built, median_seconds_on
 
 RUNS = 5
 
@@ -40,12 +39,8 @@ KINDS = [(straight, (100, 300, 1000)), (conditions, (2, 4, 6, 8, 10)), (turns, (
 def measured(binary, text, delay):
     """The median of the seconds, and the number of lines of the exact part."""
     command = [binary, "--delay", str(delay)]
-    with tempfile.NamedTemporaryFile("w", suffix=".c") as file:
-        file.write(text)
-        file.flush()
-        with open(file.name, "rb") as source:
-            report = subprocess.run(command, stdin=source, capture_output=True, text=True, check=False).stdout
-        return median_seconds(command, file.name, RUNS), report.split("proved:")[0].count("exactly")
+    report = subprocess.run(command, input=text, capture_output=True, text=True, check=False).stdout
+    return median_seconds_on(command, text, RUNS), report.split("proved:")[0].count("exactly")
 
 
 def main():

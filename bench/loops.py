@@ -5,9 +5,8 @@ smallest of the kind.
 Each ratio is one of medians over several runs, less the time for an empty program. Nothing is asserted: machines differ and are shared.
 """
 import sys
-import tempfile
 
-from timing import built, median_seconds
+from timing import built, median_seconds_on
 
 RUNS = 5
 
@@ -39,10 +38,7 @@ KINDS = [(straight, (100, 300, 1000)), (choices, (2, 4, 6, 8)), (one_after_anoth
 
 
 def seconds(binary, text):
-    with tempfile.NamedTemporaryFile("w", suffix=".c") as file:
-        file.write(text)
-        file.flush()
-        return median_seconds([binary], file.name, RUNS)
+    return median_seconds_on([binary], text, RUNS)
 
 
 def main():

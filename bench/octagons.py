@@ -3,28 +3,20 @@
 
     python3 bench/octagons.py [PROGRAM]
 
-PROGRAM is the built program, crates/domain_cli/out/domain_cli by default (`rt run < stdin` in crates/domain_cli builds it). A state is made of 15, 60
+PROGRAM is the built program, crates/timing_cli/out/timing_cli by default (`rt run < stdin` in crates/timing_cli builds it). A state is made of 15, 60
 or 300 rows of two places. `meet` is a row that a closed octagon meets, `join` and `widen` take another octagon into a copy, and `close` is a row that
 a widened one meets, which is closed first; the copies are left out. Nothing is asserted: machines differ and are shared.
 """
-import subprocess
 import sys
-import time
-from pathlib import Path
+
+from timing import layers, least_seconds
 
 TIMES = 1000
-RUNS = 5
 
 
 def seconds(program, job, rows, times):
-    """What the job takes when it is done that many times: the least of some runs."""
-    line = f"octagons {job} {rows} {times}\n".encode()
-    best = float("inf")
-    for _ in range(RUNS):
-        start = time.perf_counter()
-        subprocess.run([program], input=line, check=True, stdout=subprocess.DEVNULL)
-        best = min(best, time.perf_counter() - start)
-    return best
+    """What the job takes when it is done that many times."""
+    return least_seconds(program, f"octagons {job} {rows} {times}\n")
 
 
 def microseconds(program, job, rows):
@@ -33,8 +25,7 @@ def microseconds(program, job, rows):
 
 
 def main():
-    default = Path(__file__).resolve().parent.parent / "crates/domain_cli/out/domain_cli"
-    program = sys.argv[1] if len(sys.argv) > 1 else str(default)
+    program = layers()
     print("rows   close (us)   meet / close   join / close   widen / close   copy / close")
     for rows in (15, 60, 300):
         copy = microseconds(program, "copy", rows)

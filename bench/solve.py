@@ -1,10 +1,10 @@
 #!/usr/bin/env python3
-"""Asks solve_cli about seven sets of systems: what share of each it gives up, its answers, and its time
+"""Asks the solver about seven sets of systems: what share of each it gives up, its answers, and its time
 as a ratio to that on the last set.
 
     python3 bench/solve.py [PROGRAM] [OTHER ..]
 
-PROGRAM is the built program, crates/solve_cli/out/solve_cli by default (`rt run` in crates/solve_cli
+PROGRAM is the built program, crates/timing_cli/out/timing_cli by default (`rt run < stdin` in crates/timing_cli
 builds it). Of each other program, as a build of an older commit, the times are printed as parts of the
 first's too. The sets are the same at each run: random numbers come from a fixed seed.
 """
@@ -13,7 +13,8 @@ import random
 import subprocess
 import sys
 import time
-from pathlib import Path
+
+from timing import layers
 
 PLACES = 16
 
@@ -156,8 +157,7 @@ def report(program, sets):
 
 
 def main():
-    root = Path(__file__).resolve().parent.parent
-    programs = sys.argv[1:] or [root / "crates/solve_cli/out/solve_cli"]
+    programs = sys.argv[1:] or [layers()]
     makers = [
         ("a random", random_systems),
         ("b chains", chains),

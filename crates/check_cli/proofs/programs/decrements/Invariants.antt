@@ -1,6 +1,0 @@
-use Rattle.step_meaning.specs.Syntax.{statements}
-use Rattle.step_meaning.specs.Valid.{IsBody}
-use Rattle.check_cli.proofs.programs.decrements.Given as goal
-
-abbrev pub invariant-loop : goal.invariant-loop
-invariant-loop l = IsBody 1 (statements l.block)
