@@ -1,7 +1,8 @@
 #!/usr/bin/env python3
 """Sees that the pages agree with the code: ends with 1 and a line for each place where they don't.
 
-- Each crate of crates.txt has one row in docs/ARCHITECTURE.md, which names exactly the crates of the repository that it stands on.
+- docs/ARCHITECTURE.md has the layers of crates.txt, each with its crates in their order, and names at each crate exactly the crates of the repository that it
+  stands on.
 - Each word in backquotes that looks like a name of the code occurs in the code.
 - Each program under examples/ stands in docs/EXAMPLES.md with its report, as the files have them, and so does each that README.md shows.
 """
@@ -24,6 +25,28 @@ def crates():
             name, _, rest = line.partition(":")
             found[name.strip()] = rest.split()
     return {name: [other for other in rest if other in found] for name, rest in found.items()}
+
+
+def layers(lines, heading, row):
+    """The headings with the crates below each."""
+    found = []
+    for line in lines:
+        if line.startswith(heading):
+            found.append((line.removeprefix(heading).strip(), []))
+        elif found and (match := row.match(line)):
+            found[-1][1].append(match.group(1))
+    return [layer for layer in found if layer[1]]
+
+
+def wrong_layers():
+    """Where the map of the crates has other layers than crates.txt."""
+    listed = layers((TOP / "crates.txt").read_text().splitlines(), "# ", re.compile(r"(\w+):"))
+    drawn = layers((TOP / "docs/ARCHITECTURE.md").read_text().splitlines(), "### ", re.compile(r"\| `(\w+)` \|"))
+    for layer in listed:
+        if layer not in drawn:
+            yield f"docs/ARCHITECTURE.md: no layer '{layer[0]}' of {' '.join(layer[1])}"
+    if [head for head, _ in drawn] != [head for head, _ in listed]:
+        yield "docs/ARCHITECTURE.md: the layers are not those of crates.txt, in their order"
 
 
 def wrong_rows():
@@ -87,7 +110,7 @@ def stale_examples():
 
 
 def main():
-    faults = [*wrong_rows(), *unknown_names(), *missing_examples(), *stale_examples()]
+    faults = [*wrong_layers(), *wrong_rows(), *unknown_names(), *missing_examples(), *stale_examples()]
     for fault in faults:
         print(fault)
     return 1 if faults else 0

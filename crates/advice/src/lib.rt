@@ -10,8 +10,6 @@ mod fact;
 mod guard;
 mod memory;
 mod range;
-#[cfg(test)]
-mod tests;
 
 pub use adviser::Adviser;
 pub use consulting::consult;

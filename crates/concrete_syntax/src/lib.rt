@@ -8,8 +8,6 @@ mod program;
 mod sign;
 mod simple;
 mod statement;
-#[cfg(test)]
-mod tests;
 
 pub use expression::{End, Expression, Link, Operand, OperandKind, Tail};
 pub use program::{Prelude, Program};

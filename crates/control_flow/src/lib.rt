@@ -12,8 +12,6 @@ pub mod laws;
 mod limit;
 mod node;
 mod number;
-#[cfg(test)]
-mod tests;
 
 pub use edge::{Choice, Edge, EdgeKind};
 pub use fault::FlowFault;

@@ -8,8 +8,6 @@ mod laws;
 mod order;
 mod report;
 mod status;
-#[cfg(test)]
-mod tests;
 mod top;
 
 pub use laws::{each_input_meets_one_line, exact_lines_are_met_by_exact_runs};

@@ -319,6 +319,3 @@ impl NumDomain for Boxes {
 
     ghost bounds_law = { λ set store has. has };
 }
-
-#[cfg(test)]
-mod tests;

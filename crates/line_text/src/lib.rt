@@ -11,8 +11,6 @@ pub mod laws;
 mod line;
 mod number;
 mod over;
-#[cfg(test)]
-mod tests;
 
 pub use affine::push_affine;
 pub use claim::Claim;

@@ -16,8 +16,6 @@ pub mod laws;
 mod row;
 mod rows;
 mod settling;
-#[cfg(test)]
-mod tests;
 
 pub use affine::{Affine, PLACES};
 pub use bounds::{Bounds, Linear};

@@ -10,8 +10,6 @@ mod count;
 pub mod laws;
 mod linear;
 mod product;
-#[cfg(test)]
-mod tests;
 
 pub use conjunction::spread;
 pub use count::conjunctions;

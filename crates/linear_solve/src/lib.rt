@@ -19,8 +19,6 @@ mod point;
 mod projection;
 mod solver;
 mod tableau;
-#[cfg(test)]
-mod tests;
 mod tighten;
 mod whole;
 

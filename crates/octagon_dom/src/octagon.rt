@@ -266,6 +266,3 @@ impl NumDomain for Octagon {
 
     ghost bounds_law = { bounds_lie };
 }
-
-#[cfg(test)]
-mod tests;

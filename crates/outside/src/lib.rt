@@ -10,8 +10,6 @@ mod faults;
 mod memory;
 mod reading;
 mod stream;
-#[cfg(test)]
-mod tests;
 mod writing;
 
 pub use memory::{MemorySink, MemorySource};

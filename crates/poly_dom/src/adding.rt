@@ -54,29 +54,3 @@ pub(crate) fn with_row(alloc: Global, rows: &[Row], row: &Row) -> Result<Vec<Row
     add(&mut list, row)?;
     Ok(list)
 }
-
-#[cfg(test)]
-mod tests {
-    use super::*;
-    use linear_cons::{Affine, RowKind};
-    use std::test::Fail;
-
-    #[test]
-    fn the_oldest_row_is_given_up(rt: HostRuntime) -> Result<(), Fail> {
-        let alloc = rt.alloc();
-        let mut rows = Vec::new(alloc);
-        for k in 0..=MOST {
-            let mut affine = Affine::var(0);
-            affine.coef[1] = k as i128;
-            if let RowKind::Row(row) = Row::of(affine) {
-                rows.push(row)?;
-            }
-        }
-        let mut list = Vec::new(alloc);
-        add_all(&mut list, &rows)?;
-        assert_eq!(rt; list.len(), MOST);
-        assert_eq!(rt; list.first(), rows.get(1));
-        assert_eq!(rt; list.last(), rows.last());
-        Ok(())
-    }
-}

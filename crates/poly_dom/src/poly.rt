@@ -194,6 +194,3 @@ impl NumDomain for Poly {
 
     ghost bounds_law = { bounds_lie };
 }
-
-#[cfg(test)]
-mod tests;

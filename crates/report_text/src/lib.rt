@@ -13,8 +13,6 @@ mod line;
 mod line_list;
 mod printing;
 mod report;
-#[cfg(test)]
-mod tests;
 
 pub use leaves::lines;
 pub use line::{Line, Top};

@@ -10,8 +10,6 @@ mod laws;
 mod lexer;
 mod piece;
 mod scan;
-#[cfg(test)]
-mod tests;
 mod token;
 
 pub use fault::LexFault;

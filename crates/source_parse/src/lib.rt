@@ -6,8 +6,6 @@
 mod fault;
 mod front;
 mod laws;
-#[cfg(test)]
-mod tests;
 
 pub use fault::{ParseFault, Which};
 pub use front::parse;

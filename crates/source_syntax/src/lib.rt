@@ -13,8 +13,6 @@ mod program;
 mod reader;
 mod simple;
 mod statement;
-#[cfg(test)]
-mod tests;
 
 pub use fault::SyntaxFault;
 pub use front::{Syntax, offset_in, read_syntax};

@@ -11,8 +11,6 @@ mod leaf;
 mod moves;
 mod rounds;
 mod survey;
-#[cfg(test)]
-mod tests;
 mod walk;
 
 pub use checking::check;

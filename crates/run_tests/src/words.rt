@@ -1,0 +1,51 @@
+//! Words of the command line.
+
+use crate::running::{EMPTY, outcome_of};
+use function_top::Status;
+use std::test::Fail;
+
+const ACCEPTED: [&[&str]; 5] = [
+    &[],
+    &["function"],
+    &["function", "--delay", "0"],
+    &["function", "--delay", "8", "--domain", "boxes"],
+    &["function", "--domain", "octagons", "--delay", "1"],
+];
+
+const REFUSED: [&[&str]; 12] = [
+    &["function", "--help"],
+    &["function", "0"],
+    &["function", "", "0"],
+    &["function", "--delay"],
+    &["function", "--delay", "9"],
+    &["function", "--delay", "02"],
+    &["function", "--delay", "-1"],
+    &["function", "--delay", ""],
+    &["function", "--delay", "2", "--delay", "2"],
+    &["function", "--domain", "discs"],
+    &["function", "--domain", "--delay", "2"],
+    &["function", "--domain=boxes"],
+];
+
+#[test]
+fn words_are_options_with_their_values(rt: HostRuntime) -> Result<(), Fail> {
+    for words in ACCEPTED {
+        let (status, _) = outcome_of(rt.alloc(), words, EMPTY.as_bytes())?;
+        assert_eq!(rt; status, Status::AllInputs, "{words:?}");
+    }
+    Ok(())
+}
+
+#[test]
+fn other_words_are_refused(rt: HostRuntime) -> Result<(), Fail> {
+    for words in REFUSED {
+        let (status, written) = outcome_of(rt.alloc(), words, EMPTY.as_bytes())?;
+        assert_eq!(rt; status, Status::Words, "{words:?}");
+        assert!(rt;
+            written.starts_with(b"usage: function [--ctl TEXT]"),
+            "{words:?}"
+        );
+        assert!(rt; written.ends_with(b"[--demo N]\n"), "{words:?}");
+    }
+    Ok(())
+}
