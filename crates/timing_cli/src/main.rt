@@ -44,14 +44,16 @@ use std::process::ExitCode;
 fn main(rt: HostRuntime) -> io::Result<ExitCode> {
     let alloc = rt.alloc();
     let mut out = BufWriter::new(alloc, rt.stdout())?;
-    match lines(alloc, BufReader::new(alloc, rt.stdin())?, &mut out) {
+    let input = BufReader::new(alloc, rt.stdin())?;
+    let mut number = 0;
+    match lines(alloc, input, &mut out, &mut number) {
         Ok(()) => {
             out.flush()?;
             Ok(ExitCode::SUCCESS)
         }
         Err(Fault::Job) => {
             out.flush()?;
-            eprintln!(rt; "a line is a row of 17 whole numbers of 128 bits, empty, or a job")?;
+            eprintln!(rt; "line {number}: no row of 17 whole numbers of 128 bits, and no job")?;
             Ok(ExitCode::from(2))
         }
         Err(Fault::Memory(error)) => Err(error.into()),
@@ -59,11 +61,17 @@ fn main(rt: HostRuntime) -> io::Result<ExitCode> {
     }
 }
 
-/// Does each line in turn.
-fn lines<R: BufRead + Drop, W: Write>(alloc: Global, input: R, out: &mut W) -> Result<(), Fault> {
+/// Does each line in turn, and counts them.
+fn lines<R: BufRead + Drop, W: Write>(
+    alloc: Global,
+    input: R,
+    out: &mut W,
+    number: &mut u64,
+) -> Result<(), Fault> {
     let mut system = System::new(alloc);
     for line in input.lines(alloc) {
         let line = line?;
+        *number = number.saturating_add(1);
         take(alloc, line.as_str().trim(), &mut system, out)?;
     }
     if system.is_begun() {
