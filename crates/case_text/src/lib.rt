@@ -1,0 +1,19 @@
+//! Functions, rows, ranges, trees and answers of single layers, read from lines of text and written.
+//!
+//! It is for programs that are told in lines what to do, and promises nothing but that each call returns. The front door: `spaced` and `Words`,
+//! `read_function`, `read_linear`, `read_constraint`, `read_row`, `read_rows`, `read_tree`, and `Answer`.
+#![tactic(auto)]
+
+mod answer;
+mod fault;
+mod functions;
+mod line;
+mod many;
+mod trees;
+mod words;
+
+pub use answer::Answer;
+pub use fault::Fault;
+pub use functions::{read_constraint, read_function, read_linear, read_row, read_rows};
+pub use trees::{read_leaf, read_tree};
+pub use words::{Words, spaced};

@@ -1,0 +1,115 @@
+//! Decision trees, as lines say them.
+use crate::fault::Fault;
+use crate::functions::{read_function, read_row};
+use crate::line::Line;
+use crate::words::Words;
+use decision_tree::{AffineRank, Cause, Pick, Tree, Why};
+use std::alloc::Global;
+
+/// How deep a tree may stand in a line.
+const LEVELS: u32 = 64;
+
+/// Reads a tree. It is one of
+/// - `nothing`, which claims nothing; `given`, `nodes N` and `rows N`, which gave a claim up for that cause;
+/// - `end F` and the like, a claim of the function's value for the reason;
+/// - `R ? T : T`, the trees where the row's function is at least 0 and elsewhere;
+/// - `line yes N R beside LEAF then T`, a line of so many rows that goes on down the yes sides, or `no` for the others, with a leaf beside each. In the row
+///   and in the leaf `k` is the row's number: 1, 2, .. from the root down the yes sides, or from the end up the no sides;
+/// - `without N for CAUSE T`, the tree with its leaf of that number given up for the cause;
+/// - a tree in brackets.
+pub fn read_tree(alloc: Global, words: &mut Words<'_>) -> Result<Tree<AffineRank>, Fault> {
+    read_part(alloc, words, LEVELS)
+}
+
+/// Reads a tree that goes at most so deep.
+fn read_part(alloc: Global, words: &mut Words<'_>, levels: u32) -> Result<Tree<AffineRank>, Fault> {
+    let Some(below) = levels.checked_sub(1) else {
+        return Err(Fault::Line("a tree that goes too deep"));
+    };
+    if words.takes("(") {
+        let tree = read_part(alloc, words, below)?;
+        words.expect(")")?;
+        return Ok(tree);
+    }
+    if words.takes("line") {
+        let line = Line::read(words)?;
+        let last = read_part(alloc, words, below)?;
+        return line.before(alloc, last);
+    }
+    if words.takes("without") {
+        let leaf = words.count()?;
+        words.expect("for")?;
+        let cause = read_cause(words)?;
+        let tree = read_part(alloc, words, below)?;
+        return without(tree, u64::from(leaf), &cause);
+    }
+    if let Some(leaf) = read_leaf(words)? {
+        return Ok(leaf);
+    }
+    let row = read_row(words)?;
+    words.expect("?")?;
+    let yes = read_part(alloc, words, below)?;
+    words.expect(":")?;
+    let no = read_part(alloc, words, below)?;
+    Ok(Tree::branch(alloc, row, yes, no)?)
+}
+
+/// The tree with the leaf of the number given up for the cause.
+fn without(tree: Tree<AffineRank>, leaf: u64, cause: &Cause) -> Result<Tree<AffineRank>, Fault> {
+    if leaf >= tree.leaves() {
+        return Err(Fault::Line("no such leaf"));
+    }
+    let mut tree = tree;
+    tree.undefine(leaf, cause);
+    Ok(tree)
+}
+
+/// Reads a leaf, where one begins here.
+pub fn read_leaf(words: &mut Words<'_>) -> Result<Option<Tree<AffineRank>>, Fault> {
+    if words.takes("nothing") {
+        return Ok(Some(Tree::Bottom));
+    }
+    if matches!(words.peek(), Some("given" | "nodes" | "rows")) {
+        return Ok(Some(Tree::Top(read_cause(words)?)));
+    }
+    let Some(why) = words.peek().and_then(why_of) else {
+        return Ok(None);
+    };
+    words.take()?;
+    let value = read_function(words)?;
+    Ok(Some(Tree::Leaf {
+        why,
+        rank: AffineRank { value },
+    }))
+}
+
+/// Reads the cause for which a leaf is given up.
+fn read_cause(words: &mut Words<'_>) -> Result<Cause, Fault> {
+    match words.take()? {
+        "given" => Ok(Cause::Given),
+        "nodes" => Ok(Cause::Nodes {
+            count: words.count()?,
+        }),
+        "rows" => Ok(Cause::Rows {
+            count: words.count()?,
+        }),
+        _ => Err(Fault::Line("no cause for which a leaf is given up")),
+    }
+}
+
+/// The reason that the word names.
+fn why_of(word: &str) -> Option<Why> {
+    match word {
+        "end" => Some(Why::End),
+        "atom" => Some(Why::Atom),
+        "both" => Some(Why::Both),
+        "left" => Some(Why::Left),
+        "right" => Some(Why::Right),
+        "now" => Some(Why::Now),
+        "dead" => Some(Why::Dead),
+        "step" => Some(Why::Step(Pick::All)),
+        "step_yes" => Some(Why::Step(Pick::Yes)),
+        "step_no" => Some(Why::Step(Pick::No)),
+        _ => None,
+    }
+}

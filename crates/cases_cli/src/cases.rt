@@ -1,0 +1,117 @@
+//! The cases of a file.
+use case_text::{Answer, Fault, Words, spaced};
+use std::alloc::{AllocError, Global};
+use std::io::{self, Write};
+
+/// How the cases of a file end, the worst last.
+#[derive(Clone, Copy, PartialEq, Eq)]
+pub enum Outcome {
+    /// Each has its answer.
+    Same = 0,
+    /// One has another answer.
+    Other = 1,
+    /// A line says no call.
+    NoCall = 2,
+}
+
+impl Outcome {
+    /// The worse one of the two.
+    pub fn or(self, other: Outcome) -> Outcome {
+        match (self, other) {
+            (Outcome::NoCall, _) | (_, Outcome::NoCall) => Outcome::NoCall,
+            (Outcome::Other, _) | (_, Outcome::Other) => Outcome::Other,
+            (Outcome::Same, Outcome::Same) => Outcome::Same,
+        }
+    }
+}
+
+/// A case.
+#[derive(Drop)]
+struct Case<'t> {
+    /// The number of its line.
+    at: usize,
+    call: &'t str,
+    /// The lines of its answer.
+    wanted: Vec<u8>,
+}
+
+/// Tries the cases of the text of a file, and writes what is to be said of them.
+pub fn try_cases<W: Write>(
+    alloc: Global,
+    file: &str,
+    text: &str,
+    out: &mut W,
+) -> io::Result<Outcome> {
+    let mut worst = Outcome::Same;
+    let mut count: u64 = 0;
+    let mut case: Option<Case<'_>> = None;
+    for (above, line) in text.lines().enumerate() {
+        if let Some(answer) = line.strip_prefix("    ") {
+            if let Some(case) = &mut case {
+                add_line(&mut case.wanted, answer)?;
+            }
+            continue;
+        }
+        if let Some(ended) = case.take() {
+            worst = worst.or(try_case(alloc, file, &ended, out)?);
+            count = count.saturating_add(1);
+        }
+        if !line.is_empty() && !line.starts_with("#") {
+            case = Some(Case {
+                at: above.saturating_add(1),
+                call: line,
+                wanted: Vec::new(alloc),
+            });
+        }
+    }
+    if let Some(ended) = case {
+        worst = worst.or(try_case(alloc, file, &ended, out)?);
+        count = count.saturating_add(1);
+    }
+    writeln!(out, "{file}: {count} cases")?;
+    Ok(worst)
+}
+
+/// Adds a line to an answer.
+fn add_line(answer: &mut Vec<u8>, line: &str) -> Result<(), AllocError> {
+    if !answer.is_empty() {
+        answer.push(b'\n')?;
+    }
+    answer.extend_from_slice(line.as_bytes())
+}
+
+/// Tries the case, and writes what came where it is something else.
+fn try_case<W: Write>(
+    alloc: Global,
+    file: &str,
+    case: &Case<'_>,
+    out: &mut W,
+) -> io::Result<Outcome> {
+    let mut answer = Answer::new(alloc)?;
+    match push_answer(alloc, case.call, &mut answer) {
+        Ok(()) if answer.bytes() == case.wanted.as_slice() => Ok(Outcome::Same),
+        Ok(()) => {
+            writeln!(out, "{file}:{}: {}", case.at, case.call)?;
+            out.write_all(answer.bytes())?;
+            writeln!(out, "")?;
+            Ok(Outcome::Other)
+        }
+        Err(Fault::Line(why)) => {
+            writeln!(out, "{file}:{}: {why}", case.at)?;
+            Ok(Outcome::NoCall)
+        }
+        Err(Fault::Memory(error)) => Err(error.into()),
+    }
+}
+
+/// Makes the call and writes its answer.
+fn push_answer(alloc: Global, call: &str, answer: &mut Answer) -> Result<(), Fault> {
+    let line = spaced(alloc, call)?;
+    let words: Vec<&str> = line.as_str().split_whitespace().collect(alloc)?;
+    let mut words = Words::of(&words);
+    let job = words.take()?;
+    if domain_cases::answers(alloc, job, &mut words, answer)? {
+        return words.end();
+    }
+    Err(Fault::Line("no such call"))
+}
