@@ -110,7 +110,9 @@ fn push_answer(alloc: Global, call: &str, answer: &mut Answer) -> Result<(), Fau
     let words: Vec<&str> = line.as_str().split_whitespace().collect(alloc)?;
     let mut words = Words::of(&words);
     let job = words.take()?;
-    if domain_cases::answers(alloc, job, &mut words, answer)? {
+    if domain_cases::answers(alloc, job, &mut words, answer)?
+        || tree_cases::answers(alloc, job, &mut words, answer)?
+    {
         return words.end();
     }
     Err(Fault::Line("no such call"))

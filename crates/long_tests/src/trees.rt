@@ -1,0 +1,231 @@
+//! The longest trees, as lines down either side.
+use case_text::{Answer, Fault, Words, spaced};
+use std::alloc::Global;
+use std::process::Abort;
+use std::test::Fail;
+
+/// Calls and their answers. SIDE stands for `yes` and for `no`, LONGEST for the longest line in a tree of at most 65,536 nodes, with a leaf at its end, which
+/// are 32,767 rows and 32,768 leaves, and LONGER for a line of one row more.
+const DOWN_EITHER_SIDE: [(&str, &str); 32] = [
+    // The longest lines of a tree of at most 65,536 nodes, and a row more.
+    (
+        "trim always in LONGEST then nothing is LONGEST then nothing",
+        "yes",
+    ),
+    (
+        "prune always in LONGEST then nothing is LONGEST then nothing",
+        "yes",
+    ),
+    ("trim always in LONGER then end 7", "too large"),
+    ("prune always in LONGER then end 7", "too large"),
+    // The same joined with leaves.
+    (
+        "either LONGEST then nothing and end 7 is LONGEST then end 7",
+        "yes",
+    ),
+    (
+        "either nothing and LONGEST then nothing is LONGEST then nothing",
+        "yes",
+    ),
+    ("both LONGEST then end 7 and end 9", "end 9"),
+    (
+        "both end 9 and LONGEST then nothing is LONGEST then nothing",
+        "yes",
+    ),
+    (
+        "later LONGEST then nothing and end 0 is LONGEST then nothing",
+        "yes",
+    ),
+    (
+        "later end 0 and LONGEST then nothing is LONGEST then nothing",
+        "yes",
+    ),
+    ("either LONGER then end 7 and nothing", "too large"),
+    ("later LONGER then end 7 and end 0", "too large"),
+    // One node is left of it.
+    ("both LONGER then end 7 and end 3", "end 3"),
+    // The same joined with each other.
+    (
+        "either LONGEST then nothing and LONGEST then nothing is LONGEST then nothing",
+        "yes",
+    ),
+    // At the end of the one line stands the whole other one, which is too much.
+    (
+        "either LONGEST then nothing and line SIDE 32767 y - k >= 0 beside end k then end 7",
+        "too large",
+    ),
+    (
+        "both line SIDE 32767 x - k >= 0 beside nothing then end 7 and line SIDE 32767 y - k >= 0 beside end k then end 7",
+        "too large",
+    ),
+    (
+        "later line SIDE 32767 x - k >= 0 beside nothing then end 7 and line SIDE 32767 y - k >= 0 beside end k then end 7",
+        "too large",
+    ),
+    // Widened.
+    (
+        "widen LONGEST then nothing and end 0 is LONGEST then end 0",
+        "yes",
+    ),
+    ("widen end 40000 and LONGEST then end 0", "end 40000"),
+    ("widen end 40000 and LONGEST then nothing", "given"),
+    // The path of one row more has more nodes.
+    ("widen LONGER then end 0 and end 0", "too large"),
+    ("widen LONGER then nothing and end 0", "too large"),
+    // Before actions of a program.
+    (
+        "skip LONGEST then nothing is line SIDE 32767 x - k >= 0 beside step k + 1 then nothing",
+        "yes",
+    ),
+    (
+        "assign y = 0 + [-inf, inf] before LONGEST then nothing is line SIDE 32767 x - k >= 0 beside step k + 1 then nothing",
+        "yes",
+    ),
+    (
+        "assign x = x + 1 before LONGEST then nothing is line SIDE 32767 x - k + 1 >= 0 beside step k + 1 then nothing",
+        "yes",
+    ),
+    (
+        "test always against never before LONGEST then nothing else nothing is line SIDE 32767 x - k >= 0 beside step k + 1 then nothing",
+        "yes",
+    ),
+    ("skip LONGER then nothing", "too large"),
+    (
+        "assign y = 0 + [-inf, inf] before LONGER then nothing",
+        "too large",
+    ),
+    ("assign x = x + 1 before LONGER then nothing", "too large"),
+    (
+        "test always against never before LONGER then nothing else nothing",
+        "too large",
+    ),
+    // How many nodes and leaves a tree has.
+    (
+        "size line SIDE 65536 x - 1 >= 0 beside nothing then end 7",
+        "131073 nodes, 65537 leaves",
+    ),
+    // Copies, alone and in a box, are equal to their trees.
+    (
+        "copies line SIDE 65536 x - 1 >= 0 beside nothing then end 7",
+        "yes",
+    ),
+];
+
+/// Calls on lines down one side, and their answers.
+const DOWN_ONE_SIDE: [(&str, &str); 15] = [
+    // Down the yes sides all rows hold at 32,768, and the last has no claim behind it; none holds at 0. Down the no sides the first row holds at 32,768, none at 0.
+    (
+        "assign x = 32768 before line yes 32768 x - k >= 0 beside end k then nothing",
+        "nothing",
+    ),
+    (
+        "assign x = 0 before line yes 32768 x - k >= 0 beside end k then nothing",
+        "step 2",
+    ),
+    (
+        "assign x = 32768 before line no 32768 x - k >= 0 beside end k then nothing",
+        "step 32769",
+    ),
+    (
+        "assign x = 0 before line no 32768 x - k >= 0 beside end k then nothing",
+        "nothing",
+    ),
+    // The leaf of a store, by its number for x.
+    (
+        "leaf at 1 of line yes 65536 x - 1 >= 0 beside nothing then end 7",
+        "end 7",
+    ),
+    (
+        "leaf at 0 of line yes 65536 x - 1 >= 0 beside nothing then end 7",
+        "nothing",
+    ),
+    (
+        "leaf at 0 of line no 65536 x - 1 >= 0 beside nothing then end 7",
+        "end 7",
+    ),
+    (
+        "leaf at 1 of line no 65536 x - 1 >= 0 beside nothing then end 7",
+        "nothing",
+    ),
+    // The rows that lead to a leaf, by its number.
+    (
+        "path 0 of line yes 65536 x - 1 >= 0 beside nothing then end 7",
+        "65536 times x - 1 >= 0",
+    ),
+    (
+        "path 65536 of line no 65536 x - 1 >= 0 beside nothing then end 7",
+        "65536 times -x >= 0",
+    ),
+    // Trees that differ from each other: each pair is compared.
+    (
+        "distinct line yes 65536 x - 1 >= 0 beside nothing then end 7 ; line no 65536 x - 1 >= 0 beside nothing then end 7",
+        "yes",
+    ),
+    // A leaf is given up: how many nodes and leaves there are then, what the tree says where x is 5, 1 and 0, and the tree.
+    (
+        "leaf at 1 of without 0 for nodes 7 line yes 65536 x - 1 >= 0 beside nothing then end 7",
+        "nodes 7",
+    ),
+    (
+        "leaf at 0 of without 0 for nodes 7 line yes 65536 x - 1 >= 0 beside nothing then end 7",
+        "nothing",
+    ),
+    (
+        "leaf at 0 of without 65536 for nodes 7 line no 65536 x - 1 >= 0 beside nothing then end 7",
+        "nodes 7",
+    ),
+    (
+        "leaf at 1 of without 65536 for nodes 7 line no 65536 x - 1 >= 0 beside nothing then end 7",
+        "nothing",
+    ),
+];
+
+/// What the call answers.
+fn answered(alloc: Global, call: &str) -> Result<Answer, Fault> {
+    let mut answer = Answer::new(alloc)?;
+    let line = spaced(alloc, call)?;
+    let words: Vec<&str> = line.as_str().split_whitespace().collect(alloc)?;
+    let mut words = Words::of(&words);
+    let name = words.take()?;
+    if !tree_cases::answers(alloc, name, &mut words, &mut answer)? {
+        return Err(Fault::Line("no such call"));
+    }
+    words.end()?;
+    Ok(answer)
+}
+
+/// The call answers this.
+fn stands(rt: &(impl Abort + AllocGlobal), call: &str, wanted: &str) {
+    match answered(rt.alloc(), call) {
+        Ok(answer) => assert_eq!(rt; answer.bytes(), wanted.as_bytes(), "of {call}"),
+        Err(Fault::Line(why)) => panic!(rt; "{call}: {why}"),
+        Err(Fault::Memory(_)) => panic!(rt; "{call}: no memory"),
+    }
+}
+
+/// The call with the lines down these sides.
+fn down(alloc: Global, call: &str, side: &str) -> Result<String, Fail> {
+    let call = call.replace(alloc, "LONGEST", "line SIDE 32767 x - k >= 0 beside end k")?;
+    let call = call
+        .as_str()
+        .replace(alloc, "LONGER", "line SIDE 32768 x - k >= 0 beside end k")?;
+    Ok(call.as_str().replace(alloc, "SIDE", side)?)
+}
+
+#[test]
+fn lines_down_either_side(rt: HostRuntime) -> Result<(), Fail> {
+    for (call, wanted) in DOWN_EITHER_SIDE {
+        for side in ["yes", "no"] {
+            let call = down(rt.alloc(), call, side)?;
+            stands(&rt, call.as_str(), wanted);
+        }
+    }
+    Ok(())
+}
+
+#[test]
+fn lines_down_one_side(rt: HostRuntime) {
+    for (call, wanted) in DOWN_ONE_SIDE {
+        stands(&rt, call, wanted);
+    }
+}
