@@ -1,44 +1,35 @@
 //! Functions, linear expressions and rows, as lines say them.
-use crate::fault::Fault;
 use crate::many::add_many;
 use crate::words::{Words, number_of, place_of};
 use linear_cons::{Affine, Linear, Row, RowKind};
-use std::alloc::Global;
+use std::alloc::{AllocError, Global};
 
 /// Reads a function: terms `2*x`, `x`, `-x` or `7`, parted by `+` and `-`. A range behind a `+` is left.
-pub fn read_function(words: &mut Words<'_>) -> Result<Affine, Fault> {
+pub fn read_function(words: &mut Words<'_>) -> Affine {
     let mut sum = Affine::constant(0);
-    add_term(&mut sum, words.take()?, false)?;
+    let mut is_taken_away = false;
     for _ in 0..words.len() {
-        if words.second() == Some("[") {
-            return Ok(sum);
+        let term = words.take();
+        match summed(&sum, term, is_taken_away) {
+            Some(more) => sum = more,
+            None => words.fail("no function"),
         }
-        if words.takes("+") {
-            add_term(&mut sum, words.take()?, false)?;
-        } else if words.takes("-") {
-            add_term(&mut sum, words.take()?, true)?;
-        } else {
-            return Ok(sum);
+        match (words.peek(), words.second()) {
+            (_, Some("[")) => return sum,
+            (Some("+"), _) => is_taken_away = false,
+            (Some("-"), _) => is_taken_away = true,
+            _ => return sum,
         }
+        words.take();
     }
-    Ok(sum)
-}
-
-/// Adds the term, or takes it away.
-fn add_term(sum: &mut Affine, term: &str, is_taken: bool) -> Result<(), Fault> {
-    match summed(sum, term, is_taken) {
-        Some(more) => {
-            *sum = more;
-            Ok(())
-        }
-        None => Err(Fault::Line("no function")),
-    }
+    words.fail("a function is missing");
+    sum
 }
 
 /// The sum with the term, where it is one and all numbers have room.
-fn summed(sum: &Affine, term: &str, is_taken: bool) -> Option<Affine> {
+fn summed(sum: &Affine, term: &str, is_taken_away: bool) -> Option<Affine> {
     let (number, name) = parted(term)?;
-    let number = if is_taken {
+    let number = if is_taken_away {
         number.checked_neg()?
     } else {
         number
@@ -69,48 +60,58 @@ fn parted(term: &str) -> Option<(i128, Option<&str>)> {
 }
 
 /// Reads a linear expression: a function, and `+ [1, inf]` behind it where it is no exact one.
-pub fn read_linear(words: &mut Words<'_>) -> Result<Linear, Fault> {
-    let affine = read_function(words)?;
+pub fn read_linear(words: &mut Words<'_>) -> Linear {
+    let affine = read_function(words);
     if !words.takes("+") {
-        return Ok(Linear::exactly(affine));
+        return Linear::exactly(affine);
     }
-    words.expect("[")?;
-    let lo = words.number_or("-inf")?;
-    words.expect(",")?;
-    let hi = words.number_or("inf")?;
-    words.expect("]")?;
-    Ok(Linear { affine, lo, hi })
+    words.expect("[");
+    let lo = words.number_or("-inf");
+    words.expect(",");
+    let hi = words.number_or("inf");
+    words.expect("]");
+    Linear { affine, lo, hi }
 }
 
 /// Reads a constraint: a function, and `>= 0` behind it.
-pub fn read_constraint(words: &mut Words<'_>) -> Result<RowKind, Fault> {
-    let function = read_function(words)?;
-    words.expect(">=")?;
-    words.expect("0")?;
-    Ok(Row::of(function))
+pub fn read_constraint(words: &mut Words<'_>) -> RowKind {
+    let function = read_function(words);
+    words.expect(">=");
+    words.expect("0");
+    Row::of(function)
 }
 
-/// Reads a constraint that has a row.
-pub fn read_row(words: &mut Words<'_>) -> Result<Row, Fault> {
-    match read_constraint(words)? {
-        RowKind::Row(row) => Ok(row),
-        RowKind::Always => Err(Fault::Line("a row that always holds")),
-        RowKind::Never => Err(Fault::Line("a row that never holds")),
+/// Reads a constraint that has a row, which it gives where it is one.
+pub fn read_row(words: &mut Words<'_>) -> Option<Row> {
+    match read_constraint(words) {
+        RowKind::Row(row) => Some(row),
+        RowKind::Always | RowKind::Never => {
+            words.fail("a constraint that is no row");
+            None
+        }
     }
 }
 
 /// Reads rows that are parted by `and`. `always` has none, and `many NAME COUNT` has many.
-pub fn read_rows(alloc: Global, words: &mut Words<'_>) -> Result<Vec<Row>, Fault> {
+pub fn read_rows(alloc: Global, words: &mut Words<'_>) -> Result<Vec<Row>, AllocError> {
     let mut rows = Vec::new(alloc);
     for _ in 0..words.len() {
         if words.takes("many") {
             add_many(&mut rows, words)?;
         } else if !words.takes("always") {
-            rows.push(read_row(words)?)?;
+            add_row(&mut rows, words)?;
         }
         if !words.takes("and") {
             return Ok(rows);
         }
     }
+    words.fail("rows are missing");
     Ok(rows)
+}
+
+fn add_row(rows: &mut Vec<Row>, words: &mut Words<'_>) -> Result<(), AllocError> {
+    if let Some(row) = read_row(words) {
+        rows.push(row)?;
+    }
+    Ok(())
 }

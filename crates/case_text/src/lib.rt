@@ -5,7 +5,6 @@
 #![tactic(auto)]
 
 mod answer;
-mod fault;
 mod functions;
 mod line;
 mod many;
@@ -13,7 +12,6 @@ mod trees;
 mod words;
 
 pub use answer::Answer;
-pub use fault::Fault;
 pub use functions::{read_constraint, read_function, read_linear, read_row, read_rows};
 pub use trees::{read_leaf, read_tree};
 pub use words::{Words, spaced};

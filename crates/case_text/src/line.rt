@@ -1,11 +1,10 @@
 //! Trees that are long lines.
-use crate::fault::Fault;
 use crate::functions::read_function;
 use crate::trees::read_leaf;
 use crate::words::Words;
 use decision_tree::{AffineRank, Tree};
 use linear_cons::{Affine, Row, RowKind};
-use std::alloc::Global;
+use std::alloc::{AllocError, Global};
 
 /// The place whose variable is the number of a row of a line.
 const NUMBER: u8 = 15;
@@ -23,70 +22,84 @@ pub struct Line {
 
 impl Line {
     /// Reads a line up to what stands at its end.
-    pub fn read(words: &mut Words<'_>) -> Result<Line, Fault> {
+    pub fn read(words: &mut Words<'_>) -> Line {
         let is_yes = words.takes("yes");
         if !is_yes {
-            words.expect("no")?;
+            words.expect("no");
         }
-        let count = words.count()?;
-        let asked = read_function(words)?;
-        words.expect(">=")?;
-        words.expect("0")?;
-        words.expect("beside")?;
-        let Some(beside) = read_leaf(words)? else {
-            return Err(Fault::Line("no leaf beside the rows of a line"));
-        };
-        words.expect("then")?;
-        Ok(Line {
+        let count = words.count();
+        let asked = read_function(words);
+        words.expect(">=");
+        words.expect("0");
+        words.expect("beside");
+        let beside = read_leaf(words);
+        words.expect("then");
+        Line {
             count,
             is_yes,
             asked,
-            beside,
-        })
+            beside: beside.unwrap_or(Tree::Bottom),
+        }
     }
 
     /// The line with the tree at its end.
-    pub fn before(&self, alloc: Global, last: Tree<AffineRank>) -> Result<Tree<AffineRank>, Fault> {
+    pub fn before(
+        &self,
+        alloc: Global,
+        last: Tree<AffineRank>,
+        words: &mut Words<'_>,
+    ) -> Result<Tree<AffineRank>, AllocError> {
         let mut tree = last;
         for above in 0..self.count {
-            tree = if self.is_yes {
-                let beside = self.beside(self.count - above)?;
-                Tree::branch(alloc, self.row(self.count - above)?, tree, beside)?
+            let number = if self.is_yes {
+                self.count - above
             } else {
-                let beside = self.beside(above + 1)?;
-                Tree::branch(alloc, self.row(above + 1)?, beside, tree)?
+                above + 1
             };
+            tree = self.longer(alloc, number, tree, words)?;
         }
         Ok(tree)
     }
 
-    /// The row with the number.
-    fn row(&self, number: u32) -> Result<Row, Fault> {
-        match Row::of(numbered(&self.asked, number)?) {
-            RowKind::Row(row) => Ok(row),
-            RowKind::Always | RowKind::Never => Err(Fault::Line("a line of what is no row")),
+    /// The tree with the row of the number above it.
+    fn longer(
+        &self,
+        alloc: Global,
+        number: u32,
+        tree: Tree<AffineRank>,
+        words: &mut Words<'_>,
+    ) -> Result<Tree<AffineRank>, AllocError> {
+        let RowKind::Row(row) = Row::of(numbered(&self.asked, number)) else {
+            words.fail("a line of what is no row");
+            return Ok(tree);
+        };
+        let beside = self.beside(number);
+        if self.is_yes {
+            Tree::branch(alloc, row, tree, beside)
+        } else {
+            Tree::branch(alloc, row, beside, tree)
         }
     }
 
     /// The leaf beside the row with the number.
-    fn beside(&self, number: u32) -> Result<Tree<AffineRank>, Fault> {
+    fn beside(&self, number: u32) -> Tree<AffineRank> {
         match &self.beside {
-            Tree::Leaf { why, rank } => Ok(Tree::Leaf {
+            Tree::Leaf { why, rank } => Tree::Leaf {
                 why: *why,
                 rank: AffineRank {
-                    value: numbered(&rank.value, number)?,
+                    value: numbered(&rank.value, number),
                 },
-            }),
-            Tree::Top(cause) => Ok(Tree::Top(*cause)),
-            _ => Ok(Tree::Bottom),
+            },
+            Tree::Top(cause) => Tree::Top(*cause),
+            _ => Tree::Bottom,
         }
     }
 }
 
-/// The function with the number for that of the row.
-fn numbered(function: &Affine, number: u32) -> Result<Affine, Fault> {
+/// The function with the number for that of the row, where it has room.
+fn numbered(function: &Affine, number: u32) -> Affine {
     match function.subst(NUMBER, &Affine::constant(i128::from(number))) {
-        Ok(numbered) => Ok(numbered),
-        Err(_) => Err(Fault::Line("a line whose numbers have no room")),
+        Ok(numbered) => numbered,
+        Err(_) => *function,
     }
 }

@@ -1,5 +1,4 @@
 //! Lists of so many rows that no line says each of them.
-use crate::fault::Fault;
 use crate::words::Words;
 use linear_cons::{Affine, PLACES, Row, RowKind};
 use std::alloc::AllocError;
@@ -8,16 +7,15 @@ use std::alloc::AllocError;
 /// - `slopes N`: `x + k*y >= 0` for each k from 0 to N - 1;
 /// - `fan N`: `k*x + y >= 0` and `-k*x + y >= 0` for each k from 1 to N;
 /// - `slabs N`: for each of the first N odd numbers k from 101 on the rows of `2*x + k*y = 1`, and so for y and z and for z and x.
-pub fn add_many(rows: &mut Vec<Row>, words: &mut Words<'_>) -> Result<(), Fault> {
-    let name = words.take()?;
-    let count = words.count()?;
+pub fn add_many(rows: &mut Vec<Row>, words: &mut Words<'_>) -> Result<(), AllocError> {
+    let name = words.take();
+    let count = words.count();
     match name {
-        "slopes" => add_slopes(rows, count)?,
-        "fan" => add_fan(rows, count)?,
-        "slabs" => add_slabs(rows, count)?,
-        _ => return Err(Fault::Line("no such list of rows")),
+        "slopes" => add_slopes(rows, count),
+        "fan" => add_fan(rows, count),
+        "slabs" => add_slabs(rows, count),
+        _ => Ok(words.fail("no such list of rows")),
     }
-    Ok(())
 }
 
 fn add_slopes(rows: &mut Vec<Row>, count: u32) -> Result<(), AllocError> {

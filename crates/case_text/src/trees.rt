@@ -1,10 +1,9 @@
 //! Decision trees, as lines say them.
-use crate::fault::Fault;
 use crate::functions::{read_function, read_row};
 use crate::line::Line;
 use crate::words::Words;
 use decision_tree::{AffineRank, Cause, Pick, Tree, Why};
-use std::alloc::Global;
+use std::alloc::{AllocError, Global};
 
 /// How deep a tree may stand in a line.
 const LEVELS: u32 = 64;
@@ -17,83 +16,94 @@ const LEVELS: u32 = 64;
 ///   and in the leaf `k` is the row's number: 1, 2, .. from the root down the yes sides, or from the end up the no sides;
 /// - `without N for CAUSE T`, the tree with its leaf of that number given up for the cause;
 /// - a tree in brackets.
-pub fn read_tree(alloc: Global, words: &mut Words<'_>) -> Result<Tree<AffineRank>, Fault> {
+pub fn read_tree(alloc: Global, words: &mut Words<'_>) -> Result<Tree<AffineRank>, AllocError> {
     read_part(alloc, words, LEVELS)
 }
 
 /// Reads a tree that goes at most so deep.
-fn read_part(alloc: Global, words: &mut Words<'_>, levels: u32) -> Result<Tree<AffineRank>, Fault> {
+fn read_part(
+    alloc: Global,
+    words: &mut Words<'_>,
+    levels: u32,
+) -> Result<Tree<AffineRank>, AllocError> {
     let Some(below) = levels.checked_sub(1) else {
-        return Err(Fault::Line("a tree that goes too deep"));
+        words.fail("a tree that goes too deep");
+        return Ok(Tree::Bottom);
     };
     if words.takes("(") {
         let tree = read_part(alloc, words, below)?;
-        words.expect(")")?;
+        words.expect(")");
         return Ok(tree);
     }
     if words.takes("line") {
-        let line = Line::read(words)?;
+        let line = Line::read(words);
         let last = read_part(alloc, words, below)?;
-        return line.before(alloc, last);
+        return line.before(alloc, last, words);
     }
     if words.takes("without") {
-        let leaf = words.count()?;
-        words.expect("for")?;
-        let cause = read_cause(words)?;
-        let tree = read_part(alloc, words, below)?;
-        return without(tree, u64::from(leaf), &cause);
+        let leaf = words.count();
+        words.expect("for");
+        let cause = read_cause(words);
+        let mut tree = read_part(alloc, words, below)?;
+        undefine(&mut tree, u64::from(leaf), &cause, words);
+        return Ok(tree);
     }
-    if let Some(leaf) = read_leaf(words)? {
+    if let Some(leaf) = read_leaf(words) {
         return Ok(leaf);
     }
-    let row = read_row(words)?;
-    words.expect("?")?;
+    let row = read_row(words);
+    words.expect("?");
     let yes = read_part(alloc, words, below)?;
-    words.expect(":")?;
+    words.expect(":");
     let no = read_part(alloc, words, below)?;
-    Ok(Tree::branch(alloc, row, yes, no)?)
+    match row {
+        Some(row) => Tree::branch(alloc, row, yes, no),
+        None => Ok(Tree::Bottom),
+    }
 }
 
-/// The tree with the leaf of the number given up for the cause.
-fn without(tree: Tree<AffineRank>, leaf: u64, cause: &Cause) -> Result<Tree<AffineRank>, Fault> {
-    if leaf >= tree.leaves() {
-        return Err(Fault::Line("no such leaf"));
+/// Gives up the leaf of the number for the cause, where the tree has it.
+fn undefine(tree: &mut Tree<AffineRank>, leaf: u64, cause: &Cause, words: &mut Words<'_>) {
+    if leaf < tree.leaves() {
+        tree.undefine(leaf, cause);
+    } else {
+        words.fail("no such leaf");
     }
-    let mut tree = tree;
-    tree.undefine(leaf, cause);
-    Ok(tree)
 }
 
 /// Reads a leaf, where one begins here.
-pub fn read_leaf(words: &mut Words<'_>) -> Result<Option<Tree<AffineRank>>, Fault> {
-    if words.takes("nothing") {
-        return Ok(Some(Tree::Bottom));
+pub fn read_leaf(words: &mut Words<'_>) -> Option<Tree<AffineRank>> {
+    let word = words.peek()?;
+    if word == "nothing" {
+        words.take();
+        return Some(Tree::Bottom);
     }
-    if matches!(words.peek(), Some("given" | "nodes" | "rows")) {
-        return Ok(Some(Tree::Top(read_cause(words)?)));
+    if matches!(word, "given" | "nodes" | "rows") {
+        return Some(Tree::Top(read_cause(words)));
     }
-    let Some(why) = words.peek().and_then(why_of) else {
-        return Ok(None);
-    };
-    words.take()?;
-    let value = read_function(words)?;
-    Ok(Some(Tree::Leaf {
+    let why = why_of(word)?;
+    words.take();
+    let value = read_function(words);
+    Some(Tree::Leaf {
         why,
         rank: AffineRank { value },
-    }))
+    })
 }
 
 /// Reads the cause for which a leaf is given up.
-fn read_cause(words: &mut Words<'_>) -> Result<Cause, Fault> {
-    match words.take()? {
-        "given" => Ok(Cause::Given),
-        "nodes" => Ok(Cause::Nodes {
-            count: words.count()?,
-        }),
-        "rows" => Ok(Cause::Rows {
-            count: words.count()?,
-        }),
-        _ => Err(Fault::Line("no cause for which a leaf is given up")),
+fn read_cause(words: &mut Words<'_>) -> Cause {
+    match words.take() {
+        "given" => Cause::Given,
+        "nodes" => Cause::Nodes {
+            count: words.count(),
+        },
+        "rows" => Cause::Rows {
+            count: words.count(),
+        },
+        _ => {
+            words.fail("no cause for which a leaf is given up");
+            Cause::Given
+        }
     }
 }
 

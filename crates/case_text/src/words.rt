@@ -1,7 +1,6 @@
 //! The words of a line.
-ghost use Rattle.std.specs.Prelude.{◌<◌, IfOk, IfSome};
+ghost use Rattle.std.specs.Prelude.{◌<◌, IfSome};
 
-use crate::fault::Fault;
 use linear_cons::PLACES;
 use std::alloc::{AllocError, Global};
 
@@ -19,18 +18,24 @@ pub fn spaced(alloc: Global, line: &str) -> Result<String, AllocError> {
     line.as_str().replace(alloc, ",", " , ")
 }
 
-/// The words of a line, of which some are taken.
+/// The words of a line, of which some are taken. It notes the first fault, and from then on gives what stands for nothing: so who reads needs to look for a
+/// fault at the end alone.
 #[derive(Clone, Copy)]
 pub struct Words<'t> {
     all: &'t [&'t str],
     /// How many are taken.
     taken: usize,
+    fault: Option<&'static str>,
 }
 
 impl<'t> Words<'t> {
     /// These words, of which none is taken.
     pub fn of(all: &'t [&'t str]) -> Words<'t> {
-        Words { all, taken: 0 }
+        Words {
+            all,
+            taken: 0,
+            fault: None,
+        }
     }
 
     /// How many words are left.
@@ -48,14 +53,16 @@ impl<'t> Words<'t> {
         self.all.get(self.taken.saturating_add(1)).copied()
     }
 
-    /// Takes the next word.
-    pub fn take(&mut self) -> Result<&'t str, Fault> {
-        match self.peek() {
-            Some(word) => {
-                self.taken = self.taken.saturating_add(1);
-                Ok(word)
+    /// Takes the next word. It is empty where there is none.
+    pub fn take(&mut self) -> &'t str {
+        let word = self.peek();
+        self.taken = self.taken.saturating_add(1);
+        match word {
+            Some(word) => word,
+            None => {
+                self.fail("a word is missing");
+                ""
             }
-            None => Err(Fault::Line("a word is missing")),
         }
     }
 
@@ -69,49 +76,70 @@ impl<'t> Words<'t> {
     }
 
     /// Takes this word.
-    pub fn expect(&mut self, word: &str) -> Result<(), Fault> {
-        if self.takes(word) {
-            return Ok(());
+    pub fn expect(&mut self, word: &str) {
+        if !self.takes(word) {
+            self.fail("a word of the call is missing");
         }
-        Err(Fault::Line("a word of the job is missing"))
     }
 
-    /// That nothing is left.
-    pub fn end(&self) -> Result<(), Fault> {
-        if self.len() == 0 {
-            return Ok(());
+    /// Notes why the line can't be read, where nothing is noted yet.
+    pub fn fail(&mut self, why: &'static str) {
+        if self.fault.is_none() {
+            self.fault = Some(why);
         }
-        Err(Fault::Line("words behind the end"))
+    }
+
+    /// The fault that is noted, where there is one or where words are left.
+    pub fn fault(&self) -> Option<&'static str> {
+        match self.fault {
+            None if self.len() > 0 => Some("words behind the end"),
+            fault => fault,
+        }
     }
 
     /// Takes a number.
-    pub fn number(&mut self) -> Result<i128, Fault> {
-        number_of(self.take()?).ok_or(Fault::Line("no number of 128 bits"))
+    pub fn number(&mut self) -> i128 {
+        let word = self.take();
+        match number_of(word) {
+            Some(number) => number,
+            None => {
+                self.fail("no number of 128 bits");
+                0
+            }
+        }
     }
 
     /// Takes a number, or the word for none.
-    pub fn number_or(&mut self, none: &str) -> Result<Option<i128>, Fault> {
+    pub fn number_or(&mut self, none: &str) -> Option<i128> {
         if self.takes(none) {
-            return Ok(None);
+            return None;
         }
-        Ok(Some(self.number()?))
+        Some(self.number())
     }
 
     /// Takes a number of 32 bits.
-    pub fn count(&mut self) -> Result<u32, Fault> {
-        match self.take()?.parse::<u32>() {
-            Ok(count) => Ok(count),
-            Err(_) => Err(Fault::Line("no number of 32 bits")),
+    pub fn count(&mut self) -> u32 {
+        let word = self.take();
+        match word.parse::<u32>() {
+            Ok(count) => count,
+            Err(_) => {
+                self.fail("no number of 32 bits");
+                0
+            }
         }
     }
 
     /// Takes the name of a variable, and gives its place.
-    pub fn place(&mut self) -> Result<u8, Fault>
-        ensures { IfOk result (λ place. place < 16) }
+    pub fn place(&mut self) -> u8
+        ensures { result < 16 }
     {
-        match place_of(self.take()?) {
-            Some(place) => Ok(place),
-            None => Err(Fault::Line("no name of a variable")),
+        let word = self.take();
+        match place_of(word) {
+            Some(place) => place,
+            None => {
+                self.fail("no name of a variable");
+                0
+            }
         }
     }
 }

@@ -1,5 +1,5 @@
 //! The cases of a file.
-use case_text::{Answer, Fault, Words, spaced};
+use case_text::{Answer, Words, spaced};
 use std::alloc::{AllocError, Global};
 use std::io::{self, Write};
 
@@ -88,32 +88,34 @@ fn try_case<W: Write>(
     out: &mut W,
 ) -> io::Result<Outcome> {
     let mut answer = Answer::new(alloc)?;
-    match push_answer(alloc, case.call, &mut answer) {
-        Ok(()) if answer.bytes() == case.wanted.as_slice() => Ok(Outcome::Same),
-        Ok(()) => {
-            writeln!(out, "{file}:{}: {}", case.at, case.call)?;
-            out.write_all(answer.bytes())?;
-            writeln!(out, "")?;
-            Ok(Outcome::Other)
-        }
-        Err(Fault::Line(why)) => {
-            writeln!(out, "{file}:{}: {why}", case.at)?;
-            Ok(Outcome::NoCall)
-        }
-        Err(Fault::Memory(error)) => Err(error.into()),
+    if let Some(why) = push_answer(alloc, case.call, &mut answer)? {
+        writeln!(out, "{file}:{}: {why}", case.at)?;
+        return Ok(Outcome::NoCall);
     }
+    let found = answer.whole()?;
+    if found == case.wanted.as_slice() {
+        return Ok(Outcome::Same);
+    }
+    writeln!(out, "{file}:{}: {}", case.at, case.call)?;
+    out.write_all(found)?;
+    writeln!(out, "")?;
+    Ok(Outcome::Other)
 }
 
-/// Makes the call and writes its answer.
-fn push_answer(alloc: Global, call: &str, answer: &mut Answer) -> Result<(), Fault> {
+/// Makes the call and writes its answer, or tells why the line says no call.
+fn push_answer(
+    alloc: Global,
+    call: &str,
+    answer: &mut Answer,
+) -> Result<Option<&'static str>, AllocError> {
     let line = spaced(alloc, call)?;
     let words: Vec<&str> = line.as_str().split_whitespace().collect(alloc)?;
     let mut words = Words::of(&words);
-    let job = words.take()?;
-    if domain_cases::answers(alloc, job, &mut words, answer)?
-        || tree_cases::answers(alloc, job, &mut words, answer)?
+    let name = words.take();
+    if domain_cases::answers(alloc, name, &mut words, answer)?
+        || tree_cases::answers(alloc, name, &mut words, answer)?
     {
-        return words.end();
+        return Ok(words.fault());
     }
-    Err(Fault::Line("no such call"))
+    Ok(Some("no such call"))
 }

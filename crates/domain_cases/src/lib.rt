@@ -7,8 +7,8 @@ mod domains;
 mod numbers;
 mod systems;
 
-use case_text::{Answer, Fault, Words};
-use std::alloc::Global;
+use case_text::{Answer, Words};
+use std::alloc::{AllocError, Global};
 
 /// Makes the call of that name and writes its answer; false where none has the name.
 pub fn answers(
@@ -16,7 +16,7 @@ pub fn answers(
     name: &str,
     words: &mut Words<'_>,
     answer: &mut Answer,
-) -> Result<bool, Fault> {
+) -> Result<bool, AllocError> {
     if numbers::answers(alloc, name, words, answer)? {
         return Ok(true);
     }

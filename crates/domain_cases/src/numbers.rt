@@ -4,12 +4,10 @@
 //! - `lower L` and `upper L`, a linear expression at its ends;
 //! - `row F >= 0`, `not R`, `opposed R and R`, `tells R and R`, `list R and R ..`;
 //! - `end E` and one of `alone`, `number`, `plus E`, `times N`, `lesser E`, `greater E`, `raised N`, `lowered N`, where an end is a number or `none`.
-use case_text::{
-    Answer, Fault, Words, read_constraint, read_function, read_linear, read_row, read_rows,
-};
+use case_text::{Answer, Words, read_constraint, read_function, read_linear, read_row, read_rows};
 use linear_cons::{Affine, PLACES, Row, Rows, Wide};
 use num_domain::Bound;
-use std::alloc::Global;
+use std::alloc::{AllocError, Global};
 
 /// Makes the call of that name and writes its answer; false where none has the name.
 pub fn answers(
@@ -17,150 +15,183 @@ pub fn answers(
     name: &str,
     words: &mut Words<'_>,
     answer: &mut Answer,
-) -> Result<bool, Fault> {
+) -> Result<bool, AllocError> {
+    if name == "list" {
+        list(alloc, words, answer)?;
+        return Ok(true);
+    }
+    Ok(is_of_functions(name, words, answer) || is_of_rows(name, words, answer))
+}
+
+/// Makes a call on functions.
+fn is_of_functions(name: &str, words: &mut Words<'_>, answer: &mut Answer) -> bool {
     match name {
-        "add" | "subtract" | "scale" | "raise" | "mix" | "put" => {
-            push_made(made(name, words)?, answer)?;
+        "add" => {
+            let (first, second) = two_functions(words);
+            push_made(first.add(&second), answer);
         }
-        "value" => value(words, answer)?,
-        "lower" => push_end(read_linear(words)?.with_lower(), answer)?,
-        "upper" => push_end(read_linear(words)?.with_upper(), answer)?,
-        "row" => answer.push_kind(&read_constraint(words)?)?,
-        "not" => push_complement(read_row(words)?.not(), answer)?,
+        "subtract" => {
+            let (first, second) = two_functions(words);
+            push_made(first.sub(&second), answer);
+        }
+        "scale" => {
+            let (function, number) = function_and_number(words);
+            push_made(function.scale(number), answer);
+        }
+        "raise" => {
+            let (function, number) = function_and_number(words);
+            push_made(function.plus(number), answer);
+        }
+        "mix" => push_made(mixed(words), answer),
+        "put" => push_made(with_put(words), answer),
+        "value" => push_value(words, answer),
+        "lower" => push_end(read_linear(words).with_lower(), answer),
+        "upper" => push_end(read_linear(words).with_upper(), answer),
+        _ => return false,
+    }
+    true
+}
+
+/// Makes a call on rows or on ends.
+fn is_of_rows(name: &str, words: &mut Words<'_>, answer: &mut Answer) -> bool {
+    match name {
+        "row" => answer.push_kind(&read_constraint(words)),
+        "not" => push_complement(read_row(words), answer),
         "opposed" => {
-            let (first, second) = two_rows(words)?;
-            answer.push_yes_or_no(first.opposed(&second))?;
+            if let Some((first, second)) = two_rows(words) {
+                answer.push_yes_or_no(first.opposed(&second));
+            }
         }
         "tells" => {
-            let (first, second) = two_rows(words)?;
-            answer.push_yes_or_no(first.tells(&second))?;
+            if let Some((first, second)) = two_rows(words) {
+                answer.push_yes_or_no(first.tells(&second));
+            }
         }
-        "list" => list(alloc, words, answer)?,
-        "end" => end(words, answer)?,
-        _ => return Ok(false),
+        "end" => push_bound(words, answer),
+        _ => return false,
     }
-    Ok(true)
+    true
 }
 
-/// The function that is made of one or two others.
-fn made(name: &str, words: &mut Words<'_>) -> Result<Result<Affine, Wide>, Fault> {
-    match name {
-        "put" => {
-            let by = read_function(words)?;
-            words.expect("for")?;
-            let place = words.place()?;
-            words.expect("in")?;
-            let function = read_function(words)?;
-            Ok(function.subst(place, &by))
-        }
-        "mix" => {
-            let times = words.number()?;
-            words.expect("of")?;
-            let first = read_function(words)?;
-            words.expect("and")?;
-            let others = words.number()?;
-            words.expect("of")?;
-            let second = read_function(words)?;
-            Ok(first.mixed(times, &second, others))
-        }
-        "scale" | "raise" => {
-            let function = read_function(words)?;
-            words.expect("by")?;
-            let number = words.number()?;
-            Ok(if name == "scale" {
-                function.scale(number)
-            } else {
-                function.plus(number)
-            })
-        }
-        _ => {
-            let first = read_function(words)?;
-            words.expect("and")?;
-            let second = read_function(words)?;
-            Ok(if name == "add" {
-                first.add(&second)
-            } else {
-                first.sub(&second)
-            })
-        }
-    }
+fn two_functions(words: &mut Words<'_>) -> (Affine, Affine) {
+    let first = read_function(words);
+    words.expect("and");
+    (first, read_function(words))
 }
 
-fn push_made(made: Result<Affine, Wide>, answer: &mut Answer) -> Result<(), Fault> {
+fn function_and_number(words: &mut Words<'_>) -> (Affine, i128) {
+    let function = read_function(words);
+    words.expect("by");
+    (function, words.number())
+}
+
+/// The sum of multiples of two functions.
+fn mixed(words: &mut Words<'_>) -> Result<Affine, Wide> {
+    let times = words.number();
+    words.expect("of");
+    let first = read_function(words);
+    words.expect("and");
+    let others = words.number();
+    words.expect("of");
+    let second = read_function(words);
+    first.mixed(times, &second, others)
+}
+
+/// A function with another one for a variable.
+fn with_put(words: &mut Words<'_>) -> Result<Affine, Wide> {
+    let by = read_function(words);
+    words.expect("for");
+    let place = words.place();
+    words.expect("in");
+    read_function(words).subst(place, &by)
+}
+
+fn push_made(made: Result<Affine, Wide>, answer: &mut Answer) {
     match made {
         Ok(function) => answer.push_function(&function),
-        Err(wide) => Ok(answer.push_wide(&wide)?),
+        Err(wide) => answer.push_wide(&wide),
     }
 }
 
 /// The function's value at the store of the numbers, and 0 behind them.
-fn value(words: &mut Words<'_>, answer: &mut Answer) -> Result<(), Fault> {
-    let function = read_function(words)?;
-    words.expect("at")?;
+fn push_value(words: &mut Words<'_>, answer: &mut Answer) {
+    let function = read_function(words);
+    words.expect("at");
     let mut store = [0; PLACES];
     for place in 0..PLACES {
         if words.len() > 0 {
-            store[place] = words.number()?;
+            store[place] = words.number();
         }
     }
     match function.value(&store) {
-        Ok(number) => answer.push_number(number)?,
-        Err(wide) => answer.push_wide(&wide)?,
+        Ok(number) => answer.push_number(number),
+        Err(wide) => answer.push_wide(&wide),
     }
-    Ok(())
 }
 
-fn push_end(end: Result<Option<Affine>, Wide>, answer: &mut Answer) -> Result<(), Fault> {
+fn push_end(end: Result<Option<Affine>, Wide>, answer: &mut Answer) {
     match end {
         Ok(Some(function)) => answer.push_function(&function),
-        Ok(None) => Ok(answer.push("none")?),
-        Err(wide) => Ok(answer.push_wide(&wide)?),
+        Ok(None) => answer.push("none"),
+        Err(wide) => answer.push_wide(&wide),
     }
 }
 
-fn push_complement(complement: Result<Row, Wide>, answer: &mut Answer) -> Result<(), Fault> {
-    match complement {
-        Ok(row) => answer.push_row(&row),
-        Err(wide) => Ok(answer.push_wide(&wide)?),
+fn push_complement(row: Option<Row>, answer: &mut Answer) {
+    match row.map(|row| row.not()) {
+        Some(Ok(row)) => answer.push_row(&row),
+        Some(Err(wide)) => answer.push_wide(&wide),
+        None => {}
     }
 }
 
-fn two_rows(words: &mut Words<'_>) -> Result<(Row, Row), Fault> {
-    let first = read_row(words)?;
-    words.expect("and")?;
-    let second = read_row(words)?;
-    Ok((first, second))
+fn two_rows(words: &mut Words<'_>) -> Option<(Row, Row)> {
+    let first = read_row(words);
+    words.expect("and");
+    let second = read_row(words);
+    Some((first?, second?))
 }
 
 /// The rows of a list, and those of the vector that it gives back.
-fn list(alloc: Global, words: &mut Words<'_>, answer: &mut Answer) -> Result<(), Fault> {
+fn list(alloc: Global, words: &mut Words<'_>, answer: &mut Answer) -> Result<(), AllocError> {
     let rows = Rows::of(read_rows(alloc, words)?);
-    answer.push_rows(rows.items())?;
-    answer.push("\n")?;
-    answer.push_rows(rows.into_vec().as_slice())
+    answer.push_rows(rows.items());
+    answer.push("\n");
+    answer.push_rows(rows.into_vec().as_slice());
+    Ok(())
 }
 
 /// What is made of one end, or of two.
-fn end(words: &mut Words<'_>, answer: &mut Answer) -> Result<(), Fault> {
-    let end = words.number_or("none")?;
-    let own = Bound::of(end);
-    let made = match words.take()? {
-        "alone" => own,
-        "plus" => own.plus(&Bound::of(words.number_or("none")?)),
-        "times" => own.times(&words.number()?),
-        "lesser" => own.lesser(Bound::of(words.number_or("none")?)),
-        "greater" => own.greater(Bound::of(words.number_or("none")?)),
-        "raised" => own.raised(words.number()?),
-        "lowered" => own.lowered(words.number()?),
-        "number" => return Ok(answer.push_number_or_none(own.end())?),
-        _ => return Err(Fault::Line("no such call on ends")),
-    };
-    match made {
-        Bound::At(number) => {
-            answer.push("at ")?;
-            answer.push_number(number)?;
-        }
-        Bound::Without => answer.push("without")?,
+fn push_bound(words: &mut Words<'_>, answer: &mut Answer) {
+    let own = read_bound(words);
+    if words.takes("number") {
+        return answer.push_number_or_none(own.end());
     }
-    Ok(())
+    match made(own, words) {
+        Bound::At(number) => {
+            answer.push("at ");
+            answer.push_number(number);
+        }
+        Bound::Without => answer.push("without"),
+    }
+}
+
+fn made(own: Bound<i128>, words: &mut Words<'_>) -> Bound<i128> {
+    match words.take() {
+        "alone" => own,
+        "plus" => own.plus(&read_bound(words)),
+        "times" => own.times(&words.number()),
+        "lesser" => own.lesser(read_bound(words)),
+        "greater" => own.greater(read_bound(words)),
+        "raised" => own.raised(words.number()),
+        "lowered" => own.lowered(words.number()),
+        _ => {
+            words.fail("no such call on ends");
+            own
+        }
+    }
+}
+
+fn read_bound(words: &mut Words<'_>) -> Bound<i128> {
+    Bound::of(words.number_or("none"))
 }

@@ -1,9 +1,9 @@
 //! Calls of the solver. `decide R and R ..` says what it finds of rows, `project x from R and R ..` which rows are left without a variable, `decide without x
 //! from ..` what it finds of those, and `tightest R and R ..` which are the tightest.
-use case_text::{Answer, Fault, Words, read_rows};
+use case_text::{Answer, Words, read_rows};
 use linear_cons::{MOST_ROWS, PLACES, Row};
 use linear_solve::{Answer as Solved, Projected, decide, project, tightest};
-use std::alloc::Global;
+use std::alloc::{AllocError, Global};
 
 /// Makes the call of that name and writes its answer; false where none has the name.
 pub fn answers(
@@ -11,27 +11,21 @@ pub fn answers(
     name: &str,
     words: &mut Words<'_>,
     answer: &mut Answer,
-) -> Result<bool, Fault> {
+) -> Result<bool, AllocError> {
     match name {
         "decide" => {
             let rows = rows_left(alloc, words)?;
-            push_decided(alloc, &rows, answer)?;
+            answer.push(decided(alloc, &rows)?);
         }
-        "project" => {
-            let rows = projected(alloc, words)?;
-            answer.push_rows(&rows)?;
-        }
-        "tightest" => {
-            let rows = read_rows(alloc, words)?;
-            answer.push_rows(tightest(rows).as_slice())?;
-        }
+        "project" => answer.push_rows(projected(alloc, words)?.as_slice()),
+        "tightest" => answer.push_rows(tightest(read_rows(alloc, words)?).as_slice()),
         _ => return Ok(false),
     }
     Ok(true)
 }
 
 /// Reads rows, or `without` and a variable before rows, which stand for those that are left without it.
-fn rows_left(alloc: Global, words: &mut Words<'_>) -> Result<Vec<Row>, Fault> {
+fn rows_left(alloc: Global, words: &mut Words<'_>) -> Result<Vec<Row>, AllocError> {
     if words.takes("without") {
         return projected(alloc, words);
     }
@@ -39,32 +33,31 @@ fn rows_left(alloc: Global, words: &mut Words<'_>) -> Result<Vec<Row>, Fault> {
 }
 
 /// Reads a variable, `from` and rows, and gives those that are left without it.
-fn projected(alloc: Global, words: &mut Words<'_>) -> Result<Vec<Row>, Fault> {
-    let place = words.place()?;
-    words.expect("from")?;
+fn projected(alloc: Global, words: &mut Words<'_>) -> Result<Vec<Row>, AllocError> {
+    let place = words.place();
+    words.expect("from");
     let rows = read_rows(alloc, words)?;
     match project(alloc, &rows, place)? {
-        Projected::Rows(left) => Ok(left),
-        Projected::Wide(_) => Err(Fault::Line("a projection with a number that is too wide")),
-        Projected::TooMany { .. } => Err(Fault::Line("a projection with too many rows")),
+        Projected::Rows(left) => return Ok(left),
+        Projected::Wide(_) => words.fail("a projection with a number that is too wide"),
+        Projected::TooMany { .. } => words.fail("a projection with too many rows"),
     }
+    Ok(rows)
 }
 
-/// Decides the rows. A point counts once it is seen to meet them.
-fn push_decided(alloc: Global, rows: &[Row], answer: &mut Answer) -> Result<(), Fault> {
+/// What is found of the rows. A point counts once it is seen to meet them.
+fn decided(alloc: Global, rows: &[Row]) -> Result<&'static str, AllocError> {
     if rows.len() > MOST_ROWS {
-        return Err(Fault::Line("more than 4,096 rows"));
+        return Ok("more rows than can be decided");
     }
-    let solved = decide(alloc, rows)?;
-    answer.push(match &solved {
+    Ok(match &decide(alloc, rows)? {
         Solved::Empty => "empty",
         Solved::Point { num, den } if !meets(rows, num, *den) => "a point that doesn't meet them",
         Solved::Point { num: _, den: 1 } => "whole point",
         Solved::Point { .. } => "fraction",
         Solved::Wide(_) => "wide",
         Solved::Rows { .. } => "too many rows",
-    })?;
-    Ok(())
+    })
 }
 
 /// True only where `num / den` is a point that meets every row.

@@ -1,6 +1,6 @@
 //! The longest trees, as lines down either side.
-use case_text::{Answer, Fault, Words, spaced};
-use std::alloc::Global;
+use case_text::{Answer, Words, spaced};
+use std::alloc::{AllocError, Global};
 use std::process::Abort;
 use std::test::Fail;
 
@@ -180,27 +180,29 @@ const DOWN_ONE_SIDE: [(&str, &str); 15] = [
     ),
 ];
 
-/// What the call answers.
-fn answered(alloc: Global, call: &str) -> Result<Answer, Fault> {
-    let mut answer = Answer::new(alloc)?;
+/// Writes what the call answers, or tells why the line says no call.
+fn push_answer(
+    alloc: Global,
+    call: &str,
+    answer: &mut Answer,
+) -> Result<Option<&'static str>, AllocError> {
     let line = spaced(alloc, call)?;
     let words: Vec<&str> = line.as_str().split_whitespace().collect(alloc)?;
     let mut words = Words::of(&words);
-    let name = words.take()?;
-    if !tree_cases::answers(alloc, name, &mut words, &mut answer)? {
-        return Err(Fault::Line("no such call"));
+    let name = words.take();
+    if !tree_cases::answers(alloc, name, &mut words, answer)? {
+        return Ok(Some("no such call"));
     }
-    words.end()?;
-    Ok(answer)
+    Ok(words.fault())
 }
 
 /// The call answers this.
-fn stands(rt: &(impl Abort + AllocGlobal), call: &str, wanted: &str) {
-    match answered(rt.alloc(), call) {
-        Ok(answer) => assert_eq!(rt; answer.bytes(), wanted.as_bytes(), "of {call}"),
-        Err(Fault::Line(why)) => panic!(rt; "{call}: {why}"),
-        Err(Fault::Memory(_)) => panic!(rt; "{call}: no memory"),
-    }
+fn stands(rt: &(impl Abort + AllocGlobal), call: &str, wanted: &str) -> Result<(), Fail> {
+    let mut answer = Answer::new(rt.alloc())?;
+    let why = push_answer(rt.alloc(), call, &mut answer)?;
+    assert!(rt; why.is_none(), "{call}: {why:?}");
+    assert_eq!(rt; answer.whole()?, wanted.as_bytes(), "of {call}");
+    Ok(())
 }
 
 /// The call with the lines down these sides.
@@ -217,15 +219,16 @@ fn lines_down_either_side(rt: HostRuntime) -> Result<(), Fail> {
     for (call, wanted) in DOWN_EITHER_SIDE {
         for side in ["yes", "no"] {
             let call = down(rt.alloc(), call, side)?;
-            stands(&rt, call.as_str(), wanted);
+            stands(&rt, call.as_str(), wanted)?;
         }
     }
     Ok(())
 }
 
 #[test]
-fn lines_down_one_side(rt: HostRuntime) {
+fn lines_down_one_side(rt: HostRuntime) -> Result<(), Fail> {
     for (call, wanted) in DOWN_ONE_SIDE {
-        stands(&rt, call, wanted);
+        stands(&rt, call, wanted)?;
     }
+    Ok(())
 }

@@ -1,10 +1,10 @@
 //! Calls that trim, prune, join and widen trees: `trim R and R .. in T`, `prune R and R .. in T`, `either T and T`, and so `both`, `later`, and `widen` for the
 //! first tree widened by the second. Behind `is` may stand a tree: then the answer is whether it was made.
-use case_text::{Answer, Fault, Words, read_rows, read_tree};
+use case_text::{Answer, Words, read_rows, read_tree};
 use decision_tree::{AffineRank, Tree};
 use interval_dom::Boxes;
 use num_domain::NumDomain;
-use std::alloc::Global;
+use std::alloc::{AllocError, Global};
 use tree_unify::{TreeFault, both, either, later, prune, trim};
 use tree_widening::widen;
 
@@ -17,7 +17,7 @@ pub fn answers(
     name: &str,
     words: &mut Words<'_>,
     answer: &mut Answer,
-) -> Result<bool, Fault> {
+) -> Result<bool, AllocError> {
     let made = match name {
         "trim" => trimmed(alloc, words)?,
         "prune" => pruned(alloc, words)?,
@@ -29,28 +29,35 @@ pub fn answers(
 }
 
 /// Reads rows and a tree behind `in`, and trims it by them.
-fn trimmed(alloc: Global, words: &mut Words<'_>) -> Result<Made, Fault> {
+fn trimmed(alloc: Global, words: &mut Words<'_>) -> Result<Made, AllocError> {
     let rows = read_rows(alloc, words)?;
-    words.expect("in")?;
+    words.expect("in");
     let tree = read_tree(alloc, words)?;
     Ok(trim(alloc, &tree, &rows))
 }
 
 /// Reads rows and a tree behind `in`, and prunes it by the box of the rows.
-fn pruned(alloc: Global, words: &mut Words<'_>) -> Result<Made, Fault> {
-    let mut members = Boxes::top(alloc)?;
-    for row in &read_rows(alloc, words)? {
-        members.meet_row(alloc, row)?;
-    }
-    words.expect("in")?;
+fn pruned(alloc: Global, words: &mut Words<'_>) -> Result<Made, AllocError> {
+    let members = members(alloc, words)?;
+    words.expect("in");
     let tree = read_tree(alloc, words)?;
     Ok(prune(alloc, &tree, &members))
 }
 
+/// Reads rows, and gives the box of the stores that meet them.
+fn members(alloc: Global, words: &mut Words<'_>) -> Result<Boxes, AllocError> {
+    let rows = read_rows(alloc, words)?;
+    let mut members = Boxes::top(alloc)?;
+    for row in &rows {
+        members.meet_row(alloc, row)?;
+    }
+    Ok(members)
+}
+
 /// Reads two trees and joins them, or widens the first by the second.
-fn joined(alloc: Global, name: &str, words: &mut Words<'_>) -> Result<Made, Fault> {
+fn joined(alloc: Global, name: &str, words: &mut Words<'_>) -> Result<Made, AllocError> {
     let first = read_tree(alloc, words)?;
-    words.expect("and")?;
+    words.expect("and");
     let second = read_tree(alloc, words)?;
     Ok(match name {
         "either" => either(alloc, &first, &second),
@@ -66,16 +73,16 @@ pub fn push_made(
     made: Made,
     words: &mut Words<'_>,
     answer: &mut Answer,
-) -> Result<(), Fault> {
+) -> Result<(), AllocError> {
     match made {
         Ok(tree) if words.takes("is") => {
-            answer.push_yes_or_no(tree == read_tree(alloc, words)?)?;
+            answer.push_yes_or_no(tree == read_tree(alloc, words)?);
         }
-        Ok(tree) => answer.push_tree(&tree)?,
-        Err(TreeFault::Full { count }) if count > 65_536 => answer.push("too large")?,
-        Err(TreeFault::Full { .. }) => answer.push("not too large")?,
-        Err(TreeFault::Wide(wide)) => answer.push_wide(&wide)?,
-        Err(TreeFault::Memory(error)) => return Err(error.into()),
+        Ok(tree) => answer.push_tree(&tree),
+        Err(TreeFault::Full { count }) if count > 65_536 => answer.push("too large"),
+        Err(TreeFault::Full { .. }) => answer.push("not too large"),
+        Err(TreeFault::Wide(wide)) => answer.push_wide(&wide),
+        Err(TreeFault::Memory(error)) => return Err(error),
     }
     Ok(())
 }

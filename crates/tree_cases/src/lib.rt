@@ -8,8 +8,8 @@ mod moves;
 mod ranks;
 mod trees;
 
-use case_text::{Answer, Fault, Words};
-use std::alloc::Global;
+use case_text::{Answer, Words};
+use std::alloc::{AllocError, Global};
 
 /// Makes the call of that name and writes its answer; false where none has the name.
 pub fn answers(
@@ -17,11 +17,11 @@ pub fn answers(
     name: &str,
     words: &mut Words<'_>,
     answer: &mut Answer,
-) -> Result<bool, Fault> {
+) -> Result<bool, AllocError> {
     if trees::answers(alloc, name, words, answer)? {
         return Ok(true);
     }
-    if ranks::answers(name, words, answer)? {
+    if ranks::answers(name, words, answer) {
         return Ok(true);
     }
     if joins::answers(alloc, name, words, answer)? {
