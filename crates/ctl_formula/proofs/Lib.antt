@@ -1,3 +1,4 @@
+pub mod Alike
 pub mod Classical
 pub mod Duality
 pub mod Ends

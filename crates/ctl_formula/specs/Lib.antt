@@ -1,3 +1,4 @@
 pub mod Formulas
 pub mod Mirror
+pub mod Parts
 pub mod Satisfaction

@@ -56,7 +56,11 @@ Within n (either f g) c = ⊥
 Within n (next all f) c = ⊥
 Within n (weak all f g) c = ⊥
 
--- the configuration satisfies the formula, whose normal form is an until, within the number of steps; within fewer than 0 none does
+-- the same where the bound is a whole number; within fewer than 0 steps nothing holds
+abbrev pub WithinBound : ℤ → Ctl → Configuration → Type 0
+WithinBound (pos n) f c = Within n f c
+WithinBound (negsuc n) f c = ⊥
+
+-- the configuration satisfies the formula, whose normal form is an until, within the number of steps
 abbrev pub SatWithin : ℤ → Ctl → Configuration → Type 0
-SatWithin (pos n) f c = Within n (normal f) c
-SatWithin (negsuc n) f c = ⊥
+SatWithin bound f c = WithinBound bound (normal f) c
