@@ -1,5 +1,5 @@
 //! The leaves of a label's tree, one after the other.
-ghost use Rattle.std.specs.Prelude.{◌≡◌, ◌+◌, ◌-◌, ◌^◌, ◌<◌, ◌++◌, ◌∷◌, [], true, false, IfOk, map};
+ghost use Rattle.std.specs.Prelude.{◌≡◌, ◌+◌, ◌-◌, ◌^◌, ◌<◌, ◌≤◌, ◌++◌, ◌∷◌, [], true, false, IfOk, map};
 ghost use Rattle.decision_tree.specs.Plans.{leaf, leaves_of, plan_of};
 ghost use Rattle.tree_support.specs.Forming.{given};
 ghost use Rattle.tree_support.specs.Setting.{trees_in};
@@ -123,7 +123,20 @@ impl<'a, R: Rank> Survey<'a, R> {
         Ok(refuted)
     }
 
-    /// Looks at the leaves of a side, behind the row where it holds and its complement where it doesn't.
+    /// Whether all leaves of a side stand before the first that is looked at, where so many were passed before it.
+    fn skips(&self, side: &Tree<R>, passed: u64) -> bool
+        requires few { passed + leaves_of (plan_of side.now) < 2 ^ 64 - 1 }
+        ensures before { result ≡ true → passed + leaves_of (plan_of side.now) ≤ self.now.first }
+    {
+        if passed >= self.first {
+            return false;
+        }
+        let after = passed + side.leaves();
+        after <= self.first
+    }
+
+    /// Looks at the leaves of a side, behind the row where it holds and its complement where it doesn't. A side that is skipped is only
+    /// counted.
     #[cycle(survey)]
     fn refute_behind(
         &self,
@@ -143,6 +156,10 @@ impl<'a, R: Rank> Survey<'a, R> {
             (trees_in (map plan_of self.now.stand.family.now)) self.now.stand.label self.now.first (plan_of side.now)
             (asks ++ given (side_of row.now.affine holds) ∷ []) passed.old passed.new refuted found.new))) }
     {
+        if self.skips(side, *passed) {
+            *passed += side.leaves();
+            return Ok(false);
+        }
         let mark = hand.mark();
         if !self.enter(row, holds, hand)? {
             *passed += side.leaves();
