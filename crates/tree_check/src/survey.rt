@@ -124,6 +124,7 @@ impl<'a, R: Rank> Survey<'a, R> {
     }
 
     /// Whether all leaves of a side stand before the first that is looked at, where so many were passed before it.
+    #[inline(never)]
     fn skips(&self, side: &Tree<R>, passed: u64) -> bool
         requires few { passed + leaves_of (plan_of side.now) < 2 ^ 64 - 1 }
         ensures before { result ≡ true → passed + leaves_of (plan_of side.now) ≤ self.now.first }
