@@ -1,12 +1,12 @@
 -- The theorem on a program of one `;`, by hand: the premises can be met, and the bound is its one step.
-use Rattle.std.proofs.Common.{ℕ, zero, suc, ℤ, pos, negsuc, ◌<ℤ◌, false, List, [], ◌∷◌, ◌++◌, None, All, refl, subst, arith}
+use Rattle.std.proofs.Common.{◌≡◌, ℕ, zero, suc, ℤ, pos, negsuc, ◌<ℤ◌, true, false, List, [], ◌∷◌, ◌++◌, None, All, refl, subst, arith}
 use Rattle.std.proofs.lemmas.Int.{ints}
 use Rattle.std.proofs.lemmas.List.Elements.{All-cons}
 use Rattle.step_meaning.specs.Syntax.{Statements, empty, sequence, skip}
 use Rattle.step_meaning.specs.Outcome.{Store}
 use Rattle.step_meaning.specs.Run.{EndsWithin, EndsWithinBound, IsInput, start}
 use Rattle.linear_cons.specs.declared.affine.Affine.{Affine}
-use Rattle.linear_cons.specs.Functions.{complement_of, constant_of, difference_of, sum_of, value_at}
+use Rattle.linear_cons.specs.Functions.{coefficient, complement_of, constant_of, difference_of, sum_of, value_at}
 use Rattle.linear_cons.specs.Rows.{MeetsKind, row_kind_of}
 use Rattle.linear_cons.proofs.Forms.{value_complement, value_constant, value_difference, value_sum}
 use Rattle.linear_forms.proofs.MeetingLaws.{row_meets}
@@ -15,14 +15,15 @@ use Rattle.decision_tree.specs.declared.affine_rank.AffineRank.{AffineRank}
 use Rattle.decision_tree.specs.declared.reason.Pick.TheVariants.{All as Every}
 use Rattle.decision_tree.specs.declared.reason.Why.TheVariants.{End, Atom, Step}
 use Rattle.decision_tree.specs.Plans.{bottom, leaf}
-use Rattle.ctl_formula.specs.Formulas.{af_exit, exit}
+use Rattle.ctl_formula.specs.Formulas.{Ctl, truth, exit, af_exit}
+use Rattle.ctl_formula.proofs.Ends.{af_exit_ends}
 use Rattle.linear_cons.proofs.Places.{number_at_places}
-use Rattle.tree_support.specs.Certificates.{ShowsEnding, SparesPlace, affine_ranks}
+use Rattle.tree_support.specs.Certificates.{IsCertificate, IsShown, SparesPlace, affine_ranks, operands_from}
 use Rattle.tree_support.specs.Setting.{Trees}
 use Rattle.tree_support.specs.Support.{HasNoStore, IsSupported}
 use Rattle.tree_support.specs.Systems.{System, exceeding, unedged, unnatural}
 use Rattle.tree_support.specs.Told.{IsTrueOfReached, Told, no_bounds, setting_of}
-use Rattle.tree_support.proofs.Ending.{bounds_from_start}
+use Rattle.tree_support.proofs.Soundness.{sound_within}
 use Rattle.tree_support.proofs.Lists.{all_first, all_none, all_one}
 
 -- `;`
@@ -49,11 +50,12 @@ family zero = leaf End (number (pos 0))
 family (suc zero) = leaf (Step Every) (number (pos 1))
 family (suc (suc n)) = bottom
 
--- the truth everywhere, and the end
-abbrev parts : ℕ → Trees AffineRank
-parts zero label = leaf Atom (number (pos 0))
-parts (suc n) zero = leaf End (number (pos 0))
-parts (suc n) (suc label) = bottom
+-- by the numbers of the parts of `AF exit`: the truth everywhere, the end, and the whole
+abbrev families : ℕ → Trees AffineRank
+families zero label = leaf Atom (number (pos 0))
+families (suc zero) zero = leaf End (number (pos 0))
+families (suc zero) (suc label) = bottom
+families (suc (suc n)) label = family label
 
 -- a function below 0 is at least 0 nowhere
 never : (a : Affine) → ((store : List ℤ) → value_at a store <ℤ pos 0)
@@ -83,12 +85,28 @@ less =
     let minus_one = value_constant (negsuc 0) store in
     omega (arith, ints))
 
--- both families are supported
-goal_supported : IsSupported affine_ranks (setting_of body told exit (λ part label. bottom)) (parts 1)
-goal_supported zero place low = all_none (HasNoStore affine_ranks)
-goal_supported (suc label) place low = all_none (HasNoStore affine_ranks)
+-- each of them is supported and leaves place 15 alone
+abbrev over : Ctl → ℕ → Trees AffineRank
+over f = operands_from body told families 0 f
 
-supported : IsSupported affine_ranks (setting_of body told af_exit parts) family
+constant_spares : (z : ℤ) → coefficient (constant_of z) 15 ≡ pos 0
+constant_spares z = number_at_places (λ i. pos 0) 15 (omega arith)
+
+truth_shown : IsShown body told truth (over truth) (families 0)
+truth_shown = record {
+  supported = λ label place low. all_none (HasNoStore affine_ranks);
+  spares = λ label. constant_spares (pos 0);
+}
+
+end_supported : (parts : ℕ → Trees AffineRank) → IsSupported affine_ranks (setting_of body told exit parts) (families 1)
+end_supported parts zero place low = all_none (HasNoStore affine_ranks)
+end_supported parts (suc label) place low = all_none (HasNoStore affine_ranks)
+
+end_spares : (label : ℕ) → SparesPlace 15 (families 1 label)
+end_spares zero = constant_spares (pos 0)
+end_spares (suc label) = tt
+
+supported : IsSupported affine_ranks (setting_of body told af_exit (over af_exit)) family
 supported zero place low = all_one (HasNoStore affine_ranks) _ (natural 0)
 supported (suc zero) place low =
     let ranked : System AffineRank = record { edge = unedged; asks = []; claim = unnatural (number (pos 1)) } in
@@ -97,16 +115,23 @@ supported (suc zero) place low =
 supported (suc (suc n)) place low = all_none (HasNoStore affine_ranks)
 
 spares : (label : ℕ) → SparesPlace 15 (family label)
-spares zero = number_at_places (λ i. pos 0) 15 (omega arith)
-spares (suc zero) = number_at_places (λ i. pos 0) 15 (omega arith)
+spares zero = constant_spares (pos 0)
+spares (suc zero) = constant_spares (pos 1)
 spares (suc (suc n)) = tt
 
-shows : ShowsEnding body told parts family
-shows = record { inner = λ part label. bottom; goal = goal_supported; whole = supported; spares = spares }
+shown : IsShown body told af_exit (over af_exit) family
+shown = record { supported = supported; spares = spares }
+
+certificate : IsCertificate body told af_exit families (family ∷ [])
+certificate = record {
+  smaller = (tt, truth_shown, tt, record { supported = end_supported (operands_from body told families 1 exit); spares = end_spares });
+  whole = all_one (IsShown body told af_exit (over af_exit)) family shown;
+}
 
 -- so each run ends within one step
 one_step : (input : Store) → IsInput 0 input → EndsWithin 1 (start body input)
 one_step input is_input =
+    let sound = sound_within 0 body told (omega arith) (tt, tt) nothing_is_true families 0 true truth exit certificate.smaller family shown in
     let bound : EndsWithinBound (value_at (constant_of (pos 1)) input) (start body input) =
-    bounds_from_start 0 body told (omega arith) (tt, tt) nothing_is_true parts family shows input (Step Every) (number (pos 1)) is_input refl in
+    (af_exit_ends (value_at (constant_of (pos 1)) input) (start body input)).0 (sound.inputs input (Step Every) (number (pos 1)) is_input refl) in
     subst (λ n. EndsWithinBound n (start body input)) (value_constant (pos 1) input) bound

@@ -30,21 +30,20 @@ use Rattle.control_flow.proofs.LabelLaws.{labels_are_sorted, only_end_is_final}
 use Rattle.control_flow.proofs.Taken.{each_successor}
 use Rattle.forward_inv.specs.States.{IsReachedState, followed}
 use Rattle.forward_inv.proofs.Reached.{Follows, reached_label, reached_places}
-use Rattle.forward_inv.proofs.Unstuck.{some_successor}
 use Rattle.tree_support.specs.Flow.{Arc, above_end, arcs_by, assigning, below_end, flow_of, passing, rows_given, testing}
 use Rattle.tree_support.specs.Forming.{exact, given}
 use Rattle.tree_support.specs.Told.{IsTrueOfReached, Told}
 use Rattle.tree_support.proofs.Lists.{all_none, all_one, contains_first, contains_later}
-use Rattle.tree_support.proofs.Moving.{LeadsOver, Moves, SetsVariable, StoreMeets, Taken, store_after}
+use Rattle.tree_support.proofs.Moving.{LeadsOver, SetsVariable, StoreMeets, Taken, store_after}
 
 -- ---- stores
 
 -- a store whose own number is put at place 15
-same_store : (store : Store) → set store 15 (number_at store 15) ≡ store
+pub same_store : (store : Store) → set store 15 (number_at store 15) ≡ store
 same_store store = set-get_or store 15 (pos 0)
 
 -- a number is put at place 15, another at a variable's place, and place 15 gets its old number again
-put_back : (store : Store) (x : ℕ) (v c : ℤ) → x < 15 → set (set (set store 15 c) x v) 15 (number_at store 15) ≡ set store x v
+pub put_back : (store : Store) (x : ℕ) (v c : ℤ) → x < 15 → set (set (set store 15 c) x v) 15 (number_at store 15) ≡ set store x v
 put_back store x v c low =
     set_comm (set store 15 c) x 15 v (number_at store 15) (λ e. omega arith)
     ∙ ap (λ s. set s x v) (set-set store 15 c (number_at store 15) ∙ same_store store)
@@ -157,7 +156,7 @@ module _ (vars : ℕ) (few : vars ≤ 15) (body : Statements) (bounds : Bounds) 
       }
 
   -- over an arc of a test's outcome, of which the store meets a conjunction
-  tested : (edge to : ℕ) (conjunctions : List (List Row)) → MeetsOne store conjunctions → next.store ≡ store
+  pub tested : (edge to : ℕ) (conjunctions : List (List Row)) → MeetsOne store conjunctions → next.store ≡ store
       → front next.todo ≡ front (rest body to) → IsReachedState vars body to next.store → Taken vars body (testing edge to conjunctions) store next
   tested edge to [] met same ahead reached = absurd met
   tested edge to (rows ∷ more) (inl met) same ahead reached =
@@ -203,7 +202,7 @@ module _ (vars : ℕ) (few : vars ≤ 15) (body : Statements) (bounds : Bounds) 
 
 module _ (vars : ℕ) (few : vars ≤ 15) (body : Statements) (valid : IsBody vars body) (told : Told) (is_true : IsTrueOfReached vars body told) where
   -- the bounds hold of the store itself
-  lies : (label : ℕ) (store : Store) → IsReachedState vars body label store → LiesIn (told.bounds label) store
+  pub lies : (label : ℕ) (store : Store) → IsReachedState vars body label store → LiesIn (told.bounds label) store
   lies label store reached = subst (LiesIn (told.bounds label)) (same_store store) (is_true.bounds label store (number_at store 15) reached)
 
   -- a final configuration is one of label 0, and stays
@@ -231,18 +230,7 @@ module _ (vars : ℕ) (few : vars ≤ 15) (body : Statements) (valid : IsBody va
         | inr stay ↦ stays label store next reached stay.0 stay.1
       ]
 
-  busy : (label : ℕ) (store : Store) → IsReachedState vars body (suc label) store → ¬ IsFinal (configuration body (suc label) store)
+  pub busy : (label : ℕ) (store : Store) → IsReachedState vars body (suc label) store → ¬ IsFinal (configuration body (suc label) store)
   busy label store reached final =
       let none = only_end_is_final body (suc label) (reached_label vars body (suc label) store reached) final in
       absurd (omega arith)
-
-  pub moves : Moves vars body (flow_of body told.bounds) told.dead told.rows
-  moves = record {
-    ends = refl;
-    goes_on = busy;
-    places = reached_places vars body;
-    alive = is_true.dead;
-    members = is_true.rows;
-    each = over_arcs;
-    some = some_successor vars body valid;
-  }

@@ -4,9 +4,14 @@ pub mod Moving
 pub mod Arcs
 pub mod Sparing
 pub mod Leaves
-pub mod Ending
+pub mod Picking
+pub mod Regions
+pub mod Following
+pub mod Temporal
+pub mod Soundness
 pub mod Restricting
 pub mod Dropping
 pub mod Keeping
 mod Examples
+mod OperatorExamples
 mod Applied

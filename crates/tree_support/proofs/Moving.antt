@@ -5,15 +5,17 @@ use Rattle.step_meaning.specs.Syntax.{Statements}
 use Rattle.step_meaning.specs.Outcome.{Store}
 use Rattle.step_meaning.specs.Step.{Configuration, IsFinal, Next, front}
 use Rattle.linear_cons.specs.declared.affine.Affine.{Affine}
-use Rattle.linear_cons.specs.declared.row.Row.{Row}
+use Rattle.linear_cons.specs.Bounds.{IsFrom, IsUpTo}
 use Rattle.linear_cons.specs.Functions.{value_at}
 use Rattle.linear_cons.specs.Numbers.{number_at}
 use Rattle.linear_cons.specs.Rows.{MeetsAll}
+use Rattle.control_flow.specs.declared.edge.Choice.TheVariants.{Branch, Range}
 use Rattle.control_flow.specs.Edges.{configuration}
 use Rattle.control_flow.specs.Labels.{rest}
 use Rattle.forward_inv.specs.States.{IsReachedState}
-use Rattle.tree_support.specs.Flow.{Arc, Flow}
+use Rattle.tree_support.specs.Flow.{Arc, flow_of}
 use Rattle.tree_support.specs.Forming.{Formed, exact}
+use Rattle.tree_support.specs.Told.{Told}
 
 -- the store meets what is asked
 abbrev pub StoreMeets : Store → List Formed → Type 0
@@ -44,14 +46,23 @@ module _ (vars : ℕ) (body : Statements) where
   abbrev pub Taken : List Arc → Store → Configuration → Type 0
   Taken arcs store next = (arc : Arc) × Contains arcs arc × LeadsOver arc store next
 
-  -- what holds of the states that are reached
-  pub record Moves (flow : Flow) (dead : ℕ → Bool) (rows : ℕ → List Row) : Type 0 where
-    pub ends : IsFinal (configuration body 0 [])
-    pub goes_on : (label : ℕ) (store : Store) → IsReachedState vars body (suc label) store → ¬ IsFinal (configuration body (suc label) store)
-    pub places : (label : ℕ) (store : Store) → IsReachedState vars body label store → length store ≡ 16
-    pub alive : (label : ℕ) (store : Store) → IsReachedState vars body label store → dead label ≡ false
-    pub members : (label : ℕ) (store : Store) (z : ℤ) → IsReachedState vars body label store → MeetsAll (slice_set store 15 z) (rows label)
-    pub each : (label : ℕ) (store : Store) → IsReachedState vars body label store → (next : Configuration)
-        → Next (configuration body label store) next → Taken (flow.arcs label) store next
-    pub some : (label : ℕ) (store : Store) → IsReachedState vars body label store
-        → (next : Configuration) × Next (configuration body label store) next
+  -- some successor of a label's state is led to over one of the arcs
+  abbrev pub LeadsOn : List Arc → ℕ → Store → Type 0
+  LeadsOn arcs label store = (next : Configuration) × Next (configuration body label store) next × Taken arcs store next
+
+-- What holds of the states of a program that are reached, over what is told of them.
+pub record Moves (vars : ℕ) (body : Statements) (told : Told) : Type 0 where
+  pub ends : IsFinal (configuration body 0 [])
+  pub goes_on : (label : ℕ) (store : Store) → IsReachedState vars body (suc label) store → ¬ IsFinal (configuration body (suc label) store)
+  pub places : (label : ℕ) (store : Store) → IsReachedState vars body label store → length store ≡ 16
+  pub alive : (label : ℕ) (store : Store) → IsReachedState vars body label store → told.dead label ≡ false
+  pub members : (label : ℕ) (store : Store) (z : ℤ) → IsReachedState vars body label store → MeetsAll (slice_set store 15 z) (told.rows label)
+  pub each : (label : ℕ) (store : Store) → IsReachedState vars body label store → (next : Configuration)
+      → Next (configuration body label store) next → Taken vars body ((flow_of body told.bounds).arcs label) store next
+  pub some : (label : ℕ) (store : Store) → IsReachedState vars body label store
+      → (next : Configuration) × Next (configuration body label store) next
+  pub outcomes : (label : ℕ) (store : Store) → IsReachedState vars body label store → (flow_of body told.bounds).choice label ≡ Branch
+      → (outcome : Bool) → LeadsOn vars body ((flow_of body told.bounds).arcs_of label outcome) label store
+  pub values : (label : ℕ) (store : Store) → IsReachedState vars body label store → (lo hi : Option ℤ)
+      → (flow_of body told.bounds).choice label ≡ Range lo hi → (a : Affine) → IsFrom lo (value_at a store) → IsUpTo hi (value_at a store)
+      → LeadsOn vars body ((flow_of body told.bounds).arcs_with label a) label store

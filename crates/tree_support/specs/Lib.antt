@@ -6,3 +6,4 @@ pub mod Systems
 pub mod Support
 pub mod Elimination
 pub mod Certificates
+pub mod Soundness

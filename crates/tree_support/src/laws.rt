@@ -3,12 +3,11 @@ ghost use Rattle.std.specs.Prelude.{◌≡◌, ◌<◌, ◌≤◌, ℕ, Bool, Li
 ghost use Rattle.step_meaning.specs.Syntax.{Statements};
 ghost use Rattle.step_meaning.specs.Outcome.{Store};
 ghost use Rattle.step_meaning.specs.Run.{EndsWithinBound, IsInput, start};
-ghost use Rattle.step_meaning.specs.Step.{IsFinal};
 ghost use Rattle.step_meaning.specs.Valid.{IsBody};
 ghost use Rattle.linear_cons.specs.Functions.{value_at};
 ghost use Rattle.control_flow.specs.Edges.{configuration};
 ghost use Rattle.control_flow.specs.Labels.{entry_of};
-ghost use Rattle.ctl_formula.specs.Formulas.{exit};
+ghost use Rattle.ctl_formula.specs.Formulas.{Ctl, until};
 ghost use Rattle.decision_tree.specs.declared.affine_rank.AffineRank.{AffineRank};
 ghost use Rattle.decision_tree.specs.declared.reason.Why.{Why};
 ghost use Rattle.decision_tree.specs.Evaluation.{eval};
@@ -16,12 +15,13 @@ ghost use Rattle.decision_tree.specs.Paths.{leaf_numbered, path_of};
 ghost use Rattle.decision_tree.specs.Plans.{leaf, leaves_of, top};
 ghost use Rattle.forward_inv.specs.Invariants.{AreInvariants};
 ghost use Rattle.forward_inv.specs.States.{IsReachedState};
-ghost use Rattle.tree_support.specs.Certificates.{ShowsEnding, affine_ranks};
+ghost use Rattle.tree_support.specs.Certificates.{IsShown, ShowsEnding, SmallerAreShown, operands_from};
 ghost use Rattle.tree_support.specs.Elimination.{EachOfSet, Eliminates, IsByPoint, IsByStore, IsElsewhere, KeepsSet, cause_of, within};
 ghost use Rattle.tree_support.specs.Setting.{Setting, Trees};
+ghost use Rattle.tree_support.specs.Soundness.{IsSound, IsSoundWithin};
 ghost use Rattle.tree_support.specs.declared.dropped.Dropped.{Dropped};
 ghost use Rattle.tree_support.specs.Support.{IsFirm, IsSupported};
-ghost use Rattle.tree_support.specs.Told.{IsTrueOfReached, Told, setting_of, told_by};
+ghost use Rattle.tree_support.specs.Told.{IsTrueOfReached, Told, told_by};
 
 use decision_tree::Rank;
 use num_domain::NumDomain;
@@ -32,12 +32,17 @@ pub fn invariants_tell_the_truth<D: NumDomain>()
         → IsTrueOfReached vars body (told_by D.told_bounds D.told_rows D.seen_empty states) }
 {}
 
-/// A supported family for `exit` is defined at final configurations alone.
-pub fn supported_families_for_exit_are_at_the_end()
-    ensures { (vars : ℕ) (body : Statements) (told : Told) → vars ≤ 15 → IsBody vars body → IsTrueOfReached vars body told
-        → (parts : ℕ → Trees AffineRank) (family : Trees AffineRank) → IsSupported affine_ranks (setting_of body told exit parts) family
-        → (label : ℕ) (store : Store) (why : Why) (rank : AffineRank) → IsReachedState vars body label store → eval (family label) store ≡ leaf why rank
-        → IsFinal (configuration body label store) }
+/// Families that show the parts of a formula speak the truth: where a family of the formula is defined, which shows it over the families of
+/// its operands, each state that is reached satisfies the formula, and an until within the value of the leaf's rank, which is a natural; and so
+/// does the start with each input. The numbers of the parts may begin anywhere.
+pub fn shown_formulas_hold()
+    ensures satisfied { (vars : ℕ) (body : Statements) (told : Told) → vars ≤ 15 → IsBody vars body → IsTrueOfReached vars body told
+        → (families : ℕ → Trees AffineRank) (k : ℕ) (f : Ctl) → SmallerAreShown body told families k f
+        → (family : Trees AffineRank) → IsShown body told f (operands_from body told families k f) family → IsSound vars body f family }
+    ensures bounded { (vars : ℕ) (body : Statements) (told : Told) → vars ≤ 15 → IsBody vars body → IsTrueOfReached vars body told
+        → (families : ℕ → Trees AffineRank) (k : ℕ) (all : Bool) (keep goal : Ctl) → SmallerAreShown body told families k (until all keep goal)
+        → (family : Trees AffineRank) → IsShown body told (until all keep goal) (operands_from body told families k (until all keep goal)) family
+        → IsSoundWithin vars body (until all keep goal) family }
 {}
 
 /// Where a supported family for `AF exit` is defined, every run ends within the value of the leaf's rank, which is a natural: from each

@@ -1,4 +1,4 @@
-use Rattle.tree_support.proofs.Ending.{bounds, bounds_from_start}
+use Rattle.tree_support.proofs.Soundness.{bounds, bounds_from_start}
 use Rattle.tree_support.proofs.laws.supported_families_bound_runs.Goals as goal
 
 pub returns : goal.returns
