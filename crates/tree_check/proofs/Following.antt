@@ -24,7 +24,7 @@ use Rattle.tree_support.specs.Flow.{Arc, above_end, assigning, below_end, rows_g
 use Rattle.tree_support.specs.Setting.{Trees, trees_in}
 use Rattle.tree_support.specs.Support.{HasNoStore}
 use Rattle.rows_in_hand.specs.declared.finding.Finding.{Finding}
-use Rattle.tree_check.specs.Moves.{less_over, less_over_each}
+use Rattle.tree_check.specs.Moves.{over_arc, over_each}
 use Rattle.rows_in_hand.specs.Searches.{IsSearched}
 use Rattle.tree_check.specs.Walks.{systems_behind}
 use Rattle.tree_support.specs.Forming.{Formed, given}
@@ -114,56 +114,56 @@ nowhere_more asks more none = subst IsMetNowhere (sym (map-append (λ a. asked a
 -- ---- the arcs of an edge
 
 module _ {R : Type 0} (ranks : Ranks R) where
-  arcs_more : (family : Trees R) (limit : R) (edge label : ℕ) (list : List (List Row)) (i : ℕ) (rows : List Row) (asks : List Formed) → i < length list → rows ≡ get_or list i rows → less_over_each family limit (testing edge label (take (i + 1) list)) asks ≡ less_over_each family limit (testing edge label (take i list)) asks ++ systems_behind edge None (Some limit) (family label) (asks ++ rows_given rows)
+  arcs_more : (family : Trees R) (limit : Option R) (edge label : ℕ) (list : List (List Row)) (i : ℕ) (rows : List Row) (asks : List Formed) → i < length list → rows ≡ get_or list i rows → over_each family limit (testing edge label (take (i + 1) list)) asks ≡ over_each family limit (testing edge label (take i list)) asks ++ systems_behind edge None limit (family label) (asks ++ rows_given rows)
   arcs_more family limit edge label list i rows asks low is =
-      ap (λ taken. less_over_each family limit (testing edge label taken) asks) (take_snoc list i rows low is)
-      ∙ ap (λ arcs. less_over_each family limit arcs asks) (map-append (λ (rows : List Row). record { edge = edge; target = label; asks = rows_given rows; sets = None }) (take i list) (rows ∷ []))
-      ∙ flat_map-append (λ (arc : Arc). less_over family limit asks arc) (testing edge label (take i list)) (testing edge label (rows ∷ []))
-      ∙ ap (λ rest. less_over_each family limit (testing edge label (take i list)) asks ++ rest) (append-nil (systems_behind edge None (Some limit) (family label) (asks ++ rows_given rows)))
+      ap (λ taken. over_each family limit (testing edge label taken) asks) (take_snoc list i rows low is)
+      ∙ ap (λ arcs. over_each family limit arcs asks) (map-append (λ (rows : List Row). record { edge = edge; target = label; asks = rows_given rows; sets = None }) (take i list) (rows ∷ []))
+      ∙ flat_map-append (λ (arc : Arc). over_arc family limit asks arc) (testing edge label (take i list)) (testing edge label (rows ∷ []))
+      ∙ ap (λ rest. over_each family limit (testing edge label (take i list)) asks ++ rest) (append-nil (systems_behind edge None limit (family label) (asks ++ rows_given rows)))
 
-  pub arcs_searched : (family : Trees R) (limit : R) (edge label : ℕ) (list : List (List Row)) (i : ℕ) (rows : List Row) (asks : List Formed) (refuted : Bool) (before found : Option Finding) → i < length list → rows ≡ get_or list i rows → IsSearched ranks (less_over_each family limit (testing edge label (take i list)) asks) false before → IsSearched ranks (systems_behind edge None (Some limit) (family label) (asks ++ rows_given rows)) refuted found → IsSearched ranks (less_over_each family limit (testing edge label (take (i + 1) list)) asks) refuted found
+  pub arcs_searched : (family : Trees R) (limit : Option R) (edge label : ℕ) (list : List (List Row)) (i : ℕ) (rows : List Row) (asks : List Formed) (refuted : Bool) (before found : Option Finding) → i < length list → rows ≡ get_or list i rows → IsSearched ranks (over_each family limit (testing edge label (take i list)) asks) false before → IsSearched ranks (systems_behind edge None limit (family label) (asks ++ rows_given rows)) refuted found → IsSearched ranks (over_each family limit (testing edge label (take (i + 1) list)) asks) refuted found
   arcs_searched family limit edge label list i rows asks refuted before found low is none here =
       subst (λ systems. IsSearched ranks systems refuted found) (sym (arcs_more family limit edge label list i rows asks low is))
-      (searched_then ranks (less_over_each family limit (testing edge label (take i list)) asks) (systems_behind edge None (Some limit) (family label) (asks ++ rows_given rows)) refuted before found none here)
+      (searched_then ranks (over_each family limit (testing edge label (take i list)) asks) (systems_behind edge None limit (family label) (asks ++ rows_given rows)) refuted before found none here)
 
-  pub arcs_found : (family : Trees R) (limit : R) (edge label : ℕ) (list : List (List Row)) (i : ℕ) (asks : List Formed) (found : Option Finding) → IsSearched ranks (less_over_each family limit (testing edge label (take i list)) asks) true found → IsSearched ranks (less_over_each family limit (testing edge label list) asks) true found
+  pub arcs_found : (family : Trees R) (limit : Option R) (edge label : ℕ) (list : List (List Row)) (i : ℕ) (asks : List Formed) (found : Option Finding) → IsSearched ranks (over_each family limit (testing edge label (take i list)) asks) true found → IsSearched ranks (over_each family limit (testing edge label list) asks) true found
   arcs_found family limit edge label list i asks found searched =
       subst (λ systems. IsSearched ranks systems true found)
-      (sym (ap (λ all. less_over_each family limit (testing edge label all) asks) (sym (take-append-drop i list))
-      ∙ ap (λ arcs. less_over_each family limit arcs asks) (map-append (λ (rows : List Row). record { edge = edge; target = label; asks = rows_given rows; sets = None }) (take i list) (drop i list))
-      ∙ flat_map-append (λ (arc : Arc). less_over family limit asks arc) (testing edge label (take i list)) (testing edge label (drop i list))))
-      (searched_first ranks (less_over_each family limit (testing edge label (take i list)) asks) (less_over_each family limit (testing edge label (drop i list)) asks) found searched)
+      (sym (ap (λ all. over_each family limit (testing edge label all) asks) (sym (take-append-drop i list))
+      ∙ ap (λ arcs. over_each family limit arcs asks) (map-append (λ (rows : List Row). record { edge = edge; target = label; asks = rows_given rows; sets = None }) (take i list) (drop i list))
+      ∙ flat_map-append (λ (arc : Arc). over_arc family limit asks arc) (testing edge label (take i list)) (testing edge label (drop i list))))
+      (searched_first ranks (over_each family limit (testing edge label (take i list)) asks) (over_each family limit (testing edge label (drop i list)) asks) found searched)
 
-  pub arcs_end : (family : Trees R) (limit : R) (edge label : ℕ) (list : List (List Row)) (i : ℕ) (asks : List Formed) → length list ≤ i → All (HasNoStore ranks) (less_over_each family limit (testing edge label (take i list)) asks) → All (HasNoStore ranks) (less_over_each family limit (testing edge label list) asks)
-  arcs_end family limit edge label list i asks end all = subst (λ taken. All (HasNoStore ranks) (less_over_each family limit (testing edge label taken) asks)) (take_all i list end) all
+  pub arcs_end : (family : Trees R) (limit : Option R) (edge label : ℕ) (list : List (List Row)) (i : ℕ) (asks : List Formed) → length list ≤ i → All (HasNoStore ranks) (over_each family limit (testing edge label (take i list)) asks) → All (HasNoStore ranks) (over_each family limit (testing edge label list) asks)
+  arcs_end family limit edge label list i asks end all = subst (λ taken. All (HasNoStore ranks) (over_each family limit (testing edge label taken) asks)) (take_all i list end) all
 
   -- one arc
-  pub one_searched : (family : Trees R) (limit : R) (arc : Arc) (asks : List Formed) (refuted : Bool) (found : Option Finding) → IsSearched ranks (less_over family limit asks arc) refuted found → IsSearched ranks (less_over_each family limit (arc ∷ []) asks) refuted found
-  one_searched family limit arc asks refuted found searched = subst (λ systems. IsSearched ranks systems refuted found) (sym (append-nil (less_over family limit asks arc))) searched
+  pub one_searched : (family : Trees R) (limit : Option R) (arc : Arc) (asks : List Formed) (refuted : Bool) (found : Option Finding) → IsSearched ranks (over_arc family limit asks arc) refuted found → IsSearched ranks (over_each family limit (arc ∷ []) asks) refuted found
+  one_searched family limit arc asks refuted found searched = subst (λ systems. IsSearched ranks systems refuted found) (sym (append-nil (over_arc family limit asks arc))) searched
 
   -- an arc that asks for nothing
-  pub unasked_searched : (family : Trees R) (limit : R) (edge label : ℕ) (sets : Option (ℕ × Affine)) (asks : List Formed) (refuted : Bool) (found : Option Finding) → IsSearched ranks (systems_behind edge sets (Some limit) (family label) asks) refuted found → IsSearched ranks (less_over_each family limit (record { edge = edge; target = label; asks = []; sets = sets } ∷ []) asks) refuted found
+  pub unasked_searched : (family : Trees R) (limit : Option R) (edge label : ℕ) (sets : Option (ℕ × Affine)) (asks : List Formed) (refuted : Bool) (found : Option Finding) → IsSearched ranks (systems_behind edge sets limit (family label) asks) refuted found → IsSearched ranks (over_each family limit (record { edge = edge; target = label; asks = []; sets = sets } ∷ []) asks) refuted found
   unasked_searched family limit edge label sets asks refuted found searched =
       one_searched family limit (record { edge = edge; target = label; asks = []; sets = sets }) asks refuted found
-      (subst (λ all. IsSearched ranks (systems_behind edge sets (Some limit) (family label) all) refuted found) (sym (append-nil asks)) searched)
+      (subst (λ all. IsSearched ranks (systems_behind edge sets limit (family label) all) refuted found) (sym (append-nil asks)) searched)
 
   -- an assignment, by its linear form
-  pub exact_searched : (family : Trees R) (limit : R) (x next : ℕ) (value : Linear) (asks : List Formed) (refuted : Bool) (found : Option Finding) → is_exact value ≡ true → IsSearched ranks (systems_behind 0 (Some (x, value.affine)) (Some limit) (family next) asks) refuted found → IsSearched ranks (less_over_each family limit (assigning x next value ∷ []) asks) refuted found
+  pub exact_searched : (family : Trees R) (limit : Option R) (x next : ℕ) (value : Linear) (asks : List Formed) (refuted : Bool) (found : Option Finding) → is_exact value ≡ true → IsSearched ranks (systems_behind 0 (Some (x, value.affine)) limit (family next) asks) refuted found → IsSearched ranks (over_each family limit (assigning x next value ∷ []) asks) refuted found
   exact_searched family limit x next value asks refuted found exact searched =
       rw exact (unasked_searched family limit 0 next (Some (x, value.affine)) asks refuted found searched)
 
-  pub between_searched : (family : Trees R) (limit : R) (x next : ℕ) (value : Linear) (asks : List Formed) (refuted : Bool) (found : Option Finding) → is_exact value ≡ false → IsSearched ranks (systems_behind 0 (Some (x, variable_at 15)) (Some limit) (family next) ((asks ++ above_end value.affine value.lo) ++ below_end value.affine value.hi)) refuted found → IsSearched ranks (less_over_each family limit (assigning x next value ∷ []) asks) refuted found
+  pub between_searched : (family : Trees R) (limit : Option R) (x next : ℕ) (value : Linear) (asks : List Formed) (refuted : Bool) (found : Option Finding) → is_exact value ≡ false → IsSearched ranks (systems_behind 0 (Some (x, variable_at 15)) limit (family next) ((asks ++ above_end value.affine value.lo) ++ below_end value.affine value.hi)) refuted found → IsSearched ranks (over_each family limit (assigning x next value ∷ []) asks) refuted found
   between_searched family limit x next value asks refuted found inexact searched =
       rw inexact (one_searched family limit (record { edge = 0; target = next; asks = above_end value.affine value.lo ++ below_end value.affine value.hi; sets = Some (x, variable_at 15) }) asks refuted found
-      (subst (λ all. IsSearched ranks (systems_behind 0 (Some (x, variable_at 15)) (Some limit) (family next) all) refuted found) (append_assoc asks (above_end value.affine value.lo) (below_end value.affine value.hi)) searched))
+      (subst (λ all. IsSearched ranks (systems_behind 0 (Some (x, variable_at 15)) limit (family next) all) refuted found) (append_assoc asks (above_end value.affine value.lo) (below_end value.affine value.hi)) searched))
 
   -- the two edges of a test
-  pub test_searched : (family : Trees R) (limit : R) (first second : List Arc) (asks : List Formed) (refuted : Bool) (found : Option Finding) → All (HasNoStore ranks) (less_over_each family limit first asks) → IsSearched ranks (less_over_each family limit second asks) refuted found → IsSearched ranks (less_over_each family limit (first ++ second) asks) refuted found
+  pub test_searched : (family : Trees R) (limit : Option R) (first second : List Arc) (asks : List Formed) (refuted : Bool) (found : Option Finding) → All (HasNoStore ranks) (over_each family limit first asks) → IsSearched ranks (over_each family limit second asks) refuted found → IsSearched ranks (over_each family limit (first ++ second) asks) refuted found
   test_searched family limit first second asks refuted found none searched =
-      subst (λ systems. IsSearched ranks systems refuted found) (sym (flat_map-append (λ (arc : Arc). less_over family limit asks arc) first second))
-      (searched_then ranks (less_over_each family limit first asks) (less_over_each family limit second asks) refuted None found none searched)
+      subst (λ systems. IsSearched ranks systems refuted found) (sym (flat_map-append (λ (arc : Arc). over_arc family limit asks arc) first second))
+      (searched_then ranks (over_each family limit first asks) (over_each family limit second asks) refuted None found none searched)
 
-  pub test_found : (family : Trees R) (limit : R) (first second : List Arc) (asks : List Formed) (found : Option Finding) → IsSearched ranks (less_over_each family limit first asks) true found → IsSearched ranks (less_over_each family limit (first ++ second) asks) true found
+  pub test_found : (family : Trees R) (limit : Option R) (first second : List Arc) (asks : List Formed) (found : Option Finding) → IsSearched ranks (over_each family limit first asks) true found → IsSearched ranks (over_each family limit (first ++ second) asks) true found
   test_found family limit first second asks found searched =
-      subst (λ systems. IsSearched ranks systems true found) (sym (flat_map-append (λ (arc : Arc). less_over family limit asks arc) first second))
-      (searched_first ranks (less_over_each family limit first asks) (less_over_each family limit second asks) found searched)
+      subst (λ systems. IsSearched ranks systems true found) (sym (flat_map-append (λ (arc : Arc). over_arc family limit asks arc) first second))
+      (searched_first ranks (over_each family limit first asks) (over_each family limit second asks) found searched)

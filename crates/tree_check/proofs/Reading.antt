@@ -28,7 +28,7 @@ use Rattle.tree_check.specs.declared.leaf.Part.{Part}
 use Rattle.tree_check.specs.declared.leaf.Part.TheVariants.{True, Exit, Ending}
 use Rattle.tree_check.specs.Leaves.{part_formula}
 use Rattle.tree_check.specs.Walks.{systems_behind}
-use Rattle.tree_check.specs.Moves.{less_over, less_over_each, target_of}
+use Rattle.tree_check.specs.Moves.{over_arc, over_each, target_of}
 use Rattle.tree_check.specs.Rounds.{IsSupportedAt}
 
 module _ {R : Type 0} (at : Setting R) (part : Part) (is : at.formula ≡ part_formula part) (old new : Trees R) where
@@ -36,16 +36,16 @@ module _ {R : Type 0} (at : Setting R) (part : Part) (is : at.formula ≡ part_f
   abbrev SameBehind : List Arc → Type 0
   SameBehind arcs = (arc : Arc) → Contains arcs arc → new arc.target ≡ old arc.target
 
-  one_same : (rank : R) (arc : Arc) (asks : List Formed) → new arc.target ≡ old arc.target → less_over new rank asks arc ≡ less_over old rank asks arc
+  one_same : (rank : R) (arc : Arc) (asks : List Formed) → new arc.target ≡ old arc.target → over_arc new (Some rank) asks arc ≡ over_arc old (Some rank) asks arc
   one_same rank arc asks same = ap (λ (plan : Plan R). systems_behind arc.edge arc.sets (Some rank) plan (asks ++ arc.asks)) same
 
-  less_same : (rank : R) (arcs : List Arc) (asks : List Formed) → SameBehind arcs → less_over_each new rank arcs asks ≡ less_over_each old rank arcs asks
+  less_same : (rank : R) (arcs : List Arc) (asks : List Formed) → SameBehind arcs → over_each new (Some rank) arcs asks ≡ over_each old (Some rank) arcs asks
   less_same rank [] asks same = refl
   less_same rank (arc ∷ arcs) asks same =
-      flat_map-cons (λ (arc : Arc). less_over new rank asks arc) arc arcs
-      ∙ ap (λ rest. less_over new rank asks arc ++ rest) (less_same rank arcs asks (λ next member. same next (behind arcs arc next member)))
-      ∙ ap (λ first. first ++ less_over_each old rank arcs asks) (one_same rank arc asks (same arc (0, omega arith, refl)))
-      ∙ sym (flat_map-cons (λ (arc : Arc). less_over old rank asks arc) arc arcs)
+      flat_map-cons (λ (arc : Arc). over_arc new (Some rank) asks arc) arc arcs
+      ∙ ap (λ rest. over_arc new (Some rank) asks arc ++ rest) (less_same rank arcs asks (λ next member. same next (behind arcs arc next member)))
+      ∙ ap (λ first. first ++ over_each old (Some rank) arcs asks) (one_same rank arc asks (same arc (0, omega arith, refl)))
+      ∙ sym (flat_map-cons (λ (arc : Arc). over_arc old (Some rank) asks arc) arc arcs)
 
   arcs_same : (p : Part) (rank : R) (arcs : List Arc) (asks : List Formed) → SameBehind arcs
       → of_arcs at (part_formula p) new rank arcs asks ≡ of_arcs at (part_formula p) old rank arcs asks

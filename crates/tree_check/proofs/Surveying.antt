@@ -26,7 +26,7 @@ use Rattle.tree_check.specs.declared.leaf.Part.{Part}
 use Rattle.tree_check.specs.declared.leaf.Part.TheVariants.{True, Exit, Ending}
 use Rattle.rows_in_hand.specs.Hands.{Held, IsMetNowhere, all_asked}
 use Rattle.tree_check.specs.Leaves.{IsEndTried, IsExitTried, IsTruthTried, part_formula}
-use Rattle.tree_check.specs.Moves.{less_over, less_over_each}
+use Rattle.tree_check.specs.Moves.{over_arc, over_each}
 use Rattle.rows_in_hand.specs.Searches.{Finds, IsSearched}
 use Rattle.tree_check.specs.Surveys.{IsReviewed, IsSurveyed, systems_within}
 use Rattle.tree_check.specs.Walks.{side_of}
@@ -65,11 +65,11 @@ module _ {R : Type 0} (ranks : Ranks R) where
   part_nowhere plan asks none = nowhere_behind ranks 2 None None plan asks none
 
   arcs_nowhere : (family : Trees R) (rank : R) (arcs : List Arc) (asks : List Formed) → IsMetNowhere (all_asked asks)
-      → All (HasNoStore ranks) (less_over_each family rank arcs asks)
+      → All (HasNoStore ranks) (over_each family (Some rank) arcs asks)
   arcs_nowhere family rank [] asks none = All-nil (HasNoStore ranks)
   arcs_nowhere family rank (arc ∷ arcs) asks none =
-      subst (All (HasNoStore ranks)) (sym (flat_map-cons (λ (arc : Arc). less_over family rank asks arc) arc arcs))
-      (All-append (HasNoStore ranks) (less_over family rank asks arc) (less_over_each family rank arcs asks)
+      subst (All (HasNoStore ranks)) (sym (flat_map-cons (λ (arc : Arc). over_arc family (Some rank) asks arc) arc arcs))
+      (All-append (HasNoStore ranks) (over_arc family (Some rank) asks arc) (over_each family (Some rank) arcs asks)
       (nowhere_behind ranks arc.edge arc.sets (Some rank) (family arc.target) (asks ++ arc.asks) (nowhere_more asks arc.asks none))
       (arcs_nowhere family rank arcs asks none))
 

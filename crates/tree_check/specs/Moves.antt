@@ -28,9 +28,9 @@ target_of None = 0
 target_of (Some edge) = edge.to
 
 module _ {R : Type 0} where
-  -- the systems of one arc, and of arcs: at its target a leaf refutes that is undefined or whose rank isn't less
-  abbrev pub less_over : Trees R → R → List Formed → Arc → List (System R)
-  less_over family rank asks arc = systems_behind arc.edge arc.sets (Some rank) (family arc.target) (asks ++ arc.asks)
+  -- the systems of one arc, and of arcs: at its target a leaf refutes that is undefined, or, where there is a limit, whose rank isn't less
+  abbrev pub over_arc : Trees R → Option R → List Formed → Arc → List (System R)
+  over_arc family limit asks arc = systems_behind arc.edge arc.sets limit (family arc.target) (asks ++ arc.asks)
 
-  abbrev pub less_over_each : Trees R → R → List Arc → List Formed → List (System R)
-  less_over_each family rank arcs asks = flat_map (λ (arc : Arc). less_over family rank asks arc) arcs
+  abbrev pub over_each : Trees R → Option R → List Arc → List Formed → List (System R)
+  over_each family limit arcs asks = flat_map (λ (arc : Arc). over_arc family limit asks arc) arcs

@@ -7,7 +7,7 @@ ghost use Rattle.tree_support.specs.Setting.{trees_in};
 ghost use Rattle.linear_cons.specs.Functions.{constant_of, variable_at};
 ghost use Rattle.linear_forms.specs.Linearising as exactness;
 ghost use Rattle.rows_in_hand.specs.Hands.{AreFormed, Forms, IsMetNowhere, all_asked, asked};
-ghost use Rattle.tree_check.specs.Moves.{HasPlace, arcs_of, less_over_each};
+ghost use Rattle.tree_check.specs.Moves.{HasPlace, arcs_of, over_each};
 ghost use Rattle.rows_in_hand.specs.Searches.{Holds, IsLonger, IsSame, IsSearched, WhereAsked};
 ghost use Rattle.tree_check.specs.Walks.{systems_behind};
 
@@ -94,7 +94,7 @@ fn refute_behind<R: Rank>(
 fn refute_each<R: Rank>(
     conjunctions: &[Rows],
     trees: &[Tree<R>],
-    limit: &R,
+    limit: Option<R>,
     edge: u32,
     label: u32,
     hand: &mut Hand,
@@ -102,13 +102,13 @@ fn refute_each<R: Rank>(
 ) -> Result<bool, AllocError>
     ensures same { IfOk result (λ refuted. refuted ≡ false → IsSame hand.old hand.new) }
     ensures searched { IfOk result (λ refuted. WhereAsked hand.old (λ asks.
-        IsSearched R.Rank.own (less_over_each (trees_in (map plan_of trees.now)) limit.now (testing edge label conjunctions.now) asks)
+        IsSearched R.Rank.own (over_each (trees_in (map plan_of trees.now)) limit (testing edge label conjunctions.now) asks)
         refuted found.new)) }
 {
     let way = Way {
         edge,
         sets: None,
-        limit: Some(*limit),
+        limit,
     };
     for rows in conjunctions {
         if refute_behind(rows.items(), trees, &way, label, hand, found)? {
@@ -232,14 +232,14 @@ impl Moves {
     pub(crate) fn refute<R: Rank>(
         &self,
         trees: &[Tree<R>],
-        limit: &R,
+        limit: Option<R>,
         hand: &mut Hand,
         found: &mut Option<Finding>,
     ) -> Result<bool, AllocError>
         requires { HasPlace self.now }
         ensures same { IfOk result (λ refuted. refuted ≡ false → IsSame hand.old hand.new) }
         ensures searched { IfOk result (λ refuted. WhereAsked hand.old (λ asks.
-            IsSearched R.Rank.own (less_over_each (trees_in (map plan_of trees.now)) limit.now (arcs_of self.now) asks)
+            IsSearched R.Rank.own (over_each (trees_in (map plan_of trees.now)) limit (arcs_of self.now) asks)
             refuted found.new)) }
     {
         match self {
@@ -256,7 +256,7 @@ impl Moves {
                 let way = Way {
                     edge: 0,
                     sets: Some((*place, Affine::var(CHOSEN_PLACE))),
-                    limit: Some(*limit),
+                    limit,
                 };
                 let refuted = refute_above(value, trees, &way, *next, hand, found)?;
                 Ok(refuted)
@@ -281,7 +281,7 @@ impl Moves {
 fn refute_assigned<R: Rank>(
     sets: Option<(u8, Affine)>,
     trees: &[Tree<R>],
-    limit: &R,
+    limit: Option<R>,
     label: u32,
     hand: &mut Hand,
     found: &mut Option<Finding>,
@@ -289,12 +289,12 @@ fn refute_assigned<R: Rank>(
     requires { IfSome sets (λ s. s.0 < 16) }
     ensures same { IfOk result (λ refuted. refuted ≡ false → IsSame hand.old hand.new) }
     ensures searched { IfOk result (λ refuted. WhereAsked hand.old (λ asks.
-        IsSearched R.Rank.own (systems_behind 0 sets (Some limit.now) (trees_in (map plan_of trees.now) label) asks) refuted found.new)) }
+        IsSearched R.Rank.own (systems_behind 0 sets limit (trees_in (map plan_of trees.now) label) asks) refuted found.new)) }
 {
     let way = Way {
         edge: 0,
         sets,
-        limit: Some(*limit),
+        limit,
     };
     let refuted = refute_at(trees, &way, label, hand, found)?;
     Ok(refuted)

@@ -131,7 +131,7 @@ impl<'a, R: Rank> Stand<'a, R> {
     {
         match pick {
             Pick::All => {
-                let refuted = self.moves.refute(self.family, rank, hand, found)?;
+                let refuted = self.moves.refute(self.family, Some(*rank), hand, found)?;
                 Ok(refuted)
             }
             _ => {

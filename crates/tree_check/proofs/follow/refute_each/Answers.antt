@@ -10,8 +10,8 @@ pub returns-then-branch-clause-searched : goal.returns-then-branch-clause-search
 returns-then-branch-clause-searched g c asks held =
     let again = held_same (all_asked asks) c.args.hand.now c.loop-rows.hand c.loop-rows.invariant.0 held in
     let searched = c.in_ok-refute_behind.ensures.searched asks again in
-    arcs_found g.R.Rank (trees_in (map plan_of c.args.trees.now)) c.args.limit.now c.args.edge c.args.label c.args.conjunctions.now (c.loop-rows.rows-index + 1) asks c.refute_behind.new.found
-    (arcs_searched g.R.Rank (trees_in (map plan_of c.args.trees.now)) c.args.limit.now c.args.edge c.args.label c.args.conjunctions.now c.loop-rows.rows-index c.rows-item.result asks true c.loop-rows.found c.refute_behind.new.found (omega arith) c.rows-item.is (c.loop-rows.invariant.1 asks held) (rw (c.items.ensures, c.if-branch.true) at searched))
+    arcs_found g.R.Rank (trees_in (map plan_of c.args.trees.now)) c.args.limit c.args.edge c.args.label c.args.conjunctions.now (c.loop-rows.rows-index + 1) asks c.refute_behind.new.found
+    (arcs_searched g.R.Rank (trees_in (map plan_of c.args.trees.now)) c.args.limit c.args.edge c.args.label c.args.conjunctions.now c.loop-rows.rows-index c.rows-item.result asks true c.loop-rows.found c.refute_behind.new.found (omega arith) c.rows-item.is (c.loop-rows.invariant.1 asks held) (rw (c.items.ensures, c.if-branch.true) at searched))
 
 pub loop-rows-preserved : goal.loop-rows-preserved
 loop-rows-preserved g c =
@@ -20,9 +20,9 @@ loop-rows-preserved g c =
       λ asks held.
           let again = held_same (all_asked asks) c.args.hand.now c.loop-rows.hand c.loop-rows.invariant.0 held in
           let searched = c.in_ok-refute_behind.ensures.searched asks again in
-          arcs_searched g.R.Rank (trees_in (map plan_of c.args.trees.now)) c.args.limit.now c.args.edge c.args.label c.args.conjunctions.now c.loop-rows.rows-index c.rows-item.result asks false c.loop-rows.found c.refute_behind.new.found (omega arith) c.rows-item.is (c.loop-rows.invariant.1 asks held) (rw (c.items.ensures, c.if-branch.false) at searched),
+          arcs_searched g.R.Rank (trees_in (map plan_of c.args.trees.now)) c.args.limit c.args.edge c.args.label c.args.conjunctions.now c.loop-rows.rows-index c.rows-item.result asks false c.loop-rows.found c.refute_behind.new.found (omega arith) c.rows-item.is (c.loop-rows.invariant.1 asks held) (rw (c.items.ensures, c.if-branch.false) at searched),
     )
 
 pub returns-clause-searched : goal.returns-clause-searched
 returns-clause-searched g c asks held =
-    arcs_end g.R.Rank (trees_in (map plan_of c.args.trees.now)) c.args.limit.now c.args.edge c.args.label c.args.conjunctions.now c.loop-rows.rows-index asks (omega arith) (c.loop-rows.invariant.1 asks held)
+    arcs_end g.R.Rank (trees_in (map plan_of c.args.trees.now)) c.args.limit c.args.edge c.args.label c.args.conjunctions.now c.loop-rows.rows-index asks (omega arith) (c.loop-rows.invariant.1 asks held)

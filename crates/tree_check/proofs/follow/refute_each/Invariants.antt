@@ -5,7 +5,7 @@ use Rattle.tree_support.specs.Forming.{Formed}
 use Rattle.tree_support.specs.Setting.{trees_in}
 use Rattle.tree_support.specs.Support.{HasNoStore}
 use Rattle.rows_in_hand.specs.Hands.{Held, all_asked}
-use Rattle.tree_check.specs.Moves.{less_over_each}
+use Rattle.tree_check.specs.Moves.{over_each}
 use Rattle.rows_in_hand.specs.Searches.{IsSame}
 use Rattle.tree_check.proofs.follow.refute_each.Given as goal
 
@@ -13,4 +13,4 @@ abbrev pub invariant-loop-rows : goal.invariant-loop-rows
 invariant-loop-rows g l =
     IsSame l.initial.hand l.hand
     × ((asks : List Formed) → Held (all_asked asks) l.initial.hand.rows l.initial.hand.wide
-    → All (HasNoStore g.R.Rank) (less_over_each (trees_in (map plan_of l.trees)) l.fn.limit (testing l.edge l.label (take l.rows-index l.conjunctions)) asks))
+    → All (HasNoStore g.R.Rank) (over_each (trees_in (map plan_of l.trees)) l.fn.limit (testing l.edge l.label (take l.rows-index l.conjunctions)) asks))
