@@ -9,6 +9,8 @@ pub mod Regions
 pub mod Following
 pub mod Temporal
 pub mod Soundness
+pub mod Nowhere
+pub mod Readers
 pub mod Restricting
 pub mod Dropping
 pub mod Keeping
