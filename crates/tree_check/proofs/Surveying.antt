@@ -2,112 +2,30 @@
 use Rattle.std.proofs.Common.{◌≡◌, ℕ, zero, suc, ◌+◌, ◌-◌, ◌<◌, inl, inr, Bool, true, false, nat_lt, List, [], ◌∷◌, ◌++◌, length, map, get_or, All, Option, None, Some, refl, sym, ap, subst, arith}
 use Rattle.std.proofs.lemmas.Bool.{cases_lt, le-ltb, lt-ltb}
 use Rattle.std.proofs.lemmas.List.{append_assoc, append-nil}
-use Rattle.std.proofs.lemmas.List.Concat.{flat_map-cons}
-use Rattle.std.proofs.lemmas.List.Elements.{All-append, All-cons, All-nil}
+use Rattle.std.proofs.lemmas.Simd.{map-map}
 use Rattle.linear_cons.specs.Functions.{complement_of}
 use Rattle.linear_cons.specs.declared.exact.Wide.{Wide}
 use Rattle.linear_cons.specs.declared.row.Row.{Row}
+use Rattle.linear_cons.specs.Rows.{MeetsKind}
 use Rattle.decision_tree.specs.declared.rank.Rank.{Ghosts as Ranks}
-use Rattle.decision_tree.specs.declared.reason.Pick.{Pick}
-use Rattle.decision_tree.specs.declared.reason.Pick.TheVariants.{All as Every, Yes, No, Value}
 use Rattle.decision_tree.specs.declared.reason.Why.{Why}
-use Rattle.decision_tree.specs.declared.reason.Why.TheVariants.{End, Atom, Both, Left, Right, Now, Dead, Step}
 use Rattle.decision_tree.specs.Paths.{leaf_numbered, path_of}
-use Rattle.decision_tree.specs.Plans.{Plan, bottom, branch, leaf, leaves_of, plan_of, top}
+use Rattle.decision_tree.specs.Plans.{Plan, branch, leaf, leaves_of, plan_of}
 use Rattle.decision_tree.specs.declared.tree.Tree.{Tree}
-use Rattle.ctl_formula.specs.Formulas.{af_exit}
-use Rattle.tree_support.specs.Flow.{Arc, rows_given}
+use Rattle.tree_support.specs.Flow.{rows_given}
 use Rattle.tree_support.specs.Forming.{Formed, given}
 use Rattle.tree_support.specs.Setting.{Setting, Trees, trees_in}
 use Rattle.tree_support.specs.Support.{HasNoStore}
-use Rattle.tree_support.specs.Systems.{System, of_arcs, of_leaf, of_now, of_pick, of_why, systems, undefined_at, unedged, unnatural}
+use Rattle.tree_support.specs.Systems.{System, of_leaf, systems}
 use Rattle.rows_in_hand.specs.declared.finding.Finding.{Finding}
-use Rattle.tree_check.specs.declared.leaf.Part.{Part}
-use Rattle.tree_check.specs.declared.leaf.Part.TheVariants.{True, Exit, Ending}
-use Rattle.rows_in_hand.specs.Hands.{Held, IsMetNowhere, all_asked}
-use Rattle.tree_check.specs.Leaves.{IsEndTried, IsExitTried, IsTruthTried, part_formula}
-use Rattle.tree_check.specs.Moves.{over_arc, over_each}
+use Rattle.rows_in_hand.specs.Hands.{Held, IsMetNowhere, all_asked, asked, kind_of}
 use Rattle.rows_in_hand.specs.Searches.{Finds, IsSearched}
 use Rattle.tree_check.specs.Surveys.{IsReviewed, IsSurveyed, systems_within}
 use Rattle.tree_check.specs.Walks.{side_of}
+use Rattle.tree_support.proofs.Nowhere.{leaf_nowhere}
 use Rattle.tree_check.proofs.Following.{nowhere_more}
-use Rattle.tree_check.proofs.Leaving.{end_searched, exit_searched, other_searched, pick_searched, rank_searched, step_searched, truth_searched}
-use Rattle.tree_check.proofs.Walking.{nowhere_behind, nowhere_system}
 
 module _ {R : Type 0} (ranks : Ranks R) where
-  -- ---- behind what is met nowhere no leaf has a system with a store
-
-  end_tried : (label : ℕ) (asks : List Formed) → IsMetNowhere (all_asked asks) → IsEndTried label asks false None
-  end_tried zero asks none = refl
-  end_tried (suc label) asks none = none
-
-  truth_tried : (why : Why) (asks : List Formed) → IsMetNowhere (all_asked asks) → IsTruthTried why asks false None
-  truth_tried Atom asks none = refl
-  truth_tried End asks none = none
-  truth_tried Both asks none = none
-  truth_tried Left asks none = none
-  truth_tried Right asks none = none
-  truth_tried Now asks none = none
-  truth_tried Dead asks none = none
-  truth_tried (Step pick) asks none = none
-
-  exit_tried : (why : Why) (label : ℕ) (asks : List Formed) → IsMetNowhere (all_asked asks) → IsExitTried why label asks false None
-  exit_tried End label asks none = end_tried label asks none
-  exit_tried Atom label asks none = none
-  exit_tried Both label asks none = none
-  exit_tried Left label asks none = none
-  exit_tried Right label asks none = none
-  exit_tried Now label asks none = none
-  exit_tried Dead label asks none = none
-  exit_tried (Step pick) label asks none = none
-
-  part_nowhere : (plan : Plan R) (asks : List Formed) → IsMetNowhere (all_asked asks) → All (HasNoStore ranks) (undefined_at plan asks)
-  part_nowhere plan asks none = nowhere_behind ranks 2 None None plan asks none
-
-  arcs_nowhere : (family : Trees R) (rank : R) (arcs : List Arc) (asks : List Formed) → IsMetNowhere (all_asked asks)
-      → All (HasNoStore ranks) (over_each family (Some rank) arcs asks)
-  arcs_nowhere family rank [] asks none = All-nil (HasNoStore ranks)
-  arcs_nowhere family rank (arc ∷ arcs) asks none =
-      subst (All (HasNoStore ranks)) (sym (flat_map-cons (λ (arc : Arc). over_arc family (Some rank) asks arc) arc arcs))
-      (All-append (HasNoStore ranks) (over_arc family (Some rank) asks arc) (over_each family (Some rank) arcs asks)
-      (nowhere_behind ranks arc.edge arc.sets (Some rank) (family arc.target) (asks ++ arc.asks) (nowhere_more asks arc.asks none))
-      (arcs_nowhere family rank arcs asks none))
-
-  pick_nowhere : (at : Setting R) (pick : Pick) (rank : R) (family : Trees R) (label : ℕ) (asks : List Formed) → at.formula ≡ af_exit
-      → IsMetNowhere (all_asked asks) → IsSearched ranks (of_pick at pick family rank label asks) false None
-  pick_nowhere at Every rank family label asks is none = subst (λ f. IsSearched ranks (of_arcs at f family rank (at.flow.arcs label) asks) false None) (sym is) (arcs_nowhere family rank (at.flow.arcs label) asks none)
-  pick_nowhere at Yes rank family label asks is none = pick_searched ranks at Yes rank family label asks false None is (λ same. absurd (cc)) none
-  pick_nowhere at No rank family label asks is none = pick_searched ranks at No rank family label asks false None is (λ same. absurd (cc)) none
-  pick_nowhere at (Value a) rank family label asks is none = pick_searched ranks at (Value a) rank family label asks false None is (λ same. absurd (cc)) none
-
-  why_nowhere : (at : Setting R) (why : Why) (rank : R) (family : Trees R) (label : ℕ) (asks : List Formed) → at.formula ≡ af_exit
-      → IsMetNowhere (all_asked asks) → IsSearched ranks (of_why at why family rank label asks) false None
-  why_nowhere at End rank family label asks is none = end_searched ranks at rank family label asks false None is (end_tried label asks none)
-  why_nowhere at Now rank family label asks is none = subst (λ f. IsSearched ranks (of_now at f label asks) false None) (sym is) (part_nowhere (at.parts 1 label) asks none)
-  why_nowhere at (Step pick) rank family label asks is none =
-      step_searched ranks at at.parts pick rank family label asks false None is refl (part_nowhere (at.parts 0 label) asks none)
-      (pick_nowhere at pick rank family label asks is none)
-  why_nowhere at Atom rank family label asks is none = other_searched ranks at Atom rank family label asks false None is (λ same. absurd (cc)) (λ same. absurd (cc)) (λ pick same. absurd (cc)) none
-  why_nowhere at Both rank family label asks is none = other_searched ranks at Both rank family label asks false None is (λ same. absurd (cc)) (λ same. absurd (cc)) (λ pick same. absurd (cc)) none
-  why_nowhere at Left rank family label asks is none = other_searched ranks at Left rank family label asks false None is (λ same. absurd (cc)) (λ same. absurd (cc)) (λ pick same. absurd (cc)) none
-  why_nowhere at Right rank family label asks is none = other_searched ranks at Right rank family label asks false None is (λ same. absurd (cc)) (λ same. absurd (cc)) (λ pick same. absurd (cc)) none
-  why_nowhere at Dead rank family label asks is none = other_searched ranks at Dead rank family label asks false None is (λ same. absurd (cc)) (λ same. absurd (cc)) (λ pick same. absurd (cc)) none
-
-  leaf_nowhere : (at : Setting R) (part : Part) (end : Plan R) (family : Trees R) (label : ℕ) (asks : List Formed) → at.formula ≡ part_formula part
-      → IsMetNowhere (all_asked asks) → All (HasNoStore ranks) (of_leaf at end family label asks)
-  leaf_nowhere at part bottom family label asks is none = All-nil (HasNoStore ranks)
-  leaf_nowhere at part (top cause) family label asks is none = All-nil (HasNoStore ranks)
-  leaf_nowhere at part (branch row this that) family label asks is none = All-nil (HasNoStore ranks)
-  leaf_nowhere at True (leaf why rank) family label asks is none =
-      truth_searched ranks at why rank family label asks false None is (truth_tried why asks none)
-  leaf_nowhere at Exit (leaf why rank) family label asks is none =
-      exit_searched ranks at why rank family label asks false None is (exit_tried why label asks none)
-  leaf_nowhere at Ending (leaf why rank) family label asks is none =
-      rank_searched ranks at why rank family label asks false None is
-      (All-cons (HasNoStore ranks) (record { edge = unedged; asks = asks; claim = unnatural rank }) []
-      (nowhere_system ranks (record { edge = unedged; asks = asks; claim = unnatural rank }) none) (All-nil (HasNoStore ranks)))
-      (why_nowhere at why rank family label asks is none)
-
   module _ (at : Setting R) (family : Trees R) (label : ℕ) where
     -- ---- a side's leaves are the tree's
 
@@ -184,12 +102,14 @@ module _ {R : Type 0} (ranks : Ranks R) where
         → IsSurveyed ranks at family label first (leaf why rank) asks passed passed false found
     surveyed_before first why rank asks passed found before = λ place low from. absurd (omega arith)
 
-    pub surveyed_nowhere : (first : ℕ) (part : Part) (plan : Plan R) (asks : List Formed) (passed after : ℕ) (found : Option Finding)
-        → at.formula ≡ part_formula part → IsMetNowhere (all_asked asks)
+    -- behind what is met nowhere no leaf has a system with a store
+    pub surveyed_nowhere : (first : ℕ) (plan : Plan R) (asks : List Formed) (passed after : ℕ) (found : Option Finding) → IsMetNowhere (all_asked asks)
         → IsSurveyed ranks at family label first plan asks passed after false found
-    surveyed_nowhere first part plan asks passed after found is none = λ place low from.
-        leaf_nowhere at part (leaf_numbered plan place) family label (asks ++ map (λ a. given a) (path_of plan place)) is
-        (nowhere_more asks (map (λ a. given a) (path_of plan place)) none)
+    surveyed_nowhere first plan asks passed after found none = λ place low from.
+        let more : List Formed = asks ++ map (λ a. given a) (path_of plan place) in
+        leaf_nowhere ranks at (leaf_numbered plan place) family label more (λ store met.
+        nowhere_more asks (map (λ a. given a) (path_of plan place)) none store
+        (subst (All (λ kind. MeetsKind store kind)) (sym (map-map kind_of (λ a. asked a) more)) met))
 
     -- ---- the label's own tree
 

@@ -1,16 +1,11 @@
 -- What the check is asked and what it answers.
-use Rattle.std.specs.Prelude.{◌≡◌, ◌⊎◌, ℕ, List, slice_get, Option, None, Some}
-use Rattle.ctl_formula.specs.Formulas.{Ctl, af_exit, exit, truth}
+use Rattle.std.specs.Prelude.{ℕ, List, slice_get, Option, None, Some}
 use Rattle.decision_tree.specs.declared.family.Family.{Family}
 use Rattle.decision_tree.specs.declared.rank.Rank.{Ghosts as Ranks}
 use Rattle.decision_tree.specs.Plans.{bottom}
 use Rattle.tree_support.specs.declared.dropped.Dropped.{Dropped}
 use Rattle.tree_support.specs.Elimination.{Eliminates}
 use Rattle.tree_support.specs.Setting.{Setting, Trees, trees_in}
-
--- the formula is the truth, the end, or that every run comes to the end
-abbrev pub IsCheckable : Ctl → Type 0
-IsCheckable formula = (formula ≡ truth) ⊎ (formula ≡ exit) ⊎ (formula ≡ af_exit)
 
 module _ {R : Type 0} where
   -- the family of the direct smaller part with the number; past the last nothing is defined

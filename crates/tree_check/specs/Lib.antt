@@ -4,3 +4,4 @@ pub mod Moves
 pub mod Leaves
 pub mod Surveys
 pub mod Rounds
+pub mod Parts

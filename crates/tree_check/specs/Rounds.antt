@@ -2,6 +2,8 @@
 use Rattle.std.specs.Prelude.{◌≡◌, ◌≢◌, ℕ, ◌+◌, ◌<◌, Bool, true, false, List, ◌++◌, length, All, Contains, slice_index_or, slice_set}
 use Rattle.std.specs.List.{sum_by}
 use Rattle.step_meaning.specs.Syntax.{statements}
+use Rattle.linear_cons.specs.declared.affine.Affine.{Affine}
+use Rattle.ctl_formula.specs.Mirror.{ctl}
 use Rattle.decision_tree.specs.declared.rank.Rank.{Ghosts as Ranks}
 use Rattle.decision_tree.specs.Paths.{with_leaf}
 use Rattle.decision_tree.specs.Plans.{Plan, bottom, branch, leaf, leaves_of, top}
@@ -13,10 +15,13 @@ use Rattle.tree_support.specs.Setting.{Setting, Trees, trees_in}
 use Rattle.tree_support.specs.Support.{HasNoStore}
 use Rattle.tree_support.specs.Systems.{systems}
 use Rattle.tree_support.specs.Told.{setting_of, told_by}
-use Rattle.tree_check.specs.Leaves.{part_formula}
 use Rattle.tree_check.specs.Checking.{families_of}
 use Rattle.tree_check.specs.declared.rounds.Premises.{Premises}
 use Rattle.tree_check.specs.declared.survey.Refuted.{Refuted}
+
+-- none of the arcs leads to the label
+abbrev pub Avoid : List Arc → ℕ → Type 0
+Avoid arcs other = (arc : Arc) → Contains arcs arc → arc.target ≢ other
 
 -- the drop of a refuted leaf
 abbrev pub dropped_by : ℕ → Refuted → Dropped
@@ -42,14 +47,17 @@ module _ {R : Type 0} where
   abbrev pub IsSameElsewhere : ℕ → List (Plan R) → List (Plan R) → Type 0
   IsSameElsewhere label old new = (other : ℕ) → other ≢ label → trees_in new other ≡ trees_in old other
 
-  -- the label isn't the other, and no arc leads from it there
-  abbrev pub IsApart : Setting R → ℕ → ℕ → Type 0
-  IsApart at label other = (label ≢ other) × ((arc : Arc) → Contains (at.flow.arcs label) arc → arc.target ≢ other)
+  -- the label isn't the other, and no arc leads from it there, whichever outcome or value is picked
+  pub record IsApart (at : Setting R) (label other : ℕ) : Type 0 where
+    pub own : label ≢ other
+    pub every : Avoid (at.flow.arcs label) other
+    pub outcomes : (outcome : Bool) → Avoid (at.flow.arcs_of label outcome) other
+    pub values : (a : Affine) → Avoid (at.flow.arcs_with label a) other
 
 -- the setting that they make
 abbrev pub setting_on : {D R : Type 0} → Domain D → Premises D R → Setting R
 setting_on domain premises =
-    setting_of (statements premises.graph.now.body) (told_by domain.told_bounds domain.told_rows domain.seen_empty premises.inv.now) (part_formula premises.part)
+    setting_of (statements premises.graph.now.body) (told_by domain.told_bounds domain.told_rows domain.seen_empty premises.inv.now) (ctl premises.formula.now)
     (families_of premises.parts.now)
 
 module _ {R : Type 0} (ranks : Ranks R) (at : Setting R) where

@@ -8,10 +8,8 @@ ghost use Rattle.tree_support.specs.Elimination.{Eliminates};
 ghost use Rattle.tree_support.specs.Setting.{trees_in};
 ghost use Rattle.tree_support.specs.Support.{IsSupported};
 ghost use Rattle.tree_support.specs.Told.{setting_of, told_by};
-ghost use Rattle.tree_check.specs.Checking.{IsCheckable, WasCutShort, families_of};
-ghost use Rattle.tree_check.specs.Leaves.{part_formula};
+ghost use Rattle.tree_check.specs.Checking.{WasCutShort, families_of};
 
-use crate::leaf::Part;
 use crate::rounds::Premises;
 use control_flow::Graph;
 use ctl_formula::Formula;
@@ -34,7 +32,6 @@ pub fn check<D: NumDomain, R: Rank>(
     parts: &[Family<R>],
     family: &mut Family<R>,
 ) -> Result<Vec<Dropped>, AllocError>
-    requires formula { IsCheckable (ctl formula.now) }
     requires states { length inv.now ≡ length (all_labels (statements graph.now.body)) }
     requires trees { length family.old.trees ≡ length (all_labels (statements graph.now.body)) }
     requires leaves { (label : ℕ) → leaves_of (trees_in family.old.trees label) < 2 ^ 64 - 1 }
@@ -54,7 +51,7 @@ pub fn check<D: NumDomain, R: Rank>(
         alloc,
         graph,
         inv,
-        part: Part::of(formula),
+        formula,
         parts,
     };
     let mut trees = mem::replace(&mut family.trees, TreeList::of(Vec::new(alloc))).into_vec();
@@ -63,18 +60,4 @@ pub fn check<D: NumDomain, R: Rank>(
     family.trees = TreeList::of(trees);
     settled?;
     Ok(drops)
-}
-
-impl Part {
-    /// The part that the formula is.
-    fn of(formula: &Formula) -> Part
-        requires { IsCheckable (ctl formula.now) }
-        ensures { ctl formula.now ≡ part_formula result }
-    {
-        match formula {
-            Formula::True => Part::True,
-            Formula::Exit => Part::Exit,
-            _ => Part::Ending,
-        }
-    }
 }

@@ -7,7 +7,7 @@ ghost use Rattle.tree_support.specs.Setting.{trees_in};
 ghost use Rattle.linear_cons.specs.Functions.{constant_of, variable_at};
 ghost use Rattle.linear_forms.specs.Linearising as exactness;
 ghost use Rattle.rows_in_hand.specs.Hands.{AreFormed, Forms, IsMetNowhere, all_asked, asked};
-ghost use Rattle.tree_check.specs.Moves.{HasPlace, arcs_of, over_each};
+ghost use Rattle.tree_check.specs.Moves.{HasPlace, arcs_of, outcome_arcs, over_each, value_arcs};
 ghost use Rattle.rows_in_hand.specs.Searches.{Holds, IsLonger, IsSame, IsSearched, WhereAsked};
 ghost use Rattle.tree_check.specs.Walks.{systems_behind};
 
@@ -273,6 +273,78 @@ impl Moves {
                 let refuted = refute_each(no_rows, trees, limit, 1, *no, hand, found)?;
                 Ok(refuted)
             }
+        }
+    }
+
+    /// The same of the arcs of one outcome of a test.
+    pub(crate) fn refute_outcome<R: Rank>(
+        &self,
+        outcome: bool,
+        trees: &[Tree<R>],
+        limit: Option<R>,
+        hand: &mut Hand,
+        found: &mut Option<Finding>,
+    ) -> Result<bool, AllocError>
+        ensures same { IfOk result (λ refuted. refuted ≡ false → IsSame hand.old hand.new) }
+        ensures searched { IfOk result (λ refuted. WhereAsked hand.old (λ asks.
+            IsSearched R.Rank.own (over_each (trees_in (map plan_of trees.now)) limit (outcome_arcs self.now outcome) asks)
+            refuted found.new)) }
+    {
+        match self {
+            Moves::Test {
+                yes,
+                no,
+                yes_rows,
+                no_rows,
+            } => {
+                if outcome {
+                    let refuted = refute_each(yes_rows, trees, limit, 0, *yes, hand, found)?;
+                    return Ok(refuted);
+                }
+                let refuted = refute_each(no_rows, trees, limit, 1, *no, hand, found)?;
+                Ok(refuted)
+            }
+            Moves::Pass { next: _ } => Ok(false),
+            Moves::Assign {
+                place: _,
+                value: _,
+                next: _,
+            } => Ok(false),
+        }
+    }
+
+    /// The same of the arc of an assignment that puts the value of a function.
+    pub(crate) fn refute_value<R: Rank>(
+        &self,
+        value: &Affine,
+        trees: &[Tree<R>],
+        limit: Option<R>,
+        hand: &mut Hand,
+        found: &mut Option<Finding>,
+    ) -> Result<bool, AllocError>
+        requires { HasPlace self.now }
+        ensures same { IfOk result (λ refuted. refuted ≡ false → IsSame hand.old hand.new) }
+        ensures searched { IfOk result (λ refuted. WhereAsked hand.old (λ asks.
+            IsSearched R.Rank.own (over_each (trees_in (map plan_of trees.now)) limit (value_arcs self.now value.now) asks)
+            refuted found.new)) }
+    {
+        match self {
+            Moves::Assign {
+                place,
+                value: _,
+                next,
+            } => {
+                let sets = Some((*place, *value));
+                let refuted = refute_assigned(sets, trees, limit, *next, hand, found)?;
+                Ok(refuted)
+            }
+            Moves::Pass { next: _ } => Ok(false),
+            Moves::Test {
+                yes: _,
+                no: _,
+                yes_rows: _,
+                no_rows: _,
+            } => Ok(false),
         }
     }
 }

@@ -1,43 +1,36 @@
 //! One leaf of a family, by its why.
-ghost use Rattle.std.specs.Prelude.{◌≡◌, ◌∷◌, [], false, IfOk, map};
+ghost use Rattle.std.specs.Prelude.{◌≡◌, ◌∷◌, ◌++◌, [], false, IfOk, map};
+ghost use Rattle.linear_cons.specs.Functions.{complement_of};
 ghost use Rattle.decision_tree.specs.Plans.{leaf, plan_of};
+ghost use Rattle.tree_support.specs.Forming.{Formed, given};
 ghost use Rattle.tree_support.specs.Setting.{trees_in};
-ghost use Rattle.tree_support.specs.Systems.{of_leaf, of_pick, of_why, unedged, unnatural, undefined_at};
-ghost use Rattle.rows_in_hand.specs.Hands.{IsTried, all_asked};
-ghost use Rattle.tree_check.specs.Leaves.{IsEndTried, IsExitTried, IsTruthTried, WhereStood};
-ghost use Rattle.tree_check.specs.Checking.{families_of};
-ghost use Rattle.tree_check.specs.declared.leaf.Part.TheVariants.{Ending};
-ghost use Rattle.tree_check.specs.Moves.{HasPlace};
+ghost use Rattle.tree_support.specs.Systems.{of_atom, of_both, of_end, of_keep, of_leaf, of_now, of_rank, of_side, of_why, unedged, unnatural, undefined_at};
+ghost use Rattle.rows_in_hand.specs.Hands.{Forms, IsTried, all_asked, asked};
 ghost use Rattle.rows_in_hand.specs.Searches.{IsClaimFormed, IsSame, IsSearched, WhereAsked};
+ghost use Rattle.tree_check.specs.Checking.{families_of};
+ghost use Rattle.tree_check.specs.Leaves.{WhereStood};
+ghost use Rattle.tree_check.specs.Moves.{HasPlace};
 
 use crate::follow::refute_at;
 use crate::moves::Moves;
+use crate::part::Part;
 use crate::walk::Way;
-use decision_tree::{Alternatives, Family, Pick, Rank, Tree, Why};
-use linear_cons::Wide;
+use control_flow::Choice;
+use decision_tree::{Alternatives, Family, Rank, Tree, Why};
+use linear_cons::{Affine, Row, RowKind, Wide};
 use rows_in_hand::{Finding, Hand, try_claim};
 use std::alloc::AllocError;
 
 /// The edge number of a system that has no edge.
 pub(crate) const UNEDGED: u32 = 2;
 
-/// The parts of formulas whose families are checked.
-#[derive(Clone, Copy)]
-pub(crate) enum Part {
-    /// The truth.
-    True,
-    /// The program has ended.
-    Exit,
-    /// Every run comes to the end.
-    Ending,
-}
-
-/// What the leaves of a label are held against: the part, what is done at the label, the family itself, and those of the part's direct
-/// smaller parts.
+/// What the leaves of a label are held against: the part, what is done and may be chosen at the label, the family itself, and those of
+/// the part's operands.
 #[derive(Drop)]
 pub(crate) struct Stand<'a, R: Rank> {
     pub(crate) part: Part,
     pub(crate) label: u32,
+    pub(crate) choice: Choice,
     pub(crate) moves: &'a Moves,
     pub(crate) family: &'a [Tree<R>],
     pub(crate) parts: &'a [Family<R>],
@@ -55,30 +48,36 @@ impl<'a, R: Rank> Stand<'a, R> {
     ) -> Result<bool, AllocError>
         requires { HasPlace self.now.moves.now }
         ensures same { IfOk result (λ refuted. refuted ≡ false → IsSame hand.old hand.new) }
-        ensures searched { IfOk result (λ refuted. WhereStood self.now.part self.now (λ at. WhereAsked hand.old (λ asks.
+        ensures searched { IfOk result (λ refuted. WhereStood self.now (λ at. WhereAsked hand.old (λ asks.
             IsSearched R.Rank.own (of_leaf at (leaf why.now rank.now) (trees_in (map plan_of self.now.family.now)) self.now.label asks)
             refuted found.new))) }
     {
-        match self.part {
-            Part::True => {
-                let refuted = refute_truth(why, hand, found)?;
-                Ok(refuted)
-            }
-            Part::Exit => {
-                let refuted = refute_exit(why, self.label, hand, found)?;
-                Ok(refuted)
-            }
-            Part::Ending => {
-                if refute_rank(rank, hand, found)? {
-                    return Ok(true);
-                }
-                let refuted = self.refute_why(why, rank, hand, found)?;
-                Ok(refuted)
-            }
+        if self.refute_bound(rank, hand, found)? {
+            return Ok(true);
         }
+        let refuted = self.refute_why(why, rank, hand, found)?;
+        Ok(refuted)
     }
 
-    /// The systems by the why of a leaf that says that every run comes to the end.
+    /// The rank of an until's leaf is a natural.
+    fn refute_bound(
+        &self,
+        rank: &R,
+        hand: &mut Hand,
+        found: &mut Option<Finding>,
+    ) -> Result<bool, AllocError>
+        ensures same { IfOk result (λ refuted. refuted ≡ false → IsSame hand.old hand.new) }
+        ensures searched { IfOk result (λ refuted. WhereStood self.now (λ at. WhereAsked hand.old (λ asks.
+            IsSearched R.Rank.own (of_rank at at.formula rank.now asks) refuted found.new))) }
+    {
+        if self.part.has_bound() {
+            let refuted = refute_rank(rank, hand, found)?;
+            return Ok(refuted);
+        }
+        Ok(false)
+    }
+
+    /// The systems by the why of a leaf.
     fn refute_why(
         &self,
         why: &Why,
@@ -88,119 +87,187 @@ impl<'a, R: Rank> Stand<'a, R> {
     ) -> Result<bool, AllocError>
         requires { HasPlace self.now.moves.now }
         ensures same { IfOk result (λ refuted. refuted ≡ false → IsSame hand.old hand.new) }
-        ensures searched { IfOk result (λ refuted. WhereStood Ending self.now (λ at. WhereAsked hand.old (λ asks.
+        ensures searched { IfOk result (λ refuted. WhereStood self.now (λ at. WhereAsked hand.old (λ asks.
             IsSearched R.Rank.own (of_why at why.now (trees_in (map plan_of self.now.family.now)) rank.now self.now.label asks)
             refuted found.new))) }
     {
         match why {
             Why::End => {
-                let refuted = refute_elsewhere(self.label, hand, found)?;
+                let refuted = self.refute_end(hand, found)?;
+                Ok(refuted)
+            }
+            Why::Atom => {
+                let refuted = self.refute_atom(hand, found)?;
+                Ok(refuted)
+            }
+            Why::Both => {
+                let refuted = self.refute_both(hand, found)?;
+                Ok(refuted)
+            }
+            Why::Left => {
+                let refuted = self.refute_side(0, hand, found)?;
+                Ok(refuted)
+            }
+            Why::Right => {
+                let refuted = self.refute_side(1, hand, found)?;
                 Ok(refuted)
             }
             Why::Now => {
-                let refuted = refute_part(self.parts, 1, self.label, hand, found)?;
+                let refuted = self.refute_now(hand, found)?;
+                Ok(refuted)
+            }
+            Why::Dead => {
+                let refuted = refute_plain(hand, found)?;
                 Ok(refuted)
             }
             Why::Step(pick) => {
-                if refute_part(self.parts, 0, self.label, hand, found)? {
+                if self.refute_kept(hand, found)? {
                     return Ok(true);
                 }
-                let refuted = self.refute_step(pick, rank, hand, found)?;
-                Ok(refuted)
-            }
-            _ => {
-                let refuted = refute_plain(hand, found)?;
+                let refuted = self.refute_pick(pick, rank, hand, found)?;
                 Ok(refuted)
             }
         }
     }
 
-    /// The systems of a step: those of all arcs, or one where some other pick stands.
-    fn refute_step(
+    /// The end stands at label 0, where the part may say that it is there.
+    fn refute_end(&self, hand: &mut Hand, found: &mut Option<Finding>) -> Result<bool, AllocError>
+        ensures same { IfOk result (λ refuted. refuted ≡ false → IsSame hand.old hand.new) }
+        ensures searched { IfOk result (λ refuted. WhereStood self.now (λ at. WhereAsked hand.old (λ asks.
+            IsSearched R.Rank.own (of_end at at.formula self.now.label asks) refuted found.new))) }
+    {
+        if self.label != 0 {
+            let refuted = refute_plain(hand, found)?;
+            return Ok(refuted);
+        }
+        if self.part.may_end() {
+            return Ok(false);
+        }
+        let refuted = refute_plain(hand, found)?;
+        Ok(refuted)
+    }
+
+    /// An atom holds at the label, or where the complement of its row is met nowhere.
+    fn refute_atom(&self, hand: &mut Hand, found: &mut Option<Finding>) -> Result<bool, AllocError>
+        ensures same { IfOk result (λ refuted. refuted ≡ false → IsSame hand.old hand.new) }
+        ensures searched { IfOk result (λ refuted. WhereStood self.now (λ at. WhereAsked hand.old (λ asks.
+            IsSearched R.Rank.own (of_atom at at.formula self.now.label asks) refuted found.new))) }
+    {
+        if let Some(function) = self.part.function() {
+            let refuted = refute_with(complement(&function), hand, found)?;
+            return Ok(refuted);
+        }
+        if self.part.holds_at(self.label) {
+            return Ok(false);
+        }
+        let refuted = refute_plain(hand, found)?;
+        Ok(refuted)
+    }
+
+    /// Both sides of a conjunction are defined.
+    fn refute_both(&self, hand: &mut Hand, found: &mut Option<Finding>) -> Result<bool, AllocError>
+        ensures same { IfOk result (λ refuted. refuted ≡ false → IsSame hand.old hand.new) }
+        ensures searched { IfOk result (λ refuted. WhereStood self.now (λ at. WhereAsked hand.old (λ asks.
+            IsSearched R.Rank.own (of_both at at.formula self.now.label asks) refuted found.new))) }
+    {
+        if !self.part.is_both() {
+            let refuted = refute_plain(hand, found)?;
+            return Ok(refuted);
+        }
+        if refute_part(self.parts, 0, self.label, hand, found)? {
+            return Ok(true);
+        }
+        let refuted = refute_part(self.parts, 1, self.label, hand, found)?;
+        Ok(refuted)
+    }
+
+    /// The side of a disjunction is defined.
+    fn refute_side(
         &self,
-        pick: &Pick,
-        rank: &R,
+        side: usize,
         hand: &mut Hand,
         found: &mut Option<Finding>,
     ) -> Result<bool, AllocError>
-        requires { HasPlace self.now.moves.now }
         ensures same { IfOk result (λ refuted. refuted ≡ false → IsSame hand.old hand.new) }
-        ensures searched { IfOk result (λ refuted. WhereStood Ending self.now (λ at. WhereAsked hand.old (λ asks.
-            IsSearched R.Rank.own (of_pick at pick.now (trees_in (map plan_of self.now.family.now)) rank.now self.now.label asks)
-            refuted found.new))) }
+        ensures searched { IfOk result (λ refuted. WhereStood self.now (λ at. WhereAsked hand.old (λ asks.
+            IsSearched R.Rank.own (of_side at at.formula side self.now.label asks) refuted found.new))) }
     {
-        match pick {
-            Pick::All => {
-                let refuted = self.moves.refute(self.family, Some(*rank), hand, found)?;
+        if !self.part.is_either() {
+            let refuted = refute_plain(hand, found)?;
+            return Ok(refuted);
+        }
+        let refuted = refute_part(self.parts, side, self.label, hand, found)?;
+        Ok(refuted)
+    }
+
+    /// The goal of an until is met now, and at label 0 the operand of a next holds.
+    fn refute_now(&self, hand: &mut Hand, found: &mut Option<Finding>) -> Result<bool, AllocError>
+        ensures same { IfOk result (λ refuted. refuted ≡ false → IsSame hand.old hand.new) }
+        ensures searched { IfOk result (λ refuted. WhereStood self.now (λ at. WhereAsked hand.old (λ asks.
+            IsSearched R.Rank.own (of_now at at.formula self.now.label asks) refuted found.new))) }
+    {
+        match self.part.met_now(self.label) {
+            Some(number) => {
+                let refuted = refute_part(self.parts, number, self.label, hand, found)?;
                 Ok(refuted)
             }
-            _ => {
+            None => {
                 let refuted = refute_plain(hand, found)?;
                 Ok(refuted)
             }
         }
     }
-}
 
-/// The systems of a leaf that says that the truth holds.
-fn refute_truth(why: &Why, hand: &mut Hand, found: &mut Option<Finding>) -> Result<bool, AllocError>
-    ensures same { IfOk result (λ refuted. refuted ≡ false → IsSame hand.old hand.new) }
-    ensures tried { IfOk result (λ refuted. WhereAsked hand.old (λ asks. IsTruthTried why.now asks refuted found.new)) }
-{
-    match why {
-        Why::Atom => Ok(false),
-        _ => {
-            let refuted = refute_plain(hand, found)?;
-            Ok(refuted)
+    /// What an until is to keep holds before a step.
+    fn refute_kept(&self, hand: &mut Hand, found: &mut Option<Finding>) -> Result<bool, AllocError>
+        ensures same { IfOk result (λ refuted. refuted ≡ false → IsSame hand.old hand.new) }
+        ensures searched { IfOk result (λ refuted. WhereStood self.now (λ at. WhereAsked hand.old (λ asks.
+            IsSearched R.Rank.own (of_keep at at.formula self.now.label asks) refuted found.new))) }
+    {
+        if self.part.keeps() {
+            let refuted = refute_part(self.parts, 0, self.label, hand, found)?;
+            return Ok(refuted);
         }
+        Ok(false)
     }
-}
-
-/// The systems of a leaf that says that the program has ended.
-fn refute_exit(
-    why: &Why,
-    label: u32,
-    hand: &mut Hand,
-    found: &mut Option<Finding>,
-) -> Result<bool, AllocError>
-    ensures same { IfOk result (λ refuted. refuted ≡ false → IsSame hand.old hand.new) }
-    ensures tried { IfOk result (λ refuted. WhereAsked hand.old (λ asks. IsExitTried why.now label asks refuted found.new)) }
-{
-    match why {
-        Why::End => {
-            let refuted = refute_elsewhere(label, hand, found)?;
-            Ok(refuted)
-        }
-        _ => {
-            let refuted = refute_plain(hand, found)?;
-            Ok(refuted)
-        }
-    }
-}
-
-/// The end stands at label 0, and elsewhere has one system.
-fn refute_elsewhere(
-    label: u32,
-    hand: &mut Hand,
-    found: &mut Option<Finding>,
-) -> Result<bool, AllocError>
-    ensures same { IfOk result (λ refuted. refuted ≡ false → IsSame hand.old hand.new) }
-    ensures tried { IfOk result (λ refuted. WhereAsked hand.old (λ asks. IsEndTried label asks refuted found.new)) }
-{
-    if label == 0 {
-        return Ok(false);
-    }
-    let refuted = refute_plain(hand, found)?;
-    Ok(refuted)
 }
 
 /// Looks for a reason against the one system of a why that stands elsewhere.
-fn refute_plain(hand: &mut Hand, found: &mut Option<Finding>) -> Result<bool, AllocError>
+pub(crate) fn refute_plain(hand: &mut Hand, found: &mut Option<Finding>) -> Result<bool, AllocError>
     ensures same { IfOk result (λ refuted. refuted ≡ false → IsSame hand.old hand.new) }
     ensures tried { IfOk result (λ refuted. WhereAsked hand.old (λ asks. IsTried (all_asked asks) 2 refuted found.new)) }
 {
     let refuted = hand.settle(UNEDGED, found)?;
     Ok(refuted)
+}
+
+/// Looks for a reason against the system of the rows in hand and one more.
+pub(crate) fn refute_with(
+    formed: Result<RowKind, Wide>,
+    hand: &mut Hand,
+    found: &mut Option<Finding>,
+) -> Result<bool, AllocError>
+    ensures same { IfOk result (λ refuted. refuted ≡ false → IsSame hand.old hand.new) }
+    ensures tried { IfOk result (λ refuted. WhereAsked hand.old (λ asks. (a : Formed) → Forms (asked a) formed
+        → IsTried (all_asked (asks ++ a ∷ [])) 2 refuted found.new)) }
+{
+    let mark = hand.mark();
+    if !hand.add(formed)? {
+        return Ok(false);
+    }
+    if hand.settle(UNEDGED, found)? {
+        return Ok(true);
+    }
+    hand.back(mark);
+    Ok(false)
+}
+
+/// The function's value is below 0.
+fn complement(function: &Affine) -> Result<RowKind, Wide>
+    ensures { Forms (asked (given (complement_of function.now))) result }
+{
+    let below = Affine::constant(-1).sub(function)?;
+    Ok(Row::of(below))
 }
 
 /// Looks for a reason against the system that says that a leaf's rank is no natural.
@@ -226,7 +293,7 @@ fn negative<R: Rank>(rank: &R) -> Result<Alternatives, Wide>
     Ok(alternatives)
 }
 
-/// Looks for a reason against the undefined leaves of a smaller part's tree at the label; past the last part nothing is defined.
+/// Looks for a reason against the undefined leaves of an operand's tree at the label; past the last operand nothing is defined.
 fn refute_part<R: Rank>(
     parts: &[Family<R>],
     number: usize,

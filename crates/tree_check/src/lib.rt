@@ -9,7 +9,9 @@ mod follow;
 pub mod laws;
 mod leaf;
 mod moves;
+mod part;
 mod rounds;
+mod step;
 mod survey;
 mod walk;
 

@@ -1,9 +1,10 @@
 //! What is done at a label, ready to be followed.
-ghost use Rattle.std.specs.Prelude.{◌≡◌, ◌<◌, IfOk, length};
+ghost use Rattle.std.specs.Prelude.{◌≡◌, ◌<◌, Bool, IfOk, length};
 ghost use Rattle.step_meaning.specs.Syntax.{statements};
+ghost use Rattle.linear_cons.specs.declared.affine.Affine.{Affine};
 ghost use Rattle.control_flow.specs.Labels.{action_at, all_labels};
-ghost use Rattle.tree_support.specs.Flow.{arcs_by};
-ghost use Rattle.tree_check.specs.Moves.{HasPlace, arcs_of, target_of};
+ghost use Rattle.tree_support.specs.Flow.{arcs_by, arcs_of_outcome, arcs_putting};
+ghost use Rattle.tree_check.specs.Moves.{HasPlace, arcs_of, outcome_arcs, target_of, value_arcs};
 
 use control_flow::{Edge, Graph};
 use linear_cons::{Bounds, Linear, Rows};
@@ -40,6 +41,10 @@ impl Moves {
     ) -> Result<Moves, AllocError>
         requires { label < length (all_labels (statements graph.now.body)) }
         ensures arcs { IfOk result (λ moves. arcs_of moves ≡ arcs_by bounds.now (action_at (statements graph.now.body) label)) }
+        ensures outcomes { IfOk result (λ moves. (outcome : Bool)
+            → outcome_arcs moves outcome ≡ arcs_of_outcome bounds.now (action_at (statements graph.now.body) label) outcome) }
+        ensures values { IfOk result (λ moves. (a : Affine)
+            → value_arcs moves a ≡ arcs_putting (action_at (statements graph.now.body) label) a) }
         ensures place { IfOk result (λ moves. HasPlace moves) }
     {
         let edges = graph.edges(label);

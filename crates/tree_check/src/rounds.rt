@@ -6,15 +6,17 @@ ghost use Rattle.decision_tree.specs.Plans.{leaves_of, plan_of};
 ghost use Rattle.tree_support.specs.Elimination.{cause_of};
 ghost use Rattle.tree_support.specs.Setting.{trees_in};
 ghost use Rattle.tree_support.specs.Support.{IsSupported};
-ghost use Rattle.tree_check.specs.Moves.{HasPlace, arcs_of};
+ghost use Rattle.tree_check.specs.Moves.{HasPlace, IsMovesAt};
 ghost use Rattle.tree_check.specs.Rounds.{Advances, AreClean, IsApart, IsSameElsewhere, IsSupportedAt, dropped_by, setting_on};
 ghost use Rattle.tree_check.specs.Rounds.{without_refuted};
 ghost use Rattle.tree_check.specs.Surveys.{IsReviewed};
 
-use crate::leaf::{Part, Stand};
+use crate::leaf::Stand;
 use crate::moves::{Moves, target};
+use crate::part::Part;
 use crate::survey::{Refuted, Survey};
 use control_flow::Graph;
+use ctl_formula::Formula;
 use decision_tree::{Cause, Family, Rank, Tree};
 use forward_inv::Inv;
 use linear_cons::Row;
@@ -22,14 +24,13 @@ use num_domain::NumDomain;
 use std::alloc::{AllocError, Global};
 use tree_support::{Dropped, Reason};
 
-/// What the leaves of a family are held against: a graph with its invariants, a part of a formula, and the families of that part's
-/// direct smaller parts.
+/// What the leaves of a family are held against: a graph with its invariants, a formula, and the families of its operands.
 #[derive(Drop)]
 pub(crate) struct Premises<'a, D: NumDomain, R: Rank> {
     pub(crate) alloc: Global,
     pub(crate) graph: &'a Graph,
     pub(crate) inv: &'a Inv<D>,
-    pub(crate) part: Part,
+    pub(crate) formula: &'a Formula,
     pub(crate) parts: &'a [Family<R>],
 }
 
@@ -197,11 +198,12 @@ impl<'a, D: NumDomain, R: Rank> Premises<'a, D, R> {
         trees: &mut [Tree<R>],
         drops: &mut Vec<Dropped>,
     ) -> Result<(), AllocError>
-        requires label { label < length trees.old }
+        requires label { label < length (all_labels (statements self.now.graph.now.body)) }
+        requires trees { length trees.old ≡ length (all_labels (statements self.now.graph.now.body)) }
         requires leaves { (label : ℕ) → leaves_of (trees_in (map plan_of trees.old) label) < 2 ^ 64 - 1 }
         requires place { HasPlace moves.now }
         requires alive { (setting_on D.NumDomain.own self.now).dead label ≡ false }
-        requires arcs { (setting_on D.NumDomain.own self.now).flow.arcs label ≡ arcs_of moves.now }
+        requires moves { IsMovesAt (setting_on D.NumDomain.own self.now) label moves.now }
         requires rows { (setting_on D.NumDomain.own self.now).rows label ≡ rows.now }
         ensures advances { Advances R.Rank.own (setting_on D.NumDomain.own self.now) (map plan_of trees.old) drops.old.items
             (map plan_of trees.new) drops.new.items }
@@ -226,18 +228,20 @@ impl<'a, D: NumDomain, R: Rank> Premises<'a, D, R> {
         rows: &[Row],
         trees: &[Tree<R>],
     ) -> Result<Option<Refuted>, AllocError>
+        requires label { label < length (all_labels (statements self.now.graph.now.body)) }
         requires leaves { leaves_of (trees_in (map plan_of trees.now) label) < 2 ^ 64 - 1 }
         requires place { HasPlace moves.now }
         requires alive { (setting_on D.NumDomain.own self.now).dead label ≡ false }
-        requires arcs { (setting_on D.NumDomain.own self.now).flow.arcs label ≡ arcs_of moves.now }
+        requires moves { IsMovesAt (setting_on D.NumDomain.own self.now) label moves.now }
         requires rows { (setting_on D.NumDomain.own self.now).rows label ≡ rows.now }
         ensures { IfOk result (λ refuted.
             IsReviewed R.Rank.own (setting_on D.NumDomain.own self.now) (trees_in (map plan_of trees.now)) label first refuted) }
     {
         let survey = Survey {
             stand: Stand {
-                part: self.part,
+                part: Part::of(self.formula),
                 label,
+                choice: self.graph.choice(label),
                 moves,
                 family: trees,
                 parts: self.parts,

@@ -37,7 +37,7 @@ impl<'a, R: Rank> Survey<'a, R> {
     pub(crate) fn refuted(&self, alloc: Global, rows: &[Row]) -> Result<Option<Refuted>, AllocError>
         requires place { HasPlace self.now.stand.moves.now }
         requires few { leaves_of (trees_in (map plan_of self.now.stand.family.now) self.now.stand.label) < 2 ^ 64 - 1 }
-        ensures { IfOk result (λ refuted. WhereStood self.now.stand.part self.now.stand (λ at. at.dead self.now.stand.label ≡ false
+        ensures { IfOk result (λ refuted. WhereStood self.now.stand (λ at. at.dead self.now.stand.label ≡ false
             → at.rows self.now.stand.label ≡ rows.now →
             IsReviewed R.Rank.own at (trees_in (map plan_of self.now.stand.family.now)) self.now.stand.label self.now.first refuted)) }
     {
@@ -72,7 +72,7 @@ impl<'a, R: Rank> Survey<'a, R> {
         requires few { passed.old + leaves_of (plan_of tree.now) < 2 ^ 64 - 1 }
         ensures same { IfOk result (λ refuted. refuted ≡ false → IsSame hand.old hand.new) }
         ensures passed { IfOk result (λ refuted. refuted ≡ false → passed.new ≡ passed.old + leaves_of (plan_of tree.now)) }
-        ensures surveyed { IfOk result (λ refuted. WhereStood self.now.stand.part self.now.stand (λ at. WhereAsked hand.old (λ asks.
+        ensures surveyed { IfOk result (λ refuted. WhereStood self.now.stand (λ at. WhereAsked hand.old (λ asks.
             IsSurveyed R.Rank.own at
             (trees_in (map plan_of self.now.stand.family.now)) self.now.stand.label self.now.first
             (plan_of tree.now) asks passed.old passed.new refuted found.new))) }
@@ -111,7 +111,7 @@ impl<'a, R: Rank> Survey<'a, R> {
     ) -> Result<bool, AllocError>
         requires { HasPlace self.now.stand.moves.now }
         ensures same { IfOk result (λ refuted. refuted ≡ false → IsSame hand.old hand.new) }
-        ensures surveyed { IfOk result (λ refuted. WhereStood self.now.stand.part self.now.stand (λ at. WhereAsked hand.old (λ asks.
+        ensures surveyed { IfOk result (λ refuted. WhereStood self.now.stand (λ at. WhereAsked hand.old (λ asks.
             IsSurveyed R.Rank.own at
             (trees_in (map plan_of self.now.stand.family.now)) self.now.stand.label self.now.first
             (leaf why.now rank.now) asks number number refuted found.new))) }
@@ -152,7 +152,7 @@ impl<'a, R: Rank> Survey<'a, R> {
         requires few { passed.old + leaves_of (plan_of side.now) < 2 ^ 64 - 1 }
         ensures same { IfOk result (λ refuted. refuted ≡ false → IsSame hand.old hand.new) }
         ensures passed { IfOk result (λ refuted. refuted ≡ false → passed.new ≡ passed.old + leaves_of (plan_of side.now)) }
-        ensures surveyed { IfOk result (λ refuted. WhereStood self.now.stand.part self.now.stand (λ at. WhereAsked hand.old (λ asks.
+        ensures surveyed { IfOk result (λ refuted. WhereStood self.now.stand (λ at. WhereAsked hand.old (λ asks.
             IsSurveyed R.Rank.own at
             (trees_in (map plan_of self.now.stand.family.now)) self.now.stand.label self.now.first (plan_of side.now)
             (asks ++ given (side_of row.now.affine holds) ∷ []) passed.old passed.new refuted found.new))) }

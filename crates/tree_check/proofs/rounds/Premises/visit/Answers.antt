@@ -1,4 +1,4 @@
-use Rattle.std.proofs.Common.{map, refl, rules, subst, sym}
+use Rattle.std.proofs.Common.{map, rules, subst, sym}
 use Rattle.decision_tree.specs.Plans.{plan_of}
 use Rattle.tree_support.specs.Setting.{trees_in}
 use Rattle.tree_check.specs.Rounds.{AreClean, setting_on}
@@ -20,5 +20,5 @@ returns-then-len-before-clause-clean g c =
 
 pub returns-clause-clean : goal.returns-clause-clean
 returns-clause-clean g c =
-    clean_without g.R.Rank (setting_on g.D.NumDomain c.args.self.now) c.args.self.now.part refl (map plan_of c.args.trees.now) (map plan_of c.settle_label.new.trees) c.args.clean.now c.disturb.new.clean c.args.label
+    clean_without g.R.Rank (setting_on g.D.NumDomain c.args.self.now) (map plan_of c.args.trees.now) (map plan_of c.settle_label.new.trees) c.args.clean.now c.disturb.new.clean c.args.label
     c.settle_label.ensures.elsewhere c.requires.clean c.disturb.ensures

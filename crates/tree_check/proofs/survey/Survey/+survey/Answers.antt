@@ -27,7 +27,7 @@ refute-returns-in_ok-refuted-in-Node-clause-surveyed g t c at is_at asks held =
 pub refute_behind-returns-then-not-branch-clause-surveyed :
     goal.refute_behind-returns-then-not-branch-clause-surveyed
 refute_behind-returns-then-not-branch-clause-surveyed g t c at is_at asks held =
-    surveyed_nowhere g.R.Rank at (trees_in (map plan_of c.args.self.now.stand.family.now)) c.args.self.now.stand.label c.args.self.now.first c.args.self.now.stand.part (plan_of c.args.side.now) (asks ++ given (side_of c.args.row.now.affine c.args.holds) ∷ []) c.args.passed.now c.args.passed.now c.args.found.now is_at.formula
+    surveyed_nowhere g.R.Rank at (trees_in (map plan_of c.args.self.now.stand.family.now)) c.args.self.now.stand.label c.args.self.now.first (plan_of c.args.side.now) (asks ++ given (side_of c.args.row.now.affine c.args.holds) ∷ []) c.args.passed.now c.args.passed.now c.args.found.now
     (c.in_ok-enter.ensures.nowhere c.if-not-branch.true asks held)
 
 pub refute_behind-returns-then-branch-clause-surveyed :

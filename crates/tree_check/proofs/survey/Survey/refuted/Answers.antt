@@ -13,7 +13,7 @@ returns-then-not-branch g c at is_at alive rows_are =
     let family = trees_in (map plan_of c.args.self.now.stand.family.now) in
     let none : IsMetNowhere (all_asked (rows_given c.args.rows.now)) = c.in_ok-add_rows.ensures.nowhere c.if-not-branch.true [] (held_empty c.new-hand.result.rows c.new-hand.result.wide c.new-hand.ensures.rows c.new-hand.ensures.wide) in
     reviewed_none g.R.Rank at family label c.args.self.now.first None 0 alive
-    (surveyed_nowhere g.R.Rank at family label c.args.self.now.first c.args.self.now.stand.part (family label) (rows_given (at.rows label)) 0 0 None is_at.formula (rw rows_are none))
+    (surveyed_nowhere g.R.Rank at family label c.args.self.now.first (family label) (rows_given (at.rows label)) 0 0 None (rw rows_are none))
 
 pub returns-then-not-branch-2 : goal.returns-then-not-branch-2
 returns-then-not-branch-2 g c at is_at alive rows_are =
