@@ -1,5 +1,5 @@
 //! What the check gives up of families of trees over small programs, and what it leaves.
-ghost use Rattle.std.specs.Prelude.{◌≡◌, ℕ, ◌-◌, ◌<◌, ◌^◌, IsTrue, map};
+ghost use Rattle.std.specs.Prelude.{ℕ, ◌-◌, ◌<◌, ◌^◌, IsTrue, map};
 ghost use Rattle.decision_tree.specs.Plans.{leaves_of, plan_of};
 ghost use Rattle.tree_support.specs.Setting.{trees_in};
 

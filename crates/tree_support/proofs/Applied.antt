@@ -87,7 +87,7 @@ less =
 
 -- each of them is supported and leaves place 15 alone
 abbrev over : Ctl → ℕ → Trees AffineRank
-over f = operands_from body told families 0 f
+over f = operands_from families 0 f
 
 constant_spares : (z : ℤ) → coefficient (constant_of z) 15 ≡ pos 0
 constant_spares z = number_at_places (λ i. pos 0) 15 (omega arith)
@@ -124,7 +124,7 @@ shown = record { supported = supported; spares = spares }
 
 certificate : IsCertificate body told af_exit families (family ∷ [])
 certificate = record {
-  smaller = (tt, truth_shown, tt, record { supported = end_supported (operands_from body told families 1 exit); spares = end_spares });
+  smaller = (tt, truth_shown, tt, record { supported = end_supported (operands_from families 1 exit); spares = end_spares });
   whole = all_one (IsShown body told af_exit (over af_exit)) family shown;
 }
 

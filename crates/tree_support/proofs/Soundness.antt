@@ -148,7 +148,7 @@ module _ (vars : ℕ) (body : Statements) (told : Told) (few : vars ≤ 15) (val
 
   module _ (families : ℕ → Trees AffineRank) where
     abbrev operands : ℕ → Ctl → ℕ → Trees AffineRank
-    operands k f = operands_from body told families k f
+    operands k f = operands_from families k f
 
     holds : (k : ℕ) (f : Ctl) → SmallerAreShown body told families k f → (family : Trees AffineRank)
         → IsShown body told f (operands k f) family → HoldsWhere m family (Sat f)
@@ -207,12 +207,12 @@ module _ (vars : ℕ) (body : Statements) (told : Told) (few : vars ≤ 15) (val
       }
 
   pub sound_within : (families : ℕ → Trees AffineRank) (k : ℕ) (all : Bool) (f g : Ctl) → SmallerAreShown body told families k (until all f g)
-      → (family : Trees AffineRank) → IsShown body told (until all f g) (operands_from body told families k (until all f g)) family
+      → (family : Trees AffineRank) → IsShown body told (until all f g) (operands_from families k (until all f g)) family
       → IsSoundWithin vars body (until all f g) family
   sound_within families k all f g smaller family shown =
       let kept = holds families k f smaller.0 (families (number_from k f)) smaller.1 in
       let met = holds families (suc (number_from k f)) g smaller.2 (families (number_from (suc (number_from k f)) g)) smaller.3 in
-      within all f g (operands_from body told families k (until all f g)) family kept met shown
+      within all f g (operands_from families k (until all f g)) family kept met shown
 
   -- ---- every run ends
 

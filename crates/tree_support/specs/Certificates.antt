@@ -1,5 +1,5 @@
 -- Families of affine ranks that show the parts of a formula.
-use Rattle.std.specs.Prelude.{◌≡◌, ℕ, suc, pos, List, All, ⊤}
+use Rattle.std.specs.Prelude.{◌≡◌, ℕ, suc, pos, List, All, Option, None, Some, ⊤}
 use Rattle.step_meaning.specs.Syntax.{Statements}
 use Rattle.linear_cons.specs.Functions.{coefficient}
 use Rattle.decision_tree.specs.contracts.affine_rank.AffineRankRank.TheImpl as affine
@@ -30,14 +30,19 @@ pub record IsShown (body : Statements) (told : Told) (formula : Ctl) (parts : �
   pub supported : IsSupported affine_ranks (setting_of body told formula parts) family
   pub spares : (label : ℕ) → SparesPlace chosen_place (family label)
 
-module _ (body : Statements) (told : Told) (families : ℕ → Trees AffineRank) where
-  -- the families of a formula's operands, where the first of its parts has the number k
-  abbrev pub operands_from : ℕ → Ctl → ℕ → Trees AffineRank
-  operands_from k f place = families (operand_from k f place)
+-- the family of the number that is there; where none is nothing is defined
+abbrev pub numbered : {R : Type 0} → (ℕ → Trees R) → Option ℕ → Trees R
+numbered families None label = bottom
+numbered families (Some number) label = families number label
 
+-- the families of a formula's operands, where the first of its parts has the number k
+abbrev pub operands_from : {R : Type 0} → (ℕ → Trees R) → ℕ → Ctl → ℕ → Trees R
+operands_from families k f place = numbered families (operand_from k f place)
+
+module _ (body : Statements) (told : Told) (families : ℕ → Trees AffineRank) where
   -- the formula itself is shown by the family with its number
   abbrev pub ItselfIsShown : ℕ → Ctl → Type 0
-  ItselfIsShown k f = IsShown body told f (operands_from k f) (families (number_from k f))
+  ItselfIsShown k f = IsShown body told f (operands_from families k f) (families (number_from k f))
 
   -- each smaller part of the formula is
   abbrev pub SmallerAreShown : ℕ → Ctl → Type 0
@@ -64,7 +69,7 @@ module _ (body : Statements) (told : Told) (families : ℕ → Trees AffineRank)
 pub record IsCertificate (body : Statements) (told : Told) (formula : Ctl) (families : ℕ → Trees AffineRank) (tops : List (Trees AffineRank)) : Type 0
   where
     pub smaller : SmallerAreShown body told families 0 formula
-    pub whole : All (IsShown body told formula (operands_from body told families 0 formula)) tops
+    pub whole : All (IsShown body told formula (operands_from families 0 formula)) tops
 
 -- The family is supported for `AF exit` over those of its parts, the truth and `exit`, of which the second is supported too, and leaves
 -- alone the place where a value is kept while it is chosen. The family of the truth has nothing to show.

@@ -38,10 +38,10 @@ pub fn invariants_tell_the_truth<D: NumDomain>()
 pub fn shown_formulas_hold()
     ensures satisfied { (vars : ℕ) (body : Statements) (told : Told) → vars ≤ 15 → IsBody vars body → IsTrueOfReached vars body told
         → (families : ℕ → Trees AffineRank) (k : ℕ) (f : Ctl) → SmallerAreShown body told families k f
-        → (family : Trees AffineRank) → IsShown body told f (operands_from body told families k f) family → IsSound vars body f family }
+        → (family : Trees AffineRank) → IsShown body told f (operands_from families k f) family → IsSound vars body f family }
     ensures bounded { (vars : ℕ) (body : Statements) (told : Told) → vars ≤ 15 → IsBody vars body → IsTrueOfReached vars body told
         → (families : ℕ → Trees AffineRank) (k : ℕ) (all : Bool) (keep goal : Ctl) → SmallerAreShown body told families k (until all keep goal)
-        → (family : Trees AffineRank) → IsShown body told (until all keep goal) (operands_from body told families k (until all keep goal)) family
+        → (family : Trees AffineRank) → IsShown body told (until all keep goal) (operands_from families k (until all keep goal)) family
         → IsSoundWithin vars body (until all keep goal) family }
 {}
 
