@@ -4,5 +4,6 @@ pub mod Copied
 pub mod Rooms
 pub mod Steps
 pub mod LabelLaws
+pub mod Onward
 pub mod Taken
 pub mod Readers

@@ -1,7 +1,9 @@
 -- What a valid program does at its labels, and where its edges lead.
-use Rattle.std.specs.Prelude.{ℕ, ◌<◌, ⊤}
+use Rattle.std.specs.Prelude.{◌≡◌, ◌⊎◌, ℕ, suc, ◌<◌, ◌≤◌, true, false, ⊤}
+use Rattle.step_meaning.specs.Syntax.{Statements}
 use Rattle.step_meaning.specs.Valid.{IsNumber, IsTest}
-use Rattle.control_flow.specs.Labels.{Action, ends, assigns, passes, tests}
+use Rattle.control_flow.specs.Edges.{is_head_by}
+use Rattle.control_flow.specs.Labels.{Action, ends, assigns, passes, tests, action_at}
 
 -- an assignment gives a declared variable a number, and a test is one, over `vars` variables
 abbrev pub IsSorted : ℕ → Action → Type 0
@@ -16,3 +18,19 @@ LeadsBelow labels ends = ⊤
 LeadsBelow labels (assigns x e next) = next < labels
 LeadsBelow labels (passes next) = next < labels
 LeadsBelow labels (tests head c then_to else_to) = (then_to < labels) × (else_to < labels)
+
+-- the label is 0, or that of a loop's test
+abbrev pub IsDoneFirst : Statements → ℕ → Type 0
+IsDoneFirst body label = (label ≡ 0) ⊎ (is_head_by (action_at body label) ≡ true)
+
+-- it is at least n, or is one of these
+abbrev pub IsBehind : Statements → ℕ → ℕ → Type 0
+IsBehind body n label = (n ≤ label) ⊎ IsDoneFirst body label
+
+-- what is done at the label leads to greater labels, to the tests of loops or to the end, or is itself the test of a loop
+abbrev pub LeadsOn : Statements → ℕ → Action → Type 0
+LeadsOn body label ends = ⊤
+LeadsOn body label (assigns x e next) = IsBehind body (suc label) next
+LeadsOn body label (passes next) = IsBehind body (suc label) next
+LeadsOn body label (tests true c then_to else_to) = ⊤
+LeadsOn body label (tests false c then_to else_to) = IsBehind body (suc label) then_to × IsBehind body (suc label) else_to

@@ -6,7 +6,7 @@ ghost use Rattle.step_meaning.specs.Outcome.{Store, May};
 ghost use Rattle.step_meaning.specs.Run.{EndsWithin};
 ghost use Rattle.step_meaning.specs.Step.{Configuration, Next, Step, front};
 ghost use Rattle.step_meaning.specs.Valid.{IsBody};
-ghost use Rattle.control_flow.specs.Actions.{IsSorted, LeadsBelow};
+ghost use Rattle.control_flow.specs.Actions.{IsSorted, LeadsBelow, LeadsOn};
 ghost use Rattle.control_flow.specs.Edges.{EdgesAreSteps, Reached, SomeEdge, BothTaken, LandsAt, configuration, edges_from};
 ghost use Rattle.control_flow.specs.Labels.{action_at, all_labels, assigns, entry_of, rest, tests};
 
@@ -39,6 +39,11 @@ pub fn edges_lead_to_labels()
     ensures edges { (body : Statements) (l : ℕ) → l < length (all_labels body) → LeadsBelow (length (all_labels body)) (action_at body l) }
     ensures entry { (body : Statements) → entry_of body < length (all_labels body) }
     ensures count { (body : Statements) → length (all_labels body) ≡ 1 + size_of body }
+{}
+
+/// Each edge leads to a greater label, to a loop's test or to the end, but for those of loops' tests.
+pub fn edges_lead_onward()
+    ensures { (body : Statements) (l : ℕ) → l < length (all_labels body) → LeadsOn body l (action_at body l) }
 {}
 
 /// What is done at a label of a valid program is over its variables.

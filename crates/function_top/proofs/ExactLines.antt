@@ -34,11 +34,12 @@ use Rattle.control_flow.specs.Edges.{configuration}
 use Rattle.control_flow.specs.Labels.{all_labels, entry_of}
 use Rattle.control_flow.proofs.LabelLaws.{entry_is_a_label}
 use Rattle.control_flow.proofs.Steps.{entry_is_start}
-use Rattle.unroll.specs.Levels.{Claims, IsLevel, RanksCount, counted, tree_at}
+use Rattle.backward_transfer.specs.AffineShapes.{tree_at}
+use Rattle.unroll.specs.Levels.{Claims, IsLevel, RanksCount, counted}
 use Rattle.unroll.specs.Measures.{IsLight}
 use Rattle.unroll.specs.Plain.{IsPlain}
 use Rattle.unroll.specs.Stopping.{IsCause}
-use Rattle.unroll.proofs.Putting.{plan_at}
+use Rattle.backward_transfer.proofs.Putting.{plan_at}
 use Rattle.unroll.proofs.LevelLaws.{Alike, alike_back, longest_alike, tests_alike}
 use Rattle.function_top.specs.Exact.{EndsExactly, IsExact, IsExactLevel, IsUnmade, MeetsLine, header_of, stop_of}
 use Rattle.function_top.proofs.OnlyMet.{met_is_one}

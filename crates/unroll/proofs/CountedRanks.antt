@@ -21,7 +21,7 @@ use Rattle.tree_unify.specs.Choosing.{ChosenFits, chosen}
 use Rattle.tree_unify.specs.Shapes.{MetFits, leaf_met}
 use Rattle.tree_unify.specs.declared.join.Join.TheVariants.{Later}
 use Rattle.unroll.specs.Levels.{counted}
-use Rattle.unroll.specs.Shapes.{affine_ranks, same_rank}
+use Rattle.backward_transfer.specs.AffineShapes.{affine_ranks, same_rank}
 use Rattle.unroll.specs.Within.{EachIs, IsSteps}
 
 -- the rank is a number of steps

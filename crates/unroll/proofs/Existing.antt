@@ -1,9 +1,10 @@
 -- There are sizes that keep to the rules, and only one at each level and label.
 use Rattle.std.proofs.Common.{◌≡◌, inl, inr, ℕ, zero, suc, ◌+◌, ◌*◌, ◌-◌, ◌<◌, ◌≤◌, Bool, true, false, length, refl, sym, ap, ◌∙◌, arith}
 use Rattle.step_meaning.specs.Syntax.{Statements}
+use Rattle.control_flow.specs.Actions.{IsBehind, IsDoneFirst}
 use Rattle.control_flow.specs.Edges.{is_head_by}
 use Rattle.control_flow.specs.Labels.{Action, ends, assigns, passes, tests, action_at, all_labels}
-use Rattle.unroll.specs.Building.{AtNext, IsBehind, IsDoneFirst}
+use Rattle.unroll.specs.Building.{AtNext}
 use Rattle.unroll.specs.Measures.{AreSizes, size_before, size_by, size_of_test}
 use Rattle.std.proofs.Math.Nat.{suc-mul}
 use Rattle.unroll.proofs.Filling.{all_next, behind_next}

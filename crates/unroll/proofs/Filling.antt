@@ -1,23 +1,26 @@
 -- Which trees tell while those of a level are put in.
-use Rattle.std.proofs.Common.{◌≡◌, ◌⊎◌, inl, inr, ℕ, zero, suc, ◌<◌, ◌≤◌, true, false, List, [], ◌∷◌, get_or, length, set, refl, sym, ap, subst, ◌∙◌, arith, ⊎_elim, cond}
+use Rattle.std.proofs.Common.{◌≡◌, ◌⊎◌, inl, inr, ℕ, zero, suc, ◌<◌, ◌≤◌, true, false, List, get_or, length, set, refl, sym, ap, subst, ◌∙◌, arith, ⊎_elim, cond}
 use Rattle.decision_tree.specs.Plans.{Plan, bottom, leaf}
 use Rattle.decision_tree.specs.declared.affine_rank.AffineRank.{AffineRank}
 use Rattle.decision_tree.specs.declared.reason.Why.TheVariants.{End}
 use Rattle.step_meaning.specs.Syntax.{Statements}
-use Rattle.control_flow.specs.Actions.{LeadsBelow}
+use Rattle.control_flow.specs.Actions.{IsBehind, IsDoneFirst, LeadsBelow, LeadsOn}
 use Rattle.control_flow.specs.Edges.{is_head_by}
 use Rattle.control_flow.specs.Labels.{Action, ends, assigns, passes, tests, action_at, all_labels}
 use Rattle.control_flow.proofs.LabelLaws.{edges_lead_to_labels, only_end_is_final}
-use Rattle.unroll.specs.Building.{AtAll, AtBehind, AtFirst, AtNext, IsBehind, IsDoneFirst, TellsAt, TellsTree}
-use Rattle.unroll.specs.Levels.{counted, tree_at}
+use Rattle.control_flow.proofs.Onward.{labels_lead_on}
+use Rattle.backward_transfer.proofs.Putting.{put_other, put_same, same_or}
+use Rattle.unroll.specs.Building.{AtAll, AtBehind, AtFirst, AtNext, TellsAt, TellsTree}
+use Rattle.backward_transfer.specs.AffineShapes.{tree_at}
+use Rattle.unroll.specs.Levels.{counted}
 use Rattle.unroll.specs.Measures.{size_before}
 use Rattle.unroll.proofs.Lifting.{bottom_tree, end_tree}
-use Rattle.unroll.proofs.Ordering.{LeadsOn, heads_are_loops, labels_lead_on}
+use Rattle.unroll.proofs.Ordering.{heads_are_loops}
 
 -- ---- what follows
 
 on_next : (body : Statements) (P : ℕ → Type 0) (l : ℕ) → AtBehind body (suc l) P → (action : Action)
-    → LeadsOn (all_labels body) l action → LeadsBelow (length (all_labels body)) action → is_head_by action ≡ false → AtNext action P
+    → LeadsOn body l action → LeadsBelow (length (all_labels body)) action → is_head_by action ≡ false → AtNext action P
 on_next body P l holds ends on below plain = tt
 on_next body P l holds (assigns x e next) on below plain = holds next below on
 on_next body P l holds (passes next) on below plain = holds next below on
@@ -39,25 +42,7 @@ all_next body P l low holds = below_next body P holds (action_at body l) (edges_
 
 -- ---- an element put in
 
-same_or : (k l : ℕ) → (k ≡ l) ⊎ (k ≡ l → ⊥)
-same_or zero zero = inl refl
-same_or zero (suc l) = inr (λ same. absurd (omega arith))
-same_or (suc k) zero = inr (λ same. absurd (omega arith))
-same_or (suc k) (suc l) = ⊎_elim (λ same. inl (ap suc same)) (λ apart. inr (λ same. apart (omega arith))) (same_or k l)
-
 module _ {A : Type 0} (d : A) where
-  put_same : (list : List A) (l : ℕ) (x : A) → l < length list → get_or (set list l x) l d ≡ x
-  put_same [] l x low = absurd (omega arith)
-  put_same (y ∷ ys) zero x low = refl
-  put_same (y ∷ ys) (suc l) x low = put_same ys l x (omega arith)
-
-  put_other : (list : List A) (l k : ℕ) (x : A) → (k ≡ l → ⊥) → get_or (set list l x) k d ≡ get_or list k d
-  put_other [] l k x apart = refl
-  put_other (y ∷ ys) zero zero x apart = absurd (apart refl)
-  put_other (y ∷ ys) zero (suc k) x apart = refl
-  put_other (y ∷ ys) (suc l) zero x apart = refl
-  put_other (y ∷ ys) (suc l) (suc k) x apart = put_other ys l k x (λ same. apart (ap suc same))
-
   module _ (Q : ℕ → A → Type 0) (body : Statements) (list : List A) (l : ℕ) where
     abbrev In : List A → ℕ → Type 0
     In xs k = Q k (get_or xs k d)
@@ -65,8 +50,8 @@ module _ {A : Type 0} (d : A) where
     put_in : (x : A) (k : ℕ) → l < length list → Q l x → ((k ≡ l → ⊥) → In list k) → In (set list l x) k
     put_in x k low here others =
         ⊎_elim
-        (λ (same : k ≡ l). subst (λ i. Q i (get_or (set list l x) i d)) (sym same) (subst (Q l) (sym (put_same list l x low)) here))
-        (λ (apart : k ≡ l → ⊥). subst (Q k) (sym (put_other list l k x apart)) (others apart)) (same_or k l)
+        (λ (same : k ≡ l). subst (λ i. Q i (get_or (set list l x) i d)) (sym same) (subst (Q l) (sym (put_same d list l x low)) here))
+        (λ (apart : k ≡ l → ⊥). subst (Q k) (sym (put_other d list l k x apart)) (others apart)) (same_or k l)
 
     pub put_behind : (x : A) → l < length list → AtBehind body (suc l) (In list) → Q l x → AtBehind body l (In (set list l x))
     put_behind x low holds here k below behind =

@@ -2,10 +2,11 @@
 use Rattle.std.proofs.Common.{◌≡◌, ◌⊎◌, inl, inr, ⊎_elim, ℕ, zero, suc, ◌+◌, ◌*◌, ◌^◌, ◌<◌, ◌≤◌, Bool, true, false, Some, length, add-one, refl, sym, ap, subst, ◌∙◌, arith}
 use Rattle.std.proofs.Math.Nat.{le_refl, mul-le-mul, mul-mul-mul_comm, mul_assoc, mul_comm, one-le-mul, one-le-pow, one-mul, pow-suc, suc-mul}
 use Rattle.step_meaning.specs.Syntax.{Statements}
+use Rattle.control_flow.specs.Actions.{IsBehind}
 use Rattle.control_flow.specs.Edges.{is_head_by}
 use Rattle.control_flow.specs.Labels.{Action, ends, assigns, passes, tests, action_at, all_labels}
 use Rattle.unroll.specs.Growth.{factor, factor_at, growth_of, product_below, test_size}
-use Rattle.unroll.specs.Building.{IsBehind, left_by}
+use Rattle.unroll.specs.Building.{left_by}
 use Rattle.unroll.specs.Within.{place_by, place_of, steps_of}
 
 module _ (f : ℕ → ℕ) where

@@ -14,7 +14,7 @@ use Rattle.control_flow.specs.Edges.{is_head_by}
 use Rattle.control_flow.specs.Labels.{Action, ends, assigns, passes, tests, action_at, all_labels}
 use Rattle.unroll.specs.Building.{AtNext, left_by}
 use Rattle.unroll.specs.Growth.{factor, factor_at, greatest_of_conjunctions, growth_of, product_below, row_size, test_size}
-use Rattle.unroll.specs.Levels.{tree_at}
+use Rattle.backward_transfer.specs.AffineShapes.{tree_at}
 use Rattle.unroll.specs.Measures.{anywhere}
 use Rattle.unroll.specs.Plain.{IsFittingTest}
 use Rattle.unroll.specs.Within.{AreWithin, IsNarrow, IsWithin, TellsNumbers, place_of, steps_of}

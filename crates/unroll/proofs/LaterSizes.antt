@@ -27,7 +27,7 @@ use Rattle.linear_forms.specs.Spreading.{spread_of}
 use Rattle.linear_forms.proofs.Dual.{spread_dual}
 use Rattle.unroll.specs.Measures.{anywhere, leaves_of_test, size_of_test}
 use Rattle.unroll.specs.Plain.{IsFittingTest}
-use Rattle.unroll.specs.Shapes.{affine_ranks, same_rank, tested_shape}
+use Rattle.backward_transfer.specs.AffineShapes.{affine_ranks, same_rank, tested_shape}
 use Rattle.unroll.proofs.Bounding.{dual_later, dual_size, node_bound, stepped_size}
 use Rattle.unroll.proofs.CountedRanks.{constant_excess, constant_kind}
 use Rattle.unroll.proofs.DualAsks.{side_by}

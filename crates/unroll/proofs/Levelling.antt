@@ -7,10 +7,11 @@ use Rattle.decision_tree.specs.declared.tree.Tree.{Tree}
 use Rattle.step_meaning.specs.Syntax.{Statements}
 use Rattle.control_flow.specs.Edges.{configuration}
 use Rattle.control_flow.specs.Labels.{all_labels}
-use Rattle.unroll.specs.Building.{AtAll, AtBehind, AtFirst, ClaimsAt, TellsAt, TellsTree, plans}
-use Rattle.unroll.specs.Levels.{IsLevel, tree_at}
+use Rattle.unroll.specs.Building.{AtAll, AtBehind, AtFirst, ClaimsAt, TellsAt, TellsTree}
+use Rattle.backward_transfer.specs.AffineShapes.{tree_at, plans}
+use Rattle.unroll.specs.Levels.{IsLevel}
 use Rattle.unroll.proofs.Filling.{put_behind, put_first}
-use Rattle.unroll.proofs.Putting.{plans_length, plans_set}
+use Rattle.backward_transfer.proofs.Putting.{plans_length, plans_set}
 use Rattle.unroll.proofs.LevelLaws.{tells_exactly}
 
 pub is_level : (tests : ℕ) (body : Statements) (trees : List (Plan AffineRank)) → length trees ≡ length (all_labels body) → AtAll body (TellsAt tests body trees)

@@ -12,7 +12,6 @@ pub mod Reading
 pub mod Existing
 pub mod Levelling
 pub mod Treeing
-pub mod Putting
 pub mod Holding
 pub mod Standing
 pub mod Comparing

@@ -12,7 +12,7 @@ use Rattle.decision_tree.specs.Plans.{Plan, bottom, branch, leaf, top}
 use Rattle.decision_tree.specs.declared.affine_rank.AffineRank.{AffineRank}
 use Rattle.backward_transfer.specs.Tests.{enabled}
 use Rattle.unroll.specs.Levels.{RanksCount}
-use Rattle.unroll.specs.Shapes.{affine_ranks, assigned_shape, cut, same_rank, stepped_shape, tested_shape}
+use Rattle.backward_transfer.specs.AffineShapes.{affine_ranks, assigned_shape, cut, same_rank, stepped_shape, tested_shape}
 use Rattle.unroll.specs.Within.{EachIs}
 use Rattle.unroll.proofs.CountedRanks.{Counts, met_counts, more_counts, put_counts}
 use Rattle.unroll.proofs.Every.{every_ask}

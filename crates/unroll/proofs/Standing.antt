@@ -26,7 +26,7 @@ use Rattle.step_meaning.specs.Outcome.{Store}
 use Rattle.unroll.specs.Building.{ClaimsAt, IsBefore, IsBeforeBoth}
 use Rattle.unroll.specs.Levels.{counted}
 use Rattle.decision_tree.specs.Extent.{ComplementsFit}
-use Rattle.unroll.specs.Shapes.{affine_ranks, assigned_shape, cut, same_rank, stepped_shape, tested_shape}
+use Rattle.backward_transfer.specs.AffineShapes.{affine_ranks, assigned_shape, cut, same_rank, stepped_shape, tested_shape}
 use Rattle.unroll.proofs.CountedRanks.{more_counted, put_counted}
 
 -- ---- affine ranks

@@ -20,7 +20,8 @@ use Rattle.control_flow.specs.Labels.{Action, ends, assigns, passes, tests, acti
 use Rattle.control_flow.proofs.LabelLaws.{edges_lead_to_labels, labels_are_sorted}
 use Rattle.decision_tree.specs.Extent.{IsTreeOver, ComplementsFit}
 use Rattle.unroll.specs.Building.{AtNext, IsBefore, IsBeforeBoth, TellsAt, TellsTree, left_by}
-use Rattle.unroll.specs.Levels.{RanksCount, tree_at}
+use Rattle.backward_transfer.specs.AffineShapes.{tree_at}
+use Rattle.unroll.specs.Levels.{RanksCount}
 use Rattle.unroll.specs.Measures.{AreSizes, anywhere, size_before, size_of_test}
 use Rattle.unroll.specs.Plain.{ActionFits, IsFittingTest, IsPlain, IsPlainAction, IsPlainTest}
 use Rattle.unroll.specs.Within.{TellsNumbers}

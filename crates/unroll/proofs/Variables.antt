@@ -24,7 +24,7 @@ use Rattle.decision_tree.specs.declared.affine_rank.AffineRank.{AffineRank}
 use Rattle.decision_tree.specs.Extent.{IsTreeOver}
 use Rattle.linear_cons.proofs.Over.{over_constant, over_difference, over_multiple, over_places, over_put, over_quotient, over_sum}
 use Rattle.unroll.specs.Measures.{anywhere}
-use Rattle.unroll.specs.Shapes.{affine_ranks, assigned_shape, cut, same_rank, stepped_shape, tested_shape}
+use Rattle.backward_transfer.specs.AffineShapes.{affine_ranks, assigned_shape, cut, same_rank, stepped_shape, tested_shape}
 use Rattle.linear_forms.specs.Duality.{EachOf}
 use Rattle.backward_transfer.specs.Tests.{enabled}
 use Rattle.unroll.specs.Levels.{RanksCount}

@@ -10,7 +10,7 @@ use Rattle.step_meaning.specs.Syntax.{Statements}
 use Rattle.backward_transfer.specs.Steps.{AssignFits, StepFits}
 use Rattle.backward_transfer.specs.Tests.{ComplementFits, EnabledFits, TestAsks, enabled}
 use Rattle.unroll.specs.Levels.{counted}
-use Rattle.unroll.specs.Shapes.{CutFits, affine_ranks, assigned_shape, cut, same_rank, stepped_shape, tested_shape}
+use Rattle.backward_transfer.specs.AffineShapes.{CutFits, affine_ranks, assigned_shape, cut, same_rank, stepped_shape, tested_shape}
 use Rattle.unroll.specs.Within.{AreWithin, EachIs, IsNarrow, IsSteps, IsWithin, TellsNumbers}
 use Rattle.unroll.proofs.CountedRanks.{met_fits, met_steps, more_fits, more_steps, put_fits, put_steps}
 use Rattle.unroll.proofs.DualAsks.{IsAsked, ask_each}

@@ -1,19 +1,20 @@
 -- What is known while the trees of a level are made.
-use Rattle.std.specs.Prelude.{◌≡◌, ℕ, zero, suc, ◌<◌, ◌≤◌, max, ◌⊎◌, Bool, true, false, Option, None, Some, List, length, map, ⊤}
+use Rattle.std.specs.Prelude.{◌≡◌, ℕ, zero, suc, ◌<◌, ◌≤◌, max, ◌⊎◌, Bool, true, false, Option, None, Some, List, length, ⊤}
 use Rattle.decision_tree.specs.Evaluation.{eval}
-use Rattle.decision_tree.specs.Plans.{Plan, is_defined, leaf, plan_of, size_of}
+use Rattle.decision_tree.specs.Plans.{Plan, is_defined, leaf, size_of}
 use Rattle.decision_tree.specs.declared.affine_rank.AffineRank.{AffineRank}
 use Rattle.decision_tree.specs.declared.reason.Why.{Why}
-use Rattle.decision_tree.specs.declared.tree.Tree.{Tree}
 use Rattle.step_meaning.specs.Outcome.{Store}
 use Rattle.step_meaning.specs.Run.{EndsInTests, Longest}
 use Rattle.step_meaning.specs.Step.{Configuration}
 use Rattle.step_meaning.specs.Syntax.{Statements}
-use Rattle.control_flow.specs.Edges.{configuration, is_head_by}
+use Rattle.control_flow.specs.Actions.{IsBehind, IsDoneFirst}
+use Rattle.control_flow.specs.Edges.{configuration}
 use Rattle.control_flow.specs.Labels.{Action, ends, assigns, passes, tests, action_at, all_labels}
 use Rattle.step_meaning.specs.Valid.{IsBody}
 use Rattle.decision_tree.specs.Extent.{IsTreeOver, ComplementsFit}
-use Rattle.unroll.specs.Levels.{RanksCount, counted, tree_at}
+use Rattle.backward_transfer.specs.AffineShapes.{tree_at}
+use Rattle.unroll.specs.Levels.{RanksCount, counted}
 use Rattle.unroll.specs.Measures.{AreSizes}
 use Rattle.unroll.specs.Plain.{ActionFits, IsPlain}
 use Rattle.unroll.specs.Within.{TellsNumbers}
@@ -52,19 +53,7 @@ pub record TellsTree (limit : ℕ) (body : Statements) (label : ℕ) (plan : Pla
   pub numbers : TellsNumbers limit body label plan
   pub small : (sizes : ℕ → ℕ → ℕ) → AreSizes body sizes → size_of plan ≤ sizes limit label
 
--- the plans of a list of trees
-abbrev pub plans : List (Tree AffineRank) → List (Plan AffineRank)
-plans trees = map plan_of trees
-
 -- ---- labels in the order in which they are done
-
--- the label is 0, or that of a loop's test
-abbrev pub IsDoneFirst : Statements → ℕ → Type 0
-IsDoneFirst body label = (label ≡ 0) ⊎ (is_head_by (action_at body label) ≡ true)
-
--- it is at least n, or is done first
-abbrev pub IsBehind : Statements → ℕ → ℕ → Type 0
-IsBehind body n label = (n ≤ label) ⊎ IsDoneFirst body label
 
 -- something holds at each label, at those from n on and those that are done first, at those below n that are done first, and at those that
 -- follow

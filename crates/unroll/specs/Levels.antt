@@ -1,9 +1,9 @@
 -- What the trees of a level tell of the runs from a label.
-use Rattle.std.specs.Prelude.{◌≡◌, ℕ, ◌<◌, ◌≤◌, pos, ◌↔◌, List, length, slice_index_or, ⊤}
+use Rattle.std.specs.Prelude.{◌≡◌, ℕ, ◌<◌, ◌≤◌, pos, ◌↔◌, List, length, ⊤}
 use Rattle.linear_cons.specs.Functions.{constant_of}
 use Rattle.decision_tree.specs.Evaluation.{eval}
 use Rattle.decision_tree.specs.Extent.{ComplementsFit, IsTreeOver}
-use Rattle.decision_tree.specs.Plans.{Plan, bottom, branch, leaf, size_of}
+use Rattle.decision_tree.specs.Plans.{Plan, branch, leaf, size_of}
 use Rattle.decision_tree.specs.declared.affine_rank.AffineRank.{AffineRank}
 use Rattle.decision_tree.specs.declared.reason.Why.{Why}
 use Rattle.step_meaning.specs.Outcome.{Store}
@@ -12,6 +12,7 @@ use Rattle.step_meaning.specs.Syntax.{Statements}
 use Rattle.step_meaning.specs.Valid.{IsBody}
 use Rattle.control_flow.specs.Edges.{configuration}
 use Rattle.control_flow.specs.Labels.{all_labels}
+use Rattle.backward_transfer.specs.AffineShapes.{tree_at}
 use Rattle.unroll.specs.Measures.{AreSizes}
 
 -- the rank that is the number everywhere
@@ -21,10 +22,6 @@ counted n = record { value = constant_of (pos n) }
 -- at the store stands a claim of the number of steps
 abbrev pub Claims : Plan AffineRank → Store → ℕ → Type 0
 Claims plan store n = (why : Why) × (eval plan store ≡ leaf why (counted n))
-
--- the tree of the label
-abbrev pub tree_at : List (Plan AffineRank) → ℕ → Plan AffineRank
-tree_at trees label = slice_index_or trees label bottom
 
 -- each rank in the tree is a number of steps
 abbrev pub RanksCount : Plan AffineRank → Type 0

@@ -2,7 +2,6 @@ pub mod Plain
 pub mod Actions
 pub mod Measures
 pub mod Levels
-pub mod Shapes
 pub mod Building
 pub mod Refusals
 pub mod Sizing

@@ -2,7 +2,8 @@
 ghost use Rattle.std.specs.Prelude.{◌≡◌, ℕ, suc, ◌^◌, ◌<◌, ◌≤◌, IfOk, IfErr, IfSome, IsSome, IsSomeAnd, OnOk, length};
 ghost use Rattle.step_meaning.specs.Syntax.{Statements, statements};
 ghost use Rattle.control_flow.specs.Labels.{all_labels};
-ghost use Rattle.unroll.specs.Building.{AtAll, IsFitting, TellsAt, plans};
+ghost use Rattle.backward_transfer.specs.AffineShapes.{plans};
+ghost use Rattle.unroll.specs.Building.{AtAll, IsFitting, TellsAt};
 ghost use Rattle.unroll.specs.Levels.{IsLevel};
 ghost use Rattle.unroll.specs.Plain.{IsPlain};
 ghost use Rattle.unroll.specs.Measures.{IsLight, greatest_below};

@@ -8,7 +8,8 @@ use Rattle.decision_tree.specs.Extent.{ComplementsFit}
 use Rattle.decision_tree.specs.Plans.{plan_of}
 use Rattle.decision_tree.specs.declared.affine_rank.AffineRank.{AffineRank}
 use Rattle.decision_tree.specs.declared.family.Family.{Family}
-use Rattle.unroll.specs.Levels.{IsLevel, RanksCount, tree_at}
+use Rattle.backward_transfer.specs.AffineShapes.{tree_at}
+use Rattle.unroll.specs.Levels.{IsLevel, RanksCount}
 use Rattle.unroll.specs.Measures.{IsLight}
 use Rattle.unroll.specs.Stopping.{IsCause, IsMade}
 use Rattle.report_text.specs.declared.report.Header.TheVariants.{Stopped}

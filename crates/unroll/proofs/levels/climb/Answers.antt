@@ -4,13 +4,14 @@ use Rattle.decision_tree.specs.Plans.{Plan}
 use Rattle.decision_tree.specs.declared.affine_rank.AffineRank.{AffineRank}
 use Rattle.decision_tree.specs.declared.family.Family.{Family}
 use Rattle.step_meaning.specs.Syntax.{Statements, statements}
-use Rattle.unroll.specs.Building.{AtAll, TellsAt, plans}
+use Rattle.backward_transfer.specs.AffineShapes.{plans}
+use Rattle.unroll.specs.Building.{AtAll, TellsAt}
 use Rattle.unroll.specs.Levels.{IsLevel}
 use Rattle.unroll.specs.Measures.{IsLight}
 use Rattle.unroll.specs.Sizing.{HasSizes}
 use Rattle.unroll.proofs.LevelSizes.{light_up}
 use Rattle.unroll.proofs.Levelling.{is_level}
-use Rattle.unroll.proofs.Putting.{plans_length}
+use Rattle.backward_transfer.proofs.Putting.{plans_length}
 use Rattle.unroll.proofs.Refusing.{cause_in}
 use Rattle.unroll.proofs.levels.climb.Goals as goal
 

@@ -1,7 +1,8 @@
 use Rattle.std.proofs.Common.{◌≡◌, ℕ, ◌≤◌, length}
 use Rattle.step_meaning.specs.Syntax.{statements}
 use Rattle.control_flow.specs.Labels.{all_labels}
-use Rattle.unroll.specs.Building.{AtAll, TellsAt, plans}
+use Rattle.backward_transfer.specs.AffineShapes.{plans}
+use Rattle.unroll.specs.Building.{AtAll, TellsAt}
 use Rattle.unroll.specs.Measures.{IsLight}
 use Rattle.unroll.specs.Sizing.{HasSizes}
 use Rattle.unroll.proofs.levels.climb.Given as goal

@@ -7,7 +7,7 @@ use Rattle.decision_tree.specs.declared.affine_rank.AffineRank.{AffineRank}
 use Rattle.unroll.specs.Building.{IsBefore}
 use Rattle.unroll.specs.Levels.{RanksCount}
 use Rattle.decision_tree.specs.Extent.{ComplementsFit, IsTreeOver}
-use Rattle.unroll.specs.Shapes.{affine_ranks, assigned_shape, cut, same_rank}
+use Rattle.backward_transfer.specs.AffineShapes.{affine_ranks, assigned_shape, cut, same_rank}
 use Rattle.backward_transfer.proofs.Making.{trimmed_size}
 use Rattle.unroll.proofs.Bounding.{assigned_size}
 use Rattle.unroll.proofs.Ranking.{assigned_count}

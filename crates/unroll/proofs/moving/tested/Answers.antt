@@ -10,7 +10,7 @@ use Rattle.unroll.specs.Building.{IsBefore, IsBeforeBoth}
 use Rattle.unroll.specs.Levels.{RanksCount}
 use Rattle.decision_tree.specs.Extent.{ComplementsFit, IsTreeOver}
 use Rattle.unroll.specs.Measures.{anywhere}
-use Rattle.unroll.specs.Shapes.{CutFits, affine_ranks, cut, same_rank, tested_shape}
+use Rattle.backward_transfer.specs.AffineShapes.{CutFits, affine_ranks, cut, same_rank, tested_shape}
 use Rattle.backward_transfer.proofs.Making.{trimmed_size}
 use Rattle.unroll.proofs.LaterSizes.{shape_full, shape_size}
 use Rattle.unroll.proofs.Ranking.{tested_count}

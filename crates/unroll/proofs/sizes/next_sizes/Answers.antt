@@ -4,7 +4,7 @@ use Rattle.control_flow.specs.Labels.{all_labels}
 use Rattle.unroll.specs.Building.{AtAll, AtFirst}
 use Rattle.unroll.specs.Sizing.{HoldsAt}
 use Rattle.unroll.proofs.Holding.{ones_end}
-use Rattle.unroll.proofs.Putting.{written_back}
+use Rattle.backward_transfer.proofs.Putting.{written_back}
 use Rattle.unroll.proofs.sizes.next_sizes.Goals as goal
 
 pub returns-clause-exact : goal.returns-clause-exact

@@ -2,7 +2,8 @@ use Rattle.std.proofs.Common.{◌≡◌, suc, true, sym, ap, ◌∙◌, arith}
 use Rattle.step_meaning.specs.Syntax.{statements}
 use Rattle.control_flow.specs.Edges.{is_head_by}
 use Rattle.control_flow.specs.Labels.{action_at}
-use Rattle.unroll.specs.Building.{TellsAt, left_by, plans}
+use Rattle.backward_transfer.specs.AffineShapes.{plans}
+use Rattle.unroll.specs.Building.{TellsAt, left_by}
 use Rattle.unroll.proofs.LevelSizes.{heavy_at}
 use Rattle.unroll.proofs.Filling.{all_next, skip_first}
 use Rattle.unroll.proofs.Levelling.{tree_first}

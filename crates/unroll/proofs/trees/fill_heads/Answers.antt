@@ -1,6 +1,7 @@
 use Rattle.std.proofs.Common.{◌≡◌, suc, ◌+◌, subst, arith}
 use Rattle.step_meaning.specs.Syntax.{statements}
-use Rattle.unroll.specs.Building.{AtFirst, TellsAt, plans}
+use Rattle.backward_transfer.specs.AffineShapes.{plans}
+use Rattle.unroll.specs.Building.{AtFirst, TellsAt}
 use Rattle.unroll.proofs.Passing.{passed_on}
 use Rattle.unroll.proofs.trees.fill_heads.Goals as goal
 

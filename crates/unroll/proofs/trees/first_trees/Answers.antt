@@ -1,8 +1,9 @@
 use Rattle.std.proofs.Common.{◌≡◌, length, sym, ap, subst, ◌∙◌, arith}
 use Rattle.step_meaning.specs.Syntax.{statements}
-use Rattle.unroll.specs.Building.{AtAll, TellsAt, plans}
+use Rattle.backward_transfer.specs.AffineShapes.{plans}
+use Rattle.unroll.specs.Building.{AtAll, TellsAt}
 use Rattle.unroll.proofs.Filling.{unclaimed_first}
-use Rattle.unroll.proofs.Putting.{written_back}
+use Rattle.backward_transfer.proofs.Putting.{written_back}
 use Rattle.unroll.proofs.Passing.{passed_on}
 use Rattle.unroll.proofs.trees.first_trees.Goals as goal
 

@@ -1,9 +1,10 @@
 use Rattle.std.proofs.Common.{◌≡◌, suc, length, sym, ap, subst, ◌∙◌}
 use Rattle.step_meaning.specs.Syntax.{statements}
 use Rattle.control_flow.specs.Labels.{all_labels}
-use Rattle.unroll.specs.Building.{AtAll, AtFirst, TellsAt, plans}
+use Rattle.backward_transfer.specs.AffineShapes.{plans}
+use Rattle.unroll.specs.Building.{AtAll, AtFirst, TellsAt}
 use Rattle.unroll.proofs.Filling.{end_first}
-use Rattle.unroll.proofs.Putting.{written_back}
+use Rattle.backward_transfer.proofs.Putting.{written_back}
 use Rattle.unroll.proofs.Passing.{passed_on}
 use Rattle.unroll.proofs.trees.next_trees.Goals as goal
 

@@ -4,11 +4,12 @@ use Rattle.step_meaning.specs.Countdown.{form_of}
 use Rattle.decision_tree.specs.Evaluation.{eval}
 use Rattle.decision_tree.specs.Plans.{plan_of, size_of}
 use Rattle.step_meaning.specs.Syntax.{expression, statements}
-use Rattle.unroll.specs.Building.{IsBefore, IsBeforeBoth, plans}
-use Rattle.unroll.specs.Levels.{RanksCount, tree_at}
+use Rattle.unroll.specs.Building.{IsBefore, IsBeforeBoth}
+use Rattle.backward_transfer.specs.AffineShapes.{tree_at, plans}
+use Rattle.unroll.specs.Levels.{RanksCount}
 use Rattle.unroll.specs.Measures.{size_of_test}
 use Rattle.unroll.proofs.Passing.{passed_on}
-use Rattle.unroll.proofs.Putting.{plan_at}
+use Rattle.backward_transfer.proofs.Putting.{plan_at}
 use Rattle.decision_tree.specs.Extent.{IsTreeOver}
 use Rattle.unroll.proofs.Treeing.{assigned_full, assigned_ranks_behind, assigned_tells, assigned_variables, is_assigned, is_passed, is_tested, never_ends, passed_full, passed_ranks_behind, passed_tells, passed_variables, numbers_behind, tested_fits, tested_full, tested_ranks_behind, tested_tells, tested_variables}
 use Rattle.step_meaning.specs.AffineExpressions.{ExpressionFits}

@@ -1,8 +1,8 @@
 use Rattle.std.proofs.Common.{◌≡◌, ℕ, ◌<◌, length}
 use Rattle.decision_tree.specs.Plans.{bottom, leaf}
 use Rattle.decision_tree.specs.declared.reason.Why.TheVariants.{End}
-use Rattle.unroll.specs.Building.{plans}
-use Rattle.unroll.specs.Levels.{counted, tree_at}
+use Rattle.backward_transfer.specs.AffineShapes.{tree_at, plans}
+use Rattle.unroll.specs.Levels.{counted}
 use Rattle.unroll.proofs.trees.unclaimed.Given as goal
 
 -- so many trees are there, of which that of label 0 alone claims something

@@ -1,12 +1,11 @@
--- Trees of a list as plans, and lists that grow by one element.
+-- Trees of a list as plans, elements put in, and lists that grow by one element.
 use Rattle.std.proofs.Common.{◌≡◌, ◌⊎◌, inl, inr, ℕ, zero, suc, ◌<◌, List, [], ◌∷◌, ◌++◌, get_or, length, set, take, drop, refl, sym, ap, subst, arith, ⊎_elim}
 use Rattle.std.proofs.lemmas.List.{length-map}
 use Rattle.std.proofs.Math.Seq.{take-append_seam}
 use Rattle.decision_tree.specs.Plans.{plan_of}
 use Rattle.decision_tree.specs.declared.affine_rank.AffineRank.{AffineRank}
 use Rattle.decision_tree.specs.declared.tree.Tree.{Tree}
-use Rattle.unroll.specs.Building.{plans}
-use Rattle.unroll.specs.Levels.{tree_at}
+use Rattle.backward_transfer.specs.AffineShapes.{tree_at, plans}
 
 pub plans_length : (trees : List (Tree AffineRank)) → length (plans trees) ≡ length trees
 plans_length trees = length-map trees plan_of
@@ -28,6 +27,27 @@ plans_more (x ∷ xs) tree = ap (λ t. plan_of x ∷ t) (plans_more xs tree)
 -- what was written to the whole of a vector's slice are its items
 pub written_back : {X : Type 0} (len : ℕ) (new old : List X) → len ≡ length new → take len (new ++ drop (length new) old) ≡ new
 written_back len new old same = rw same (take-append_seam new (drop (length new) old))
+
+-- ---- an element put in
+
+pub same_or : (k l : ℕ) → (k ≡ l) ⊎ (k ≡ l → ⊥)
+same_or zero zero = inl refl
+same_or zero (suc l) = inr (λ same. absurd (omega arith))
+same_or (suc k) zero = inr (λ same. absurd (omega arith))
+same_or (suc k) (suc l) = ⊎_elim (λ same. inl (ap suc same)) (λ apart. inr (λ same. apart (omega arith))) (same_or k l)
+
+module _ {A : Type 0} (d : A) where
+  pub put_same : (list : List A) (l : ℕ) (x : A) → l < length list → get_or (set list l x) l d ≡ x
+  put_same [] l x low = absurd (omega arith)
+  put_same (y ∷ ys) zero x low = refl
+  put_same (y ∷ ys) (suc l) x low = put_same ys l x (omega arith)
+
+  pub put_other : (list : List A) (l k : ℕ) (x : A) → (k ≡ l → ⊥) → get_or (set list l x) k d ≡ get_or list k d
+  put_other [] l k x apart = refl
+  put_other (y ∷ ys) zero zero x apart = absurd (apart refl)
+  put_other (y ∷ ys) zero (suc k) x apart = refl
+  put_other (y ∷ ys) (suc l) zero x apart = refl
+  put_other (y ∷ ys) (suc l) (suc k) x apart = put_other ys l k x (λ same. apart (ap suc same))
 
 -- ---- one element more
 

@@ -1,15 +1,25 @@
--- The trees before a step, of affine ranks.
-use Rattle.std.specs.Prelude.{ℕ, Bool, List, []}
+-- The trees of labels, of affine ranks, and the shapes of those before a step.
+use Rattle.std.specs.Prelude.{ℕ, Bool, List, [], map, slice_index_or}
 use Rattle.linear_cons.specs.declared.affine.Affine.{Affine}
+use Rattle.linear_cons.specs.declared.bounds.Linear.{Linear}
 use Rattle.linear_cons.specs.declared.row.Row.{Row}
-use Rattle.decision_tree.specs.Plans.{Plan}
+use Rattle.decision_tree.specs.Plans.{Plan, bottom, plan_of}
 use Rattle.decision_tree.specs.contracts.affine_rank.AffineRankPartialEq.TheImpl as rank_eq
 use Rattle.decision_tree.specs.contracts.affine_rank.AffineRankRank.TheImpl as affine_rank
 use Rattle.decision_tree.specs.declared.affine_rank.AffineRank.{AffineRank}
 use Rattle.decision_tree.specs.declared.rank.Rank.{Ghosts as Ranks}
+use Rattle.decision_tree.specs.declared.tree.Tree.{Tree}
 use Rattle.tree_unify.specs.Shapes.{TrimFits, trimmed}
+use Rattle.backward_transfer.specs.Ranges.{ranged}
 use Rattle.backward_transfer.specs.Steps.{assigned, stepped}
 use Rattle.backward_transfer.specs.Tests.{tested}
+
+-- the plans of a list of trees, and the tree of the label
+abbrev pub plans : List (Tree AffineRank) → List (Plan AffineRank)
+plans trees = map plan_of trees
+
+abbrev pub tree_at : List (Plan AffineRank) → ℕ → Plan AffineRank
+tree_at trees label = slice_index_or trees label bottom
 
 -- what affine functions are as ranks, and what `==` answers for them
 abbrev pub affine_ranks : Ranks AffineRank
@@ -18,9 +28,13 @@ affine_ranks = affine_rank.ghosts
 abbrev pub same_rank : AffineRank → AffineRank → Bool
 same_rank = (rank_eq.ghosts).eq
 
--- before an assignment, a step that changes nothing, and a test, as they are before they are trimmed
+-- before an assignment, of a value in a range or not, a step that changes nothing, and a test, as they are before they are trimmed
 abbrev pub assigned_shape : ℕ → Affine → Plan AffineRank → Plan AffineRank
 assigned_shape x by plan = assigned same_rank affine_ranks.substituted affine_ranks.one_more x by plan
+
+abbrev pub ranged_shape : ℕ → Linear → Plan AffineRank → Plan AffineRank
+ranged_shape x range plan =
+    ranged same_rank affine_ranks.where_greater affine_ranks.greater_fits affine_ranks.trend affine_ranks.substituted affine_ranks.one_more x range plan
 
 abbrev pub stepped_shape : Plan AffineRank → Plan AffineRank
 stepped_shape plan = stepped same_rank affine_ranks.one_more plan
