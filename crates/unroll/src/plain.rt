@@ -1,10 +1,10 @@
 //! Plain programs.
 ghost use Rattle.std.specs.Prelude.{◌↔◌, IsTrue};
-ghost use Rattle.step_meaning.specs.AffineExpressions.{IsAffine, IsAffineTest, KeepsAffine};
-ghost use Rattle.step_meaning.specs.Naming.{HasNoName};
+ghost use Rattle.step_meaning.specs.AffineExpressions.{IsAffineTest};
 ghost use Rattle.step_meaning.specs.Syntax.{expression, statement, statements};
 ghost use Rattle.unroll.specs.Plain.{IsPlain, IsPlainStatement, IsPlainTest};
 
+use linear_forms::is_affine;
 use step_meaning::{Block, Expr, Op2, Program, StmtKind};
 
 /// True exactly where the program is plain: every number expression is affine, no range occurs, and `?` occurs only as the whole test of a
@@ -68,42 +68,5 @@ fn is_affine_test(test: &Expr) -> bool
             _ => is_affine(left) && is_affine(right),
         },
         _ => false,
-    }
-}
-
-/// True exactly where the expression is affine.
-fn is_affine(expr: &Expr) -> bool
-    ensures { IsTrue result ↔ IsAffine (expression expr.now) }
-{
-    match expr {
-        Expr::Number(_) | Expr::Name(_) => true,
-        Expr::Neg(operand) => is_affine(operand),
-        Expr::Pair { op, left, right } => {
-            is_affine(left) && is_affine(right) && keeps_affine(*op, left, right)
-        }
-        _ => false,
-    }
-}
-
-/// True exactly where the operator makes an affine expression of two.
-fn keeps_affine(op: Op2, left: &Expr, right: &Expr) -> bool
-    ensures { IsTrue result ↔ KeepsAffine op (expression left.now) (expression right.now) }
-{
-    match op {
-        Op2::Add | Op2::Sub => true,
-        Op2::Mul => has_no_name(left) || has_no_name(right),
-        _ => false,
-    }
-}
-
-/// True exactly where no variable is named.
-fn has_no_name(expr: &Expr) -> bool
-    ensures { IsTrue result ↔ HasNoName (expression expr.now) }
-{
-    match expr {
-        Expr::Name(_) => false,
-        Expr::Neg(operand) | Expr::Not(operand) => has_no_name(operand),
-        Expr::Pair { op: _, left, right } => has_no_name(left) && has_no_name(right),
-        _ => true,
     }
 }
