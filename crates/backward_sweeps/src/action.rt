@@ -1,21 +1,18 @@
 //! What is done at the labels of a program, over what is known there.
-ghost use Rattle.std.specs.Prelude.{◌≡◌, ◌<◌, ◌≤◌, IfOk, length};
+ghost use Rattle.std.specs.Prelude.{◌≡◌, ◌<◌, ◌≤◌, [], ◌∷◌, None, Some, IfOk, length};
 ghost use Rattle.step_meaning.specs.Syntax.{statements};
-ghost use Rattle.control_flow.specs.Labels.{all_labels};
+ghost use Rattle.control_flow.specs.Edges.{edges_from};
+ghost use Rattle.control_flow.specs.Labels.{action_at, all_labels};
+ghost use Rattle.backward_sweeps.specs.Doing.{AreDone, AreOnward, IsDone};
 
+use crate::place::Place;
+use control_flow::laws::{edges_lead_onward, edges_lead_to_labels};
 use control_flow::{Edge, Graph};
 use forward_inv::Inv;
 use linear_cons::{Affine, Linear, Rows};
 use linear_forms::{linearise, spread};
 use num_domain::NumDomain;
 use std::alloc::{AllocError, Global};
-
-/// The place of a variable, below 16.
-#[derive(Clone, Copy, PartialEq, Eq, Debug)]
-pub struct Place {
-    pub number: u8,
-    ghost low: { number < 16 },
-}
 
 /// What is done at a label, and the labels to which it leads.
 #[derive(Drop)]
@@ -59,7 +56,11 @@ pub fn actions<D: NumDomain>(
     requires { length inv.now ≡ length (all_labels (statements graph.now.body)) }
     ensures labels { IfOk result (λ actions. length actions.items ≡ length (all_labels (statements graph.now.body))) }
     ensures few { IfOk result (λ actions. length actions.items ≤ 1024) }
+    ensures done { IfOk result (λ actions. AreDone (statements graph.now.body) actions.items) }
+    ensures onward { IfOk result (λ actions. AreOnward actions.items) }
 {
+    edges_lead_to_labels();
+    edges_lead_onward();
     let mut actions = Vec::with_capacity(alloc, graph.labels() as usize)?;
     for label in 0..graph.labels() {
         let done = done_at(alloc, graph, label, inv.at(label))?;
@@ -76,6 +77,7 @@ fn done_at<D: NumDomain>(
     set: &D,
 ) -> Result<Action, AllocError>
     requires { label < length (all_labels (statements graph.now.body)) }
+    ensures { IfOk result (λ action. IsDone (action_at (statements graph.now.body) label) action) }
 {
     if set.is_empty() {
         return Ok(Action::Dead);
@@ -89,7 +91,9 @@ fn done_at<D: NumDomain>(
 
 /// The step of a label that has one successor.
 fn step<D: NumDomain>(graph: &Graph, label: u32, set: &D, to: u32) -> Action
-    requires { label < length (all_labels (statements graph.now.body)) }
+    requires label { label < length (all_labels (statements graph.now.body)) }
+    requires one { (edge : Edge) × (edge.to ≡ to) × (edges_from label (action_at (statements graph.now.body) label) ≡ Some edge ∷ None ∷ []) }
+    ensures { IsDone (action_at (statements graph.now.body) label) result }
 {
     let Some((place, value)) = graph.assigned(label) else {
         return Action::Pass { to };
@@ -116,7 +120,9 @@ fn test<D: NumDomain>(
     yes: &Edge,
     no: &Edge,
 ) -> Result<Action, AllocError>
-    requires { label < length (all_labels (statements graph.now.body)) }
+    requires label { label < length (all_labels (statements graph.now.body)) }
+    requires two { edges_from label (action_at (statements graph.now.body) label) ≡ Some yes.now ∷ Some no.now ∷ [] }
+    ensures { IfOk result (λ action. IsDone (action_at (statements graph.now.body) label) action) }
 {
     let Some(test) = graph.test(label) else {
         return Ok(Action::End);

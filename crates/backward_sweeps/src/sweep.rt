@@ -1,8 +1,11 @@
 //! Sweeps over the labels.
-ghost use Rattle.std.specs.Prelude.{◌≡◌, ◌<◌, ◌≤◌, IfOk, length};
+ghost use Rattle.std.specs.Prelude.{◌≡◌, ◌<◌, ◌≤◌, [], false, IfOk, length};
+ghost use Rattle.backward_sweeps.specs.Doing.{AreOnward, HasNoHead, is_head};
+ghost use Rattle.backward_sweeps.specs.Remaking.{AreGiven, AreRemadeFrom};
 
 use crate::action::Action;
-use crate::moving::{moved_back, or_given_up};
+use crate::moving::{given_up, remade};
+use crate::pass::{begun, follow};
 use decision_tree::{AffineRank, Tree, TreeList};
 use forward_inv::Inv;
 use num_domain::NumDomain;
@@ -26,9 +29,16 @@ pub fn swept<D: NumDomain>(
 ) -> Result<TreeList<AffineRank>, AllocError>
     requires states { length inv.now ≡ length actions.now }
     requires few { length actions.now ≤ 1024 }
-    ensures { IfOk result (λ trees. length trees ≡ length actions.now) }
+    requires onward { AreOnward actions.now }
+    ensures labels { IfOk result (λ trees. length trees ≡ length actions.now) }
+    ensures given { HasNoHead actions.now → IfOk result (λ trees. AreGiven actions.now [] trees) }
+    ensures remade { HasNoHead actions.now → IfOk result (λ trees. AreRemadeFrom 0 false actions.now trees) }
 {
-    let mut trees = begun(alloc, actions)?;
+    let mut trees = begun(alloc, actions, &[])?;
+    if !has_head(actions) {
+        follow(alloc, actions, &mut trees)?;
+        return Ok(TreeList::of(trees));
+    }
     let mut changed = vec![in alloc; true; actions.len()]?;
     let widened_from = delay.max(1).saturating_add(1);
     for number in 1..=SWEEPS {
@@ -46,21 +56,6 @@ pub fn swept<D: NumDomain>(
         }
     }
     Ok(TreeList::of(trees))
-}
-
-/// The trees before the first sweep: only labels that end, or at which no run comes, claim anything.
-fn begun(alloc: Global, actions: &[Action]) -> Result<Vec<Tree<AffineRank>>, AllocError>
-    ensures { IfOk result (λ trees. length trees.items ≡ length actions.now) }
-{
-    let mut trees = Vec::with_capacity(alloc, actions.len())?;
-    for action in actions {
-        let tree = match action {
-            Action::End | Action::Dead => or_given_up(moved_back(alloc, action, &[]))?,
-            _ => Tree::Bottom,
-        };
-        trees.push(tree)?;
-    }
-    Ok(trees)
 }
 
 /// The number of a sweep, and that of the first that widens.
@@ -85,6 +80,7 @@ impl<'a, D: NumDomain> Sweep<'a, D> {
     fn run(&self, trees: &mut [Tree<AffineRank>], changed: &mut [bool]) -> Result<bool, AllocError>
         requires states { length self.now.inv.now ≡ length self.now.actions.now }
         requires few { length self.now.actions.now ≤ 1024 }
+        requires onward { AreOnward self.now.actions.now }
         requires trees { length trees.old ≡ length self.now.actions.now }
         requires flags { length changed.old ≡ length self.now.actions.now }
         ensures trees { length trees.new ≡ length trees.old }
@@ -128,12 +124,13 @@ impl<'a, D: NumDomain> Sweep<'a, D> {
     /// Makes the tree of the label anew; true where it differs from what it was.
     fn remake(&self, label: u32, trees: &mut [Tree<AffineRank>]) -> Result<bool, AllocError>
         requires label { label < length self.now.actions.now }
+        requires onward { AreOnward self.now.actions.now }
         requires states { length self.now.inv.now ≡ length self.now.actions.now }
         requires trees { length trees.old ≡ length self.now.actions.now }
         ensures { length trees.new ≡ length trees.old }
     {
         let action = &self.actions[label as usize];
-        let mut made = or_given_up(moved_back(self.alloc, action, trees))?;
+        let mut made = or_given_up(remade(self.alloc, action, trees))?;
         if is_head(action) && self.turn.number >= self.turn.widened_from {
             let set = self.inv.at(label);
             made = or_given_up(widened(self.alloc, &trees[label as usize], &made, set))?;
@@ -144,8 +141,25 @@ impl<'a, D: NumDomain> Sweep<'a, D> {
     }
 }
 
+/// The tree, or what the label has for one that can't be made. The only error is want of memory.
+fn or_given_up(made: Result<Tree<AffineRank>, TreeFault>) -> Result<Tree<AffineRank>, AllocError> {
+    match made {
+        Ok(tree) => Ok(tree),
+        Err(fault) => given_up(fault),
+    }
+}
+
+/// Whether some label is that of a loop's test.
+fn has_head(actions: &[Action]) -> bool
+    ensures { HasNoHead actions.now → result ≡ false }
+{
+    actions.iter().any(is_head)
+}
+
 /// Whether the label is that of a loop's test.
-fn is_head(action: &Action) -> bool {
+fn is_head(action: &Action) -> bool
+    ensures { result ≡ is_head action.now }
+{
     match action {
         Action::Test { is_head, .. } => *is_head,
         _ => false,

@@ -67,7 +67,7 @@ impl Facts {
             return Ok(());
         };
         let seen = Seen {
-            actions,
+            graph,
             label,
             ways: &ways,
         };
@@ -94,7 +94,7 @@ impl Facts {
 /// A loop as facts are made of it.
 #[derive(Drop)]
 struct Seen<'a> {
-    actions: &'a [Action],
+    graph: &'a Graph,
     label: u32,
     ways: &'a [Vec<u32>],
 }
@@ -149,7 +149,7 @@ impl<'a> Seen<'a> {
         measure: Affine,
         list: &mut Vec<LoopFact>,
     ) -> Result<(), AllocError> {
-        if let Some(falls) = falls(self.actions, self.ways, &measure) {
+        if let Some(falls) = falls(self.graph, self.ways, &measure) {
             list.push(LoopFact {
                 label: self.label,
                 kind,

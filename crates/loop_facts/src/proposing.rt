@@ -1,10 +1,13 @@
 //! Families that hints propose.
-ghost use Rattle.std.specs.Prelude.{◌≡◌, IfOk, IfSome, length};
+ghost use Rattle.std.specs.Prelude.{◌≡◌, ℕ, ◌<◌, ◌≤◌, true, IfOk, IfSome, length};
+ghost use Rattle.backward_transfer.specs.AffineShapes.{plans, tree_at};
+ghost use Rattle.backward_sweeps.specs.Doing.{AreOnward, action_in, is_given};
+ghost use Rattle.backward_sweeps.specs.Remaking.{AreMade, given_for};
 
 use crate::body::Body;
 use crate::raising::raised;
 use advice::Hint;
-use backward_sweeps::{Action, moved_back};
+use backward_sweeps::{Action, begun, follow};
 use control_flow::Graph;
 use decision_tree::{AffineRank, Tree, TreeList};
 use linear_cons::Affine;
@@ -12,10 +15,10 @@ use std::alloc::{AllocError, Global};
 use tree_unify::{TreeFault, trim};
 
 /// The trees that a hint proposes in place of those at hand, one for each label: at the test of its loop, where all its rows are met, what
-/// the tree behind the loop claims, later by the cost of a turn for each of its turns and by the last test; the trees at other loops'
-/// tests as they are; and at each other label what follows from these. Nothing where the hint is not on a loop without a loop in its body,
-/// speaks of a place past the variables, or leads to a number past 128 bits or to a tree of too many nodes. The only error is want of
-/// memory.
+/// the tree behind the loop claims, later by the cost of a turn for each of its turns and by the last test, and elsewhere the tree at hand;
+/// the trees at other loops' tests as they are; and at each other label what follows from these. Nothing where the hint is not on a loop
+/// without a loop in its body, speaks of a place past the variables, or leads to a number past 128 bits or to a tree of too many nodes. The
+/// only error is want of memory.
 pub fn proposal(
     alloc: Global,
     graph: &Graph,
@@ -24,7 +27,13 @@ pub fn proposal(
     variables: u32,
     hint: &Hint,
 ) -> Result<Option<TreeList<AffineRank>>, AllocError>
-    ensures { IfOk result (λ found. IfSome found (λ trees. length trees ≡ length actions.now)) }
+    requires few { length actions.now ≤ 1024 }
+    requires onward { AreOnward actions.now }
+    ensures labels { IfOk result (λ found. IfSome found (λ made. length made ≡ length actions.now)) }
+    ensures given { IfOk result (λ found. IfSome found (λ made. (label : ℕ) → (label ≡ hint.now.label → ⊥) → label < length actions.now
+        → is_given (action_in actions.now label) ≡ true
+        → tree_at made label ≡ given_for (action_in actions.now label) (tree_at (plans trees.now) label))) }
+    ensures follows { IfOk result (λ found. IfSome found (λ made. AreMade actions.now made)) }
 {
     if !is_over(hint, variables) {
         return Ok(None);
@@ -35,13 +44,8 @@ pub fn proposal(
     if body.has_loop {
         return Ok(None);
     }
-    let head = match at_head(alloc, trees, &body, hint) {
-        Ok(head) => head,
-        Err(TreeFault::Memory(error)) => return Err(error),
-        Err(TreeFault::Full { .. } | TreeFault::Wide(_)) => return Ok(None),
-    };
-    match followed(alloc, actions, trees, hint.label, head) {
-        Ok(trees) => Ok(Some(TreeList::of(trees))),
+    match at_head(alloc, trees, &body, hint) {
+        Ok(head) => followed(alloc, actions, trees, hint.label, head),
         Err(TreeFault::Memory(error)) => Err(error),
         Err(TreeFault::Full { .. } | TreeFault::Wide(_)) => Ok(None),
     }
@@ -87,53 +91,48 @@ fn at_head(
         return Ok(Tree::Bottom);
     };
     let mut tree = raised(alloc, exit, &by)?;
-    for row in hint.split.iter().flatten() {
+    for row in hint.split.iter().rev().flatten() {
         let other = now.boxed(alloc)?;
         tree = Tree::boxed_branch(alloc, row, tree, other)?;
     }
     trim(alloc, &tree, &[])
 }
 
-/// The trees with the one proposed at the label, and what follows from it at labels that are no other loop's test.
+/// The trees with the one proposed at the label, if that is the test of a loop, and what follows from it at labels that are none.
 fn followed(
     alloc: Global,
     actions: &[Action],
     trees: &[Tree<AffineRank>],
     label: u32,
     head: Tree<AffineRank>,
-) -> Result<Vec<Tree<AffineRank>>, TreeFault>
-    ensures { IfOk result (λ made. length made.items ≡ length actions.now) }
+) -> Result<Option<TreeList<AffineRank>>, AllocError>
+    requires few { length actions.now ≤ 1024 }
+    requires onward { AreOnward actions.now }
+    ensures labels { IfOk result (λ found. IfSome found (λ made. length made ≡ length actions.now)) }
+    ensures given { IfOk result (λ found. IfSome found (λ made. (other : ℕ) → (other ≡ label → ⊥) → other < length actions.now
+        → is_given (action_in actions.now other) ≡ true
+        → tree_at made other ≡ given_for (action_in actions.now other) (tree_at (plans trees.now) other))) }
+    ensures follows { IfOk result (λ found. IfSome found (λ made. AreMade actions.now made)) }
 {
-    let mut made = at_heads(alloc, actions, trees)?;
-    if let Some(place) = made.get_mut(label as usize) {
-        *place = head;
+    let mut made = begun(alloc, actions, trees)?;
+    put(actions, &mut made, label, head);
+    if follow(alloc, actions, &mut made)? {
+        Ok(Some(TreeList::of(made)))
+    } else {
+        Ok(None)
     }
-    for place in (0..actions.len()).rev() {
-        if let Action::Test { is_head: true, .. } = &actions[place] {
-            continue;
-        }
-        let tree = moved_back(alloc, &actions[place], &made)?;
-        if let Some(old) = made.get_mut(place) {
-            *old = tree;
-        }
-    }
-    Ok(made)
 }
 
-/// The trees at the tests of loops; at other labels nothing is claimed.
-fn at_heads(
-    alloc: Global,
-    actions: &[Action],
-    trees: &[Tree<AffineRank>],
-) -> Result<Vec<Tree<AffineRank>>, AllocError>
-    ensures { IfOk result (λ made. length made.items ≡ length actions.now) }
+/// Puts the tree at the label, if that is the test of a loop.
+fn put(actions: &[Action], trees: &mut [Tree<AffineRank>], label: u32, tree: Tree<AffineRank>)
+    requires { length trees.old ≡ length actions.now }
+    ensures labels { length trees.new ≡ length trees.old }
+    ensures others { (other : ℕ) → (other ≡ label → ⊥) → tree_at (plans trees.new) other ≡ tree_at (plans trees.old) other }
 {
-    let mut made = Vec::with_capacity(alloc, actions.len())?;
-    for (place, action) in actions.iter().enumerate() {
-        made.push(match (action, trees.get(place)) {
-            (Action::Test { is_head: true, .. }, Some(tree)) => tree.copy(alloc)?,
-            _ => Tree::Bottom,
-        })?;
+    let Some(Action::Test { is_head, .. }) = actions.get(label as usize) else {
+        return;
+    };
+    if *is_head {
+        trees[label as usize] = tree;
     }
-    Ok(made)
 }

@@ -9,14 +9,14 @@ pub linearise-range-requires : goal.linearise-range-requires
 linearise-range-requires g c =
     let valid = c.args.graph.now.valid in
     (value_named (length c.args.graph.now.names) (action_at (statements c.args.graph.now.body) c.args.label) _ _ valid.few
-    (labels_are_sorted _ _ valid.well_sorted c.args.label c.requires) c.in-Some.ensures).1
+    (labels_are_sorted _ _ valid.well_sorted c.args.label c.requires.label) c.in-Some.ensures).1
 
 pub invariant_of-place : goal.invariant_of-place
 invariant_of-place g c =
     let valid = c.args.graph.now.valid in
     record {
       low = (value_named (length c.args.graph.now.names) (action_at (statements c.args.graph.now.body) c.args.label) _ _ valid.few
-          (labels_are_sorted _ _ valid.well_sorted c.args.label c.requires) c.in-Some.ensures).0;
+          (labels_are_sorted _ _ valid.well_sorted c.args.label c.requires.label) c.in-Some.ensures).0;
     }
 
 pub invariant_of-place-else-eq : goal.invariant_of-place-else-eq
@@ -24,5 +24,5 @@ invariant_of-place-else-eq g c =
     let valid = c.args.graph.now.valid in
     record {
       low = (value_named (length c.args.graph.now.names) (action_at (statements c.args.graph.now.body) c.args.label) _ _ valid.few
-          (labels_are_sorted _ _ valid.well_sorted c.args.label c.requires) c.in-Some.ensures).0;
+          (labels_are_sorted _ _ valid.well_sorted c.args.label c.requires.label) c.in-Some.ensures).0;
     }

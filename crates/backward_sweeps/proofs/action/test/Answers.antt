@@ -9,10 +9,10 @@ pub spread-requires : goal.spread-requires
 spread-requires g c =
     let valid = c.args.graph.now.valid in
     test_named (length c.args.graph.now.names) (action_at (statements c.args.graph.now.body) c.args.label) _ valid.few
-    (labels_are_sorted _ _ valid.well_sorted c.args.label c.requires) c.in-Some.ensures
+    (labels_are_sorted _ _ valid.well_sorted c.args.label c.requires.label) c.in-Some.ensures
 
 pub spread-requires-2 : goal.spread-requires-2
 spread-requires-2 g c =
     let valid = c.args.graph.now.valid in
     test_named (length c.args.graph.now.names) (action_at (statements c.args.graph.now.body) c.args.label) _ valid.few
-    (labels_are_sorted _ _ valid.well_sorted c.args.label c.requires) c.in-Some.ensures
+    (labels_are_sorted _ _ valid.well_sorted c.args.label c.requires.label) c.in-Some.ensures

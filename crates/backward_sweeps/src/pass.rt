@@ -1,0 +1,122 @@
+//! One pass over the labels.
+ghost use Rattle.std.specs.Prelude.{◌≡◌, ◌&&◌, suc, ◌<◌, ◌≤◌, Bool, false, true, IfOk, OnOk, length};
+ghost use Rattle.decision_tree.specs.Plans.{plan_of};
+ghost use Rattle.backward_transfer.specs.AffineShapes.{plans, tree_at};
+ghost use Rattle.backward_sweeps.specs.Doing.{AreOnward, action_in, is_given};
+ghost use Rattle.backward_sweeps.specs.Remaking.{AreGiven, AreKept, AreRemadeFrom, given_for};
+
+use crate::action::Action;
+use crate::moving::{at_once, given_up, remade};
+use decision_tree::{AffineRank, Tree, Why};
+use std::alloc::{AllocError, Global};
+
+/// The trees before a pass: at the test of a loop the one at hand, the claim that a run ends where nothing is done, and elsewhere none.
+pub fn begun(
+    alloc: Global,
+    actions: &[Action],
+    heads: &[Tree<AffineRank>],
+) -> Result<Vec<Tree<AffineRank>>, AllocError>
+    ensures labels { IfOk result (λ trees. length trees.items ≡ length actions.now) }
+    ensures given { IfOk result (λ trees. AreGiven actions.now (plans heads.now) (plans trees.items)) }
+{
+    let mut trees = Vec::with_capacity(alloc, actions.len())?;
+    for label in 0..actions.len() {
+        let tree = given(alloc, &actions[label], heads, label)?;
+        trees.push(tree)?;
+    }
+    Ok(trees)
+}
+
+/// The tree that is given at the label, at which this is done; no claim where none is.
+fn given(
+    alloc: Global,
+    action: &Action,
+    heads: &[Tree<AffineRank>],
+    label: usize,
+) -> Result<Tree<AffineRank>, AllocError>
+    ensures { is_given action.now ≡ true → IfOk result (λ tree. plan_of tree ≡ given_for action.now (tree_at (plans heads.now) label)) }
+{
+    match action {
+        Action::End => Ok(at_once(Why::Now)),
+        Action::Dead => Ok(at_once(Why::Dead)),
+        Action::Test { is_head: true, .. } => copied(alloc, heads, label),
+        _ => Ok(Tree::Bottom),
+    }
+}
+
+/// A copy of the tree at the label, or no claim where there is none.
+fn copied(
+    alloc: Global,
+    trees: &[Tree<AffineRank>],
+    label: usize,
+) -> Result<Tree<AffineRank>, AllocError>
+    ensures { IfOk result (λ copy. plan_of copy ≡ tree_at (plans trees.now) label) }
+{
+    match trees.get(label) {
+        Some(tree) => tree.copy(alloc),
+        None => Ok(Tree::Bottom),
+    }
+}
+
+/// Makes the tree of each label anew but those that are given, the greatest label first, so that each is made of the trees as they stand
+/// afterwards. True where each could be made; one that can't be, for another reason than want of memory, claims nothing.
+pub fn follow(
+    alloc: Global,
+    actions: &[Action],
+    trees: &mut [Tree<AffineRank>],
+) -> Result<bool, AllocError>
+    requires few { length actions.now ≤ 1024 }
+    requires onward { AreOnward actions.now }
+    requires labels { length trees.old ≡ length actions.now }
+    ensures labels { length trees.new ≡ length trees.old }
+    ensures given { OnOk result (AreKept actions.now (plans trees.old) (plans trees.new)) }
+    ensures remade { IfOk result (λ all. AreRemadeFrom 0 all actions.now (plans trees.new)) }
+{
+    let mut all = true;
+    for label in (0..actions.len() as u32).rev() {
+        if !is_given(&actions[label as usize]) {
+            all = remake(alloc, actions, label, trees)? && all;
+        }
+    }
+    Ok(all)
+}
+
+/// Makes the tree of the label anew; true where it could be made.
+fn remake(
+    alloc: Global,
+    actions: &[Action],
+    label: u32,
+    trees: &mut [Tree<AffineRank>],
+) -> Result<bool, AllocError>
+    requires label { label < length actions.now }
+    requires open { is_given (action_in actions.now label) ≡ false }
+    requires onward { AreOnward actions.now }
+    requires labels { length trees.old ≡ length actions.now }
+    ensures labels { length trees.new ≡ length trees.old }
+    ensures given { OnOk result (AreKept actions.now (plans trees.old) (plans trees.new)) }
+    ensures remade { (all : Bool) → AreRemadeFrom (suc label) all actions.now (plans trees.old)
+        → IfOk result (λ made. AreRemadeFrom label (made && all) actions.now (plans trees.new)) }
+{
+    let place = label as usize;
+    match remade(alloc, &actions[place], trees) {
+        Ok(tree) => {
+            trees[place] = tree;
+            Ok(true)
+        }
+        Err(fault) => {
+            trees[place] = given_up(fault)?;
+            Ok(false)
+        }
+    }
+}
+
+/// Whether the tree of the label isn't made of those of its successors: nothing is done there, or it is the test of a loop.
+pub(crate) fn is_given(action: &Action) -> bool
+    ensures { result ≡ is_given action.now }
+{
+    match action {
+        Action::End | Action::Dead => true,
+        Action::Test { is_head, .. } => *is_head,
+        Action::Pass { .. } | Action::Assign { .. } | Action::Choose { .. } => false,
+    }
+}
