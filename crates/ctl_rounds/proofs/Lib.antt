@@ -4,3 +4,4 @@ pub mod Bounding
 pub mod Fit
 pub mod Asking
 pub mod Adding
+mod Joining

@@ -4,3 +4,4 @@ pub mod Checked
 pub mod Fitting
 pub mod Asked
 pub mod Subjects
+pub mod Growing

@@ -17,6 +17,7 @@ ghost use Rattle.ctl_rounds.specs.Subjects.{IsSubject};
 
 use crate::certificate::Certificate;
 use crate::checking::Subject;
+use crate::rounds::Found;
 use advice::Adviser;
 use control_flow::Graph;
 use count_down::candidate;
@@ -24,7 +25,7 @@ use count_down::laws::{
     candidates_are_kept, candidates_are_over_the_variables,
     loopless_candidates_promise_the_most_steps,
 };
-use decision_tree::{AffineRank, Family, FamilyList};
+use decision_tree::{AffineRank, Family};
 use forward_inv::Inv;
 use num_domain::NumDomain;
 use std::alloc::{AllocError, Global};
@@ -91,13 +92,8 @@ impl<'a, D: NumDomain> Subject<'a, D> {
         candidates_are_over_the_variables();
         loopless_candidates_promise_the_most_steps();
         let family = self.checked(family.trees)?;
-        let cover = self.at_entry(&family).copy(self.alloc)?;
-        let mut tops = Vec::new(self.alloc);
-        tops.push(family)?;
-        Ok(Certificate {
-            tops: FamilyList::of(tops),
-            cover,
-            turns: 0,
-        })
+        let mut found = Found::none(self.alloc);
+        self.keep(family, &mut found)?;
+        Ok(found.certificate(0))
     }
 }

@@ -1,4 +1,5 @@
-use Rattle.std.proofs.Common.{◌+◌, rules, arith}
+use Rattle.std.proofs.Common.{◌+◌, length, rules, arith}
+use Rattle.step_meaning.specs.Syntax.{statements}
 use Rattle.ctl_rounds.proofs.Asking.{asked_again, can_be_asked, unasked}
 use Rattle.ctl_rounds.proofs.checking.Subject.advised.Goals as goal
 
@@ -16,12 +17,12 @@ returns-in_err-facts-clause-asked g c =
 
 pub loop-turns-init : goal.loop-turns-init
 loop-turns-init g c =
-    (c.in_ok-found.ensures, omega (arith), unasked (λ a. (goal.Adviser-dyn g (a.vtable, a.value)).asked_of a.value) c.args.advisers.now.items)
+    (c.in_ok-found.ensures.found, c.in_ok-found.ensures.some, omega (arith), unasked (λ a. (goal.Adviser-dyn g (a.vtable, a.value)).asked_of a.value) c.args.advisers.now.items)
 
 pub consult-requires : goal.consult-requires
 consult-requires g c =
     can_be_asked (λ a. (goal.Adviser-dyn g (a.vtable, a.value)).asked_of a.value) c.loop-turns.turns c.args.advisers.now.items
-    c.loop-turns.advisers.items c.loop-turns.invariant.1 c.loop-turns.invariant.2 c.requires.patient
+    c.loop-turns.advisers.items c.loop-turns.invariant.2 c.loop-turns.invariant.3 c.requires.patient
 
 pub returns-in_err-follow-clause-asked : goal.returns-in_err-follow-clause-asked
 returns-in_err-follow-clause-asked g c =
@@ -29,15 +30,20 @@ returns-in_err-follow-clause-asked g c =
       c.loop-turns.turns + 1,
       omega (arith, test),
       asked_again (λ a. (goal.Adviser-dyn g (a.vtable, a.value)).asked_of a.value) c.loop-turns.turns c.args.advisers.now.items
-          c.loop-turns.advisers.items c.consult.new.advisers.items c.loop-turns.invariant.2 c.in_ok-hints.ensures.asked,
+          c.loop-turns.advisers.items c.consult.new.advisers.items c.loop-turns.invariant.3 c.in_ok-hints.ensures.asked,
       search rules,
     )
 
 pub loop-turns-preserved : goal.loop-turns-preserved
 loop-turns-preserved g c =
     let test = c.loop-turns-test.true in (
-      c.in_ok-follow.ensures,
+      c.in_ok-follow.ensures.found,
+      c.in_ok-follow.ensures.some c.loop-turns.invariant.1,
       omega (arith, test),
       asked_again (λ a. (goal.Adviser-dyn g (a.vtable, a.value)).asked_of a.value) c.loop-turns.turns c.args.advisers.now.items
-          c.loop-turns.advisers.items c.consult.new.advisers.items c.loop-turns.invariant.2 c.in_ok-hints.ensures.asked,
+          c.loop-turns.advisers.items c.consult.new.advisers.items c.loop-turns.invariant.3 c.in_ok-hints.ensures.asked,
     )
+
+pub returns-clause-found : goal.returns-clause-found
+returns-clause-found g c =
+    c.certificate.ensures.found (length c.args.self.now.program.now.names) (statements c.args.self.now.program.now.body) c.loop-turns.invariant.0 c.loop-turns.invariant.1

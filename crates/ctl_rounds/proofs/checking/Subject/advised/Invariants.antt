@@ -1,13 +1,14 @@
-use Rattle.std.proofs.Common.{◌≤◌, ◌-◌, length}
+use Rattle.std.proofs.Common.{◌≤◌, ◌<◌, ◌-◌, length, option_map}
 use Rattle.step_meaning.specs.Syntax.{statements}
 use Rattle.decision_tree.specs.Plans.{plan_of}
 use Rattle.ctl_rounds.specs.Asked.{RoseBy}
-use Rattle.ctl_rounds.specs.Bounds.{AreFound}
+use Rattle.ctl_rounds.specs.Bounds.{AreFoundSoFar}
 use Rattle.ctl_rounds.proofs.checking.Subject.advised.Given as goal
 
 abbrev pub invariant-loop-turns : goal.invariant-loop-turns
 invariant-loop-turns g l =
-    AreFound (length l.self.program.now.names) (statements l.self.program.now.body) l.found.tops.items (plan_of l.found.cover)
+    AreFoundSoFar (length l.self.program.now.names) (statements l.self.program.now.body) l.found.tops.items (option_map plan_of l.found.cover)
+    × (0 < length l.found.tops.items)
     × (l.turns ≤ 8)
     × RoseBy (λ a. (goal.Adviser-dyn g (a.vtable, a.value)).asked_of a.value) l.turns l.initial.advisers.items l.advisers.items
 

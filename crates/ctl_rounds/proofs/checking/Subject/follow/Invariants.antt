@@ -1,8 +1,10 @@
-use Rattle.std.proofs.Common.{length}
+use Rattle.std.proofs.Common.{◌<◌, length, option_map}
 use Rattle.step_meaning.specs.Syntax.{statements}
 use Rattle.decision_tree.specs.Plans.{plan_of}
-use Rattle.ctl_rounds.specs.Bounds.{AreFound}
+use Rattle.ctl_rounds.specs.Bounds.{AreFoundSoFar}
 use Rattle.ctl_rounds.proofs.checking.Subject.follow.Given as goal
 
 abbrev pub invariant-loop-hint : goal.invariant-loop-hint
-invariant-loop-hint g l = AreFound (length l.self.program.now.names) (statements l.self.program.now.body) l.found.tops.items (plan_of l.found.cover)
+invariant-loop-hint g l =
+    AreFoundSoFar (length l.self.program.now.names) (statements l.self.program.now.body) l.found.tops.items (option_map plan_of l.found.cover)
+    × (0 < length l.initial.found.tops.items → 0 < length l.found.tops.items)
