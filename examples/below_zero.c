@@ -4,4 +4,5 @@ int main() {
   if (x + y < 0)
     while (x > 0)
       x = x + x + y;
+  return 0;
 }

@@ -6,4 +6,5 @@ int main() {
     bob = samantha + 1;
     samantha = old + 1;
   }
+  return 0;
 }

@@ -4,4 +4,5 @@ int main() {
   if (a == b)
     while (x >= 0)
       x = x + a - b - 1;
+  return 0;
 }

@@ -6,4 +6,5 @@ int main() {
       x = x - c;
       c = c + 1;
     }
+  return 0;
 }

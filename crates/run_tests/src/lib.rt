@@ -4,6 +4,8 @@
 #![tactic(auto)]
 
 #[cfg(test)]
+mod behind;
+#[cfg(test)]
 mod domains;
 #[cfg(test)]
 mod ends;

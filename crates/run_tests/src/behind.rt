@@ -1,0 +1,111 @@
+//! Loops with something behind them.
+
+use crate::running::{Case, NO_OPTIONS, hold, outcome_of};
+use function_top::Status;
+use std::alloc::{AllocError, Global};
+use std::test::Fail;
+
+/// Loops over x and y, each with the condition of a line and how many steps it has for each x, besides the last test.
+const LOOPS: [(&str, &str, &str); 5] = [
+    ("while (x > 0) x = x - 1;", "x - 1 >= 0", "2*x"),
+    (
+        "while (x > 0) { if (?) x = x - 1; else x = x - 2; }",
+        "x - 1 >= 0",
+        "3*x",
+    ),
+    ("while (x != 0) x = x - 1;", "x - 2 >= 0", "2*x"),
+    (
+        "while (x > 0) x = x + y;",
+        "-y - 1 >= 0 and x + y - 1 >= 0 and x - 1 >= 0",
+        "2*x",
+    ),
+    (
+        "for (; x > 0; x = x + y) ;",
+        "-y - 1 >= 0 and x + y - 1 >= 0 and x - 1 >= 0",
+        "3*x",
+    ),
+];
+
+/// What stands behind them, with its most steps.
+const BEHIND: [(&str, u32); 6] = [
+    ("", 0),
+    (";", 1),
+    ("return 0;", 1),
+    ("y = 7;", 1),
+    ("if (?) y = 1;", 2),
+    ("y = 3; ; return y;", 3),
+];
+
+const DOMAINS: [&str; 3] = ["boxes", "octagons", "polyhedra"];
+
+#[test]
+fn what_stands_behind_a_loop_adds_its_steps(rt: HostRuntime) -> Result<(), Fail> {
+    let alloc = rt.alloc();
+    for domain in DOMAINS {
+        let words = ["function", "--domain", domain];
+        for (turning, condition, steps) in LOOPS {
+            for (behind, more) in BEHIND {
+                let text = format!(in alloc; "int main() {{ int x, y; {turning} {behind} }}")?;
+                let last = more + 1;
+                let line = format!(in alloc; "\n{condition}: within {steps} + {last} steps\n")?;
+                assert!(rt;
+                    is_reported(alloc, &words, &text, &line)?,
+                    "{line} of {text} under {domain}"
+                );
+            }
+        }
+    }
+    Ok(())
+}
+
+/// Whether the report on the text has the line.
+fn is_reported(alloc: Global, words: &[&str], text: &str, line: &str) -> Result<bool, AllocError> {
+    let (_, written) = outcome_of(alloc, words, text.as_bytes())?;
+    Ok(
+        written
+            .windows(line.len())
+            .any(|piece| piece == line.as_bytes()),
+    )
+}
+
+/// Hints on a loop before another, on one of two sides, on one that is left by a `return`, and behind a test of a loop in the body.
+const CASES: [Case; 4] = [
+    (
+        "int main() { int x, y, z; if (x < -x) { while (z > 0) { if (x - y < 3) { y = z; } y = x + z; } } while (x > 0) x = x - 1; }",
+        &["function", "--delay", "1"],
+        Status::SomeInputs,
+        "exact, 1 tests:\n-x >= 0 and x >= 0: exactly 2 steps\n\
+        proved:\n-x >= 0 and x >= 0: within 2 steps\nx - 1 >= 0: within 2*x + 2 steps\n\
+        unknown:\n-x - 1 >= 0: unknown\nverdict: some inputs\n",
+    ),
+    (
+        "int main() { int x, y; while (x > 0) { x = y + y + x; x = x - 1; ; } return 0; }",
+        NO_OPTIONS,
+        Status::SomeInputs,
+        "exact, 2 tests:\n-x - 2*y + 1 >= 0 and x - 1 >= 0: exactly 6 steps\n-x >= 0: exactly 2 steps\n\
+        proved:\n-x - 2*y + 1 >= 0 and x - 1 >= 0: within 6 steps\n-x >= 0: within 2 steps\n\
+        -y >= 0 and x + 2*y - 2 >= 0 and x - 1 >= 0: within 4*x + 2 steps\n\
+        unknown:\nx + 2*y - 2 >= 0 and x - 1 >= 0 and y - 1 >= 0: unknown\nverdict: some inputs\n",
+    ),
+    (
+        "int main() { int x, y; if (y <= 2) { y = 10; } while (y > -2 && x >= 10) { y = y - 1; } if (?) x = 0; }",
+        &["function", "--delay", "1"],
+        Status::AllInputs,
+        "exact, 1 tests:\n-x + 9 >= 0 and -y + 2 >= 0: exactly 5 steps\n-x + 9 >= 0 and y - 3 >= 0: exactly 4 steps\n\
+        proved:\n-x + 9 >= 0 and -y + 2 >= 0: within 5 steps\n-x + 9 >= 0 and y - 3 >= 0: within 4 steps\n\
+        -y + 2 >= 0 and x - 10 >= 0: within 29 steps\nx - 10 >= 0 and y - 3 >= 0: within 2*y + 8 steps\n\
+        unknown:\nverdict: all inputs\n",
+    ),
+    (
+        "int main() { int x; if (x >= 5) { if (x > x && x - x >= 2) { x = 0*x; } else ; while (x > 0) { x = 10; return; x = x - 1; } } x += 10*x; x = x; return 0; }",
+        &["function", "--delay", "0", "--domain", "boxes"],
+        Status::AllInputs,
+        "exact, 0 tests:\n-x + 4 >= 0: exactly 4 steps\n\
+        proved:\n-x + 4 >= 0: within 4 steps\nx - 5 >= 0: within x + 7 steps\nunknown:\nverdict: all inputs\n",
+    ),
+];
+
+#[test]
+fn hints_are_kept_wherever_their_loops_stand(rt: HostRuntime) -> Result<(), Fail> {
+    hold(&rt, rt.alloc(), &CASES)
+}
