@@ -15,7 +15,7 @@ use crate::cover::{extended, is_whole};
 use crate::fitting::fitted;
 use advice::{Adviser, Hint, consult};
 use backward_sweeps::{Action, actions, swept};
-use decision_tree::{AffineRank, Family, FamilyList, Tree};
+use decision_tree::{AffineRank, Family, FamilyList, Tree, TreeList};
 use loop_facts::{Facts, holds_under, proposal};
 use num_domain::NumDomain;
 use std::alloc::{AllocError, Global};
@@ -112,7 +112,7 @@ impl<'a, D: NumDomain> Subject<'a, D> {
         ensures some { IfOk result (λ found. 0 < length found.tops.items) }
     {
         let swept = swept(self.alloc, self.inv, actions, delay)?;
-        let first = self.checked(fitted(self.alloc, swept, &self.program.names)?)?;
+        let first = self.left_of(swept)?;
         let mut found = Found::none(self.alloc);
         self.keep(first, &mut found)?;
         Ok(found)
@@ -159,13 +159,12 @@ impl<'a, D: NumDomain> Subject<'a, D> {
         ensures { IfOk result (λ found. IfSome found (λ family.
             AreBounding (length self.now.program.now.names) (statements self.now.program.now.body) family.trees)) }
     {
-        let names = &self.program.names;
         let trees = current.trees.items();
-        let variables = names.items().len() as u32;
+        let variables = self.program.names.items().len() as u32;
         let Some(trees) = proposal(self.alloc, self.graph, actions, trees, variables, hint)? else {
             return Ok(None);
         };
-        let family = self.checked(fitted(self.alloc, trees, names)?)?;
+        let family = self.left_of(trees)?;
         let Some(head) = family.trees.items().get(hint.label as usize) else {
             return Ok(None);
         };
@@ -174,6 +173,16 @@ impl<'a, D: NumDomain> Subject<'a, D> {
         } else {
             Ok(None)
         }
+    }
+
+    /// What the check leaves of the trees that are proposed, where those that can't be printed claim nothing.
+    fn left_of(&self, trees: TreeList<AffineRank>) -> Result<Family<AffineRank>, AllocError>
+        requires subject { IsSubject D.has self.now.program.now self.now.graph.now self.now.inv.now self.now.labels }
+        requires labels { length trees ≡ length (all_labels (statements self.now.program.now.body)) }
+        ensures { IfOk result (λ family.
+            AreBounding (length self.now.program.now.names) (statements self.now.program.now.body) family.trees) }
+    {
+        self.checked(fitted(self.alloc, trees, &self.program.names)?)
     }
 
     /// Adds the family, and what it says of inputs that have no claim yet.

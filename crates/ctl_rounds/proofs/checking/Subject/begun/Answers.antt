@@ -8,5 +8,5 @@ pub swept-requires-clause-few : goal.swept-requires-clause-few
 swept-requires-clause-few g c =
     let few = c.requires.subject.few in let own = c.requires.subject.labels in let is = c.requires.actions in omega (arith, few, own, is)
 
-pub checked-requires-clause-labels : goal.checked-requires-clause-labels
-checked-requires-clause-labels g c = c.in_ok-fitted.ensures.labels ∙ c.in_ok-swept.ensures.labels ∙ c.requires.actions
+pub left_of-requires-clause-labels : goal.left_of-requires-clause-labels
+left_of-requires-clause-labels g c = c.in_ok-swept.ensures.labels ∙ c.requires.actions
