@@ -1,8 +1,83 @@
 //! Loops with something behind them.
 
-use crate::running::{Case, NO_OPTIONS, hold};
+use crate::running::{Case, NO_OPTIONS, hold, outcome_of};
 use function_top::Status;
+use std::alloc::{AllocError, Global};
 use std::test::Fail;
+
+/// Loops over x and y, each with the condition of a line, the terms of its bound and the bound's constant.
+const LOOPS: [(&str, &str, &str, u32); 7] = [
+    ("while (x > 0) x = x - 1;", "x - 1 >= 0", "2*x + ", 1),
+    (
+        "while (x > 0) { if (?) x = x - 1; else x = x - 2; }",
+        "x - 1 >= 0",
+        "3*x + ",
+        1,
+    ),
+    ("while (x != 0) x = x - 1;", "x - 2 >= 0", "2*x + ", 1),
+    (
+        "while (x > 0) x = x + y;",
+        "-y - 1 >= 0 and x + y - 1 >= 0 and x - 1 >= 0",
+        "2*x + ",
+        1,
+    ),
+    (
+        "for (; x > 0; x = x + y) ;",
+        "-y - 1 >= 0 and x + y - 1 >= 0 and x - 1 >= 0",
+        "3*x + ",
+        1,
+    ),
+    ("x = [1, 10]; while (x > 0) x = x - 1;", "always", "", 22),
+    (
+        "while (x > 0 && y < 100) { if (?) y = y + 1; else y = y - 1; x = x - 1; }",
+        "x - 1 >= 0",
+        "4*x + ",
+        1,
+    ),
+];
+
+/// What stands behind them, with its most steps.
+const BEHIND: [(&str, u32); 6] = [
+    ("", 0),
+    (";", 1),
+    ("return 0;", 1),
+    ("y = 7;", 1),
+    ("if (?) y = 1;", 2),
+    ("y = 3; ; return y;", 3),
+];
+
+const DOMAINS: [&str; 3] = ["boxes", "octagons", "polyhedra"];
+
+#[test]
+fn what_stands_behind_a_loop_adds_its_steps(rt: HostRuntime) -> Result<(), Fail> {
+    let alloc = rt.alloc();
+    for domain in DOMAINS {
+        let words = ["function", "--domain", domain];
+        for (turning, condition, terms, constant) in LOOPS {
+            for (behind, more) in BEHIND {
+                let text = format!(in alloc; "int main() {{ int x, y; {turning} {behind} }}")?;
+                let last = more.saturating_add(constant);
+                let line = format!(in alloc; "\n{condition}: within {terms}{last} steps\n")?;
+                assert!(rt;
+                    is_reported(alloc, &words, &text, &line)?,
+                    "{line} of {text} under {domain}"
+                );
+            }
+        }
+    }
+    Ok(())
+}
+
+/// Whether the report on the text has the line.
+fn is_reported(alloc: Global, words: &[&str], text: &str, line: &str) -> Result<bool, AllocError> {
+    let (_, written) = outcome_of(alloc, words, text.as_bytes())?;
+    for at in 0..written.len() {
+        if written[at..].starts_with(line.as_bytes()) {
+            return Ok(true);
+        }
+    }
+    Ok(false)
+}
 
 /// Hints on a loop before another, on one of two sides, on one that is left by a `return`, and behind a test of a loop in the body.
 const CASES: [Case; 4] = [
