@@ -1,5 +1,5 @@
 #!/usr/bin/env python3
-"""Prints, for four kinds of programs that grow and whose loops are left to sweeps and hints, the time of the built command divided by that for the
+"""Prints, for five kinds of programs that grow and whose loops are left to sweeps and hints, the time of the built command divided by that for the
 smallest of the kind.
 
 Each ratio is one of medians over several runs, less the time for an empty program. Nothing is asserted: machines differ and are shared.
@@ -22,6 +22,11 @@ def choices(count):
     return "int main() { int x, y; while (x != 0) { " + "if (?) y = y + 1; " * count + "x = x - 1; } }"
 
 
+def leaving(count):
+    """A loop that may be left at so many places."""
+    return "int main() { int x; while (x > 0) { " + "if (?) break; " * count + "x = x - 1; } }"
+
+
 def one_after_another(count):
     """So many loops in a row."""
     return "int main() { int i; " + "for (i = 0; i < 10; i++) ; " * count + "}"
@@ -34,7 +39,7 @@ def nested(count):
     return f"int main() {{ int {', '.join(names)}; " + front + "} " * count + "}"
 
 
-KINDS = [(straight, (100, 300, 1000)), (choices, (2, 4, 6, 8)), (one_after_another, (1, 5, 20)), (nested, (1, 2, 3))]
+KINDS = [(straight, (100, 300, 1000)), (choices, (2, 4, 6, 8)), (leaving, (100, 300, 500)), (one_after_another, (1, 5, 20)), (nested, (1, 2, 3))]
 
 
 def seconds(binary, text):

@@ -111,6 +111,8 @@ abbrev mutual
   statement_kind (For' p first test step at body) =
       tree.for_loop (start first) (optional test) (optional_simple step) (tree.statement_at at (statement_kind body))
   statement_kind (V.Return value) = tree.return (optional value)
+  statement_kind V.Break = tree.break
+  statement_kind V.Continue = tree.continue
 
   pub otherwise : Otherwise → tree.Otherwise
   otherwise O.Nothing = tree.without

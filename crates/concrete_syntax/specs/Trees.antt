@@ -11,7 +11,7 @@
 --                 | "while" "(" expression ")" statement
 --                 | "do" statement "while" "(" expression ")" ";"
 --                 | "for" "(" [simple | declaration] ";" [expression] ";" [simple] ")" statement
---                 | "return" [expression] ";"
+--                 | "return" [expression] ";" | "break" ";" | "continue" ";"
 --     simple      = NAME ("=" | "+=" | "-=" | "*=") expression | NAME ("++" | "--") | ("++" | "--") NAME
 --     expression  = operand link*
 --     link        = operator operand
@@ -102,6 +102,8 @@ mutual
     do_loop : Statement → ℕ → Expression → StatementKind
     for_loop : Start → Option Expression → Option Simple → Statement → StatementKind
     return : Option Expression → StatementKind
+    break : StatementKind
+    continue : StatementKind
 
   -- the second part of an `if`, where it has one
   pub data Otherwise : Type 0 where

@@ -41,6 +41,8 @@ pub enum StatementKind {
     },
     For(Box<ForLoop>),
     Return(Option<Expression>),
+    Break,
+    Continue,
 }
 
 /// A `for`. It stands in a box, since it is three times as large as any other statement.

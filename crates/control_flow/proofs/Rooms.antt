@@ -4,7 +4,7 @@ use Rattle.std.specs.List.{slice_get}
 use Rattle.step_meaning.specs.declared.statement.Block.{Block, Then'}
 use Rattle.step_meaning.specs.declared.statement.Block.TheVariants.{End}
 use Rattle.step_meaning.specs.declared.statement.StmtKind.{StmtKind}
-use Rattle.step_meaning.specs.declared.statement.StmtKind.TheVariants.{Assign, Skip, Return, If, While, Do}
+use Rattle.step_meaning.specs.declared.statement.StmtKind.TheVariants.{Assign, Skip, Return, Break, Continue, If, While, Do}
 use Rattle.step_meaning.specs.Syntax.{statements, statement, size_of, size_of_statement}
 use Rattle.step_meaning.specs.Offsets.{offsets, offsets_at}
 
@@ -32,6 +32,8 @@ mutual
   length-offsets_at at (Assign x e) = refl
   length-offsets_at at Skip = refl
   length-offsets_at at Return = refl
+  length-offsets_at at Break = refl
+  length-offsets_at at Continue = refl
   length-offsets_at at (If c y z) =
       let both = length-append (offsets y) (offsets z) in
       let first = length-offsets y in

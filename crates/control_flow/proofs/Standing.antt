@@ -2,9 +2,9 @@
 use Rattle.std.proofs.Common.{◌≡◌, ℕ, zero, suc, ◌+◌, ◌<◌, List, [], ◌∷◌, ◌++◌, length, get_or, length-append, append_assoc, refl, sym, subst, ap, ◌∙◌, arith}
 use Rattle.std.specs.Bool.{⊤}
 use Rattle.std.proofs.Math.Seq.{get_or-append_seam}
-use Rattle.step_meaning.specs.Syntax.{Statement, Statements, assign, skip, return, if_else, while_loop, do_while, empty, sequence, size_of, size_of_statement, list_of}
-use Rattle.step_meaning.specs.Step.{behind_body}
-use Rattle.control_flow.specs.Labels.{Label, end, labels_of, labels_of_statement, entry_label}
+use Rattle.step_meaning.specs.Syntax.{Statement, Statements, assign, skip, return, break, continue, if_else, while_loop, do_while, empty, sequence, size_of, size_of_statement}
+use Rattle.step_meaning.specs.Step.{Todo, one, items_of, behind_body}
+use Rattle.control_flow.specs.Labels.{Jumps, Label, end, inside, labels_of, labels_of_statement, entry_label}
 
 -- something holds of each label, of which the first has the number n
 abbrev pub EachFrom : (ℕ → Label → Type 0) → ℕ → List Label → Type 0
@@ -44,30 +44,32 @@ stands_behind xs (y ∷ ys) k e =
 
 -- each statement has one label
 mutual
-  pub length-labels_of_statement : (n after : ℕ) (rest : List Statement) (s : Statement) → length (labels_of_statement n after rest s) ≡ size_of_statement s
-  length-labels_of_statement n after rest (assign x e) = refl
-  length-labels_of_statement n after rest skip = refl
-  length-labels_of_statement n after rest return = refl
-  length-labels_of_statement n after rest (if_else c y z) =
-      let first = length-labels_of (n + 1) after rest y in
-      let second = length-labels_of (n + 1 + size_of y) after rest z in
-      let both = length-append (labels_of (n + 1) after rest y) (labels_of (n + 1 + size_of y) after rest z) in
+  pub length-labels_of_statement : (n after : ℕ) (jumps : Jumps) (rest : Todo) (s : Statement) → length (labels_of_statement n after jumps rest s) ≡ size_of_statement s
+  length-labels_of_statement n after jumps rest (assign x e) = refl
+  length-labels_of_statement n after jumps rest skip = refl
+  length-labels_of_statement n after jumps rest return = refl
+  length-labels_of_statement n after jumps rest break = refl
+  length-labels_of_statement n after jumps rest continue = refl
+  length-labels_of_statement n after jumps rest (if_else c y z) =
+      let first = length-labels_of (n + 1) after jumps rest y in
+      let second = length-labels_of (n + 1 + size_of y) after jumps rest z in
+      let both = length-append (labels_of (n + 1) after jumps rest y) (labels_of (n + 1 + size_of y) after jumps rest z) in
       omega arith
-  length-labels_of_statement n after rest (while_loop c body step) =
+  length-labels_of_statement n after jumps rest (while_loop c body step) =
       let turn : ℕ = entry_label (n + 1 + size_of body) n step in
-      let first = length-labels_of (n + 1) turn (behind_body c body step rest) body in
-      let second = length-labels_of (n + 1 + size_of body) n (while_loop c body step ∷ rest) step in
-      let both = length-append (labels_of (n + 1) turn (behind_body c body step rest) body) (labels_of (n + 1 + size_of body) n (while_loop c body step ∷ rest) step) in
+      let first = length-labels_of (n + 1) turn (inside after turn) (behind_body c body step rest) body in
+      let second = length-labels_of (n + 1 + size_of body) n jumps (one (while_loop c body step) ∷ rest) step in
+      let both = length-append (labels_of (n + 1) turn (inside after turn) (behind_body c body step rest) body) (labels_of (n + 1 + size_of body) n jumps (one (while_loop c body step) ∷ rest) step) in
       omega arith
-  length-labels_of_statement n after rest (do_while body c) =
-      let first = length-labels_of n (n + size_of body) (while_loop c body empty ∷ rest) body in
-      length-append (labels_of n (n + size_of body) (while_loop c body empty ∷ rest) body) _ ∙ omega arith
+  length-labels_of_statement n after jumps rest (do_while body c) =
+      let first = length-labels_of n (n + size_of body) (inside after (n + size_of body)) (behind_body c body empty rest) body in
+      length-append (labels_of n (n + size_of body) (inside after (n + size_of body)) (behind_body c body empty rest) body) _ ∙ omega arith
 
-  pub length-labels_of : (n after : ℕ) (rest : List Statement) (s : Statements) → length (labels_of n after rest s) ≡ size_of s
-  length-labels_of n after rest empty = refl
-  length-labels_of n after rest (sequence first more) =
+  pub length-labels_of : (n after : ℕ) (jumps : Jumps) (rest : Todo) (s : Statements) → length (labels_of n after jumps rest s) ≡ size_of s
+  length-labels_of n after jumps rest empty = refl
+  length-labels_of n after jumps rest (sequence first more) =
       let next : ℕ = entry_label (n + size_of_statement first) after more in
-      let one = length-labels_of_statement n next (list_of more ++ rest) first in
-      let others = length-labels_of (n + size_of_statement first) after rest more in
-      let both = length-append (labels_of_statement n next (list_of more ++ rest) first) (labels_of (n + size_of_statement first) after rest more) in
+      let first_one = length-labels_of_statement n next jumps (items_of more ++ rest) first in
+      let others = length-labels_of (n + size_of_statement first) after jumps rest more in
+      let both = length-append (labels_of_statement n next jumps (items_of more ++ rest) first) (labels_of (n + size_of_statement first) after jumps rest more) in
       omega arith

@@ -3,7 +3,7 @@ use Rattle.std.specs.Prelude.{◌≡◌, ℕ, ◌<◌, ◌||◌, Bool, true, fal
 use Rattle.step_meaning.specs.declared.statement.Block.{Block, Then'}
 use Rattle.step_meaning.specs.declared.statement.Block.TheVariants.{End}
 use Rattle.step_meaning.specs.declared.statement.StmtKind.{StmtKind}
-use Rattle.step_meaning.specs.declared.statement.StmtKind.TheVariants.{Assign, Skip, Return, If, While, Do}
+use Rattle.step_meaning.specs.declared.statement.StmtKind.TheVariants.{Assign, Skip, Return, Break, Continue, If, While, Do}
 use Rattle.step_meaning.specs.Syntax.{Expression, expression, statements, size_of}
 use Rattle.linear_forms.specs.Counting.{conjunctions}
 use Rattle.control_flow.specs.declared.fault.FlowFault.{FlowFault}
@@ -27,6 +27,8 @@ abbrev mutual
   wide_offsets_of at (Assign x e) = []
   wide_offsets_of at Skip = []
   wide_offsets_of at Return = []
+  wide_offsets_of at Break = []
+  wide_offsets_of at Continue = []
   wide_offsets_of at (If c yes_part no_part) = offset_if_wide at (expression c) ++ (wide_offsets yes_part ++ wide_offsets no_part)
   wide_offsets_of at (While c body step) = offset_if_wide at (expression c) ++ (wide_offsets body ++ wide_offsets step)
   wide_offsets_of at (Do body c) = wide_offsets body ++ offset_if_wide at (expression c)

@@ -1,4 +1,5 @@
 pub mod Labels
+pub mod Bodies
 pub mod Edges
 pub mod Actions
 pub mod Tables

@@ -54,6 +54,8 @@ fn one(alloc: Global, stmt: &Stmt) -> Result<Stmt, AllocError>
         },
         StmtKind::Skip => StmtKind::Skip,
         StmtKind::Return => StmtKind::Return,
+        StmtKind::Break => StmtKind::Break,
+        StmtKind::Continue => StmtKind::Continue,
         StmtKind::If { test, yes, no } => StmtKind::If {
             test: expr(alloc, test)?,
             yes: block(alloc, yes)?,

@@ -2,11 +2,13 @@
 
 ghost use Rattle.std.specs.Prelude.{◌≡◌, ◌<◌, ◌≤◌, [], IfOk, IfErr, OnOk, option_map, length};
 ghost use Rattle.step_meaning.specs.Syntax.{expression, size_of, statements};
+ghost use Rattle.control_flow.specs.Bodies.{body_of};
 ghost use Rattle.control_flow.specs.Edges.{assigned_by, choice_by, choice_of_test, choice_of_value, edges_from, is_head_by, test_by};
 ghost use Rattle.control_flow.specs.Faults.{IsFlowFault, wide_offsets};
 ghost use Rattle.control_flow.specs.Labels.{action_at, all_labels, entry_of};
 ghost use Rattle.control_flow.specs.Tables.{action_of};
 
+use crate::bodies::body_in;
 use crate::copy;
 use crate::edge::{Choice, Edge, EdgeKind};
 use crate::fault::FlowFault;
@@ -93,6 +95,14 @@ impl Graph {
             Node::Test { is_head, .. } => *is_head,
             _ => false,
         }
+    }
+
+    /// The labels of the body and the step of the loop whose test has the label, from the first up to before the second; `None` exactly
+    /// where it is no loop's test. Time is linear in the program.
+    pub fn body(&self, head: u32) -> Option<(u32, u32)>
+        ensures { result ≡ body_of (statements self.now.body) head }
+    {
+        body_in(&self.program.body, 1, head)
     }
 
     /// The edges from the label: none from label 0, two from a test, that of the true outcome first, and one from each other label.

@@ -1,10 +1,10 @@
 //! Laws of the definitions, each the contract of a function that does nothing: what labels, edges and steps have to do with each other.
 
 ghost use Rattle.std.specs.Prelude.{◌≡◌, ◌⊎◌, ℕ, ℤ, ◌<◌, ◌+◌, Bool, [], length, slice_set};
-ghost use Rattle.step_meaning.specs.Syntax.{Expression, Statements, free, list_of, size_of};
+ghost use Rattle.step_meaning.specs.Syntax.{Expression, Statements, free, size_of};
 ghost use Rattle.step_meaning.specs.Outcome.{Store, May};
 ghost use Rattle.step_meaning.specs.Run.{EndsWithin};
-ghost use Rattle.step_meaning.specs.Step.{Configuration, Next, Step, front};
+ghost use Rattle.step_meaning.specs.Step.{Configuration, Next, Step, front, items_of};
 ghost use Rattle.step_meaning.specs.Valid.{IsBody};
 ghost use Rattle.control_flow.specs.Actions.{IsSorted, LeadsBelow, LeadsOn};
 ghost use Rattle.control_flow.specs.Edges.{EdgesAreSteps, Reached, SomeEdge, BothTaken, LandsAt, configuration, edges_from};
@@ -14,7 +14,7 @@ ghost use Rattle.control_flow.specs.Labels.{action_at, all_labels, assigns, entr
 /// with the same front as that of the edge's target. A run begins with the front of the entry.
 pub fn edges_are_the_steps()
     ensures steps { (body : Statements) (l : ℕ) → l < length (all_labels body) → EdgesAreSteps body l }
-    ensures entry { (body : Statements) → front (rest body (entry_of body)) ≡ front (list_of body) }
+    ensures entry { (body : Statements) → front (rest body (entry_of body)) ≡ front (items_of body) }
 {}
 
 /// Where a final configuration has itself as its successor, each successor is reached over an edge but that one of label 0, and only the

@@ -4,6 +4,7 @@
 //! whose readers answer in constant time; `laws` says that the steps of a label's configurations are its edges.
 #![tactic(auto)]
 
+mod bodies;
 mod copy;
 mod edge;
 mod fault;

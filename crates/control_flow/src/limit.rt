@@ -35,7 +35,11 @@ fn room_behind_one(stmt: &Stmt, room: u32) -> Result<u32, u32>
         (λ at. slice_get (offsets_at stmt.now.at stmt.now.kind) room ≡ Some at) }
 {
     match &stmt.kind {
-        StmtKind::Assign { .. } | StmtKind::Skip | StmtKind::Return => one_less(room, stmt.at),
+        StmtKind::Assign { .. }
+        | StmtKind::Skip
+        | StmtKind::Return
+        | StmtKind::Break
+        | StmtKind::Continue => one_less(room, stmt.at),
         StmtKind::If { test: _, yes, no } => match one_less(room, stmt.at) {
             Ok(room) => room_behind_both(yes, no, room),
             Err(at) => Err(at),
@@ -97,7 +101,11 @@ fn least_wide_of_one(stmt: &Stmt, least: Option<u32>) -> Option<u32>
     ensures { result ≡ faults.least_from least (faults.wide_offsets_of stmt.now.at stmt.now.kind) }
 {
     match &stmt.kind {
-        StmtKind::Assign { .. } | StmtKind::Skip | StmtKind::Return => least,
+        StmtKind::Assign { .. }
+        | StmtKind::Skip
+        | StmtKind::Return
+        | StmtKind::Break
+        | StmtKind::Continue => least,
         StmtKind::If { test, yes, no } => {
             least_wide(no, least_wide(yes, with_test(test, stmt.at, least)))
         }

@@ -1,14 +1,23 @@
 //! The labels of a program's statements, in the order of the tree. What walks along a list of statements is a loop; only nesting recurses.
 
-ghost use Rattle.std.specs.Prelude.{◌≡◌, ◌+◌, ◌<◌, ◌≤◌, ◌++◌, ◌∷◌, [], List, IfOk, OnOk, length};
-ghost use Rattle.step_meaning.specs.Syntax.{Statement, expression, statements, statement, size_of, size_of_statement};
-ghost use Rattle.control_flow.specs.Labels.{assigns, passes, tests, labels_of, labels_of_statement, entry_label, first_label};
+ghost use Rattle.std.specs.Prelude.{◌≡◌, ◌+◌, ◌<◌, ◌≤◌, ◌++◌, ◌∷◌, [], IfOk, OnOk, length};
+ghost use Rattle.step_meaning.specs.Step.{Todo};
+ghost use Rattle.step_meaning.specs.Syntax.{expression, statements, statement, size_of, size_of_statement};
+ghost use Rattle.control_flow.specs.Labels.{assigns, inside, passes, tests, labels_of, labels_of_statement, entry_label, first_label};
 ghost use Rattle.control_flow.specs.Tables.{IsTableOf, actions, actions_of};
 
 use crate::copy;
 use crate::node::Node;
 use std::alloc::{AllocError, Global};
 use step_meaning::{Block, Expr, Stmt, StmtKind};
+
+// Where a `break` and a `continue` lead: to the label behind the nearest loop, and to that of its mark, which is its step's first, or that of
+// its test where it has no step. Both are 0 where there is no loop around.
+#[derive(Clone, Copy)]
+struct Jumps {
+    out: u32,
+    mark: u32,
+}
 
 /// The table of a body's labels, label 0 first.
 pub(crate) fn table(alloc: Global, body: &Block) -> Result<Vec<Node>, AllocError>
@@ -17,13 +26,13 @@ pub(crate) fn table(alloc: Global, body: &Block) -> Result<Vec<Node>, AllocError
 {
     let mut nodes = Vec::new(alloc);
     nodes.push(Node::End)?;
-    place_all(alloc, body, 0, &mut nodes)?;
+    place_all(alloc, body, 0, Jumps { out: 0, mark: 0 }, &mut nodes)?;
     Ok(nodes)
 }
 
-// The number of the statements, inner ones included.
+/// The number of the statements, inner ones included.
 #[cycle(sizes)]
-fn size(block: &Block) -> u32
+pub(crate) fn size(block: &Block) -> u32
     requires { size_of (statements block.now) ≤ 1024 }
     ensures { result ≡ size_of (statements block.now) }
 {
@@ -36,14 +45,18 @@ fn size(block: &Block) -> u32
     sum
 }
 
-// The number of the statement and of those in it.
+/// The number of the statement and of those in it.
 #[cycle(sizes)]
-fn size_of_one(stmt: &Stmt) -> u32
+pub(crate) fn size_of_one(stmt: &Stmt) -> u32
     requires { size_of_statement (statement stmt.now.kind) ≤ 1024 }
     ensures { result ≡ size_of_statement (statement stmt.now.kind) }
 {
     match &stmt.kind {
-        StmtKind::Assign { .. } | StmtKind::Skip | StmtKind::Return => 1,
+        StmtKind::Assign { .. }
+        | StmtKind::Skip
+        | StmtKind::Return
+        | StmtKind::Break
+        | StmtKind::Continue => 1,
         StmtKind::If { test: _, yes, no } => 1 + size(yes) + size(no),
         StmtKind::While {
             test: _,
@@ -78,32 +91,39 @@ fn entry_of_one(stmt: &Stmt, number: u32) -> u32
     }
 }
 
-// Adds the labels of the statements, which the label `after` follows.
+// Adds the labels of the statements, which the label `after` follows, and from which jumps lead there.
 #[cycle(places)]
 fn place_all(
     alloc: Global,
     block: &Block,
     after: u32,
+    jumps: Jumps,
     nodes: &mut Vec<Node>,
 ) -> Result<(), AllocError>
     requires { length nodes.old.items + size_of (statements block.now) ≤ 1024 }
-    ensures labels { OnOk result ((rest : List Statement) → actions nodes.new.items ≡ actions nodes.old.items ++ actions_of (labels_of (length nodes.old.items) after rest (statements block.now))) }
+    ensures labels { OnOk result ((rest : Todo) → actions nodes.new.items ≡ actions nodes.old.items ++ actions_of (labels_of (length nodes.old.items) after (inside jumps.out jumps.mark) rest (statements block.now))) }
     ensures count { OnOk result (length nodes.new.items ≡ length nodes.old.items + size_of (statements block.now)) }
 {
     let mut left = block;
     while let Block::Then { first, rest } = left {
         let behind = nodes.len() as u32 + size_of_one(first);
-        place(alloc, first, entry(rest, behind, after), nodes)?;
+        place(alloc, first, entry(rest, behind, after), jumps, nodes)?;
         left = rest;
     }
     Ok(())
 }
 
-// Adds the labels of a statement, which the label `after` follows.
+// Adds the labels of a statement, which the label `after` follows, and from which jumps lead there.
 #[cycle(places)]
-fn place(alloc: Global, stmt: &Stmt, after: u32, nodes: &mut Vec<Node>) -> Result<(), AllocError>
+fn place(
+    alloc: Global,
+    stmt: &Stmt,
+    after: u32,
+    jumps: Jumps,
+    nodes: &mut Vec<Node>,
+) -> Result<(), AllocError>
     requires { length nodes.old.items + size_of_statement (statement stmt.now.kind) ≤ 1024 }
-    ensures labels { OnOk result ((rest : List Statement) → actions nodes.new.items ≡ actions nodes.old.items ++ actions_of (labels_of_statement (length nodes.old.items) after rest (statement stmt.now.kind))) }
+    ensures labels { OnOk result ((rest : Todo) → actions nodes.new.items ≡ actions nodes.old.items ++ actions_of (labels_of_statement (length nodes.old.items) after (inside jumps.out jumps.mark) rest (statement stmt.now.kind))) }
     ensures count { OnOk result (length nodes.new.items ≡ length nodes.old.items + size_of_statement (statement stmt.now.kind)) }
 {
     let number = nodes.len() as u32;
@@ -111,23 +131,33 @@ fn place(alloc: Global, stmt: &Stmt, after: u32, nodes: &mut Vec<Node>) -> Resul
         StmtKind::Assign { var, value } => add_assign(alloc, *var, value, after, nodes),
         StmtKind::Skip => add_pass(after, nodes),
         StmtKind::Return => add_pass(0, nodes),
+        StmtKind::Break => add_pass(jumps.out, nodes),
+        StmtKind::Continue => add_pass(jumps.mark, nodes),
         StmtKind::If { test, yes, no } => {
             let first = entry(yes, number + 1, after);
             let second = entry(no, number + 1 + size(yes), after);
             add_test(alloc, false, test, first, second, nodes)?;
-            place_all(alloc, yes, after, nodes)?;
-            place_all(alloc, no, after, nodes)
+            place_all(alloc, yes, after, jumps, nodes)?;
+            place_all(alloc, no, after, jumps, nodes)
         }
         StmtKind::While { test, body, step } => {
             let turn = entry(step, number + 1 + size(body), number);
             let first = entry(body, number + 1, turn);
             add_test(alloc, true, test, first, after, nodes)?;
-            place_all(alloc, body, turn, nodes)?;
-            place_all(alloc, step, number, nodes)
+            let jumped = Jumps {
+                out: after,
+                mark: turn,
+            };
+            place_all(alloc, body, turn, jumped, nodes)?;
+            place_all(alloc, step, number, jumps, nodes)
         }
         StmtKind::Do { body, test } => {
             let last = number + size(body);
-            place_all(alloc, body, last, nodes)?;
+            let jumped = Jumps {
+                out: after,
+                mark: last,
+            };
+            place_all(alloc, body, last, jumped, nodes)?;
             add_test(alloc, true, test, entry(body, number, last), after, nodes)
         }
     }

@@ -4,13 +4,13 @@ use Rattle.std.proofs.Common.{◌≡◌, ℕ, ◌+◌, ◌≤◌, pos, List, [],
 use Rattle.std.specs.Bool.{⊤}
 use Rattle.std.proofs.lemmas.Int.{ints, int_max_is}
 use Rattle.linear_cons.specs.declared.affine.Affine.{Affine}
-use Rattle.control_flow.specs.Labels.{Action, Label, ends, assigns, passes, tests, entry_label, first_label, labels_of, labels_of_statement}
+use Rattle.control_flow.specs.Labels.{Jumps, Action, Label, ends, assigns, passes, tests, entry_label, first_label, labels_of, labels_of_statement, stray}
 use Rattle.control_flow.proofs.Standing.{EachFrom, each_both, length-labels_of, length-labels_of_statement}
 use Rattle.step_meaning.specs.declared.count.Count.{Count}
 use Rattle.step_meaning.specs.Counts.{before, before_statement, either_of, none, step_by}
 use Rattle.step_meaning.specs.Countdown.{AreCounting, CountsDown, IsCounting, IsSmall, change_by}
-use Rattle.step_meaning.specs.Step.{Todo}
-use Rattle.step_meaning.specs.Syntax.{Statement, Statements, list_of, assign, skip, return, if_else, while_loop, do_while, empty, sequence, size_of, size_of_statement}
+use Rattle.step_meaning.specs.Step.{Todo, items_of}
+use Rattle.step_meaning.specs.Syntax.{Statement, Statements, assign, skip, return, break, continue, if_else, while_loop, do_while, empty, sequence, size_of, size_of_statement}
 use Rattle.step_meaning.specs.Turns.{IsModerate, MayAssign}
 use Rattle.step_meaning.specs.Valid.{IsBody, IsStatement}
 use Rattle.count_down.specs.Building.{AreMeasured, IsFew, IsMeasured}
@@ -60,56 +60,64 @@ stand_with P Q n (x ∷ xs) h k = ((h.0, k.0), stand_with P Q (n + 1) xs h.1 k.1
 module _ (e : Affine) (Has Own : ℕ → Count → Type 0) (weaker : (l : ℕ) (c : Count) → Own l c → Has l c) where
   -- the statements have no loop, the change of each assignment is known, and where one returns, the end has the count of nothing
   abbrev mutual
-    pub IsWalked : Statement → Type 0
-    IsWalked (assign x v) = MayAssign e x v
-    IsWalked skip = ⊤
-    IsWalked return = Has 0 none
-    IsWalked (if_else test first second) = AreWalked first × AreWalked second
-    IsWalked (while_loop test body step) = ⊥
-    IsWalked (do_while body test) = ⊥
+    pub IsWalked : Jumps → Statement → Type 0
+    IsWalked jumps (assign x v) = MayAssign e x v
+    IsWalked jumps skip = ⊤
+    IsWalked jumps return = Has 0 none
+    IsWalked jumps break = Has jumps.out none
+    IsWalked jumps continue = Has jumps.mark none
+    IsWalked jumps (if_else test first second) = AreWalked jumps first × AreWalked jumps second
+    IsWalked jumps (while_loop test body step) = ⊥
+    IsWalked jumps (do_while body test) = ⊥
 
-    pub AreWalked : Statements → Type 0
-    AreWalked empty = ⊤
-    AreWalked (sequence first more) = IsWalked first × AreWalked more
-
-  mutual
-    counting_walked_one : (s : Statement) → IsCounting e s → IsWalked s
-    counting_walked_one (assign x v) counts = counts
-    counting_walked_one skip counts = tt
-    counting_walked_one return counts = absurd counts
-    counting_walked_one (if_else test first second) counts = (counting_walked first counts.0, counting_walked second counts.1)
-    counting_walked_one (while_loop test body step) counts = absurd counts
-    counting_walked_one (do_while body test) counts = absurd counts
-
-    pub counting_walked : (s : Statements) → AreCounting e s → AreWalked s
-    counting_walked empty counts = tt
-    counting_walked (sequence first more) counts = (counting_walked_one first counts.0, counting_walked more counts.1)
+    pub AreWalked : Jumps → Statements → Type 0
+    AreWalked jumps empty = ⊤
+    AreWalked jumps (sequence first more) = IsWalked jumps first × AreWalked jumps more
 
   mutual
-    measured_walked_one : Has 0 none → (s : Statement) → IsMeasured e s → IsWalked s
+    counting_walked_one : (jumps : Jumps) (s : Statement) → IsCounting e s → IsWalked jumps s
+    counting_walked_one jumps (assign x v) counts = counts
+    counting_walked_one jumps skip counts = tt
+    counting_walked_one jumps return counts = absurd counts
+    counting_walked_one jumps break counts = absurd counts
+    counting_walked_one jumps continue counts = absurd counts
+    counting_walked_one jumps (if_else test first second) counts = (counting_walked jumps first counts.0, counting_walked jumps second counts.1)
+    counting_walked_one jumps (while_loop test body step) counts = absurd counts
+    counting_walked_one jumps (do_while body test) counts = absurd counts
+
+    pub counting_walked : (jumps : Jumps) (s : Statements) → AreCounting e s → AreWalked jumps s
+    counting_walked jumps empty counts = tt
+    counting_walked jumps (sequence first more) counts = (counting_walked_one jumps first counts.0, counting_walked jumps more counts.1)
+
+  mutual
+    measured_walked_one : Has 0 none → (s : Statement) → IsMeasured e s → IsWalked stray s
     measured_walked_one ended (assign x v) measured = measured
     measured_walked_one ended skip measured = tt
     measured_walked_one ended return measured = ended
+    measured_walked_one ended break measured = ended
+    measured_walked_one ended continue measured = ended
     measured_walked_one ended (if_else test first second) measured = (measured_walked ended first measured.0, measured_walked ended second measured.1)
     measured_walked_one ended (while_loop test body step) measured = absurd measured
     measured_walked_one ended (do_while body test) measured = absurd measured
 
-    pub measured_walked : Has 0 none → (s : Statements) → AreMeasured e s → AreWalked s
+    pub measured_walked : Has 0 none → (s : Statements) → AreMeasured e s → AreWalked stray s
     measured_walked ended empty measured = tt
     measured_walked ended (sequence first more) measured = (measured_walked_one ended first measured.0, measured_walked ended more measured.1)
 
   mutual
-    walked_measured_one : (s : Statement) → IsWalked s → IsMeasured e s
-    walked_measured_one (assign x v) walked = walked
-    walked_measured_one skip walked = tt
-    walked_measured_one return walked = tt
-    walked_measured_one (if_else test first second) walked = (walked_measured first walked.0, walked_measured second walked.1)
-    walked_measured_one (while_loop test body step) walked = absurd walked
-    walked_measured_one (do_while body test) walked = absurd walked
+    walked_measured_one : (jumps : Jumps) (s : Statement) → IsWalked jumps s → IsMeasured e s
+    walked_measured_one jumps (assign x v) walked = walked
+    walked_measured_one jumps skip walked = tt
+    walked_measured_one jumps return walked = tt
+    walked_measured_one jumps break walked = tt
+    walked_measured_one jumps continue walked = tt
+    walked_measured_one jumps (if_else test first second) walked = (walked_measured jumps first walked.0, walked_measured jumps second walked.1)
+    walked_measured_one jumps (while_loop test body step) walked = absurd walked
+    walked_measured_one jumps (do_while body test) walked = absurd walked
 
-    walked_measured : (s : Statements) → AreWalked s → AreMeasured e s
-    walked_measured empty walked = tt
-    walked_measured (sequence first more) walked = (walked_measured_one first walked.0, walked_measured more walked.1)
+    walked_measured : (jumps : Jumps) (s : Statements) → AreWalked jumps s → AreMeasured e s
+    walked_measured jumps empty walked = tt
+    walked_measured jumps (sequence first more) walked = (walked_measured_one jumps first walked.0, walked_measured jumps more walked.1)
 
   -- at the label stands the count of a step and of what follows
   abbrev pub Follows : ℕ → Action → Type 0
@@ -122,71 +130,75 @@ module _ (e : Affine) (Has Own : ℕ → Count → Type 0) (weaker : (l : ℕ) (
   IsFollowed l x = Follows l x.action
 
   -- at the first label of a statement stands the count from before it
-  first_stands : (n : ℕ) (s : Statement) (c : Count) → IsWalked s → StandAt Own n (counts_of_statement (change_by e) s c)
+  first_stands : (n : ℕ) (jumps : Jumps) (s : Statement) (c : Count) → IsWalked jumps s → StandAt Own n (counts_of_statement (change_by e) s c)
       → Has (first_label n s) (before_statement (change_by e) s c)
-  first_stands n (assign x v) c walked h = weaker n (before_statement (change_by e) (assign x v) c) h.0
-  first_stands n skip c walked h = weaker n (before_statement (change_by e) skip c) h.0
-  first_stands n return c walked h = weaker n (before_statement (change_by e) return c) h.0
-  first_stands n (if_else test first second) c walked h = weaker n (before_statement (change_by e) (if_else test first second) c) h.0
-  first_stands n (while_loop test body step) c walked h = absurd walked
-  first_stands n (do_while body test) c walked h = absurd walked
+  first_stands n jumps (assign x v) c walked h = weaker n (before_statement (change_by e) (assign x v) c) h.0
+  first_stands n jumps skip c walked h = weaker n (before_statement (change_by e) skip c) h.0
+  first_stands n jumps return c walked h = weaker n (before_statement (change_by e) return c) h.0
+  first_stands n jumps break c walked h = weaker n (before_statement (change_by e) break c) h.0
+  first_stands n jumps continue c walked h = weaker n (before_statement (change_by e) continue c) h.0
+  first_stands n jumps (if_else test first second) c walked h = weaker n (before_statement (change_by e) (if_else test first second) c) h.0
+  first_stands n jumps (while_loop test body step) c walked h = absurd walked
+  first_stands n jumps (do_while body test) c walked h = absurd walked
 
   -- and so it is where statements are entered
-  pub entry_stands : (n after : ℕ) (s : Statements) (c : Count) → AreWalked s → Has after c → StandAt Own n (counts_of (change_by e) s c)
+  pub entry_stands : (n after : ℕ) (jumps : Jumps) (s : Statements) (c : Count) → AreWalked jumps s → Has after c → StandAt Own n (counts_of (change_by e) s c)
       → Has (entry_label n after s) (before (change_by e) s c)
-  entry_stands n after empty c walked behind h = behind
-  entry_stands n after (sequence first more) c walked behind h =
-      first_stands n first (before (change_by e) more c) walked.0
+  entry_stands n after jumps empty c walked behind h = behind
+  entry_stands n after jumps (sequence first more) c walked behind h =
+      first_stands n jumps first (before (change_by e) more c) walked.0
       (stand_first Own n (counts_of_statement (change_by e) first (before (change_by e) more c)) (counts_of (change_by e) more c) h)
 
   mutual
-    statement_followed : (n after : ℕ) (rest : Todo) (s : Statement) (c : Count) → IsWalked s → Has after c
+    statement_followed : (n after : ℕ) (jumps : Jumps) (rest : Todo) (s : Statement) (c : Count) → IsWalked jumps s → Has after c
         → StandAt Own n (counts_of_statement (change_by e) s c)
-        → EachFrom IsFollowed n (labels_of_statement n after rest s)
-    statement_followed n after rest (assign x v) c walked behind h = ((walked, (c, behind, h.0)), tt)
-    statement_followed n after rest skip c walked behind h = ((c, behind, h.0), tt)
-    statement_followed n after rest return c walked behind h = ((none, walked, h.0), tt)
-    statement_followed n after rest (if_else test first second) c walked behind h =
+        → EachFrom IsFollowed n (labels_of_statement n after jumps rest s)
+    statement_followed n after jumps rest (assign x v) c walked behind h = ((walked, (c, behind, h.0)), tt)
+    statement_followed n after jumps rest skip c walked behind h = ((c, behind, h.0), tt)
+    statement_followed n after jumps rest return c walked behind h = ((none, walked, h.0), tt)
+    statement_followed n after jumps rest break c walked behind h = ((none, walked, h.0), tt)
+    statement_followed n after jumps rest continue c walked behind h = ((none, walked, h.0), tt)
+    statement_followed n after jumps rest (if_else test first second) c walked behind h =
         let by = change_by e in
-        let size = length_counts e by first c (walked_measured first walked.0) in
+        let size = length_counts e by first c (walked_measured jumps first walked.0) in
         let one = stand_first Own (n + 1) (counts_of by first c) (counts_of by second c) h.1 in
         let two = stand_second Own (n + 1) (n + 1 + size_of first) (counts_of by first c) (counts_of by second c) (omega arith) h.1 in
-        let labels = length-labels_of (n + 1) after rest first in (
+        let labels = length-labels_of (n + 1) after jumps rest first in (
           (
             before by first c,
             before by second c,
-            entry_stands (n + 1) after first c walked.0 behind one,
+            entry_stands (n + 1) after jumps first c walked.0 behind one,
             entry_stands
-                (n + 1 + size_of first) after second c walked.1 behind two,
+                (n + 1 + size_of first) after jumps second c walked.1 behind two,
             h.0,
           ),
-          each_both IsFollowed (n + 1) (n + 1 + size_of first) (labels_of (n + 1) after rest first)
-              (labels_of (n + 1 + size_of first) after rest second) (omega arith)
-              (list_followed (n + 1) after rest first c walked.0 behind one)
-              (list_followed (n + 1 + size_of first) after rest second c walked.1 behind two),
+          each_both IsFollowed (n + 1) (n + 1 + size_of first) (labels_of (n + 1) after jumps rest first)
+              (labels_of (n + 1 + size_of first) after jumps rest second) (omega arith)
+              (list_followed (n + 1) after jumps rest first c walked.0 behind one)
+              (list_followed (n + 1 + size_of first) after jumps rest second c walked.1 behind two),
         )
-    statement_followed n after rest (while_loop test body step) c walked behind h = absurd walked
-    statement_followed n after rest (do_while body test) c walked behind h = absurd walked
+    statement_followed n after jumps rest (while_loop test body step) c walked behind h = absurd walked
+    statement_followed n after jumps rest (do_while body test) c walked behind h = absurd walked
 
     -- where the count of what follows stands at the label that follows, and the counts of the statements at their labels, at each label
     -- stands the count of a step and of what follows it
-    pub list_followed : (n after : ℕ) (rest : Todo) (s : Statements) (c : Count) → AreWalked s → Has after c
+    pub list_followed : (n after : ℕ) (jumps : Jumps) (rest : Todo) (s : Statements) (c : Count) → AreWalked jumps s → Has after c
         → StandAt Own n (counts_of (change_by e) s c)
-        → EachFrom IsFollowed n (labels_of n after rest s)
-    list_followed n after rest empty c walked behind h = tt
-    list_followed n after rest (sequence first more) c walked behind h =
+        → EachFrom IsFollowed n (labels_of n after jumps rest s)
+    list_followed n after jumps rest empty c walked behind h = tt
+    list_followed n after jumps rest (sequence first more) c walked behind h =
         let by = change_by e in
-        let size = length_one e by first (before by more c) (walked_measured_one first walked.0) in
+        let size = length_one e by first (before by more c) (walked_measured_one jumps first walked.0) in
         let one = stand_first Own n (counts_of_statement by first (before by more c)) (counts_of by more c) h in
         let two = stand_second Own n (n + size_of_statement first) (counts_of_statement by first (before by more c)) (counts_of by more c)
         (omega arith) h in
         let next = entry_label (n + size_of_statement first) after more in
-        let labels = length-labels_of_statement n next (list_of more ++ rest) first in
-        each_both IsFollowed n (n + size_of_statement first) (labels_of_statement n next (list_of more ++ rest) first)
-        (labels_of (n + size_of_statement first) after rest more) (omega arith)
-        (statement_followed n next (list_of more ++ rest) first (before by more c) walked.0
-        (entry_stands (n + size_of_statement first) after more c walked.1 behind two) one)
-        (list_followed (n + size_of_statement first) after rest more c walked.1 behind two)
+        let labels = length-labels_of_statement n next jumps (items_of more ++ rest) first in
+        each_both IsFollowed n (n + size_of_statement first) (labels_of_statement n next jumps (items_of more ++ rest) first)
+        (labels_of (n + size_of_statement first) after jumps rest more) (omega arith)
+        (statement_followed n next jumps (items_of more ++ rest) first (before by more c) walked.0
+        (entry_stands (n + size_of_statement first) after jumps more c walked.1 behind two) one)
+        (list_followed (n + size_of_statement first) after jumps rest more c walked.1 behind two)
 
 -- ---- how large counts are
 module _ (e : Affine) (small : IsSmall e) (vars : ℕ) (few_vars : vars ≤ 15) where
@@ -196,6 +208,8 @@ module _ (e : Affine) (small : IsSmall e) (vars : ℕ) (few_vars : vars ≤ 15) 
         let place = sorted.0 in let change = change_small e x v small (omega arith) measured in omega (arith, ints)
     moderate_one skip c sorted measured moderate = omega (arith, ints)
     moderate_one return c sorted measured moderate = omega (arith, ints)
+    moderate_one break c sorted measured moderate = omega (arith, ints)
+    moderate_one continue c sorted measured moderate = omega (arith, ints)
     moderate_one (if_else test first second) c sorted measured moderate =
         let one = moderate_before first c sorted.1 measured.0 moderate in
         let two = moderate_before second c sorted.2 measured.1 moderate in
@@ -221,6 +235,8 @@ module _ (e : Affine) (small : IsSmall e) (vars : ℕ) (few_vars : vars ≤ 15) 
     )
     few_one skip c sorted measured moderate room = (record { most = omega arith; moderate = moderate_one skip c sorted measured moderate }, tt)
     few_one return c sorted measured moderate room = (record { most = omega arith; moderate = moderate_one return c sorted measured moderate }, tt)
+    few_one break c sorted measured moderate room = (record { most = omega arith; moderate = moderate_one break c sorted measured moderate }, tt)
+    few_one continue c sorted measured moderate room = (record { most = omega arith; moderate = moderate_one continue c sorted measured moderate }, tt)
     few_one (if_else test first second) c sorted measured moderate room =
         let one = most_before (change_by e) first c in
         let two = most_before (change_by e) second c in (

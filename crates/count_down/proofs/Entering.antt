@@ -2,7 +2,7 @@
 use Rattle.std.proofs.Common.{◌≡◌, ℕ, ◌+◌, ◌*◌, pos, List, [], ◌∷◌, Some, refl, sym, ap, subst}
 use Rattle.linear_cons.specs.declared.row.Row.{Row}
 use Rattle.linear_cons.specs.Functions.{constant_of}
-use Rattle.control_flow.specs.Labels.{entry_of}
+use Rattle.control_flow.specs.Labels.{entry_of, stray}
 use Rattle.decision_tree.specs.declared.affine_rank.AffineRank.{AffineRank}
 use Rattle.decision_tree.specs.Plans.{Plan, rank_of}
 use Rattle.step_meaning.specs.declared.count.Count.{Count}
@@ -10,7 +10,7 @@ use Rattle.step_meaning.specs.declared.countdown.Countdown.TheVariants.{Straight
 use Rattle.step_meaning.specs.Counts.{HasNoLoop, none}
 use Rattle.step_meaning.specs.Countdown.{CountsFrom, change_by, form_of}
 use Rattle.linear_cons.specs.Sizes.{total_size}
-use Rattle.step_meaning.specs.Syntax.{Statements, assign, skip, return, if_else, while_loop, do_while, empty, sequence}
+use Rattle.step_meaning.specs.Syntax.{Statements, assign, skip, return, break, continue, if_else, while_loop, do_while, empty, sequence}
 use Rattle.tree_support.specs.Setting.{Trees, trees_in}
 use Rattle.count_down.specs.Candidates.{IsCandidate, behind, candidate_without, last_steps, most_within, nothing}
 use Rattle.count_down.specs.LabelCounts.{counts_of}
@@ -25,6 +25,8 @@ no_loop_counted row p (sequence (assign x v) more) free counts = no_loop_counted
 no_loop_counted row p (sequence (while_loop test body step) more) free counts = free.0
 no_loop_counted row p (sequence skip more) free counts = counts
 no_loop_counted row p (sequence return more) free counts = counts
+no_loop_counted row p (sequence break more) free counts = counts
+no_loop_counted row p (sequence continue more) free counts = counts
 no_loop_counted row p (sequence (if_else test first second) more) free counts = counts
 no_loop_counted row p (sequence (do_while body test) more) free counts = counts
 no_loop_counted row p empty free counts = counts
@@ -46,7 +48,7 @@ module _ (body : Statements) (free : HasNoLoop body) where
   -- the leaf at the entry promises the most steps of a path
   entry_rank : Promises (entry_of body) (record { most = last_steps body; change = pos 0 })
   entry_rank =
-      entry_stands nothing Promises Own weaker 1 0 body none (measured_walked nothing Promises Own weaker refl body (free_measured body free)) refl
+      entry_stands nothing Promises Own weaker 1 0 stray body none (measured_walked nothing Promises Own weaker refl body (free_measured body free)) refl
       (stand_mapped (λ l (tree : Plan AffineRank). family l ≡ tree) most_within 1 (counts_of (change_by nothing) body none) (trees_stand (ended ∷ []) (behind body) 1 refl))
 
 pub loopless_entry : (trees : List (Plan AffineRank)) (body : Statements) → HasNoLoop body → IsCandidate trees body

@@ -15,7 +15,7 @@ use Rattle.step_meaning.specs.declared.countdown.Countdown.TheVariants.{Straight
 use Rattle.step_meaning.specs.Counts.{HasNoLoop, before, none}
 use Rattle.step_meaning.specs.Countdown.{CountsFrom, CountsDown, IsCountdownBy, change_by, form_of}
 use Rattle.linear_cons.specs.Sizes.{total_size}
-use Rattle.step_meaning.specs.Syntax.{Expression, Statement, Statements, assign, skip, return, if_else, while_loop, do_while, empty, sequence, size_of, size_of_statement}
+use Rattle.step_meaning.specs.Syntax.{Expression, Statement, Statements, assign, skip, return, break, continue, if_else, while_loop, do_while, empty, sequence, size_of, size_of_statement}
 use Rattle.count_down.specs.Building.{AreMeasured, IsMeasured, trees_by}
 use Rattle.count_down.specs.Candidates.{behind, candidate_by, counting, inner, inside, last_steps, most_within, nothing, turn_counts, turn_steps}
 use Rattle.count_down.specs.LabelCounts.{counts_of, counts_of_statement}
@@ -35,6 +35,8 @@ module _ (e : Affine) (by : ℕ → Expression → ℤ) where
     length_one (assign x v) c measured = refl
     length_one skip c measured = refl
     length_one return c measured = refl
+    length_one break c measured = refl
+    length_one continue c measured = refl
     length_one (if_else test first second) c measured =
         let one = length_counts first c measured.0 in
         let two = length_counts second c measured.1 in
@@ -77,6 +79,8 @@ length_counting row p (sequence (while_loop test body step) more) counts =
     omega arith
 length_counting row p (sequence skip more) counts = absurd counts
 length_counting row p (sequence return more) counts = absurd counts
+length_counting row p (sequence break more) counts = absurd counts
+length_counting row p (sequence continue more) counts = absurd counts
 length_counting row p (sequence (if_else test first second) more) counts = absurd counts
 length_counting row p (sequence (do_while body test) more) counts = absurd counts
 length_counting row p empty counts = absurd counts
@@ -110,6 +114,8 @@ counting_whole e (sequence (while_loop test body step) more) =
     (All-append IsWhole _ (behind more) (map_whole _ (λ c. tree_whole _ _ _ _) (turn_counts e body step)) (behind_whole more))
 counting_whole e (sequence skip more) = λ k d low. absurd (omega arith)
 counting_whole e (sequence return more) = λ k d low. absurd (omega arith)
+counting_whole e (sequence break more) = λ k d low. absurd (omega arith)
+counting_whole e (sequence continue more) = λ k d low. absurd (omega arith)
 counting_whole e (sequence (if_else test first second) more) = λ k d low. absurd (omega arith)
 counting_whole e (sequence (do_while body test) more) = λ k d low. absurd (omega arith)
 counting_whole e empty = λ k d low. absurd (omega arith)

@@ -7,7 +7,7 @@ use Rattle.linear_cons.proofs.Sizes.{sizes_fit, sizes_grown, sizes_products, siz
 use Rattle.linear_cons.specs.Sizes.{SizesAtMost, total_size}
 use Rattle.step_meaning.specs.Counts.{before, none}
 use Rattle.step_meaning.specs.Countdown.{CountsFrom, change_by, form_of}
-use Rattle.step_meaning.specs.Syntax.{Expression, Statements, assign, skip, return, if_else, while_loop, do_while, empty, sequence, size_of}
+use Rattle.step_meaning.specs.Syntax.{Expression, Statements, assign, skip, return, break, continue, if_else, while_loop, do_while, empty, sequence, size_of}
 use Rattle.count_down.specs.Building.{AreShort, IsCarried, IsLed, IsModest, lead_of}
 use Rattle.count_down.specs.Candidates.{carried, last_of_loop, nothing, steps_before, turn_of_loop, turn_steps}
 use Rattle.step_meaning.specs.Valid.{IsBody}
@@ -28,6 +28,8 @@ factors_small row p (sequence (assign x v) more) small counts =
 factors_small row p (sequence (while_loop test body step) more) small counts = omega arith
 factors_small row p (sequence skip more) small counts = absurd counts
 factors_small row p (sequence return more) small counts = absurd counts
+factors_small row p (sequence break more) small counts = absurd counts
+factors_small row p (sequence continue more) small counts = absurd counts
 factors_small row p (sequence (if_else test first second) more) small counts = absurd counts
 factors_small row p (sequence (do_while body test) more) small counts = absurd counts
 factors_small row p empty small counts = absurd counts
@@ -54,6 +56,8 @@ sizes_carried row p vars (sequence (while_loop test body step) more) counts few 
     (small_sizes row.affine counts.1.small)
 sizes_carried row p vars (sequence skip more) counts few sorted = absurd counts
 sizes_carried row p vars (sequence return more) counts few sorted = absurd counts
+sizes_carried row p vars (sequence break more) counts few sorted = absurd counts
+sizes_carried row p vars (sequence continue more) counts few sorted = absurd counts
 sizes_carried row p vars (sequence (if_else test first second) more) counts few sorted = absurd counts
 sizes_carried row p vars (sequence (do_while body test) more) counts few sorted = absurd counts
 sizes_carried row p vars empty counts few sorted = absurd counts
@@ -84,6 +88,8 @@ turn_short e (sequence (assign x v) more) = let later = turn_short e more in ome
 turn_short e (sequence (while_loop test body step) more) = let most = most_turn e body step in omega arith
 turn_short e (sequence skip more) = omega arith
 turn_short e (sequence return more) = omega arith
+turn_short e (sequence break more) = omega arith
+turn_short e (sequence continue more) = omega arith
 turn_short e (sequence (if_else test first second) more) = omega arith
 turn_short e (sequence (do_while body test) more) = omega arith
 turn_short e empty = omega arith
@@ -93,6 +99,8 @@ last_short (sequence (assign x v) more) = let later = last_short more in omega a
 last_short (sequence (while_loop test body step) more) = let most = most_before (change_by nothing) more none in omega arith
 last_short (sequence skip more) = omega arith
 last_short (sequence return more) = omega arith
+last_short (sequence break more) = omega arith
+last_short (sequence continue more) = omega arith
 last_short (sequence (if_else test first second) more) = omega arith
 last_short (sequence (do_while body test) more) = omega arith
 last_short empty = omega arith
@@ -102,6 +110,8 @@ steps_short (sequence (assign x v) more) = let later = steps_short more in omega
 steps_short (sequence (while_loop test body step) more) = omega arith
 steps_short (sequence skip more) = omega arith
 steps_short (sequence return more) = omega arith
+steps_short (sequence break more) = omega arith
+steps_short (sequence continue more) = omega arith
 steps_short (sequence (if_else test first second) more) = omega arith
 steps_short (sequence (do_while body test) more) = omega arith
 steps_short empty = omega arith

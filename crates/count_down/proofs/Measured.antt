@@ -8,7 +8,7 @@ use Rattle.linear_cons.proofs.Places.{length-at_places, number_at_places}
 use Rattle.step_meaning.specs.declared.count.Count.{Count}
 use Rattle.step_meaning.specs.Counts.{HasNoLoop, IsLoopFree, before, before_statement}
 use Rattle.step_meaning.specs.Countdown.{AreCounting, IsCounting, IsSmall}
-use Rattle.step_meaning.specs.Syntax.{Expression, Statement, Statements, assign, skip, return, if_else, while_loop, do_while, empty, sequence, size_of, size_of_statement}
+use Rattle.step_meaning.specs.Syntax.{Expression, Statement, Statements, assign, skip, return, break, continue, if_else, while_loop, do_while, empty, sequence, size_of, size_of_statement}
 use Rattle.count_down.specs.Building.{AreMeasured, IsMeasured}
 use Rattle.count_down.specs.Candidates.{nothing}
 
@@ -30,6 +30,8 @@ mutual
   free_one (assign x v) free = inl (nothing_at x)
   free_one skip free = tt
   free_one return free = tt
+  free_one break free = tt
+  free_one continue free = tt
   free_one (if_else test first second) free = (free_measured first free.0, free_measured second free.1)
   free_one (while_loop test body step) free = absurd free
   free_one (do_while body test) free = absurd free
@@ -43,6 +45,8 @@ mutual
   counting_one e (assign x v) may = may
   counting_one e skip may = tt
   counting_one e return may = absurd may
+  counting_one e break may = absurd may
+  counting_one e continue may = absurd may
   counting_one e (if_else test first second) may = (counting_measured e first may.0, counting_measured e second may.1)
   counting_one e (while_loop test body step) may = absurd may
   counting_one e (do_while body test) may = absurd may
@@ -58,6 +62,8 @@ module _ (by : ℕ → Expression → ℤ) where
     most_one (assign x v) c = omega arith
     most_one skip c = omega arith
     most_one return c = omega arith
+    most_one break c = omega arith
+    most_one continue c = omega arith
     most_one (if_else test first second) c = let m = most_before first c in let n = most_before second c in omega arith
     most_one (while_loop test body step) c = omega arith
     most_one (do_while body test) c = omega arith

@@ -19,7 +19,7 @@ use Rattle.step_meaning.specs.declared.expression.Op2.TheVariants.{Add, Sub, Mul
 use Rattle.step_meaning.specs.AffineExpressions.{less, strictly_less}
 use Rattle.step_meaning.specs.Countdown.{Asks, AsksByComparing, CountsFrom, IsCountdownBy, form_of}
 use Rattle.linear_cons.specs.Sizes.{total_size}
-use Rattle.step_meaning.specs.Syntax.{Expression, Statements, number, variable, free, range, truth, negative, negation, pair, assign, skip, return, if_else, while_loop, do_while, empty, sequence, size_of}
+use Rattle.step_meaning.specs.Syntax.{Expression, Statements, number, variable, free, range, truth, negative, negation, pair, assign, skip, return, break, continue, if_else, while_loop, do_while, empty, sequence, size_of}
 use Rattle.step_meaning.specs.Valid.{IsBody, IsNumber, IsTest}
 use Rattle.decision_tree.specs.Paths.{PathFits, complements_on}
 use Rattle.decision_tree.specs.Plans.{Plan, bottom, top, leaf, branch, leaves_of}
@@ -95,6 +95,8 @@ module _ (vars : ℕ) where
   over_carried row p (sequence (while_loop test body step) more) sorted counts = let own = asked_over test row sorted.0.0 counts.0 in (own, own)
   over_carried row p (sequence skip more) sorted counts = absurd counts
   over_carried row p (sequence return more) sorted counts = absurd counts
+  over_carried row p (sequence break more) sorted counts = absurd counts
+  over_carried row p (sequence continue more) sorted counts = absurd counts
   over_carried row p (sequence (if_else test first second) more) sorted counts = absurd counts
   over_carried row p (sequence (do_while body test) more) sorted counts = absurd counts
   over_carried row p empty sorted counts = absurd counts
@@ -157,6 +159,8 @@ module _ (vars : ℕ) where
         (last_fine _))
     counting_fine row (sequence skip more) sorted led few = absurd led.counts
     counting_fine row (sequence return more) sorted led few = absurd led.counts
+    counting_fine row (sequence break more) sorted led few = absurd led.counts
+    counting_fine row (sequence continue more) sorted led few = absurd led.counts
     counting_fine row (sequence (if_else test first second) more) sorted led few = absurd led.counts
     counting_fine row (sequence (do_while body test) more) sorted led few = absurd led.counts
     counting_fine row empty sorted led few = absurd led.counts

@@ -7,7 +7,7 @@ use Rattle.std.proofs.lemmas.List.{get_or_past, length-map}
 use Rattle.linear_cons.specs.declared.affine.Affine.{Affine}
 use Rattle.linear_cons.specs.declared.row.Row.{Row}
 use Rattle.control_flow.specs.Actions.{IsSorted}
-use Rattle.control_flow.specs.Labels.{Action, Label, action_at, all_labels, entry_label, labels_of, labels_of_statement, tests}
+use Rattle.control_flow.specs.Labels.{Jumps, Action, Label, action_at, all_labels, entry_label, inside as within, labels_of, labels_of_statement, stray, tests}
 use Rattle.control_flow.proofs.LabelLaws.{count_of_labels, labels_are_sorted}
 use Rattle.control_flow.proofs.Standing.{EachFrom, each_at, each_both, length-labels_of, length-labels_of_statement}
 use Rattle.step_meaning.specs.declared.statement.Block.{Block}
@@ -17,8 +17,8 @@ use Rattle.step_meaning.specs.declared.countdown.Countdown.TheVariants.{Straight
 use Rattle.step_meaning.specs.Counts.{HasNoLoop, before, none}
 use Rattle.step_meaning.specs.Countdown.{Asks, CountsDown, CountsFrom, IsCountdownBy, change_by, form_of}
 use Rattle.linear_cons.specs.Sizes.{total_size}
-use Rattle.step_meaning.specs.Step.{Todo, behind_body}
-use Rattle.step_meaning.specs.Syntax.{Expression, Statements, list_of, statements, assign, skip, return, if_else, while_loop, do_while, empty, sequence, size_of}
+use Rattle.step_meaning.specs.Step.{Todo, behind_body, items_of, one}
+use Rattle.step_meaning.specs.Syntax.{Expression, Statements, statements, assign, skip, return, break, continue, if_else, while_loop, do_while, empty, sequence, size_of}
 use Rattle.step_meaning.specs.Valid.{IsBody}
 use Rattle.decision_tree.specs.Plans.{Plan, bottom}
 use Rattle.decision_tree.specs.Paths.{leaf_numbered}
@@ -57,7 +57,7 @@ pub trees_stand : (xs ys : List (Plan AffineRank)) (k : ℕ) → length xs ≡ k
 trees_stand xs [] k e = tt
 trees_stand xs (y ∷ ys) k e =
     let here : get_or (xs ++ y ∷ ys) k bottom ≡ y = ap (λ i. get_or (xs ++ y ∷ ys) i bottom) (sym e) ∙ get_or-append_seam xs y ys bottom in
-    let one = length-append xs (y ∷ []) in
+    let grown = length-append xs (y ∷ []) in
     let longer : length (xs ++ y ∷ []) ≡ k + 1 = omega arith in (
       here,
       subst (λ t. StandAt (λ l (tree : Plan AffineRank). trees_in t l ≡ tree) (k + 1) ys) (append_assoc xs (y ∷ []) ys)
@@ -92,19 +92,19 @@ module _ (body : Statements) (told : Told) (parts : ℕ → Trees AffineRank) (f
     behind_entered : IsLast body told parts family ground (entry_label n 0 more) (before (change_by nothing) more none)
     behind_entered =
         entry_stands nothing (IsLast body told parts family ground) (IsBehind body told parts family ground)
-        (last body told parts family ground) n 0 more none
+        (last body told parts family ground) n 0 stray more none
         (measured_walked nothing (IsLast body told parts family ground) (IsBehind body told parts family ground)
         (last body told parts family ground) end_last more (free_measured more free))
         end_last behind_stand
 
-    behind_settled : EachFrom IsSettled n (labels_of n 0 left more)
+    behind_settled : EachFrom IsSettled n (labels_of n 0 stray left more)
     behind_settled =
         each_weaken (λ l x. Follows nothing (IsLast body told parts family ground) (IsBehind body told parts family ground)
         (last body told parts family ground) l x.action) IsSettled
         (λ l x follows sort. inr (last_labels body told parts family ground l x.action sort follows))
-        n (labels_of n 0 left more)
+        n (labels_of n 0 stray left more)
         (list_followed nothing (IsLast body told parts family ground) (IsBehind body told parts family ground)
-        (last body told parts family ground) n 0 left more none
+        (last body told parts family ground) n 0 stray left more none
         (measured_walked nothing (IsLast body told parts family ground) (IsBehind body told parts family ground)
         (last body told parts family ground) end_last more (free_measured more free))
         end_last behind_stand)
@@ -179,25 +179,29 @@ module _ (body : Statements) (told : Told) (parts : ℕ → Trees AffineRank) (f
       few = omega arith;
     }
 
-    step_walked : AreWalked e Ahead Inside weaker step
-    step_walked = counting_walked e Ahead Inside weaker step counts.in_step
-
-    round_walked : AreWalked e Ahead Inside weaker round
-    round_walked = counting_walked e Ahead Inside weaker round counts.in_body
+    step_walked : AreWalked e Ahead Inside weaker stray step
+    step_walked = counting_walked e Ahead Inside weaker stray step counts.in_step
 
     step_entered : Ahead (entry_label step_at n step) by_step
-    step_entered = entry_stands e Ahead Inside weaker step_at n step none step_walked head_ahead step_stand
+    step_entered = entry_stands e Ahead Inside weaker step_at n stray step none step_walked head_ahead step_stand
 
     abbrev turn_at : ℕ
     turn_at = entry_label step_at n step
 
-    round_entered : Ahead (entry_label (n + 1) turn_at round) by_turn
-    round_entered = entry_stands e Ahead Inside weaker (n + 1) turn_at round by_step round_walked step_entered round_stand
+    -- where jumps from the body lead
+    abbrev turning : Jumps
+    turning = within (entry_label (n + (1 + size_of round + size_of step)) 0 more) turn_at
 
-    inside_settled : (k after : ℕ) (rest : Todo) (block : Statements)
-        → EachFrom (λ l x. Follows e Ahead Inside weaker l x.action) k (labels_of k after rest block)
-        → EachFrom IsSettled k (labels_of k after rest block)
-    inside_settled k after rest block followed =
+    round_walked : AreWalked e Ahead Inside weaker turning round
+    round_walked = counting_walked e Ahead Inside weaker turning round counts.in_body
+
+    round_entered : Ahead (entry_label (n + 1) turn_at round) by_turn
+    round_entered = entry_stands e Ahead Inside weaker (n + 1) turn_at turning round by_step round_walked step_entered round_stand
+
+    inside_settled : (k after : ℕ) (jumps : Jumps) (rest : Todo) (block : Statements)
+        → EachFrom (λ l x. Follows e Ahead Inside weaker l x.action) k (labels_of k after jumps rest block)
+        → EachFrom IsSettled k (labels_of k after jumps rest block)
+    inside_settled k after jumps rest block followed =
         each_weaken (λ l x. Follows e Ahead Inside weaker l x.action) IsSettled
         (λ l x follows sort.
         inl (
@@ -207,13 +211,13 @@ module _ (body : Statements) (told : Told) (parts : ℕ → Trees AffineRank) (f
           short_turn,
           inside_passes body told parts family ground m s some_turn short_turn short_last e counts.small l x.action sort follows,
         ))
-        k (labels_of k after rest block) followed
+        k (labels_of k after jumps rest block) followed
 
     abbrev after_at : ℕ
     after_at = n + (1 + size_of round + size_of step)
 
     abbrev later : Todo
-    later = list_of more ++ left
+    later = items_of more ++ left
 
     behind_trees : StandAt Is after_at (behind more)
     behind_trees =
@@ -225,7 +229,7 @@ module _ (body : Statements) (told : Told) (parts : ℕ → Trees AffineRank) (f
     few_more = omega arith
 
     head_settled : IsSettled n (record {
-      todo = while_loop test round step ∷ later;
+      todo = one (while_loop test round step) ∷ later;
       action = tests true test (entry_label (n + 1) turn_at round)
           (entry_label after_at 0 more);
     })
@@ -242,20 +246,20 @@ module _ (body : Statements) (told : Told) (parts : ℕ → Trees AffineRank) (f
               round_entered counts.falls refl (behind_entered after_at later more free sorted.1 few_more behind_trees) refl trees.0,
         )
 
-    loop_settled : EachFrom IsSettled n (labels_of n 0 left (sequence (while_loop test round step) more))
+    loop_settled : EachFrom IsSettled n (labels_of n 0 stray left (sequence (while_loop test round step) more))
     loop_settled =
-        let whole = length-labels_of_statement n (entry_label after_at 0 more) later (while_loop test round step) in
-        let size = length-labels_of (n + 1) turn_at (behind_body test round step later) round in
-        each_both IsSettled n after_at (labels_of_statement n (entry_label after_at 0 more) later (while_loop test round step))
-        (labels_of after_at 0 left more) (omega arith) (
+        let whole = length-labels_of_statement n (entry_label after_at 0 more) stray later (while_loop test round step) in
+        let size = length-labels_of (n + 1) turn_at turning (behind_body test round step later) round in
+        each_both IsSettled n after_at (labels_of_statement n (entry_label after_at 0 more) stray later (while_loop test round step))
+        (labels_of after_at 0 stray left more) (omega arith) (
           head_settled,
-          each_both IsSettled (n + 1) step_at (labels_of (n + 1) turn_at (behind_body test round step later) round)
-              (labels_of step_at n (while_loop test round step ∷ later) step) (omega arith)
-              (inside_settled (n + 1) turn_at (behind_body test round step later) round
-              (list_followed e Ahead Inside weaker (n + 1) turn_at
+          each_both IsSettled (n + 1) step_at (labels_of (n + 1) turn_at turning (behind_body test round step later) round)
+              (labels_of step_at n stray (one (while_loop test round step) ∷ later) step) (omega arith)
+              (inside_settled (n + 1) turn_at turning (behind_body test round step later) round
+              (list_followed e Ahead Inside weaker (n + 1) turn_at turning
               (behind_body test round step later) round by_step round_walked step_entered round_stand))
-              (inside_settled step_at n (while_loop test round step ∷ later) step
-              (list_followed e Ahead Inside weaker step_at n (while_loop test round step ∷ later) step none step_walked head_ahead step_stand)),
+              (inside_settled step_at n stray (one (while_loop test round step) ∷ later) step
+              (list_followed e Ahead Inside weaker step_at n stray (one (while_loop test round step) ∷ later) step none step_walked head_ahead step_stand)),
         )
         (behind_settled after_at left more free sorted.1 few_more behind_trees)
 
@@ -267,6 +271,8 @@ module _ (body : Statements) (told : Told) (parts : ℕ → Trees AffineRank) (f
   turn_some row p (sequence (while_loop test round step) more) counts = omega arith
   turn_some row p (sequence skip more) counts = absurd counts
   turn_some row p (sequence return more) counts = absurd counts
+  turn_some row p (sequence break more) counts = absurd counts
+  turn_some row p (sequence continue more) counts = absurd counts
   turn_some row p (sequence (if_else test first second) more) counts = absurd counts
   turn_some row p (sequence (do_while round test) more) counts = absurd counts
   turn_some row p empty counts = absurd counts
@@ -278,13 +284,15 @@ module _ (body : Statements) (told : Told) (parts : ℕ → Trees AffineRank) (f
   entered_tree row p n (sequence (while_loop test round step) more) counts trees = trees.0
   entered_tree row p n (sequence skip more) counts trees = absurd counts
   entered_tree row p n (sequence return more) counts trees = absurd counts
+  entered_tree row p n (sequence break more) counts trees = absurd counts
+  entered_tree row p n (sequence continue more) counts trees = absurd counts
   entered_tree row p n (sequence (if_else test first second) more) counts trees = absurd counts
   entered_tree row p n (sequence (do_while round test) more) counts trees = absurd counts
   entered_tree row p n empty counts trees = absurd counts
 
   counting_settled : (row : Row) (n : ℕ) (left : Todo) (s : Statements) (led : IsLed row s) → IsBody ground.vars s → size_of s < 1024
       → StandAt Is n (counting row.affine s)
-      → EachFrom IsSettled n (labels_of n 0 left s)
+      → EachFrom IsSettled n (labels_of n 0 stray left s)
   counting_settled row n left (sequence (assign x v) more) led sorted few trees =
       let later : IsLed row more = led_behind row x v more led in
       let turn = turn_short row.affine more in
@@ -306,6 +314,8 @@ module _ (body : Statements) (told : Told) (parts : ℕ → Trees AffineRank) (f
       loop_settled row n left test round step more led.counts.0 led.counts.1 led.counts.2 sorted few trees
   counting_settled row n left (sequence skip more) led sorted few trees = absurd led.counts
   counting_settled row n left (sequence return more) led sorted few trees = absurd led.counts
+  counting_settled row n left (sequence break more) led sorted few trees = absurd led.counts
+  counting_settled row n left (sequence continue more) led sorted few trees = absurd led.counts
   counting_settled row n left (sequence (if_else test first second) more) led sorted few trees = absurd led.counts
   counting_settled row n left (sequence (do_while round test) more) led sorted few trees = absurd led.counts
   counting_settled row n left empty led sorted few trees = absurd led.counts
@@ -326,14 +336,14 @@ module _ (body : Statements) (told : Told) (parts : ℕ → Trees AffineRank) (f
       (region (setting_of body told af_exit parts) tree l place))) (sym is)
       (all_none IsBlocked))
 
-  settled_blocked : ((l : ℕ) → length (all_labels body) ≤ l → family l ≡ bottom) → EachFrom IsSettled 1 (labels_of 1 0 [] body)
+  settled_blocked : ((l : ℕ) → length (all_labels body) ≤ l → family l ≡ bottom) → EachFrom IsSettled 1 (labels_of 1 0 stray [] body)
       → AllBlocked (setting_of body told af_exit parts) family
   settled_blocked past settled zero = end_blocked body told parts family ended_is
   settled_blocked past settled (suc k) = ⊎_elim
       (λ (low : suc k < length (all_labels body)).
       let count = count_of_labels body in
-      let labels = length-labels_of 1 0 [] body in
-      let own = each_at IsSettled 1 (labels_of 1 0 [] body) settled k (suc k) (omega arith) (omega arith) in
+      let labels = length-labels_of 1 0 stray [] body in
+      let own = each_at IsSettled 1 (labels_of 1 0 stray [] body) settled k (suc k) (omega arith) (omega arith) in
       done_blocked (suc k) low (own (labels_are_sorted ground.vars body ground.sorted (suc k) low)))
       (λ (high : length (all_labels body) ≤ suc k). past_blocked (suc k) (past (suc k) high))
       (cases_lt (suc k) (length (all_labels body)))

@@ -10,7 +10,7 @@ use Rattle.decision_tree.specs.declared.tree.Tree.{Tree}
 use Rattle.step_meaning.specs.declared.count.Count.{Count}
 use Rattle.step_meaning.specs.declared.countdown.Countdown.{Countdown}
 use Rattle.step_meaning.specs.declared.countdown.Countdown.TheVariants.{Straight, Loop}
-use Rattle.step_meaning.specs.Syntax.{Expression, Statement, Statements, assign, skip, return, if_else, while_loop, do_while, empty, sequence}
+use Rattle.step_meaning.specs.Syntax.{Expression, Statement, Statements, assign, skip, return, break, continue, if_else, while_loop, do_while, empty, sequence}
 use Rattle.step_meaning.specs.AffineExpressions.{ExpressionFits, IsAffine}
 use Rattle.step_meaning.specs.Countdown.{CountsFrom, form_of}
 use Rattle.step_meaning.specs.Turns.{IsModerate, MayAssign}
@@ -26,6 +26,8 @@ abbrev mutual
   IsMeasured e (assign x v) = MayAssign e x v
   IsMeasured e skip = ⊤
   IsMeasured e return = ⊤
+  IsMeasured e break = ⊤
+  IsMeasured e continue = ⊤
   IsMeasured e (if_else test first second) = AreMeasured e first × AreMeasured e second
   IsMeasured e (while_loop test body step) = ⊥
   IsMeasured e (do_while body test) = ⊥

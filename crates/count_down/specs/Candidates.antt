@@ -9,7 +9,7 @@ use Rattle.step_meaning.specs.declared.countdown.Countdown.{Countdown}
 use Rattle.step_meaning.specs.declared.countdown.Countdown.TheVariants.{Straight, Loop}
 use Rattle.step_meaning.specs.Counts.{before, none}
 use Rattle.step_meaning.specs.Countdown.{IsCountdownBy, change_by, form_of}
-use Rattle.step_meaning.specs.Syntax.{Statements, assign, skip, return, if_else, while_loop, do_while, empty, sequence}
+use Rattle.step_meaning.specs.Syntax.{Statements, assign, skip, return, break, continue, if_else, while_loop, do_while, empty, sequence}
 use Rattle.count_down.specs.LabelCounts.{counts_of}
 use Rattle.count_down.specs.Trees.{count_tree, ended, shifted, within}
 
@@ -60,6 +60,8 @@ turn_of_loop e (sequence (assign x v) more) = turn_of_loop e more
 turn_of_loop e (sequence (while_loop test body step) more) = turn_steps e body step
 turn_of_loop e (sequence skip more) = 0
 turn_of_loop e (sequence return more) = 0
+turn_of_loop e (sequence break more) = 0
+turn_of_loop e (sequence continue more) = 0
 turn_of_loop e (sequence (if_else test first second) more) = 0
 turn_of_loop e (sequence (do_while body test) more) = 0
 turn_of_loop e empty = 0
@@ -69,6 +71,8 @@ last_of_loop (sequence (assign x v) more) = last_of_loop more
 last_of_loop (sequence (while_loop test body step) more) = last_steps more
 last_of_loop (sequence skip more) = 0
 last_of_loop (sequence return more) = 0
+last_of_loop (sequence break more) = 0
+last_of_loop (sequence continue more) = 0
 last_of_loop (sequence (if_else test first second) more) = 0
 last_of_loop (sequence (do_while body test) more) = 0
 last_of_loop empty = 0
@@ -79,6 +83,8 @@ steps_before (sequence (assign x v) more) = 1 + steps_before more
 steps_before (sequence (while_loop test body step) more) = 0
 steps_before (sequence skip more) = 0
 steps_before (sequence return more) = 0
+steps_before (sequence break more) = 0
+steps_before (sequence continue more) = 0
 steps_before (sequence (if_else test first second) more) = 0
 steps_before (sequence (do_while body test) more) = 0
 steps_before empty = 0
@@ -89,6 +95,8 @@ carried e (sequence (assign x v) more) = substituted (carried e more) x (form_of
 carried e (sequence (while_loop test body step) more) = e
 carried e (sequence skip more) = e
 carried e (sequence return more) = e
+carried e (sequence break more) = e
+carried e (sequence continue more) = e
 carried e (sequence (if_else test first second) more) = e
 carried e (sequence (do_while body test) more) = e
 carried e empty = e
@@ -100,6 +108,8 @@ counting e (sequence (assign x v) more) =
 counting e (sequence (while_loop test body step) more) = looping e body step more
 counting e (sequence skip more) = []
 counting e (sequence return more) = []
+counting e (sequence break more) = []
+counting e (sequence continue more) = []
 counting e (sequence (if_else test first second) more) = []
 counting e (sequence (do_while body test) more) = []
 counting e empty = []

@@ -70,7 +70,7 @@ fn add_counts_of_one(
     let count = match kind {
         StmtKind::Assign { var, value } => step(known_change(*var, value, function), &after),
         StmtKind::Skip => step(0, &after),
-        StmtKind::Return => step(0, &nothing()),
+        StmtKind::Return | StmtKind::Break | StmtKind::Continue => step(0, &nothing()),
         StmtKind::If { test: _, yes, no } => {
             let second = add_counts(no, function, after, list)?;
             let first = add_counts(yes, function, after, list)?;

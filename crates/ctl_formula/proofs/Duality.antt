@@ -1,18 +1,17 @@
 -- A normal form means what its formula does, and the normal form of the negation what the negation does.
-use Rattle.std.specs.Prelude.{◌≡◌, ◌⊎◌, ◌↔◌, suc, ℤ, pos, ◌≤ℤ◌, not, List, [], ◌∷◌}
+use Rattle.std.specs.Prelude.{◌≡◌, ◌⊎◌, ◌↔◌, suc, ℤ, pos, ◌≤ℤ◌, not, [], ◌∷◌}
 use Rattle.std.proofs.Common.{inl, inr, refl, arith}
 use Rattle.std.proofs.lemmas.Int.{ints}
 use Rattle.linear_cons.specs.Functions.{value_at}
 use Rattle.linear_cons.proofs.RowLaws.{complement_met}
-use Rattle.step_meaning.specs.Syntax.{Statement}
-use Rattle.step_meaning.specs.Step.{Configuration, IsFinal, front}
+use Rattle.step_meaning.specs.Step.{Configuration, IsFinal, Todo, front}
 use Rattle.step_meaning.proofs.Progress.{trichotomy}
 use Rattle.ctl_formula.specs.Formulas.{Ctl, truth, falsity, exit, not_exit, always, never, least, negation, both, either, next, until, weak, normal, opposite}
 use Rattle.ctl_formula.specs.Satisfaction.{Sat}
 use Rattle.ctl_formula.proofs.Classical.{IsStable, classically, joined, ahead_stable, ahead_map, ahead_not, ahead_apart, until_map, weak_map, weak_stable, until_excludes, weak_excludes, weak_of_not_until, until_of_not_weak}
 
 -- a list is empty or not
-empty_or_not : (ahead : List Statement) → (ahead ≡ []) ⊎ (¬ (ahead ≡ []))
+empty_or_not : (ahead : Todo) → (ahead ≡ []) ⊎ (¬ (ahead ≡ []))
 empty_or_not [] = inl refl
 empty_or_not (first ∷ rest) = inr (λ e. cc)
 

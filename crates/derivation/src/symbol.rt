@@ -13,6 +13,8 @@ pub enum Symbol {
     Do,
     For,
     Return,
+    Break,
+    Continue,
     Extern,
     Void,
     Typedef,
@@ -54,7 +56,7 @@ pub enum Symbol {
 
 type Entry = (&'static [u8], Symbol);
 
-const RESERVED_WORDS: [Entry; 17] = [
+const RESERVED_WORDS: [Entry; 19] = [
     (b"int", Symbol::Int),
     (b"if", Symbol::If),
     (b"else", Symbol::Else),
@@ -62,6 +64,8 @@ const RESERVED_WORDS: [Entry; 17] = [
     (b"do", Symbol::Do),
     (b"for", Symbol::For),
     (b"return", Symbol::Return),
+    (b"break", Symbol::Break),
+    (b"continue", Symbol::Continue),
     (b"extern", Symbol::Extern),
     (b"void", Symbol::Void),
     (b"typedef", Symbol::Typedef),

@@ -5,7 +5,7 @@ use Rattle.step_meaning.specs.Valid.{IsNumber, IsTest, IsBody}
 use Rattle.concrete_syntax.specs.declared.sign.Assignment.{Assignment}
 use Rattle.concrete_syntax.specs.declared.sign.Step.{Step}
 use Rattle.concrete_syntax.specs.declared.sign.Step.TheVariants.{Increment, Decrement}
-use Rattle.concrete_syntax.specs.Trees.{Expression, Name, Action, assigns, steps, Simple, acts, steps_before, Part, Start, starts_with_nothing, starts_with, declares, Statement, statement_at, simple, skip, braces, conditional, while_loop, do_loop, for_loop, return, Otherwise, without, otherwise, Items, none, declaration, statement}
+use Rattle.concrete_syntax.specs.Trees.{Expression, Name, Action, assigns, steps, Simple, acts, steps_before, Part, Start, starts_with_nothing, starts_with, declares, Statement, statement_at, simple, skip, braces, conditional, while_loop, do_loop, for_loop, return, break, continue, Otherwise, without, otherwise, Items, none, declaration, statement}
 use Rattle.elaboration.specs.declared.fault.Rule.TheVariants.{Twice, Variables}
 use Rattle.elaboration.specs.Scopes.{Scope, is_among, place_of, with_variable, most_variables, declare}
 use Rattle.elaboration.specs.Faults.{fault}
@@ -135,82 +135,84 @@ optional_valid vars scope sound room None clean = tt
 -- ── Statements ──
 
 -- behind a statement what may be used is still a variable
-statement_sound : (scope : Scope) (s : Statement) → IsSound scope → IsSound (statement_walked scope s).scope
-statement_sound scope s sound x seen =
-    statement_keeps (λ names. is_among names x ≡ true) (among_kept x) scope s
-    (sound x (subst (λ names. is_among names x ≡ true) (statement_visible scope s) seen))
+statement_sound : (in_loop : Bool) (scope : Scope) (s : Statement) → IsSound scope → IsSound (statement_walked in_loop scope s).scope
+statement_sound in_loop scope s sound x seen =
+    statement_keeps in_loop (λ names. is_among names x ≡ true) (among_kept x) scope s
+    (sound x (subst (λ names. is_among names x ≡ true) (statement_visible in_loop scope s) seen))
 
-statement_grows : (scope : Scope) (s : Statement) → length scope.declared ≤ length (statement_walked scope s).scope.declared
-statement_grows scope s = statement_keeps (λ names. length scope.declared ≤ length names) (no_fewer (length scope.declared)) scope s (omega arith)
+statement_grows : (in_loop : Bool) (scope : Scope) (s : Statement) → length scope.declared ≤ length (statement_walked in_loop scope s).scope.declared
+statement_grows in_loop scope s = statement_keeps in_loop (λ names. length scope.declared ≤ length names) (no_fewer (length scope.declared)) scope s (omega arith)
 
 mutual
-  pub statement_valid : (vars : ℕ) (scope : Scope) → IsSound scope → (s : Statement) → length (statement_walked scope s).scope.declared ≤ vars
-      → (statement_walked scope s).faults ≡ [] → AllValid vars (statement_walked scope s).body
-  statement_valid vars scope sound (statement_at at (simple s)) later clean = simple_valid vars scope sound later s clean
-  statement_valid vars scope sound (statement_at at skip) later clean = (tt, tt)
-  statement_valid vars scope sound (statement_at at (braces all)) later clean = items_valid vars scope sound all later clean
-  statement_valid vars scope sound (statement_at at (conditional test part other)) later clean =
-      let middle = (statement_walked scope part).scope in
-      let outer = both_none (expression_faults scope test) ((statement_walked scope part).faults ++ (otherwise_walked middle other).faults) clean in
-      let inner = both_none (statement_walked scope part).faults (otherwise_walked middle other).faults outer.1 in
-      let first = statement_grows scope part in
-      let second = otherwise_keeps (λ names. length middle.declared ≤ length names) (no_fewer (length middle.declared)) middle other (omega arith) in (
+  pub statement_valid : (in_loop : Bool) (vars : ℕ) (scope : Scope) → IsSound scope → (s : Statement) → length (statement_walked in_loop scope s).scope.declared ≤ vars
+      → (statement_walked in_loop scope s).faults ≡ [] → AllValid vars (statement_walked in_loop scope s).body
+  statement_valid in_loop vars scope sound (statement_at at (simple s)) later clean = simple_valid vars scope sound later s clean
+  statement_valid in_loop vars scope sound (statement_at at skip) later clean = (tt, tt)
+  statement_valid in_loop vars scope sound (statement_at at (braces all)) later clean = items_valid in_loop vars scope sound all later clean
+  statement_valid in_loop vars scope sound (statement_at at (conditional test part other)) later clean =
+      let middle = (statement_walked in_loop scope part).scope in
+      let outer = both_none (expression_faults scope test) ((statement_walked in_loop scope part).faults ++ (otherwise_walked in_loop middle other).faults) clean in
+      let inner = both_none (statement_walked in_loop scope part).faults (otherwise_walked in_loop middle other).faults outer.1 in
+      let first = statement_grows in_loop scope part in
+      let second = otherwise_keeps in_loop (λ names. length middle.declared ≤ length names) (no_fewer (length middle.declared)) middle other (omega arith) in (
         (
           expression_is_test vars scope sound (omega (arith, first, second, later)) test outer.0,
-          statement_valid vars scope sound part (omega (arith, second, later)) inner.0,
-          otherwise_valid vars middle (statement_sound scope part sound) other later inner.1,
+          statement_valid in_loop vars scope sound part (omega (arith, second, later)) inner.0,
+          otherwise_valid in_loop vars middle (statement_sound in_loop scope part sound) other later inner.1,
         ),
         tt,
       )
-  statement_valid vars scope sound (statement_at at (while_loop test body)) later clean =
-      let faultless = both_none (expression_faults scope test) (statement_walked scope body).faults clean in
-      let grown = statement_grows scope body in
-      ((expression_is_test vars scope sound (omega (arith, grown, later)) test faultless.0, statement_valid vars scope sound body later faultless.1, tt), tt)
-  statement_valid vars scope sound (statement_at at (do_loop body end test)) later clean =
-      let middle = (statement_walked scope body).scope in
-      let faultless = both_none (statement_walked scope body).faults (expression_faults middle test) clean in (
+  statement_valid in_loop vars scope sound (statement_at at (while_loop test body)) later clean =
+      let faultless = both_none (expression_faults scope test) (statement_walked true scope body).faults clean in
+      let grown = statement_grows true scope body in
+      ((expression_is_test vars scope sound (omega (arith, grown, later)) test faultless.0, statement_valid true vars scope sound body later faultless.1, tt), tt)
+  statement_valid in_loop vars scope sound (statement_at at (do_loop body end test)) later clean =
+      let middle = (statement_walked true scope body).scope in
+      let faultless = both_none (statement_walked true scope body).faults (expression_faults middle test) clean in (
         (
-          statement_valid vars scope sound body later faultless.0,
-          expression_is_test vars middle (statement_sound scope body sound) later test faultless.1,
+          statement_valid true vars scope sound body later faultless.0,
+          expression_is_test vars middle (statement_sound true scope body sound) later test faultless.1,
         ),
         tt,
       )
-  statement_valid vars scope sound (statement_at at (for_loop start test step body)) later clean =
+  statement_valid in_loop vars scope sound (statement_at at (for_loop start test step body)) later clean =
       let inside = (start_walked scope start).scope in
-      let outer = both_none (start_walked scope start).faults (optional_faults inside test ++ ((optional_simple_walked inside step).faults ++ (statement_walked inside body).faults)) clean in
-      let inner = both_none (optional_faults inside test) ((optional_simple_walked inside step).faults ++ (statement_walked inside body).faults) outer.1 in
-      let last = both_none (optional_simple_walked inside step).faults (statement_walked inside body).faults inner.1 in
-      let grown = statement_grows inside body in
+      let outer = both_none (start_walked scope start).faults (optional_faults inside test ++ ((optional_simple_walked inside step).faults ++ (statement_walked true inside body).faults)) clean in
+      let inner = both_none (optional_faults inside test) ((optional_simple_walked inside step).faults ++ (statement_walked true inside body).faults) outer.1 in
+      let last = both_none (optional_simple_walked inside step).faults (statement_walked true inside body).faults inner.1 in
+      let grown = statement_grows true inside body in
       let room : length inside.declared ≤ vars = omega (arith, grown, later) in
       let first = start_valid vars scope sound start room outer.0 in
       valid_append vars (start_walked scope start).body (syntax.while_loop _ _ _ ∷ []) first.0 (
         (
           optional_valid vars inside first.1 room test inner.0,
-          statement_valid vars inside first.1 body later last.1,
+          statement_valid true vars inside first.1 body later last.1,
           optional_simple_valid vars inside first.1 room step last.0,
         ),
         tt,
       )
-  statement_valid vars scope sound (statement_at at (return value)) later clean = (tt, tt)
+  statement_valid in_loop vars scope sound (statement_at at (return value)) later clean = (tt, tt)
+  statement_valid in_loop vars scope sound (statement_at at break) later clean = (tt, tt)
+  statement_valid in_loop vars scope sound (statement_at at continue) later clean = (tt, tt)
 
-  otherwise_valid : (vars : ℕ) (scope : Scope) → IsSound scope → (other : Otherwise) → length (otherwise_walked scope other).scope.declared ≤ vars
-      → (otherwise_walked scope other).faults ≡ [] → AllValid vars (otherwise_walked scope other).body
-  otherwise_valid vars scope sound without later clean = tt
-  otherwise_valid vars scope sound (otherwise s) later clean = statement_valid vars scope sound s later clean
+  otherwise_valid : (in_loop : Bool) (vars : ℕ) (scope : Scope) → IsSound scope → (other : Otherwise) → length (otherwise_walked in_loop scope other).scope.declared ≤ vars
+      → (otherwise_walked in_loop scope other).faults ≡ [] → AllValid vars (otherwise_walked in_loop scope other).body
+  otherwise_valid in_loop vars scope sound without later clean = tt
+  otherwise_valid in_loop vars scope sound (otherwise s) later clean = statement_valid in_loop vars scope sound s later clean
 
-  pub items_valid : (vars : ℕ) (scope : Scope) → IsSound scope → (all : Items) → length (items_walked scope all).scope.declared ≤ vars
-      → (items_walked scope all).faults ≡ [] → AllValid vars (items_walked scope all).body
-  items_valid vars scope sound none later faultless = tt
-  items_valid vars scope sound (declaration d more) later faultless =
+  pub items_valid : (in_loop : Bool) (vars : ℕ) (scope : Scope) → IsSound scope → (all : Items) → length (items_walked in_loop scope all).scope.declared ≤ vars
+      → (items_walked in_loop scope all).faults ≡ [] → AllValid vars (items_walked in_loop scope all).body
+  items_valid in_loop vars scope sound none later faultless = tt
+  items_valid in_loop vars scope sound (declaration d more) later faultless =
       let behind = (declaration_walked scope d).scope in
-      let parts = both_none (declaration_walked scope d).faults (items_walked behind more).faults faultless in
-      let grown = items_keep (λ names. length behind.declared ≤ length names) (no_fewer (length behind.declared)) behind more (omega arith) in
+      let parts = both_none (declaration_walked scope d).faults (items_walked in_loop behind more).faults faultless in
+      let grown = items_keep in_loop (λ names. length behind.declared ≤ length names) (no_fewer (length behind.declared)) behind more (omega arith) in
       let first = parts_valid vars scope sound (d.part ∷ d.more) (omega (arith, grown, later)) parts.0 in
-      valid_append vars (declaration_walked scope d).body (items_walked behind more).body first.0 (items_valid vars behind first.1 more later parts.1)
-  items_valid vars scope sound (statement s more) later faultless =
-      let behind = (statement_walked scope s).scope in
-      let parts = both_none (statement_walked scope s).faults (items_walked behind more).faults faultless in
-      let grown = items_keep (λ names. length behind.declared ≤ length names) (no_fewer (length behind.declared)) behind more (omega arith) in
-      valid_append vars (statement_walked scope s).body (items_walked behind more).body
-      (statement_valid vars scope sound s (omega (arith, grown, later)) parts.0)
-      (items_valid vars behind (statement_sound scope s sound) more later parts.1)
+      valid_append vars (declaration_walked scope d).body (items_walked in_loop behind more).body first.0 (items_valid in_loop vars behind first.1 more later parts.1)
+  items_valid in_loop vars scope sound (statement s more) later faultless =
+      let behind = (statement_walked in_loop scope s).scope in
+      let parts = both_none (statement_walked in_loop scope s).faults (items_walked in_loop behind more).faults faultless in
+      let grown = items_keep in_loop (λ names. length behind.declared ≤ length names) (no_fewer (length behind.declared)) behind more (omega arith) in
+      valid_append vars (statement_walked in_loop scope s).body (items_walked in_loop behind more).body
+      (statement_valid in_loop vars scope sound s (omega (arith, grown, later)) parts.0)
+      (items_valid in_loop vars behind (statement_sound in_loop scope s sound) more later parts.1)

@@ -3,7 +3,7 @@ use Rattle.std.proofs.Common.{◌≡◌, ◌≢◌, ℕ, ◌≤◌, Bool, true, 
 use Rattle.std.proofs.lemmas.Bool.{ltb-true}
 use Rattle.std.proofs.lemmas.List.{length-append}
 use Rattle.std.proofs.lemmas.List.Quantifiers.{all_pairs_push}
-use Rattle.concrete_syntax.specs.Trees.{Part, Statement, statement_at, simple, skip, braces, conditional, while_loop, do_loop, for_loop, return, Otherwise, without, otherwise, Items, none, declaration, statement, Start, starts_with_nothing, starts_with, declares}
+use Rattle.concrete_syntax.specs.Trees.{Part, Statement, statement_at, simple, skip, braces, conditional, while_loop, do_loop, for_loop, return, break, continue, Otherwise, without, otherwise, Items, none, declaration, statement, Start, starts_with_nothing, starts_with, declares}
 use Rattle.elaboration.specs.Scopes.{Scope, Name, is_among, with_variable, most_variables}
 use Rattle.elaboration.specs.Statements.{part_walked, parts_walked, declaration_walked, statement_walked, otherwise_walked, items_walked, start_walked}
 use Rattle.elaboration.proofs.Names.{among_front, differs}
@@ -23,26 +23,28 @@ start_keeps P kept scope (starts_with s) h = h
 start_keeps P kept scope (declares d) h = parts_keep P kept scope (d.part ∷ d.more) h
 
 mutual
-  pub statement_keeps : (P : List Name → Type 0) → IsKept P → (scope : Scope) (s : Statement) → P scope.declared → P (statement_walked scope s).scope.declared
-  statement_keeps P kept scope (statement_at at (simple s)) h = h
-  statement_keeps P kept scope (statement_at at skip) h = h
-  statement_keeps P kept scope (statement_at at (braces all)) h = items_keep P kept scope all h
-  statement_keeps P kept scope (statement_at at (conditional test part other)) h =
-      otherwise_keeps P kept (statement_walked scope part).scope other (statement_keeps P kept scope part h)
-  statement_keeps P kept scope (statement_at at (while_loop test body)) h = statement_keeps P kept scope body h
-  statement_keeps P kept scope (statement_at at (do_loop body end test)) h = statement_keeps P kept scope body h
-  statement_keeps P kept scope (statement_at at (for_loop start test step body)) h =
-      statement_keeps P kept (start_walked scope start).scope body (start_keeps P kept scope start h)
-  statement_keeps P kept scope (statement_at at (return value)) h = h
+  pub statement_keeps : (in_loop : Bool) (P : List Name → Type 0) → IsKept P → (scope : Scope) (s : Statement) → P scope.declared → P (statement_walked in_loop scope s).scope.declared
+  statement_keeps in_loop P kept scope (statement_at at (simple s)) h = h
+  statement_keeps in_loop P kept scope (statement_at at skip) h = h
+  statement_keeps in_loop P kept scope (statement_at at (braces all)) h = items_keep in_loop P kept scope all h
+  statement_keeps in_loop P kept scope (statement_at at (conditional test part other)) h =
+      otherwise_keeps in_loop P kept (statement_walked in_loop scope part).scope other (statement_keeps in_loop P kept scope part h)
+  statement_keeps in_loop P kept scope (statement_at at (while_loop test body)) h = statement_keeps true P kept scope body h
+  statement_keeps in_loop P kept scope (statement_at at (do_loop body end test)) h = statement_keeps true P kept scope body h
+  statement_keeps in_loop P kept scope (statement_at at (for_loop start test step body)) h =
+      statement_keeps true P kept (start_walked scope start).scope body (start_keeps P kept scope start h)
+  statement_keeps in_loop P kept scope (statement_at at (return value)) h = h
+  statement_keeps in_loop P kept scope (statement_at at break) h = h
+  statement_keeps in_loop P kept scope (statement_at at continue) h = h
 
-  pub otherwise_keeps : (P : List Name → Type 0) → IsKept P → (scope : Scope) (other : Otherwise) → P scope.declared → P (otherwise_walked scope other).scope.declared
-  otherwise_keeps P kept scope without h = h
-  otherwise_keeps P kept scope (otherwise s) h = statement_keeps P kept scope s h
+  pub otherwise_keeps : (in_loop : Bool) (P : List Name → Type 0) → IsKept P → (scope : Scope) (other : Otherwise) → P scope.declared → P (otherwise_walked in_loop scope other).scope.declared
+  otherwise_keeps in_loop P kept scope without h = h
+  otherwise_keeps in_loop P kept scope (otherwise s) h = statement_keeps in_loop P kept scope s h
 
-  pub items_keep : (P : List Name → Type 0) → IsKept P → (scope : Scope) (all : Items) → P scope.declared → P (items_walked scope all).scope.declared
-  items_keep P kept scope none h = h
-  items_keep P kept scope (declaration d more) h = items_keep P kept (declaration_walked scope d).scope more (parts_keep P kept scope (d.part ∷ d.more) h)
-  items_keep P kept scope (statement s more) h = items_keep P kept (statement_walked scope s).scope more (statement_keeps P kept scope s h)
+  pub items_keep : (in_loop : Bool) (P : List Name → Type 0) → IsKept P → (scope : Scope) (all : Items) → P scope.declared → P (items_walked in_loop scope all).scope.declared
+  items_keep in_loop P kept scope none h = h
+  items_keep in_loop P kept scope (declaration d more) h = items_keep in_loop P kept (declaration_walked scope d).scope more (parts_keep P kept scope (d.part ∷ d.more) h)
+  items_keep in_loop P kept scope (statement s more) h = items_keep in_loop P kept (statement_walked in_loop scope s).scope more (statement_keeps in_loop P kept scope s h)
 
 -- a name stays a variable
 pub among_kept : (y : Name) → IsKept (λ names. is_among names y ≡ true)

@@ -7,4 +7,5 @@ pub mod Walks
 pub mod Declared
 pub mod Valid
 pub mod Bodies
+pub mod Jumps
 pub mod Whole

@@ -1,26 +1,28 @@
 -- Behind items all that could be used before them can be used still.
-use Rattle.std.proofs.Common.{◌≡◌, ℕ, List, [], ◌∷◌, ◌++◌, length, take, refl, ap, sym, ◌∙◌}
+use Rattle.std.proofs.Common.{◌≡◌, ℕ, Bool, true, List, [], ◌∷◌, ◌++◌, length, take, refl, ap, sym, ◌∙◌}
 use Rattle.std.proofs.lemmas.List.{append-nil, append_assoc}
 use Rattle.std.proofs.Math.Seq.{take-append_seam}
-use Rattle.concrete_syntax.specs.Trees.{Part, Statement, statement_at, simple, skip, braces, conditional, while_loop, do_loop, for_loop, return, Otherwise, without, otherwise, Items, none, declaration, statement, Start, starts_with_nothing, starts_with, declares}
+use Rattle.concrete_syntax.specs.Trees.{Part, Statement, statement_at, simple, skip, braces, conditional, while_loop, do_loop, for_loop, return, break, continue, Otherwise, without, otherwise, Items, none, declaration, statement, Start, starts_with_nothing, starts_with, declares}
 use Rattle.elaboration.specs.Scopes.{Scope, Name, close}
 use Rattle.elaboration.specs.Statements.{part_walked, parts_walked, declaration_walked, statement_walked, otherwise_walked, items_walked, start_walked}
 
 -- a statement leaves what may be used as it is
 mutual
-  pub statement_visible : (scope : Scope) (s : Statement) → (statement_walked scope s).scope.visible ≡ scope.visible
-  statement_visible scope (statement_at at (simple s)) = refl
-  statement_visible scope (statement_at at skip) = refl
-  statement_visible scope (statement_at at (braces all)) = refl
-  statement_visible scope (statement_at at (conditional test part other)) = otherwise_visible (statement_walked scope part).scope other ∙ statement_visible scope part
-  statement_visible scope (statement_at at (while_loop test body)) = statement_visible scope body
-  statement_visible scope (statement_at at (do_loop body end test)) = statement_visible scope body
-  statement_visible scope (statement_at at (for_loop start test step body)) = refl
-  statement_visible scope (statement_at at (return value)) = refl
+  pub statement_visible : (in_loop : Bool) (scope : Scope) (s : Statement) → (statement_walked in_loop scope s).scope.visible ≡ scope.visible
+  statement_visible in_loop scope (statement_at at (simple s)) = refl
+  statement_visible in_loop scope (statement_at at skip) = refl
+  statement_visible in_loop scope (statement_at at (braces all)) = refl
+  statement_visible in_loop scope (statement_at at (conditional test part other)) = otherwise_visible in_loop (statement_walked in_loop scope part).scope other ∙ statement_visible in_loop scope part
+  statement_visible in_loop scope (statement_at at (while_loop test body)) = statement_visible true scope body
+  statement_visible in_loop scope (statement_at at (do_loop body end test)) = statement_visible true scope body
+  statement_visible in_loop scope (statement_at at (for_loop start test step body)) = refl
+  statement_visible in_loop scope (statement_at at (return value)) = refl
+  statement_visible in_loop scope (statement_at at break) = refl
+  statement_visible in_loop scope (statement_at at continue) = refl
 
-  otherwise_visible : (scope : Scope) (other : Otherwise) → (otherwise_walked scope other).scope.visible ≡ scope.visible
-  otherwise_visible scope without = refl
-  otherwise_visible scope (otherwise s) = statement_visible scope s
+  otherwise_visible : (in_loop : Bool) (scope : Scope) (other : Otherwise) → (otherwise_walked in_loop scope other).scope.visible ≡ scope.visible
+  otherwise_visible in_loop scope without = refl
+  otherwise_visible in_loop scope (otherwise s) = statement_visible in_loop scope s
 
 -- what could be used stays in front of what is declared
 abbrev Extends : List Name → List Name → Type 0
@@ -38,14 +40,14 @@ parts_extend scope (part ∷ more) =
     extends_on scope.visible (part_walked scope part).scope.visible (parts_walked (part_walked scope part).scope more).scope.visible
     (part.declared.bytes ∷ [], refl) (parts_extend (part_walked scope part).scope more)
 
-items_extend : (scope : Scope) (all : Items) → Extends scope.visible (items_walked scope all).scope.visible
-items_extend scope none = extends_same scope.visible
-items_extend scope (declaration d more) =
-    extends_on scope.visible (declaration_walked scope d).scope.visible (items_walked (declaration_walked scope d).scope more).scope.visible
-    (parts_extend scope (d.part ∷ d.more)) (items_extend (declaration_walked scope d).scope more)
-items_extend scope (statement s more) =
-    extends_on scope.visible (statement_walked scope s).scope.visible (items_walked (statement_walked scope s).scope more).scope.visible
-    ([], statement_visible scope s ∙ sym (append-nil scope.visible)) (items_extend (statement_walked scope s).scope more)
+items_extend : (in_loop : Bool) (scope : Scope) (all : Items) → Extends scope.visible (items_walked in_loop scope all).scope.visible
+items_extend in_loop scope none = extends_same scope.visible
+items_extend in_loop scope (declaration d more) =
+    extends_on scope.visible (declaration_walked scope d).scope.visible (items_walked in_loop (declaration_walked scope d).scope more).scope.visible
+    (parts_extend scope (d.part ∷ d.more)) (items_extend in_loop (declaration_walked scope d).scope more)
+items_extend in_loop scope (statement s more) =
+    extends_on scope.visible (statement_walked in_loop scope s).scope.visible (items_walked in_loop (statement_walked in_loop scope s).scope more).scope.visible
+    ([], statement_visible in_loop scope s ∙ sym (append-nil scope.visible)) (items_extend in_loop (statement_walked in_loop scope s).scope more)
 
 start_extends : (scope : Scope) (start : Start) → Extends scope.visible (start_walked scope start).scope.visible
 start_extends scope starts_with_nothing = extends_same scope.visible
@@ -56,13 +58,13 @@ start_extends scope (declares d) = parts_extend scope (d.part ∷ d.more)
 first_names : (outer inner : List Name) → Extends outer inner → take (length outer) inner ≡ outer
 first_names outer inner (more, is) = ap (take (length outer)) is ∙ take-append_seam outer more
 
-pub items_kept : (scope : Scope) (all : Items) → take (length scope.visible) (items_walked scope all).scope.visible ≡ scope.visible
-items_kept scope all = first_names scope.visible (items_walked scope all).scope.visible (items_extend scope all)
+pub items_kept : (in_loop : Bool) (scope : Scope) (all : Items) → take (length scope.visible) (items_walked in_loop scope all).scope.visible ≡ scope.visible
+items_kept in_loop scope all = first_names scope.visible (items_walked in_loop scope all).scope.visible (items_extend in_loop scope all)
 
 pub start_kept : (scope : Scope) (start : Start) (body : Statement)
-    → take (length scope.visible) (statement_walked (start_walked scope start).scope body).scope.visible ≡ scope.visible
+    → take (length scope.visible) (statement_walked true (start_walked scope start).scope body).scope.visible ≡ scope.visible
 start_kept scope start body =
-    ap (take (length scope.visible)) (statement_visible (start_walked scope start).scope body)
+    ap (take (length scope.visible)) (statement_visible true (start_walked scope start).scope body)
     ∙ first_names scope.visible (start_walked scope start).scope.visible (start_extends scope start)
 
 abbrev names_and : List Name → List Name → Scope

@@ -1,5 +1,5 @@
--- Which program a concrete tree stands for, or its first fault of names and sorts.
-use Rattle.std.specs.Prelude.{◌≡◌, ℕ, List, [], ⊤}
+-- Which program a concrete tree stands for, or its first fault of names, sorts and jumps.
+use Rattle.std.specs.Prelude.{◌≡◌, ℕ, false, List, [], ⊤}
 use Rattle.step_meaning.specs.Syntax.{Statements, of_list}
 use Rattle.source_lex.specs.declared.token.Token.{Token}
 use Rattle.concrete_syntax.specs.Trees.{Program}
@@ -17,9 +17,9 @@ no_names = record { declared = []; visible = [] }
 
 -- what a walk over a whole program finds
 abbrev pub walked : Program → Walked
-walked p = items_walked no_names p.items
+walked p = items_walked false no_names p.items
 
--- all its faults of names and sorts
+-- all its faults of names, sorts and jumps
 abbrev pub faults_of : Program → List faults.Fault
 faults_of p = (walked p).faults
 
@@ -40,7 +40,7 @@ pub record StandsFor (p : Program) (names : List Name) (body : Statements) : Typ
   pub declares : names ≡ names_of p
   pub means : body ≡ body_of p
 
--- the tree's first fault of names and sorts
+-- the tree's first fault of names, sorts and jumps
 abbrev pub HasFirstFault : Program → faults.Fault → Type 0
 HasFirstFault p f = IsFirstOf (faults_of p) f
 

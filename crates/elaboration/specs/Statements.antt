@@ -1,13 +1,13 @@
 -- What statements tell: the names behind them, their faults, what they stand for, and the tokens at which that stands.
-use Rattle.std.specs.Prelude.{ℕ, nat_lt, true, if◌then◌else◌, List, [], ◌∷◌, ◌++◌, length, Option, None, Some, pos}
+use Rattle.std.specs.Prelude.{ℕ, nat_lt, Bool, true, false, if◌then◌else◌, List, [], ◌∷◌, ◌++◌, length, Option, None, Some, pos}
 use Rattle.step_meaning.specs.declared.expression.Op2.TheVariants.{Add, Sub, Mul}
 use Rattle.step_meaning.specs.Syntax as syntax
 use Rattle.concrete_syntax.specs.declared.sign.Assignment.{Assignment}
 use Rattle.concrete_syntax.specs.declared.sign.Step.{Step}
 use Rattle.concrete_syntax.specs.declared.sign.Step.TheVariants.{Increment, Decrement}
-use Rattle.concrete_syntax.specs.Trees.{Expression, Name, Action, assigns, steps, Simple, acts, steps_before, Part, Declaration, Start, starts_with_nothing, starts_with, declares, Statement, statement_at, StatementKind, simple, skip, braces, conditional, while_loop, do_loop, for_loop, return, Otherwise, without, otherwise, Items, none, declaration, statement}
+use Rattle.concrete_syntax.specs.Trees.{Expression, Name, Action, assigns, steps, Simple, acts, steps_before, Part, Declaration, Start, starts_with_nothing, starts_with, declares, Statement, statement_at, StatementKind, simple, skip, braces, conditional, while_loop, do_loop, for_loop, return, break, continue, Otherwise, without, otherwise, Items, none, declaration, statement}
 use Rattle.elaboration.specs.declared.fault.Fault.{Fault}
-use Rattle.elaboration.specs.declared.fault.Rule.TheVariants.{Twice, Variables}
+use Rattle.elaboration.specs.declared.fault.Rule.TheVariants.{Twice, Variables, Outside}
 use Rattle.elaboration.specs.Scopes.{Scope, is_among, place_of, most_variables, declare, close}
 use Rattle.elaboration.specs.Faults.{fault}
 use Rattle.elaboration.specs.Expressions.{as_test, unknown_name, expression_typed, expression_faults, number_faults}
@@ -133,6 +133,12 @@ optional_test scope None = syntax.truth true
 
 -- ── Statements: braces leave no trace; a `for` is its start, and then a loop with its step, which a `while` has none of ──
 
+-- The fault of a `break` or `continue` at this token that is inside no body of a loop: `in_loop` says whether it is inside one, here and of
+-- the statements below.
+abbrev pub outside_faults : Bool → ℕ → List Fault
+outside_faults true at = []
+outside_faults false at = fault Outside at ∷ []
+
 -- an `if` at this token, by the faults of its test, its test, and what walks over its parts find
 abbrev pub chosen : ℕ → List Fault → syntax.Expression → Walked → Walked → Walked
 chosen at faults test first second = record {
@@ -161,34 +167,36 @@ done end body faults test = record {
 }
 
 abbrev mutual
-  pub statement_walked : Scope → Statement → Walked
-  statement_walked scope (statement_at at kind) = kind_walked scope at kind
+  pub statement_walked : Bool → Scope → Statement → Walked
+  statement_walked in_loop scope (statement_at at kind) = kind_walked in_loop scope at kind
 
-  pub kind_walked : Scope → ℕ → StatementKind → Walked
-  kind_walked scope at (simple s) = simple_walked scope at s
-  kind_walked scope at skip = single scope at [] syntax.skip
-  kind_walked scope at (braces all) = enclosed scope (items_walked scope all)
-  kind_walked scope at (conditional test part other) =
-      let first = statement_walked scope part in
-      chosen at (expression_faults scope test) (as_test (expression_typed scope test)) first (otherwise_walked first.scope other)
-  kind_walked scope at (while_loop test body) =
-      looped at (expression_faults scope test) (as_test (expression_typed scope test)) (nothing scope) (statement_walked scope body)
-  kind_walked scope at (do_loop body end test) =
-      let inner = statement_walked scope body in
+  pub kind_walked : Bool → Scope → ℕ → StatementKind → Walked
+  kind_walked in_loop scope at (simple s) = simple_walked scope at s
+  kind_walked in_loop scope at skip = single scope at [] syntax.skip
+  kind_walked in_loop scope at (braces all) = enclosed scope (items_walked in_loop scope all)
+  kind_walked in_loop scope at (conditional test part other) =
+      let first = statement_walked in_loop scope part in
+      chosen at (expression_faults scope test) (as_test (expression_typed scope test)) first (otherwise_walked in_loop first.scope other)
+  kind_walked in_loop scope at (while_loop test body) =
+      looped at (expression_faults scope test) (as_test (expression_typed scope test)) (nothing scope) (statement_walked true scope body)
+  kind_walked in_loop scope at (do_loop body end test) =
+      let inner = statement_walked true scope body in
       done end inner (expression_faults inner.scope test) (as_test (expression_typed inner.scope test))
-  kind_walked scope at (for_loop start test step body) =
+  kind_walked in_loop scope at (for_loop start test step body) =
       let before = start_walked scope start in
       let inside = before.scope in
       enclosed scope
       (joined before
-      (looped at (optional_faults inside test) (optional_test inside test) (optional_simple_walked inside step) (statement_walked inside body)))
-  kind_walked scope at (return value) = single scope at (optional_faults scope value) syntax.return
+      (looped at (optional_faults inside test) (optional_test inside test) (optional_simple_walked inside step) (statement_walked true inside body)))
+  kind_walked in_loop scope at (return value) = single scope at (optional_faults scope value) syntax.return
+  kind_walked in_loop scope at break = single scope at (outside_faults in_loop at) syntax.break
+  kind_walked in_loop scope at continue = single scope at (outside_faults in_loop at) syntax.continue
 
-  pub otherwise_walked : Scope → Otherwise → Walked
-  otherwise_walked scope without = nothing scope
-  otherwise_walked scope (otherwise s) = statement_walked scope s
+  pub otherwise_walked : Bool → Scope → Otherwise → Walked
+  otherwise_walked in_loop scope without = nothing scope
+  otherwise_walked in_loop scope (otherwise s) = statement_walked in_loop scope s
 
-  pub items_walked : Scope → Items → Walked
-  items_walked scope none = nothing scope
-  items_walked scope (declaration d more) = let w = declaration_walked scope d in joined w (items_walked w.scope more)
-  items_walked scope (statement s more) = let w = statement_walked scope s in joined w (items_walked w.scope more)
+  pub items_walked : Bool → Scope → Items → Walked
+  items_walked in_loop scope none = nothing scope
+  items_walked in_loop scope (declaration d more) = let w = declaration_walked scope d in joined w (items_walked in_loop w.scope more)
+  items_walked in_loop scope (statement s more) = let w = statement_walked in_loop scope s in joined w (items_walked in_loop w.scope more)

@@ -1,9 +1,9 @@
-//! Faults of names and sorts.
+//! Faults of names, sorts and jumps.
 
 ghost use Rattle.std.specs.Prelude.{◌≡◌};
 ghost use Rattle.elaboration.specs.Faults.{order_of, is_before};
 
-/// The rules on names and sorts, each by what breaks it.
+/// The rules on names, sorts and jumps, each by what breaks it.
 #[derive(Clone, Copy, PartialEq, Eq, Debug)]
 pub enum Rule {
     /// A name is used where it isn't in scope.
@@ -16,6 +16,8 @@ pub enum Rule {
     BadRange,
     /// A sixteenth name is declared.
     Variables,
+    /// A `break` or `continue` stands inside no body of a loop.
+    Outside,
 }
 
 /// A broken rule, and the number of the token where it is broken, counted from 0.
@@ -36,6 +38,7 @@ impl Rule {
             Rule::Mixed => 2,
             Rule::BadRange => 3,
             Rule::Variables => 4,
+            Rule::Outside => 5,
         }
     }
 }

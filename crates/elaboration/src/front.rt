@@ -16,7 +16,7 @@ use step_meaning::{Block, Program};
 /// Why a tree stands for no program.
 #[derive(Debug, Drop)]
 pub enum Refusal {
-    /// The first fault of names and sorts: of the faults with the least token that of the earliest rule.
+    /// The first fault of names, sorts and jumps: of the faults with the least token that of the earliest rule.
     Fault(Fault),
     /// Memory ran out. It says nothing of the tree.
     Memory(AllocError),
@@ -37,7 +37,8 @@ impl From<AllocError> for Refusal {
 /// the text's. Time is linear in the tree, times the number of names in scope, which is at most 15 where there is no fault.
 ///
 /// `Fault` comes exactly where a name is used outside its scope or declared twice, a truth value stands where a number is needed, a
-/// range is upside down or infinite the wrong way, or a sixteenth name is declared; `Memory` where memory runs out.
+/// range is upside down or infinite the wrong way, a sixteenth name is declared, or a `break` or `continue` stands inside no body of a
+/// loop; `Memory` where memory runs out.
 pub fn elaborate(alloc: Global, tree: &Tree, tokens: &[Token]) -> Result<Program, Refusal>
     ensures program { IfOk result (λ program. StandsFor (program_of tree.now) program.names (statements program.body)) }
     ensures offsets { IfOk result (λ program. offsets program.body ≡ program_offsets tokens.now (program_of tree.now)) }
@@ -45,7 +46,7 @@ pub fn elaborate(alloc: Global, tree: &Tree, tokens: &[Token]) -> Result<Program
 {
     let mut walk = Walk::new(alloc, tokens);
     let mut list = Vec::new(alloc);
-    walk.items(&tree.items, &mut list)?;
+    walk.items(&tree.items, false, &mut list)?;
     if let Some(fault) = walk.least {
         return Err(Refusal::Fault(fault));
     }

@@ -1,6 +1,6 @@
 //! Statements. Only nesting recurses: the items in braces are walked by a loop.
 
-ghost use Rattle.std.specs.Prelude.{◌≡◌, OnOk, IfOk};
+ghost use Rattle.std.specs.Prelude.{◌≡◌, OnOk, IfOk, true};
 ghost use Rattle.concrete_syntax.specs.Trees.{conditional as conditional_tree, while_loop as while_tree, do_loop as do_tree};
 ghost use Rattle.concrete_syntax.specs.Mirror.{expression as expression_of, start as start_of, optional, optional_simple as optional_simple_of, statement as statement_of, for_loop as for_tree, otherwise as otherwise_of, items as items_of};
 ghost use Rattle.step_meaning.specs.Syntax as syntax;
@@ -16,12 +16,17 @@ use std::alloc::AllocError;
 use step_meaning::{Block, Expr, Stmt, StmtKind};
 
 impl<'a> Walk<'a> {
-    // A statement: what it stands for is added to `out`. Faults are reported.
+    // A statement: what it stands for is added to `out`. Faults are reported. `in_loop` says whether it is inside the body of a loop.
     #[cycle(statements)]
     #[tactic(auto, using(crate::proofs::Firsts::earliest_more))]
-    fn statement(&mut self, tree: &Statement, out: &mut Vec<Stmt>) -> Result<(), AllocError>
-        ensures gone { OnOk result (HasGone self.old self.new (statement_walked self.old.scope (statement_of tree.now))) }
-        ensures added { OnOk result (HasAdded self.old out.old.items out.new.items (statement_walked self.old.scope (statement_of tree.now))) }
+    fn statement(
+        &mut self,
+        tree: &Statement,
+        in_loop: bool,
+        out: &mut Vec<Stmt>,
+    ) -> Result<(), AllocError>
+        ensures gone { OnOk result (HasGone self.old self.new (statement_walked in_loop self.old.scope (statement_of tree.now))) }
+        ensures added { OnOk result (HasAdded self.old out.old.items out.new.items (statement_walked in_loop self.old.scope (statement_of tree.now))) }
     {
         let at = tree.at;
         match &tree.kind {
@@ -29,12 +34,12 @@ impl<'a> Walk<'a> {
             StatementKind::Skip => self.add(at, StmtKind::Skip, out),
             StatementKind::Braces(all) => {
                 let depth = self.scope.depth();
-                self.items(all, out)?;
+                self.items(all, in_loop, out)?;
                 self.scope.close(depth);
                 Ok(())
             }
             StatementKind::Conditional { test, part, other } => {
-                self.conditional(at, test, part, other, out)
+                self.conditional(at, test, part, other, in_loop, out)
             }
             StatementKind::While { test, body } => self.while_loop(at, test, body, out),
             StatementKind::Do { body, end, test } => self.do_loop(body, *end, test, out),
@@ -42,6 +47,14 @@ impl<'a> Walk<'a> {
             StatementKind::Return(value) => {
                 self.unused(value)?;
                 self.add(at, StmtKind::Return, out)
+            }
+            StatementKind::Break => {
+                self.need_loop(in_loop, at);
+                self.add(at, StmtKind::Break, out)
+            }
+            StatementKind::Continue => {
+                self.need_loop(in_loop, at);
+                self.add(at, StmtKind::Continue, out)
             }
         }
     }
@@ -55,14 +68,15 @@ impl<'a> Walk<'a> {
         condition: &Expression,
         part: &Statement,
         other: &Otherwise,
+        in_loop: bool,
         out: &mut Vec<Stmt>,
     ) -> Result<(), AllocError>
-        ensures gone { OnOk result (HasGone self.old self.new (kind_walked self.old.scope at (conditional_tree (expression_of condition.now) (statement_of part.now) (otherwise_of other.now)))) }
-        ensures added { OnOk result (HasAdded self.old out.old.items out.new.items (kind_walked self.old.scope at (conditional_tree (expression_of condition.now) (statement_of part.now) (otherwise_of other.now)))) }
+        ensures gone { OnOk result (HasGone self.old self.new (kind_walked in_loop self.old.scope at (conditional_tree (expression_of condition.now) (statement_of part.now) (otherwise_of other.now)))) }
+        ensures added { OnOk result (HasAdded self.old out.old.items out.new.items (kind_walked in_loop self.old.scope at (conditional_tree (expression_of condition.now) (statement_of part.now) (otherwise_of other.now)))) }
     {
         let test = self.test(condition)?;
-        let yes = self.body(part)?;
-        let no = self.otherwise(other)?;
+        let yes = self.body(part, in_loop)?;
+        let no = self.otherwise(other, in_loop)?;
         self.add(at, StmtKind::If { test, yes, no }, out)
     }
 
@@ -76,8 +90,8 @@ impl<'a> Walk<'a> {
         part: &Statement,
         out: &mut Vec<Stmt>,
     ) -> Result<(), AllocError>
-        ensures gone { OnOk result (HasGone self.old self.new (kind_walked self.old.scope at (while_tree (expression_of condition.now) (statement_of part.now)))) }
-        ensures added { OnOk result (HasAdded self.old out.old.items out.new.items (kind_walked self.old.scope at (while_tree (expression_of condition.now) (statement_of part.now)))) }
+        ensures gone { OnOk result (HasGone self.old self.new (kind_walked true self.old.scope at (while_tree (expression_of condition.now) (statement_of part.now)))) }
+        ensures added { OnOk result (HasAdded self.old out.old.items out.new.items (kind_walked true self.old.scope at (while_tree (expression_of condition.now) (statement_of part.now)))) }
     {
         let test = self.test(condition)?;
         self.looped(at, test, Block::End, part, out)
@@ -93,10 +107,10 @@ impl<'a> Walk<'a> {
         condition: &Expression,
         out: &mut Vec<Stmt>,
     ) -> Result<(), AllocError>
-        ensures gone { OnOk result (HasGone self.old self.new (kind_walked self.old.scope end (do_tree (statement_of part.now) end (expression_of condition.now)))) }
-        ensures added { OnOk result (HasAdded self.old out.old.items out.new.items (kind_walked self.old.scope end (do_tree (statement_of part.now) end (expression_of condition.now)))) }
+        ensures gone { OnOk result (HasGone self.old self.new (kind_walked true self.old.scope end (do_tree (statement_of part.now) end (expression_of condition.now)))) }
+        ensures added { OnOk result (HasAdded self.old out.old.items out.new.items (kind_walked true self.old.scope end (do_tree (statement_of part.now) end (expression_of condition.now)))) }
     {
-        let body = self.body(part)?;
+        let body = self.body(part, true)?;
         let test = self.test(condition)?;
         self.add(end, StmtKind::Do { body, test }, out)
     }
@@ -105,8 +119,8 @@ impl<'a> Walk<'a> {
     #[cycle(statements)]
     #[tactic(auto, using(crate::proofs::Firsts::earliest_more))]
     fn for_loop(&mut self, at: usize, tree: &ForLoop, out: &mut Vec<Stmt>) -> Result<(), AllocError>
-        ensures gone { OnOk result (HasGone self.old self.new (kind_walked self.old.scope at (for_tree tree.now))) }
-        ensures added { OnOk result (HasAdded self.old out.old.items out.new.items (kind_walked self.old.scope at (for_tree tree.now))) }
+        ensures gone { OnOk result (HasGone self.old self.new (kind_walked true self.old.scope at (for_tree tree.now))) }
+        ensures added { OnOk result (HasAdded self.old out.old.items out.new.items (kind_walked true self.old.scope at (for_tree tree.now))) }
     {
         let depth = self.scope.depth();
         self.for_start(&tree.start, out)?;
@@ -127,42 +141,47 @@ impl<'a> Walk<'a> {
         part: &Statement,
         out: &mut Vec<Stmt>,
     ) -> Result<(), AllocError>
-        ensures gone { OnOk result (HasGone self.old self.new (statement_walked self.old.scope (statement_of part.now))) }
-        ensures looped { OnOk result (HasLooped self.old out.old.items out.new.items at test step (statement_walked self.old.scope (statement_of part.now))) }
+        ensures gone { OnOk result (HasGone self.old self.new (statement_walked true self.old.scope (statement_of part.now))) }
+        ensures looped { OnOk result (HasLooped self.old out.old.items out.new.items at test step (statement_walked true self.old.scope (statement_of part.now))) }
     {
-        let body = self.body(part)?;
+        let body = self.body(part, true)?;
         self.add(at, StmtKind::While { test, body, step }, out)
     }
 
     // A statement as a list of its own.
     #[cycle(statements)]
-    fn body(&mut self, tree: &Statement) -> Result<Block, AllocError>
-        ensures gone { OnOk result (HasGone self.old self.new (statement_walked self.old.scope (statement_of tree.now))) }
-        ensures made { IfOk result (λ block. IsMade self.old block (statement_walked self.old.scope (statement_of tree.now))) }
+    fn body(&mut self, tree: &Statement, in_loop: bool) -> Result<Block, AllocError>
+        ensures gone { OnOk result (HasGone self.old self.new (statement_walked in_loop self.old.scope (statement_of tree.now))) }
+        ensures made { IfOk result (λ block. IsMade self.old block (statement_walked in_loop self.old.scope (statement_of tree.now))) }
     {
         let mut list = Vec::new(self.alloc);
-        self.statement(tree, &mut list)?;
+        self.statement(tree, in_loop, &mut list)?;
         Block::of(self.alloc, list)
     }
 
     // The second part of an `if`, where it has one.
     #[cycle(statements)]
-    fn otherwise(&mut self, tree: &Otherwise) -> Result<Block, AllocError>
-        ensures gone { OnOk result (HasGone self.old self.new (otherwise_walked self.old.scope (otherwise_of tree.now))) }
-        ensures made { IfOk result (λ block. IsMade self.old block (otherwise_walked self.old.scope (otherwise_of tree.now))) }
+    fn otherwise(&mut self, tree: &Otherwise, in_loop: bool) -> Result<Block, AllocError>
+        ensures gone { OnOk result (HasGone self.old self.new (otherwise_walked in_loop self.old.scope (otherwise_of tree.now))) }
+        ensures made { IfOk result (λ block. IsMade self.old block (otherwise_walked in_loop self.old.scope (otherwise_of tree.now))) }
     {
         match tree {
             Otherwise::Nothing => Ok(Block::End),
-            Otherwise::Else(part) => self.body(part),
+            Otherwise::Else(part) => self.body(part, in_loop),
         }
     }
 
-    /// The items of a pair of braces.
+    /// The items of a pair of braces, inside the body of a loop or not.
     #[cycle(statements)]
     #[tactic(auto, using(crate::proofs::Firsts::earliest_more))]
-    pub fn items(&mut self, tree: &Items, out: &mut Vec<Stmt>) -> Result<(), AllocError>
-        ensures gone { OnOk result (HasGone self.old self.new (items_walked self.old.scope (items_of tree.now))) }
-        ensures added { OnOk result (HasAdded self.old out.old.items out.new.items (items_walked self.old.scope (items_of tree.now))) }
+    pub fn items(
+        &mut self,
+        tree: &Items,
+        in_loop: bool,
+        out: &mut Vec<Stmt>,
+    ) -> Result<(), AllocError>
+        ensures gone { OnOk result (HasGone self.old self.new (items_walked in_loop self.old.scope (items_of tree.now))) }
+        ensures added { OnOk result (HasAdded self.old out.old.items out.new.items (items_walked in_loop self.old.scope (items_of tree.now))) }
     {
         let mut left = tree;
         loop {
@@ -173,7 +192,7 @@ impl<'a> Walk<'a> {
                     left = rest;
                 }
                 Items::Statement { first, rest } => {
-                    self.statement(first, out)?;
+                    self.statement(first, in_loop, out)?;
                     left = rest;
                 }
             }

@@ -25,7 +25,7 @@ impl<'a> Walk<'a> {
     ghost use Rattle.elaboration.specs.Elaborates.{no_names};
     ghost use Rattle.elaboration.specs.Offsets.{offset_in};
     ghost use Rattle.elaboration.specs.Scopes.{place_of};
-    ghost use Rattle.elaboration.specs.Statements.{name_faults};
+    ghost use Rattle.elaboration.specs.Statements.{name_faults, outside_faults};
     ghost use Rattle.elaboration.specs.Walking.{HasFound};
 
     /// Before the first declaration.
@@ -75,6 +75,15 @@ impl<'a> Walk<'a> {
             }
         } else if self.scope.is_full() {
             self.report(Rule::Variables, name.at);
+        }
+    }
+
+    /// Reports a `break` or `continue` that is inside no body of a loop.
+    pub fn need_loop(&mut self, in_loop: bool, token: usize)
+        ensures { HasFound self.old self.new (outside_faults in_loop token) }
+    {
+        if !in_loop {
+            self.report(Rule::Outside, token);
         }
     }
 

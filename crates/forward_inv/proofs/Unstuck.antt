@@ -1,8 +1,8 @@
 -- No state that is reached is stuck.
 use Rattle.std.proofs.Common.{◌≡◌, ℕ, inl, inr, List, [], ◌∷◌, Option, None, Some, refl, sym, subst}
-use Rattle.step_meaning.specs.Syntax.{Statement, Statements, list_of}
+use Rattle.step_meaning.specs.Syntax.{Statements}
 use Rattle.step_meaning.specs.Outcome.{Store}
-use Rattle.step_meaning.specs.Step.{Configuration, Next, front}
+use Rattle.step_meaning.specs.Step.{Configuration, Next, Todo, front, items_of}
 use Rattle.step_meaning.specs.Valid.{AreStatements, IsBody}
 use Rattle.step_meaning.proofs.Front.{same_end, same_steps}
 use Rattle.step_meaning.proofs.Progress.{body_is_valid, step_stays, unstuck_at}
@@ -25,10 +25,10 @@ lands body label action store next target (Some edge ∷ more) each (inr later) 
 module _ (vars : ℕ) (body : Statements) (valid : IsBody vars body) where
   -- valid statements, with the front of those of the label
   abbrev Stands : ℕ → Type 0
-  Stands label = (todo : List Statement) × AreStatements vars todo × (front todo ≡ front (rest body label))
+  Stands label = (todo : Todo) × AreStatements vars todo × (front todo ≡ front (rest body label))
 
   stands_at : (label : ℕ) (store : Store) → IsReachedState vars body label store → Stands label
-  stands_at label store (entered input is) = (list_of body, body_is_valid vars body valid, sym (entry_is_start body))
+  stands_at label store (entered input is) = (items_of body, body_is_valid vars body valid, sym (entry_is_start body))
   stands_at target next (followed label _ store _ before leads) =
       let prior = stands_at label store before in
       let here : Configuration = record { todo = prior.0; store = store } in

@@ -79,8 +79,10 @@ const CANDIDATES: [(&str, &[&str]); 12] = [
 ];
 
 /// Items of `main` in programs that are no countdown programs.
-const OTHERS: [&str; 14] = [
+const OTHERS: [&str; 16] = [
     "int x; while (x > 0) { x = x - 1; return; }",
+    "int x; while (x > 0) { x = x - 1; if (?) break; }",
+    "int x; while (x > 0) { x = x - 1; continue; }",
     "int x; while (x != 0) x = x - 1;",
     "int x; while (x > 0) x = x + 1;",
     "int x; while (x > 0) if (?) x = x - 1;",

@@ -15,7 +15,7 @@ use std::test::Fail;
 type Fact = (u32, Line, &'static [Line]);
 
 /// Items of `main` with the facts about their loops' tests: a label, a measure, and the functions that are at least 0 where it falls.
-const FACTS: [(&str, &[Fact]); 6] = [
+const FACTS: [(&str, &[Fact]); 10] = [
     (
         "int x, y; while (x > 0) x = x + y;",
         &[(1, (1, 0, -1), &[(0, -1, -1)])],
@@ -35,6 +35,25 @@ const FACTS: [(&str, &[Fact]); 6] = [
     (
         "int x, y; while (x > 0) { y = x; while (y > 0) y = y - 1; x = x - 1; }",
         &[(3, (0, 1, -1), &[])],
+    ),
+    // The loop in its body may be one that is never reached.
+    (
+        "int x, y; while (x > 0) { return; while (y > 0) y = y - 1; }",
+        &[],
+    ),
+    // A way that leaves the loop by a `break` isn't one back to its test, and one that a `continue` shortens is.
+    (
+        "int x, y; while (x > 0) { if (?) { x = x + 1; break; } x = x - 1; }",
+        &[(1, (1, 0, -1), &[])],
+    ),
+    (
+        "int x, y; while (x > 0) { if (?) continue; x = x - 1; }",
+        &[],
+    ),
+    // A loop behind the one that a `break` leaves isn't in its body, though another loop leads back to it from there.
+    (
+        "int x, y; while (?) { while (x > 0) { x = x - 1; if (?) break; } ; while (y > 0) y = y - 1; }",
+        &[(7, (0, 1, -1), &[]), (2, (1, 0, -1), &[])],
     ),
     // More ways than are looked at.
     (

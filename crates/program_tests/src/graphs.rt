@@ -89,6 +89,38 @@ const YES: EdgeKind = EdgeKind::Test { holds: true };
 
 const NO: EdgeKind = EdgeKind::Test { holds: false };
 
+/// Items of `main` that jump, and to which labels each label's edges lead, with their kinds.
+const JUMPS: [(&str, &[&[(u32, EdgeKind)]]); 2] = [
+    (
+        "while (?) { while (?) { if (?) break; continue; } break; } do continue; while (?);",
+        &[
+            &[],
+            &[(2, YES), (7, NO)],
+            &[(3, YES), (6, NO)],
+            &[(4, YES), (5, NO)],
+            &[(6, EdgeKind::Skip)],
+            &[(2, EdgeKind::Skip)],
+            &[(7, EdgeKind::Skip)],
+            &[(8, EdgeKind::Skip)],
+            &[(7, YES), (0, NO)],
+        ],
+    ),
+    // A `break` doesn't do the step of a `for`, a `continue` does.
+    (
+        "for (int i; ?; ) ; for (int j; ?; j++) { if (?) break; continue; }",
+        &[
+            &[],
+            &[(2, YES), (3, NO)],
+            &[(1, EdgeKind::Skip)],
+            &[(4, YES), (0, NO)],
+            &[(5, YES), (6, NO)],
+            &[(0, EdgeKind::Skip)],
+            &[(7, EdgeKind::Skip)],
+            &[(3, EdgeKind::Assign)],
+        ],
+    ),
+];
+
 /// The labels of `while (?) ; do ; while (?); return;` to which each label's edges lead, with their kinds.
 const EDGES: [&[(u32, EdgeKind)]; 6] = [
     &[],
@@ -105,6 +137,24 @@ fn are_edges(edges: &[Option<Edge>; 2], from: u32, wanted: &[(u32, EdgeKind)]) -
         && edges.iter().flatten().zip(wanted).all(|(edge, (to, kind))| (
             edge.from, edge.to, edge.kind,
         ) == (from, *to, *kind))
+}
+
+#[test]
+fn jumps_lead_out_of_loops_and_to_their_next_turns(rt: HostRuntime) -> Result<(), Fail> {
+    for (items, wanted) in JUMPS {
+        let program = program(&rt, rt.alloc(), items)?;
+        let graph = Graph::of(rt.alloc(), &program)?;
+        assert_eq!(rt; graph.labels() as usize, wanted.len(), "of {items}");
+        for (place, edges) in wanted.iter().enumerate() {
+            let label = place as u32;
+            assert!(rt; label < graph.labels());
+            assert!(rt;
+                are_edges(&graph.edges(label), label, edges),
+                "at {label} of {items}"
+            );
+        }
+    }
+    Ok(())
 }
 
 #[test]

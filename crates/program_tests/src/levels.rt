@@ -8,7 +8,7 @@ use std::test::Fail;
 use unroll::{Unrolled, growth, is_plain, unroll, weight};
 
 /// Items of `main`, the level asked for, the one that is made, why it stops, and the trees at the labels from 0 on.
-const LEVELS: [(&str, u32, u32, &str, &[&str]); 15] = [
+const LEVELS: [(&str, u32, u32, &str, &[&str]); 16] = [
     ("", 2, 2, "made", &["end 0"]),
     ("int x; x = x + 1;", 2, 2, "made", &["end 0", "1"]),
     (
@@ -83,6 +83,20 @@ const LEVELS: [(&str, u32, u32, &str, &[&str]); 15] = [
         &["end 0", "[1x0 -2: bottom | 2]", "[1x0 -1: bottom | 1]"],
     ),
     (
+        "int x; while (x > 0) { x = x - 1; if (x > 1) continue; break; }",
+        1,
+        1,
+        "made",
+        &[
+            "end 0",
+            "[1x0 -1: [1x0 -3: bottom | 4] | 1]",
+            "[1x0 -3: [1x0 -4: bottom | 7] | 3]",
+            "[1x0 -2: [1x0 -3: bottom | 6] | 2]",
+            "[1x0 -1: [1x0 -3: bottom | 5] | 2]",
+            "1",
+        ],
+    ),
+    (
         "int x; if (?) return; else { x = 1; ; } x = 2;",
         0,
         0,
@@ -135,7 +149,7 @@ const LEVELS: [(&str, u32, u32, &str, &[&str]); 15] = [
 const LONG: [(Repeated, u32, &str); 1] = [(("int x; ", "x = x + 1; ", 1000, ""), 2, "1000")];
 
 /// Items of `main`, a level, and its weight.
-const WEIGHTS: [(&str, u32, u128); 6] = [
+const WEIGHTS: [(&str, u32, u128); 7] = [
     ("", 2, 1),
     ("int x; x = 2*x - 3;", 1, 2),
     (
@@ -149,6 +163,12 @@ const WEIGHTS: [(&str, u32, u128); 6] = [
         29085938116,
     ),
     ("int x; if (x > 3 && x < 5 || x == 7) ;", 0, 56),
+    // A `break` and a `continue` weigh one more than what they lead to.
+    (
+        "int x; while (x > 0) { if (x > 1) continue; break; }",
+        1,
+        368,
+    ),
     ("int x; while (x != 0) { x = 3*x; x = 3*x; }", 70, u128::MAX),
 ];
 

@@ -5,7 +5,7 @@ use function_top::Status;
 use std::test::Fail;
 
 /// Texts with the line of their fault.
-const FAULTS: [(&str, &str); 12] = [
+const FAULTS: [(&str, &str); 13] = [
     ("int main() { @ }", "program: 1 at 13\n"),
     (
         "int main() { int x; x = 9223372036854775808; }",
@@ -33,6 +33,7 @@ const FAULTS: [(&str, &str); 12] = [
         "int main() { int x; if (x != 1 && x != 2 && x != 3 && x != 4 && x != 5 && x != 6 && x != 7) ; }",
         "program: 13 at 20\n",
     ),
+    ("int main() { break; }", "program: 17 at 13\n"),
 ];
 
 #[test]

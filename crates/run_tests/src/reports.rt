@@ -196,6 +196,40 @@ const COUNTING_IN_OTHER_WAYS: [Case; 5] = [
     ),
 ];
 
+const LEFT_AND_SKIPPED: [Case; 3] = [
+    (
+        "int main() { int x; while (x > 0) { x = x - 1; if (?) break; } }",
+        NO_OPTIONS,
+        AllInputs,
+        "exact, 2 tests:\n-x + 1 >= 0 and x - 1 >= 0: exactly 4 steps\n-x >= 0: exactly 1 step\n\
+         proved:\n-x + 1 >= 0 and x - 1 >= 0: within 4 steps\n-x >= 0: within 1 step\n\
+         x - 2 >= 0: within 3*x + 1 steps\nunknown:\nverdict: all inputs\n",
+    ),
+    // The `break` goes on behind the inner loop, which makes no second turn.
+    (
+        "int main() { int x; while (x > 0) { while (true) break; x = x - 1; } }",
+        NO_OPTIONS,
+        AllInputs,
+        "exact, 2 tests:\n-x >= 0: exactly 1 step\n\
+         proved:\n-x + 1 >= 0 and x - 1 >= 0: within 5 steps\n-x >= 0: within 1 step\n\
+         x - 2 >= 0: within 4*x + 1 steps\nunknown:\nverdict: all inputs\n",
+    ),
+    // The step of the `for` is done all the same.
+    (
+        "int main() { int x; for (; x > 0; x--) { if (?) continue; ; } }",
+        NO_OPTIONS,
+        AllInputs,
+        "exact, 0 tests, then too many nodes:\n\
+         proved:\n-x + 1 >= 0 and x - 1 >= 0: within 5 steps\n-x >= 0: within 1 step\n\
+         x - 2 >= 0: within 4*x + 1 steps\nunknown:\nverdict: all inputs\n",
+    ),
+];
+
+#[test]
+fn loops_that_are_left_and_skipped_give_their_reports(rt: HostRuntime) -> Result<(), Fail> {
+    hold(&rt, rt.alloc(), &LEFT_AND_SKIPPED)
+}
+
 #[test]
 fn loops_that_count_in_other_ways_give_their_reports(rt: HostRuntime) -> Result<(), Fail> {
     hold(&rt, rt.alloc(), &COUNTING_IN_OTHER_WAYS)

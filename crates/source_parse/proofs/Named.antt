@@ -14,7 +14,7 @@ use Rattle.source_lex.specs.Laws.{TokensSpellTheirKinds}
 use Rattle.source_lex.specs.declared.token.Kind.{Kind}
 use Rattle.source_lex.specs.declared.token.Kind.TheVariants.{Number, Name, Sign}
 use Rattle.source_lex.specs.declared.token.Token.{Token}
-use Rattle.concrete_syntax.specs.Trees.{Part, Start, starts_with_nothing, starts_with, declares, Statement, statement_at, StatementKind, simple, skip, braces, conditional, while_loop, do_loop, for_loop, return, Otherwise, without, otherwise, Items, none, declaration, statement, Program}
+use Rattle.concrete_syntax.specs.Trees.{Part, Start, starts_with_nothing, starts_with, declares, Statement, statement_at, StatementKind, simple, skip, braces, conditional, while_loop, do_loop, for_loop, return, break, continue, Otherwise, without, otherwise, Items, none, declaration, statement, Program}
 use Rattle.source_syntax.specs.Spelling.{sign, leading, opening, optional_pieces, part_pieces, parts_pieces, start_pieces, finish_pieces, test_pieces, statement_pieces, statement_kind_pieces, otherwise_pieces, items_pieces, void_pieces, program_pieces}
 use Rattle.elaboration.specs.Scopes.{Scope, Name as VariableName, is_among, with_variable, most_variables}
 use Rattle.elaboration.specs.Statements.{part_walked, parts_walked, declaration_walked, start_walked, statement_walked, kind_walked, otherwise_walked, items_walked}
@@ -103,50 +103,52 @@ start_named scope levels (starts_with s) behind names h = (names, (behind_named 
 start_named scope levels (declares d) behind names h = parts_named scope levels (d.part ∷ d.more) behind names (tt, h.1)
 
 mutual
-  statement_named : (scope : Scope) (levels : ℕ) (s : Statement) (behind : List Piece) → Declared scope
-      → Spelled (statement_pieces levels s behind) → Declared (statement_walked scope s).scope × Spelled behind
-  statement_named scope levels (statement_at at kind) behind names h = kind_named scope levels at kind behind names h
+  statement_named : (in_loop : Bool) (scope : Scope) (levels : ℕ) (s : Statement) (behind : List Piece) → Declared scope
+      → Spelled (statement_pieces levels s behind) → Declared (statement_walked in_loop scope s).scope × Spelled behind
+  statement_named in_loop scope levels (statement_at at kind) behind names h = kind_named in_loop scope levels at kind behind names h
 
-  kind_named : (scope : Scope) (levels at : ℕ) (kind : StatementKind) (behind : List Piece) → Declared scope
-      → Spelled (statement_kind_pieces levels kind behind) → Declared (kind_walked scope at kind).scope × Spelled behind
-  kind_named scope levels at (simple s) behind names h = (names, (behind_named (behind_simple levels s (token (sign S.Semicolon) ∷ behind)) h).1)
-  kind_named scope levels at skip behind names h = (names, h.1)
-  kind_named scope levels at (braces all) behind names h =
-      let this = items_named scope (levels + 1) all (token (sign S.CloseBrace) ∷ behind) names h.1 in
+  kind_named : (in_loop : Bool) (scope : Scope) (levels at : ℕ) (kind : StatementKind) (behind : List Piece) → Declared scope
+      → Spelled (statement_kind_pieces levels kind behind) → Declared (kind_walked in_loop scope at kind).scope × Spelled behind
+  kind_named in_loop scope levels at (simple s) behind names h = (names, (behind_named (behind_simple levels s (token (sign S.Semicolon) ∷ behind)) h).1)
+  kind_named in_loop scope levels at skip behind names h = (names, h.1)
+  kind_named in_loop scope levels at (braces all) behind names h =
+      let this = items_named in_loop scope (levels + 1) all (token (sign S.CloseBrace) ∷ behind) names h.1 in
       (this.0, this.1.1)
-  kind_named scope levels at (conditional test part other) behind names h =
+  kind_named in_loop scope levels at (conditional test part other) behind names h =
       let last = otherwise_pieces (levels + 1) other behind in
       let tested = behind_named (behind_test (levels + 1) test (statement_pieces (levels + 1) part last)) h.1 in
-      let this = statement_named scope (levels + 1) part last names tested in
-      otherwise_named (statement_walked scope part).scope (levels + 1) other behind this.0 this.1
-  kind_named scope levels at (while_loop test body) behind names h =
-      statement_named scope (levels + 1) body behind names (behind_named (behind_test (levels + 1) test (statement_pieces (levels + 1) body behind)) h.1)
-  kind_named scope levels at (do_loop body end test) behind names h =
+      let this = statement_named in_loop scope (levels + 1) part last names tested in
+      otherwise_named in_loop (statement_walked in_loop scope part).scope (levels + 1) other behind this.0 this.1
+  kind_named in_loop scope levels at (while_loop test body) behind names h =
+      statement_named true scope (levels + 1) body behind names (behind_named (behind_test (levels + 1) test (statement_pieces (levels + 1) body behind)) h.1)
+  kind_named in_loop scope levels at (do_loop body end test) behind names h =
       let last = token (sign S.Semicolon) ∷ behind in
-      let this = statement_named scope (levels + 1) body (look (is_at end) ∷ token (sign S.While) ∷ test_pieces (levels + 1) test last) names h.1 in
+      let this = statement_named true scope (levels + 1) body (look (is_at end) ∷ token (sign S.While) ∷ test_pieces (levels + 1) test last) names h.1 in
       (this.0, (behind_named (behind_test (levels + 1) test last) this.1.1).1)
-  kind_named scope levels at (for_loop start test step body) behind names h =
+  kind_named in_loop scope levels at (for_loop start test step body) behind names h =
       let inner = statement_pieces (levels + 1) body behind in
       let last = token (sign S.Semicolon) ∷ finish_pieces (levels + 1) step inner in
       let started = start_named scope (levels + 1) start (optional_pieces (levels + 1) test last) names h.1.1 in
       let tested = behind_named (behind_optional (levels + 1) test last) started.1 in
-      statement_named (start_walked scope start).scope (levels + 1) body behind started.0 (behind_named (behind_finish (levels + 1) step inner) tested.1)
-  kind_named scope levels at (return value) behind names h = (names, (behind_named (behind_optional levels value (token (sign S.Semicolon) ∷ behind)) h.1).1)
+      statement_named true (start_walked scope start).scope (levels + 1) body behind started.0 (behind_named (behind_finish (levels + 1) step inner) tested.1)
+  kind_named in_loop scope levels at (return value) behind names h = (names, (behind_named (behind_optional levels value (token (sign S.Semicolon) ∷ behind)) h.1).1)
+  kind_named in_loop scope levels at break behind names h = (names, h.1.1)
+  kind_named in_loop scope levels at continue behind names h = (names, h.1.1)
 
-  otherwise_named : (scope : Scope) (levels : ℕ) (other : Otherwise) (behind : List Piece) → Declared scope
-      → Spelled (otherwise_pieces levels other behind) → Declared (otherwise_walked scope other).scope × Spelled behind
-  otherwise_named scope levels without behind names h = (names, h)
-  otherwise_named scope levels (otherwise s) behind names h = statement_named scope (levels + 1) s behind names h.1
+  otherwise_named : (in_loop : Bool) (scope : Scope) (levels : ℕ) (other : Otherwise) (behind : List Piece) → Declared scope
+      → Spelled (otherwise_pieces levels other behind) → Declared (otherwise_walked in_loop scope other).scope × Spelled behind
+  otherwise_named in_loop scope levels without behind names h = (names, h)
+  otherwise_named in_loop scope levels (otherwise s) behind names h = statement_named in_loop scope (levels + 1) s behind names h.1
 
-  items_named : (scope : Scope) (levels : ℕ) (all : Items) (behind : List Piece) → Declared scope → Spelled (items_pieces levels all behind)
-      → Declared (items_walked scope all).scope × Spelled behind
-  items_named scope levels none behind names h = (names, h)
-  items_named scope levels (declaration d more) behind names h =
+  items_named : (in_loop : Bool) (scope : Scope) (levels : ℕ) (all : Items) (behind : List Piece) → Declared scope → Spelled (items_pieces levels all behind)
+      → Declared (items_walked in_loop scope all).scope × Spelled behind
+  items_named in_loop scope levels none behind names h = (names, h)
+  items_named in_loop scope levels (declaration d more) behind names h =
       let this = parts_named scope levels (d.part ∷ d.more) (items_pieces levels more behind) names (tt, h.1) in
-      items_named (declaration_walked scope d).scope levels more behind this.0 this.1
-  items_named scope levels (statement s more) behind names h =
-      let this = statement_named scope levels s (items_pieces levels more behind) names h in
-      items_named (statement_walked scope s).scope levels more behind this.0 this.1
+      items_named in_loop (declaration_walked scope d).scope levels more behind this.0 this.1
+  items_named in_loop scope levels (statement s more) behind names h =
+      let this = statement_named in_loop scope levels s (items_pieces levels more behind) names h in
+      items_named in_loop (statement_walked in_loop scope s).scope levels more behind this.0 this.1
 
 program_named : (p : Program) → Spelled (program_pieces p []) → All SpellsName (names_of p)
 program_named p h =
@@ -155,7 +157,7 @@ program_named p h =
     let main =
     behind_named (behind_preludes p.preludes (token (sign S.Int) ∷ token (sign S.Main) ∷ token (sign S.OpenParenthesis) ∷ void_pieces p.void body)) h in
     let inside = behind_named (behind_void p.void body) main.1.1.1 in
-    (items_named no_names 1 p.items close (λ k d lt. absurd (omega arith)) inside.1).0
+    (items_named false no_names 1 p.items close (λ k d lt. absurd (omega arith)) inside.1).0
 
 -- the names of a program are spelled as names
 pub names_are_names : TokensSpellTheirKinds → NamesAreNames
@@ -169,6 +171,6 @@ names_are_names spell text names body h =
 pub names_are_distinct : NamesAreDistinct
 names_are_distinct text names body h =
     let distinct : AllPairs (λ name other. name ≢ other) (names_of h.tree) =
-    items_keep (λ all. AllPairs (λ name other. name ≢ other) all) distinct_kept no_names h.tree.items (λ i j d less within. absurd (omega arith))
+    items_keep false (λ all. AllPairs (λ name other. name ≢ other) all) distinct_kept no_names h.tree.items (λ i j d less within. absurd (omega arith))
     in
     subst (λ all. AllPairs (λ name other. name ≢ other) all) (sym h.stands.declares) distinct

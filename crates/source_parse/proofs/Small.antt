@@ -1,5 +1,5 @@
 -- A program has no more statements than its text has bytes.
-use Rattle.std.proofs.Common.{◌≡◌, ℕ, suc, ◌+◌, ◌≤◌, List, [], ◌∷◌, ◌++◌, Option, None, Some, length, All, ap, arith}
+use Rattle.std.proofs.Common.{◌≡◌, Bool, true, false, ℕ, suc, ◌+◌, ◌≤◌, List, [], ◌∷◌, ◌++◌, Option, None, Some, length, All, ap, arith}
 use Rattle.std.proofs.lemmas.List.{length-map}
 use Rattle.derivation.specs.declared.symbol.Symbol.TheVariants as S
 use Rattle.derivation.specs.Word.{word}
@@ -8,7 +8,7 @@ use Rattle.source_lex.specs.Laws.{TokensAreInOrder}
 use Rattle.source_lex.specs.Spans.{IsWithin, InOrderFrom}
 use Rattle.source_lex.specs.declared.token.Token.{Token}
 use Rattle.step_meaning.specs.Syntax as syntax
-use Rattle.concrete_syntax.specs.Trees.{Expression, Name, Simple, acts, steps_before, Part, Start, starts_with_nothing, starts_with, declares, Statement, statement_at, StatementKind, simple, skip, braces, conditional, while_loop, do_loop, for_loop, return, Otherwise, without, otherwise, Items, none, declaration, statement, Program}
+use Rattle.concrete_syntax.specs.Trees.{Expression, Name, Simple, acts, steps_before, Part, Start, starts_with_nothing, starts_with, declares, Statement, statement_at, StatementKind, simple, skip, braces, conditional, while_loop, do_loop, for_loop, return, break, continue, Otherwise, without, otherwise, Items, none, declaration, statement, Program}
 use Rattle.source_syntax.specs.Language.{Piece, is_at}
 use Rattle.source_syntax.specs.Spelling.{sign, leading, opening, optional_pieces, simple_pieces, initialiser_pieces, part_pieces, parts_pieces, start_pieces, finish_pieces, test_pieces, statement_pieces, statement_kind_pieces, otherwise_pieces, items_pieces, void_pieces, program_pieces}
 use Rattle.elaboration.specs.Scopes.{Scope}
@@ -75,71 +75,73 @@ start_size scope levels (starts_with s) behind = omega (arith, simple_size scope
 start_size scope levels (declares d) behind = omega (arith, parts_size scope levels (d.part ∷ d.more) behind)
 
 mutual
-  statement_size : (scope : Scope) (levels : ℕ) (s : Statement) (behind : List Piece)
-      → size (statement_walked scope s).body + count behind ≤ count (statement_pieces levels s behind)
-  statement_size scope levels (statement_at at kind) behind = kind_size scope levels at kind behind
+  statement_size : (in_loop : Bool) (scope : Scope) (levels : ℕ) (s : Statement) (behind : List Piece)
+      → size (statement_walked in_loop scope s).body + count behind ≤ count (statement_pieces levels s behind)
+  statement_size in_loop scope levels (statement_at at kind) behind = kind_size in_loop scope levels at kind behind
 
-  kind_size : (scope : Scope) (levels at : ℕ) (kind : StatementKind) (behind : List Piece)
-      → size (kind_walked scope at kind).body + count behind ≤ count (statement_kind_pieces levels kind behind)
-  kind_size scope levels at (simple s) behind = omega (arith, simple_size scope levels s (token (sign S.Semicolon) ∷ behind))
-  kind_size scope levels at skip behind = omega arith
-  kind_size scope levels at (braces all) behind = omega (arith, items_size scope (levels + 1) all (token (sign S.CloseBrace) ∷ behind))
-  kind_size scope levels at (conditional test part other) behind =
+  kind_size : (in_loop : Bool) (scope : Scope) (levels at : ℕ) (kind : StatementKind) (behind : List Piece)
+      → size (kind_walked in_loop scope at kind).body + count behind ≤ count (statement_kind_pieces levels kind behind)
+  kind_size in_loop scope levels at (simple s) behind = omega (arith, simple_size scope levels s (token (sign S.Semicolon) ∷ behind))
+  kind_size in_loop scope levels at skip behind = omega arith
+  kind_size in_loop scope levels at (braces all) behind = omega (arith, items_size in_loop scope (levels + 1) all (token (sign S.CloseBrace) ∷ behind))
+  kind_size in_loop scope levels at (conditional test part other) behind =
       let last = otherwise_pieces (levels + 1) other behind in
       omega (
         arith,
         fewer (behind_test (levels + 1) test (statement_pieces (levels + 1) part last)),
-        statement_size scope (levels + 1) part last,
-        otherwise_size (statement_walked scope part).scope (levels + 1) other behind,
+        statement_size in_loop scope (levels + 1) part last,
+        otherwise_size in_loop (statement_walked in_loop scope part).scope (levels + 1) other behind,
       )
-  kind_size scope levels at (while_loop test body) behind =
-      omega (arith, fewer (behind_test (levels + 1) test (statement_pieces (levels + 1) body behind)), statement_size scope (levels + 1) body behind)
-  kind_size scope levels at (do_loop body end test) behind =
+  kind_size in_loop scope levels at (while_loop test body) behind =
+      omega (arith, fewer (behind_test (levels + 1) test (statement_pieces (levels + 1) body behind)), statement_size true scope (levels + 1) body behind)
+  kind_size in_loop scope levels at (do_loop body end test) behind =
       let last = token (sign S.Semicolon) ∷ behind in
       omega (
         arith,
-        statement_size scope (levels + 1) body (look (is_at end) ∷ token (sign S.While) ∷ test_pieces (levels + 1) test last),
+        statement_size true scope (levels + 1) body (look (is_at end) ∷ token (sign S.While) ∷ test_pieces (levels + 1) test last),
         fewer (behind_test (levels + 1) test last),
       )
-  kind_size scope levels at (for_loop start test step body) behind =
+  kind_size in_loop scope levels at (for_loop start test step body) behind =
       let inside = (start_walked scope start).scope in
       let inner = statement_pieces (levels + 1) body behind in
       let last = token (sign S.Semicolon) ∷ finish_pieces (levels + 1) step inner in
       omega (
         arith,
-        size_append (start_walked scope start).body (syntax.while_loop (optional_test inside test) (syntax.of_list (statement_walked inside body).body)
+        size_append (start_walked scope start).body (syntax.while_loop (optional_test inside test) (syntax.of_list (statement_walked true inside body).body)
             (syntax.of_list (optional_simple_walked inside step).body) ∷ []),
         start_size scope (levels + 1) start (optional_pieces (levels + 1) test last),
         fewer (behind_optional (levels + 1) test last),
         finish_size inside (levels + 1) step inner,
-        statement_size inside (levels + 1) body behind,
+        statement_size true inside (levels + 1) body behind,
       )
-  kind_size scope levels at (return value) behind = omega (arith, fewer (behind_optional levels value (token (sign S.Semicolon) ∷ behind)))
+  kind_size in_loop scope levels at (return value) behind = omega (arith, fewer (behind_optional levels value (token (sign S.Semicolon) ∷ behind)))
+  kind_size in_loop scope levels at break behind = omega arith
+  kind_size in_loop scope levels at continue behind = omega arith
 
-  otherwise_size : (scope : Scope) (levels : ℕ) (other : Otherwise) (behind : List Piece)
-      → size (otherwise_walked scope other).body + count behind ≤ count (otherwise_pieces levels other behind)
-  otherwise_size scope levels without behind = omega arith
-  otherwise_size scope levels (otherwise s) behind = omega (arith, statement_size scope (levels + 1) s behind)
+  otherwise_size : (in_loop : Bool) (scope : Scope) (levels : ℕ) (other : Otherwise) (behind : List Piece)
+      → size (otherwise_walked in_loop scope other).body + count behind ≤ count (otherwise_pieces levels other behind)
+  otherwise_size in_loop scope levels without behind = omega arith
+  otherwise_size in_loop scope levels (otherwise s) behind = omega (arith, statement_size in_loop scope (levels + 1) s behind)
 
-  items_size : (scope : Scope) (levels : ℕ) (all : Items) (behind : List Piece)
-      → size (items_walked scope all).body + count behind ≤ count (items_pieces levels all behind)
-  items_size scope levels none behind = omega arith
-  items_size scope levels (declaration d more) behind =
+  items_size : (in_loop : Bool) (scope : Scope) (levels : ℕ) (all : Items) (behind : List Piece)
+      → size (items_walked in_loop scope all).body + count behind ≤ count (items_pieces levels all behind)
+  items_size in_loop scope levels none behind = omega arith
+  items_size in_loop scope levels (declaration d more) behind =
       omega (
         arith,
-        size_append (declaration_walked scope d).body (items_walked (declaration_walked scope d).scope more).body,
+        size_append (declaration_walked scope d).body (items_walked in_loop (declaration_walked scope d).scope more).body,
         parts_size scope levels (d.part ∷ d.more) (items_pieces levels more behind),
-        items_size (declaration_walked scope d).scope levels more behind,
+        items_size in_loop (declaration_walked scope d).scope levels more behind,
       )
-  items_size scope levels (statement s more) behind =
+  items_size in_loop scope levels (statement s more) behind =
       omega (
         arith,
-        size_append (statement_walked scope s).body (items_walked (statement_walked scope s).scope more).body,
-        statement_size scope levels s (items_pieces levels more behind),
-        items_size (statement_walked scope s).scope levels more behind,
+        size_append (statement_walked in_loop scope s).body (items_walked in_loop (statement_walked in_loop scope s).scope more).body,
+        statement_size in_loop scope levels s (items_pieces levels more behind),
+        items_size in_loop (statement_walked in_loop scope s).scope levels more behind,
       )
 
-body_size : (p : Program) → size (items_walked no_names p.items).body ≤ count (program_pieces p [])
+body_size : (p : Program) → size (items_walked false no_names p.items).body ≤ count (program_pieces p [])
 body_size p =
     let close = token (sign S.CloseBrace) ∷ [] in
     let body = token (opening S.OpenBrace 1) ∷ items_pieces 1 p.items close in
@@ -147,7 +149,7 @@ body_size p =
       arith,
       fewer (behind_preludes p.preludes (token (sign S.Int) ∷ token (sign S.Main) ∷ token (sign S.OpenParenthesis) ∷ void_pieces p.void body)),
       fewer (behind_void p.void body),
-      items_size no_names 1 p.items close,
+      items_size false no_names 1 p.items close,
     )
 
 -- tokens that lie in order within a text are no more than its bytes

@@ -1,8 +1,8 @@
 -- Laws of derivations.
-use Rattle.std.specs.Prelude.{◌≡◌, ◌≢◌, ℕ, ◌≤◌, List, length, Some, All, AllPairs}
+use Rattle.std.specs.Prelude.{◌≡◌, ◌≢◌, false, ℕ, ◌≤◌, List, length, Some, All, AllPairs}
 use Rattle.source_lex.specs.Spellings.{SpellsName}
 use Rattle.step_meaning.specs.Syntax.{Statements, size_of}
-use Rattle.step_meaning.specs.Valid.{IsBody}
+use Rattle.step_meaning.specs.Valid.{IsBody, IsInside}
 use Rattle.source_parse.specs.declared.fault.ParseFault.{ParseFault}
 use Rattle.source_parse.specs.Derives.{IsTextOf}
 use Rattle.source_parse.specs.Faults.{IsFaultOf, IsMemory, numbered}
@@ -35,10 +35,12 @@ abbrev pub NamesAreNames : Type 0
 NamesAreNames =
     (text : List ℕ) (names : List (List ℕ)) (body : Statements) → IsTextOf text names body → All SpellsName names
 
--- a text that is a program is a valid one: it has at most 15 names, and a body over them, each operand of its sort
+-- a text that is a program is a valid one: it has at most 15 names, and a body over them, each operand of its sort and each `break` and
+-- `continue` inside the body of a loop
 abbrev pub ProgramsAreValid : Type 0
 ProgramsAreValid =
-    (text : List ℕ) (names : List (List ℕ)) (body : Statements) → IsTextOf text names body → (length names ≤ 15) × IsBody (length names) body
+    (text : List ℕ) (names : List (List ℕ)) (body : Statements) → IsTextOf text names body
+    → (length names ≤ 15) × IsBody (length names) body × IsInside false body
 
 -- no two names of a program are equal
 abbrev pub NamesAreDistinct : Type 0

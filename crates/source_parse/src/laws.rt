@@ -39,7 +39,8 @@ pub fn a_program_is_no_larger_than_its_text()
     tokens_are_in_order();
 }
 
-/// A text that is a program is a valid one: at most 15 names, and each operand of the sort that its place needs.
+/// A text that is a program is a valid one: at most 15 names, each operand of the sort that its place needs, and each `break` and
+/// `continue` inside the body of a loop.
 pub fn a_text_is_a_valid_program()
     ensures { ProgramsAreValid }
 {}

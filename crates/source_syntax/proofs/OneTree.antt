@@ -18,7 +18,7 @@ use Rattle.source_syntax.specs.declared.opening.StatementOpening.{StatementOpeni
 use Rattle.source_syntax.specs.declared.opening.ItemOpening.{ItemOpening}
 use Rattle.source_syntax.specs.declared.opening.StartOpening.{StartOpening}
 use Rattle.source_syntax.specs.Openings.{opening_of_operand, opening_of_simple, opening_of_action}
-use Rattle.concrete_syntax.specs.Trees.{End, Operand, operand_at, OperandKind, number, name, truth, unknown, call, signed, parentheses, range, Tail, ended, further, Expression, Name, Action, assigns, steps, Simple, acts, steps_before, Part, Declaration, Start, starts_with_nothing, starts_with, declares, Statement, statement_at, StatementKind, simple, skip, braces, conditional, while_loop, do_loop, for_loop, return, Otherwise, without, otherwise, Items, none, declaration, statement, Prelude, extern_call, typedef_bool, Program, operation}
+use Rattle.concrete_syntax.specs.Trees.{End, Operand, operand_at, OperandKind, number, name, truth, unknown, call, signed, parentheses, range, Tail, ended, further, Expression, Name, Action, assigns, steps, Simple, acts, steps_before, Part, Declaration, Start, starts_with_nothing, starts_with, declares, Statement, statement_at, StatementKind, simple, skip, braces, conditional, while_loop, do_loop, for_loop, return, break, continue, Otherwise, without, otherwise, Items, none, declaration, statement, Prelude, extern_call, typedef_bool, Program, operation}
 use Rattle.source_syntax.specs.Spelling.{plain, sign, leading, opening, operator, prefix_sign, assignment_sign, step_sign}
 use Rattle.source_syntax.specs.Pending.{Pending, exactly, exactly_at, a_name, bytes_of_a_name, a_size, an_end, an_operand, an_operand_kind, a_tail, an_expression, an_optional, a_test, an_action, a_simple, a_part_end, parts, a_declaration, a_start, a_finish, a_statement, a_statement_kind, an_otherwise, items, a_void, a_program, Trees, pieces}
 use Rattle.source_syntax.specs.Leads.{Leads}
@@ -265,6 +265,10 @@ mutual
       (finish_one (n + 1) step _ _ (statement_one (n + 1) body S rest d))))))
   statement_kind_one n (return value) S rest d =
       chosen (statements n S) StatementOpening.Return (tt, (value, rest)) refl (exactly_one _ _ _ _ (optional_one n value S rest d))
+  statement_kind_one n break S rest d =
+      chosen (statements n S) StatementOpening.Break (tt, (tt, rest)) refl (exactly_one _ _ _ _ (exactly_one _ _ S rest d))
+  statement_kind_one n continue S rest d =
+      chosen (statements n S) StatementOpening.Continue (tt, (tt, rest)) refl (exactly_one _ _ _ _ (exactly_one _ _ S rest d))
 
   otherwise_one : (n : ℕ) (other : Otherwise) (S : List Pending) (rest : Trees S) → IsOnly S rest → IsOnly (an_otherwise n ∷ S) (other, rest)
   otherwise_one n without S rest d =

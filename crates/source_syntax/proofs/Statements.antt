@@ -19,7 +19,7 @@ use Rattle.source_syntax.specs.declared.opening.ItemOpening.{ItemOpening}
 use Rattle.source_syntax.specs.declared.opening.StartOpening.{StartOpening}
 use Rattle.source_syntax.specs.declared.opening.PreludeOpening.{PreludeOpening}
 use Rattle.source_syntax.specs.Openings.{opening_of_simple, opening_of_action, opening_of_statement, opening_of_item, opening_of_start, opening_of_prelude, opening_of_operand}
-use Rattle.concrete_syntax.specs.Trees.{Expression, assigns, steps, Simple, acts, steps_before, Part, starts_with_nothing, starts_with, declares, Statement, statement_at, simple, skip, braces, conditional, while_loop, do_loop, for_loop, return, Otherwise, without, otherwise, Items, none, declaration, statement, Prelude, extern_call, typedef_bool}
+use Rattle.concrete_syntax.specs.Trees.{Expression, assigns, steps, Simple, acts, steps_before, Part, starts_with_nothing, starts_with, declares, Statement, statement_at, simple, skip, braces, conditional, while_loop, do_loop, for_loop, return, break, continue, Otherwise, without, otherwise, Items, none, declaration, statement, Prelude, extern_call, typedef_bool}
 use Rattle.source_syntax.specs.Spelling.{sign, leading, opening, leading_opening, assignment_sign, step_sign}
 use Rattle.source_syntax.specs.Pending.{Pending, exactly, exactly_at, a_name, a_tail, an_expression, an_optional, a_test, an_action, a_simple, a_part_end, parts, a_declaration, a_start, a_finish, a_statement, a_statement_kind, an_otherwise, items, a_void, a_program, Trees, pieces}
 use Rattle.source_syntax.proofs.Completions.{complete, completes}
@@ -223,6 +223,19 @@ module _ (n : ℕ) where
           subst (λ o. Way (a_start n ∷ S) (λ o. Unit {0}) (λ o. start_rest o S) (λ o. start_tree o S) o (starts_with s, rest))
           (sym (opens_simply _ (simple_begins n (exactly (leading Sym.Semicolon) (refl, refl) ∷ S) s (tt, rest))).1) (tt, (s, (tt, rest)), refl)
 
+-- a word that jumps, and the `;` behind it
+abbrev pub break_signs : List Symbol
+break_signs = Sym.Break ∷ Sym.Semicolon ∷ []
+
+abbrev pub break_quiet : AreQuiet break_signs
+break_quiet = ((refl, refl), ((refl, refl), tt))
+
+abbrev pub continue_signs : List Symbol
+continue_signs = Sym.Continue ∷ Sym.Semicolon ∷ []
+
+abbrev pub continue_quiet : AreQuiet continue_signs
+continue_quiet = ((refl, refl), ((refl, refl), tt))
+
 -- a statement
 abbrev pub IsStatement : StatementOpening → Type 0
 IsStatement StatementOpening.Nothing = ⊥
@@ -238,6 +251,8 @@ module _ (n : ℕ) where
   statement_rest StatementOpening.Do S = exactly (opening Sym.Do (n + 1)) (refl, refl) ∷ a_statement (n + 1) ∷ exactly_at (sign Sym.While) (refl, refl) ∷ a_test (n + 1) ∷ exactly (sign Sym.Semicolon) (refl, refl) ∷ S
   statement_rest StatementOpening.For S = exactly (opening Sym.For (n + 1)) (refl, refl) ∷ exactly (sign Sym.OpenParenthesis) (refl, refl) ∷ a_start (n + 1) ∷ an_optional (n + 1) ∷ a_finish (n + 1) ∷ a_statement (n + 1) ∷ S
   statement_rest StatementOpening.Return S = exactly (leading Sym.Return) (refl, refl) ∷ an_optional n ∷ S
+  statement_rest StatementOpening.Break S = in_turn break_signs break_quiet S
+  statement_rest StatementOpening.Continue S = in_turn continue_signs continue_quiet S
   statement_rest StatementOpening.Nothing S = a_statement_kind n ∷ S
 
   abbrev pub statement_tree : (o : StatementOpening) → (S : List Pending) → Trees (statement_rest o S) → Trees (a_statement_kind n ∷ S)
@@ -249,6 +264,8 @@ module _ (n : ℕ) where
   statement_tree StatementOpening.Do S g = (do_loop g.1.0 g.1.1.0 g.1.1.1.0, g.1.1.1.1.1)
   statement_tree StatementOpening.For S g = (for_loop g.1.1.0 g.1.1.1.0 g.1.1.1.1.0 g.1.1.1.1.1.0, g.1.1.1.1.1.1)
   statement_tree StatementOpening.Return S g = (return g.1.0, g.1.1)
+  statement_tree StatementOpening.Break S g = (break, g.1.1)
+  statement_tree StatementOpening.Continue S g = (continue, g.1.1)
   statement_tree StatementOpening.Nothing S g = g
 
   pub statements : (S : List Pending) → Choice (a_statement_kind n ∷ S) opening_of_statement IsStatement (λ o. statement_rest o S) (λ o. statement_tree o S)
@@ -263,6 +280,8 @@ module _ (n : ℕ) where
       spells StatementOpening.Do g = refl
       spells StatementOpening.For g = refl
       spells StatementOpening.Return g = refl
+      spells StatementOpening.Break g = refl
+      spells StatementOpening.Continue g = refl
       spells StatementOpening.Nothing g = refl
 
       view : (f : Trees (a_statement_kind n ∷ S))
@@ -278,6 +297,8 @@ module _ (n : ℕ) where
       view (do_loop body end test, rest) = (tt, (tt, (body, (end, (test, (tt, rest))))), refl)
       view (for_loop start test step body, rest) = (tt, (tt, (tt, (start, (test, (step, (body, rest)))))), refl)
       view (return value, rest) = (tt, (tt, (value, rest)), refl)
+      view (break, rest) = (tt, (tt, (tt, rest)), refl)
+      view (continue, rest) = (tt, (tt, (tt, rest)), refl)
 
   pub located_statements : (S : List Pending) → Held (a_statement n ∷ S) (a_statement_kind n ∷ S) (λ m g. (statement_at m g.0, g.1))
   located_statements S = record { spells = λ m g. refl; view = λ f. view f.0 f.1 }

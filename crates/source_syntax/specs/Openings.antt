@@ -59,6 +59,8 @@ opening_of_statement (Some (symbol Symbol.While)) = StatementOpening.While
 opening_of_statement (Some (symbol Symbol.Do)) = StatementOpening.Do
 opening_of_statement (Some (symbol Symbol.For)) = StatementOpening.For
 opening_of_statement (Some (symbol Symbol.Return)) = StatementOpening.Return
+opening_of_statement (Some (symbol Symbol.Break)) = StatementOpening.Break
+opening_of_statement (Some (symbol Symbol.Continue)) = StatementOpening.Continue
 opening_of_statement _ = StatementOpening.Nothing
 
 abbrev pub opening_of_item : Option Word → ItemOpening

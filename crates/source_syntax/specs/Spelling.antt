@@ -9,7 +9,7 @@ use Rattle.source_syntax.specs.Language.{Token, Piece, is_at, no_operator, no_el
 use Rattle.concrete_syntax.specs.declared.sign.Prefix.{Prefix}
 use Rattle.concrete_syntax.specs.declared.sign.Assignment.{Assignment}
 use Rattle.concrete_syntax.specs.declared.sign.Step.{Step}
-use Rattle.concrete_syntax.specs.Trees.{End, Operand, operand_at, OperandKind, number, name, truth, unknown, call, signed, parentheses, range, Link, operation, Tail, ended, further, Expression, Name, Action, assigns, steps, Simple, acts, steps_before, Part, Declaration, Start, starts_with_nothing, starts_with, declares, Statement, statement_at, StatementKind, simple, skip, braces, conditional, while_loop, do_loop, for_loop, return, Otherwise, without, otherwise, Items, none, declaration, statement, Prelude, extern_call, typedef_bool, Program}
+use Rattle.concrete_syntax.specs.Trees.{End, Operand, operand_at, OperandKind, number, name, truth, unknown, call, signed, parentheses, range, Link, operation, Tail, ended, further, Expression, Name, Action, assigns, steps, Simple, acts, steps_before, Part, Declaration, Start, starts_with_nothing, starts_with, declares, Statement, statement_at, StatementKind, simple, skip, braces, conditional, while_loop, do_loop, for_loop, return, break, continue, Otherwise, without, otherwise, Items, none, declaration, statement, Prelude, extern_call, typedef_bool, Program}
 
 -- a token that opens no level
 abbrev pub plain : Word → Token
@@ -181,6 +181,8 @@ abbrev mutual
       (token (sign S.Semicolon) ∷ finish_pieces (levels + 1) step (statement_pieces (levels + 1) body behind)))
   statement_kind_pieces levels (return value) behind =
       token (leading S.Return) ∷ optional_pieces levels value (token (sign S.Semicolon) ∷ behind)
+  statement_kind_pieces levels break behind = token (sign S.Break) ∷ token (sign S.Semicolon) ∷ behind
+  statement_kind_pieces levels continue behind = token (sign S.Continue) ∷ token (sign S.Semicolon) ∷ behind
 
   pub otherwise_pieces : ℕ → Otherwise → List Piece → List Piece
   otherwise_pieces levels without behind = look no_else ∷ behind

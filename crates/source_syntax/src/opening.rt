@@ -59,6 +59,8 @@ pub enum StatementOpening {
     Do,
     For,
     Return,
+    Break,
+    Continue,
     Nothing,
 }
 
@@ -217,6 +219,8 @@ pub fn opening_of_statement(words: &[Lexeme<'_>], at: usize) -> StatementOpening
         Lexeme::Symbol(Symbol::Do) => StatementOpening::Do,
         Lexeme::Symbol(Symbol::For) => StatementOpening::For,
         Lexeme::Symbol(Symbol::Return) => StatementOpening::Return,
+        Lexeme::Symbol(Symbol::Break) => StatementOpening::Break,
+        Lexeme::Symbol(Symbol::Continue) => StatementOpening::Continue,
         _ => StatementOpening::Nothing,
     }
 }

@@ -4,7 +4,7 @@ ghost use Rattle.std.specs.Prelude.{◌≡◌, ◌≤◌, length, IfOk, IfErr};
 ghost use Rattle.derivation.specs.Pieces.{first};
 ghost use Rattle.derivation.specs.Spelled.{words_from, IsBehind};
 ghost use Rattle.source_syntax.specs.Language.{rest_from};
-ghost use Rattle.concrete_syntax.specs.Trees.{skip as skip_tree};
+ghost use Rattle.concrete_syntax.specs.Trees.{skip as skip_tree, break as break_tree, continue as continue_tree};
 ghost use Rattle.concrete_syntax.specs.Mirror.{expression as expression_tree, optional as optional_tree, optional_simple as step_tree, start as start_tree, statement as statement_tree, statement_kind as kind_tree, otherwise as otherwise_tree, items as items_tree};
 ghost use Rattle.source_syntax.specs.Openings.{opening_of_statement};
 ghost use Rattle.source_syntax.specs.declared.opening.StatementOpening.TheVariants as StatementOpening;
@@ -15,7 +15,7 @@ ghost use Rattle.source_syntax.specs.Reads.{Reads, Refuses, ReadsEndOfDo, Refuse
 use crate::declaration::{declaration, start};
 use crate::fault::{Failure, Fault};
 use crate::opening::{ItemOpening, StatementOpening, opening_of_item, opening_of_statement};
-use crate::reader::{MOST_LEVELS, opening, sign};
+use crate::reader::{MOST_LEVELS, opening, sign, signs};
 use crate::simple::{finish, optional, simple, test};
 use concrete_syntax::{
     Expression, ForLoop, Item, Items, Otherwise, Simple, Start, Statement, StatementKind,
@@ -83,6 +83,14 @@ fn statement_kind(
         StatementOpening::Do => do_loop(alloc, words, at, levels),
         StatementOpening::For => for_loop(alloc, words, at, levels),
         StatementOpening::Return => return_statement(alloc, words, at, levels),
+        StatementOpening::Break => {
+            let next = break_statement(words, at, levels)?;
+            Ok((StatementKind::Break, next))
+        }
+        StatementOpening::Continue => {
+            let next = continue_statement(words, at, levels)?;
+            Ok((StatementKind::Continue, next))
+        }
         StatementOpening::Nothing => Err(Failure::Fault(Fault {
             rule: Rule::Expected,
             at,
@@ -136,6 +144,30 @@ fn return_statement(
     let behind = sign(words, at, Symbol::Return)?;
     let (value, next) = optional(alloc, words, behind, levels)?;
     Ok((StatementKind::Return(value), next))
+}
+
+// Reads a `break`.
+fn break_statement(words: &[Lexeme<'_>], at: usize, levels: u32) -> Result<usize, Fault>
+    requires shallow { levels ≤ 64 }
+    requires opens { StatementOpening.Break ≡ opening_of_statement (first (words_from words.now at)) }
+    ensures read { IfOk result (λ next. Reads (a_statement_kind levels) break_tree (rest_from words.now at) (rest_from words.now next)) }
+    ensures forward { IfOk result (IsBehind words.now at) }
+    ensures refused { IfErr result (λ fault. Refuses (a_statement_kind levels) (rest_from words.now at) fault.rule (rest_from words.now fault.at)) }
+{
+    let next = signs(words, at, &[Symbol::Break, Symbol::Semicolon])?;
+    Ok(next)
+}
+
+// Reads a `continue`.
+fn continue_statement(words: &[Lexeme<'_>], at: usize, levels: u32) -> Result<usize, Fault>
+    requires shallow { levels ≤ 64 }
+    requires opens { StatementOpening.Continue ≡ opening_of_statement (first (words_from words.now at)) }
+    ensures read { IfOk result (λ next. Reads (a_statement_kind levels) continue_tree (rest_from words.now at) (rest_from words.now next)) }
+    ensures forward { IfOk result (IsBehind words.now at) }
+    ensures refused { IfErr result (λ fault. Refuses (a_statement_kind levels) (rest_from words.now at) fault.rule (rest_from words.now fault.at)) }
+{
+    let next = signs(words, at, &[Symbol::Continue, Symbol::Semicolon])?;
+    Ok(next)
 }
 
 // Reads items in braces.

@@ -3,9 +3,9 @@
 use Rattle.std.proofs.Common.{◌≡◌, ℕ, zero, suc, ℤ, pos, ◌≤ℤ◌, ◌<ℤ◌, ◌-ℤ◌, Bool, true, false, inl, inr, IsTrue, [], ◌∷◌, ◌++◌, None, Some, slice_set, refl, sym, ◌∙◌, ap, subst, arith}
 use Rattle.std.proofs.lemmas.Int.{ints}
 use Rattle.step_meaning.specs.declared.expression.Op2.TheVariants.{Sub, Greater, And, Or}
-use Rattle.step_meaning.specs.Syntax.{Expression, number, variable, free, range, truth, negation, pair, Statement, Statements, list_of, assign, skip, return, if_else, while_loop, do_while, empty, sequence}
+use Rattle.step_meaning.specs.Syntax.{Expression, number, variable, free, range, truth, negation, pair, Statement, Statements, assign, skip, return, break, continue, if_else, while_loop, do_while, empty, sequence}
 use Rattle.step_meaning.specs.Outcome.{Store, May, MayTest}
-use Rattle.step_meaning.specs.Step.{Configuration, Todo, Step, Next, IsFinal, behind_body, front}
+use Rattle.step_meaning.specs.Step.{Configuration, Todo, one, turn, items_of, Step, Next, IsFinal, behind_body, front}
 use Rattle.step_meaning.specs.Run.{start, EndsWithin, EndsInTests, Longest}
 use Rattle.step_meaning.proofs.Progress.{holds, fails}
 
@@ -67,10 +67,10 @@ one_positive : pos 0 <ℤ pos 1
 one_positive = omega (arith, ints)
 
 -- from x = 1, `x = x - 1;` gives 0
-down_from_one : (rest : Todo) → Step (at (down ∷ rest) (store_of (pos 1))) (at rest (store_of (pos 0)))
+down_from_one : (rest : Todo) → Step (at (one down ∷ rest) (store_of (pos 1))) (at rest (store_of (pos 0)))
 down_from_one rest = (refl, (pos 0, (pos 1, pos 1, refl, refl, refl), refl))
 
-down_from_one_only : (rest : Todo) (d : Configuration) → Step (at (down ∷ rest) (store_of (pos 1))) d → d ≡ at rest (store_of (pos 0))
+down_from_one_only : (rest : Todo) (d : Configuration) → Step (at (one down ∷ rest) (store_of (pos 1))) d → d ≡ at rest (store_of (pos 0))
 down_from_one_only rest d step =
     let m = step.1.1 in
     let gives : step.1.0 ≡ pos 0 = m.4 ∙ ap (λ a. a -ℤ m.1) m.2 ∙ ap (λ b. pos 1 -ℤ b) m.3 in
@@ -82,24 +82,24 @@ module _ (body step : Statements) (rest : Todo) where
   loop = while_loop positive body step
 
   abbrev inside : Todo
-  inside = list_of body ++ behind_body positive body step rest
+  inside = items_of body ++ behind_body positive body step rest
 
-  enters : Step (at (loop ∷ rest) (store_of (pos 1))) (at inside (store_of (pos 1)))
+  enters : Step (at (one loop ∷ rest) (store_of (pos 1))) (at inside (store_of (pos 1)))
   enters = (inl (when_positive (pos 1) one_positive, refl), refl)
 
-  enters_only : (d : Configuration) → Step (at (loop ∷ rest) (store_of (pos 1))) d → d ≡ at inside (store_of (pos 1))
+  enters_only : (d : Configuration) → Step (at (one loop ∷ rest) (store_of (pos 1))) d → d ≡ at inside (store_of (pos 1))
   enters_only d (inl taken, store) = same d (at inside (store_of (pos 1))) taken.1 store
   enters_only d (inr taken, store) = absurd (positive_only (pos 1) one_positive taken.0)
 
-  leaves : Step (at (loop ∷ rest) (store_of (pos 0))) (at rest (store_of (pos 0)))
+  leaves : Step (at (one loop ∷ rest) (store_of (pos 0))) (at rest (store_of (pos 0)))
   leaves = (inr (when_zero, refl), refl)
 
-  leaves_only : (d : Configuration) → Step (at (loop ∷ rest) (store_of (pos 0))) d → d ≡ at rest (store_of (pos 0))
+  leaves_only : (d : Configuration) → Step (at (one loop ∷ rest) (store_of (pos 0))) d → d ≡ at rest (store_of (pos 0))
   leaves_only d (inl taken, store) = absurd (zero_only taken.0)
   leaves_only d (inr taken, store) = same d (at rest (store_of (pos 0))) taken.1 store
 
-  leaving : Longest 0 (at rest (store_of (pos 0))) → Longest 1 (at (loop ∷ rest) (store_of (pos 0)))
-  leaving final = longest_by_step 0 (at (loop ∷ rest) (store_of (pos 0))) (at rest (store_of (pos 0))) (λ e. cc) leaves leaves_only final
+  leaving : Longest 0 (at rest (store_of (pos 0))) → Longest 1 (at (one loop ∷ rest) (store_of (pos 0)))
+  leaving final = longest_by_step 0 (at (one loop ∷ rest) (store_of (pos 0))) (at rest (store_of (pos 0))) (λ e. cc) leaves leaves_only final
 
 -- `x = 5;` ends within 1 step and not within 0
 assignment_ends : (s : Store) → EndsWithin 1 (start (sequence (assign 0 (number (pos 5))) empty) s)
@@ -116,40 +116,95 @@ return_ends s = inr (λ d step. ap front step.0)
 while_takes_three : Longest 3 (start (sequence (while_loop positive only_down empty) empty) (store_of (pos 1)))
 while_takes_three =
     let loop = while_loop positive only_down empty in
-    longest_by_step 2 (at (loop ∷ []) (store_of (pos 1))) (at (down ∷ loop ∷ []) (store_of (pos 1))) (λ e. cc)
+    let marked : Todo = turn positive only_down empty ∷ [] in
+    longest_by_step 2 (at (one loop ∷ []) (store_of (pos 1))) (at (one down ∷ marked) (store_of (pos 1))) (λ e. cc)
     (enters only_down empty []) (enters_only only_down empty [])
-    (longest_by_step 1 (at (down ∷ loop ∷ []) (store_of (pos 1))) (at (loop ∷ []) (store_of (pos 0))) (λ e. cc) (down_from_one _)
+    (longest_by_step 1 (at (one down ∷ marked) (store_of (pos 1))) (at marked (store_of (pos 0))) (λ e. cc) (down_from_one _)
     (down_from_one_only _) (leaving only_down empty [] refl))
 
 -- from x = 1 the longest run of `do x = x - 1; while (x > 0);` takes 2 steps, and so does that of `do do x = x - 1; while (x > 0); while (x > 0);`
 -- with a third for the outer test
 do_takes_two : Longest 2 (start (sequence (do_while only_down positive) empty) (store_of (pos 1)))
 do_takes_two =
-    let loop = while_loop positive only_down empty in
-    longest_by_step 1 (at (do_while only_down positive ∷ []) (store_of (pos 1))) (at (loop ∷ []) (store_of (pos 0))) (λ e. cc)
+    let marked : Todo = turn positive only_down empty ∷ [] in
+    longest_by_step 1 (at (one (do_while only_down positive) ∷ []) (store_of (pos 1))) (at marked (store_of (pos 0))) (λ e. cc)
     (down_from_one _) (down_from_one_only _) (leaving only_down empty [] refl)
 
 nested_do_takes_three : Longest 3 (start (sequence (do_while (sequence (do_while only_down positive) empty) positive) empty) (store_of (pos 1)))
 nested_do_takes_three =
     let inner = sequence (do_while only_down positive) empty in
-    let outer_loop = while_loop positive inner empty in
-    let inner_loop = while_loop positive only_down empty in
-    longest_by_step 2 (at (do_while inner positive ∷ []) (store_of (pos 1))) (at (inner_loop ∷ outer_loop ∷ []) (store_of (pos 0))) (λ e. cc)
+    let outer : Todo = turn positive inner empty ∷ [] in
+    let both : Todo = turn positive only_down empty ∷ outer in
+    longest_by_step 2 (at (one (do_while inner positive) ∷ []) (store_of (pos 1))) (at both (store_of (pos 0))) (λ e. cc)
     (down_from_one _) (down_from_one_only _)
-    (longest_by_step 1 (at (inner_loop ∷ outer_loop ∷ []) (store_of (pos 0))) (at (outer_loop ∷ []) (store_of (pos 0))) (λ e. cc)
-    (leaves only_down empty (outer_loop ∷ [])) (leaves_only only_down empty (outer_loop ∷ [])) (leaving inner empty [] refl))
+    (longest_by_step 1 (at both (store_of (pos 0))) (at outer (store_of (pos 0))) (λ e. cc)
+    (leaves only_down empty outer) (leaves_only only_down empty outer) (leaving inner empty [] refl))
 
 -- from x = 1 the longest run of `for (; x > 0; x = x - 1) ;` takes 4 steps: a test, the `;`, the step and a test
 for_takes_four : Longest 4 (start (sequence (while_loop positive (sequence skip empty) only_down) empty) (store_of (pos 1)))
 for_takes_four =
     let body = sequence skip empty in
     let loop = while_loop positive body only_down in
-    longest_by_step 3 (at (loop ∷ []) (store_of (pos 1))) (at (skip ∷ down ∷ loop ∷ []) (store_of (pos 1))) (λ e. cc)
+    let marked : Todo = turn positive body only_down ∷ [] in
+    longest_by_step 3 (at (one loop ∷ []) (store_of (pos 1))) (at (one skip ∷ marked) (store_of (pos 1))) (λ e. cc)
     (enters body only_down []) (enters_only body only_down [])
-    (longest_by_step 2 (at (skip ∷ down ∷ loop ∷ []) (store_of (pos 1))) (at (down ∷ loop ∷ []) (store_of (pos 1))) (λ e. cc) (refl, refl)
-    (λ d step. same d (at (down ∷ loop ∷ []) (store_of (pos 1))) step.0 step.1)
-    (longest_by_step 1 (at (down ∷ loop ∷ []) (store_of (pos 1))) (at (loop ∷ []) (store_of (pos 0))) (λ e. cc) (down_from_one _)
+    (longest_by_step 2 (at (one skip ∷ marked) (store_of (pos 1))) (at marked (store_of (pos 1))) (λ e. cc) (refl, refl)
+    (λ d step. same d (at marked (store_of (pos 1))) step.0 step.1)
+    (longest_by_step 1 (at marked (store_of (pos 1))) (at (one loop ∷ []) (store_of (pos 0))) (λ e. cc) (down_from_one _)
     (down_from_one_only _) (leaving body only_down [] refl)))
+
+-- From x = 1 `for (; x > 0; x = x - 1) break;` takes 2 steps, since its step isn't done. With `continue` it takes 4: a test, the
+-- `continue`, the step and a test.
+for_broken : Longest 2 (start (sequence (while_loop positive (sequence break empty) only_down) empty) (store_of (pos 1)))
+for_broken =
+    let body = sequence break empty in
+    let broken : Todo = one break ∷ turn positive body only_down ∷ [] in
+    longest_by_step 1 (at (one (while_loop positive body only_down) ∷ []) (store_of (pos 1))) (at broken (store_of (pos 1))) (λ e. cc)
+    (enters body only_down []) (enters_only body only_down [])
+    (longest_by_step 0 (at broken (store_of (pos 1))) (at [] (store_of (pos 1))) (λ e. cc) (refl, refl)
+    (λ d step. same d (at [] (store_of (pos 1))) step.0 step.1) refl)
+
+for_continued : Longest 4 (start (sequence (while_loop positive (sequence continue empty) only_down) empty) (store_of (pos 1)))
+for_continued =
+    let body = sequence continue empty in
+    let marked : Todo = turn positive body only_down ∷ [] in
+    longest_by_step 3 (at (one (while_loop positive body only_down) ∷ []) (store_of (pos 1))) (at (one continue ∷ marked) (store_of (pos 1))) (λ e. cc)
+    (enters body only_down []) (enters_only body only_down [])
+    (longest_by_step 2 (at (one continue ∷ marked) (store_of (pos 1))) (at marked (store_of (pos 1))) (λ e. cc) (refl, refl)
+    (λ d step. same d (at marked (store_of (pos 1))) step.0 step.1)
+    (longest_by_step 1 (at marked (store_of (pos 1))) (at (one (while_loop positive body only_down) ∷ []) (store_of (pos 0))) (λ e. cc)
+    (down_from_one _) (down_from_one_only _) (leaving body only_down [] refl)))
+
+-- from x = 0 `do break; while (x > 0);` takes 1 step, and `do continue; while (x > 0);` a second one, the test
+do_broken : Longest 1 (start (sequence (do_while (sequence break empty) positive) empty) (store_of (pos 0)))
+do_broken =
+    longest_by_step 0 (at (one (do_while (sequence break empty) positive) ∷ []) (store_of (pos 0))) (at [] (store_of (pos 0))) (λ e. cc)
+    (refl, refl) (λ d step. same d (at [] (store_of (pos 0))) step.0 step.1) refl
+
+do_continued : Longest 2 (start (sequence (do_while (sequence continue empty) positive) empty) (store_of (pos 0)))
+do_continued =
+    let body = sequence continue empty in
+    let marked : Todo = turn positive body empty ∷ [] in
+    longest_by_step 1 (at (one (do_while body positive) ∷ []) (store_of (pos 0))) (at marked (store_of (pos 0))) (λ e. cc)
+    (refl, refl) (λ d step. same d (at marked (store_of (pos 0))) step.0 step.1) (leaving body empty [] refl)
+
+-- from x = 1 `while (x > 0) { while (x > 0) break; x = x - 1; }` takes 5 steps: the `break` leaves the inner loop alone
+inner_broken :
+    Longest 5 (start (sequence (while_loop positive (sequence (while_loop positive (sequence break empty) empty) only_down) empty) empty) (store_of (pos 1)))
+inner_broken =
+    let inside : Statements = sequence break empty in
+    let inner = while_loop positive inside empty in
+    let body = sequence inner only_down in
+    let outer : Todo = turn positive body empty ∷ [] in
+    let last : Todo = one down ∷ outer in
+    longest_by_step 4 (at (one (while_loop positive body empty) ∷ []) (store_of (pos 1))) (at (one inner ∷ last) (store_of (pos 1))) (λ e. cc)
+    (enters body empty []) (enters_only body empty [])
+    (longest_by_step 3 (at (one inner ∷ last) (store_of (pos 1))) (at (one break ∷ turn positive inside empty ∷ last) (store_of (pos 1))) (λ e. cc)
+    (enters inside empty last) (enters_only inside empty last)
+    (longest_by_step 2 (at (one break ∷ turn positive inside empty ∷ last) (store_of (pos 1))) (at last (store_of (pos 1))) (λ e. cc) (refl, refl)
+    (λ d step. same d (at last (store_of (pos 1))) step.0 step.1)
+    (longest_by_step 1 (at last (store_of (pos 1))) (at outer (store_of (pos 0))) (λ e. cc) (down_from_one _) (down_from_one_only _)
+    (leaving body empty [] refl))))
 
 -- `if (x > 0) ; else { ; ; }` from x = 1: the shorter side is taken
 abbrev unequal_sides : Statements
@@ -157,13 +212,13 @@ unequal_sides = sequence (if_else positive (sequence skip empty) (sequence skip 
 
 if_takes_two : Longest 2 (start unequal_sides (store_of (pos 1)))
 if_takes_two =
-    longest_by_step 1 (start unequal_sides (store_of (pos 1))) (at (skip ∷ []) (store_of (pos 1))) (λ e. cc)
+    longest_by_step 1 (start unequal_sides (store_of (pos 1))) (at (one skip ∷ []) (store_of (pos 1))) (λ e. cc)
     (inl (when_positive (pos 1) one_positive, refl), refl)
     (λ d step. elim step.0 [
-      | inl taken ↦ same d (at (skip ∷ []) (store_of (pos 1))) taken.1 step.1
+      | inl taken ↦ same d (at (one skip ∷ []) (store_of (pos 1))) taken.1 step.1
       | inr taken ↦ absurd (positive_only (pos 1) one_positive taken.0)
     ])
-    (longest_by_step 0 (at (skip ∷ []) (store_of (pos 1))) (at [] (store_of (pos 1))) (λ e. cc) (refl, refl)
+    (longest_by_step 0 (at (one skip ∷ []) (store_of (pos 1))) (at [] (store_of (pos 1))) (λ e. cc) (refl, refl)
     (λ d step. same d (at [] (store_of (pos 1))) step.0 step.1) refl)
 
 -- `while (x > 0) x = x - 1;` takes one loop test from x = 0 and two from x = 1, and no fewer
@@ -178,6 +233,11 @@ no_test_is_free zero final = cc
 no_test_is_free (suc n) (inl final) = cc
 no_test_is_free (suc n) (inr tests) = tests
 
+no_test_is_free_behind_the_body : (n : ℕ) → ¬ EndsInTests 0 n (at (turn positive only_down empty ∷ []) (store_of (pos 0)))
+no_test_is_free_behind_the_body zero final = cc
+no_test_is_free_behind_the_body (suc n) (inl final) = cc
+no_test_is_free_behind_the_body (suc n) (inr tests) = tests
+
 ends_in_two_tests : EndsInTests 2 3 (start counting (store_of (pos 1)))
 ends_in_two_tests =
     inr (λ d enter. subst (EndsInTests 1 2) (sym (enters_only only_down empty [] d enter))
@@ -187,11 +247,11 @@ two_tests_are_needed : (n : ℕ) → ¬ EndsInTests 1 n (start counting (store_o
 two_tests_are_needed zero final = cc
 two_tests_are_needed (suc n) (inl final) = cc
 two_tests_are_needed (suc n) (inr successors) =
-    elim n as (λ m. EndsInTests 0 m (at (down ∷ while_loop positive only_down empty ∷ []) (store_of (pos 1))) → ⊥) [
+    elim n as (λ m. EndsInTests 0 m (at (one down ∷ turn positive only_down empty ∷ []) (store_of (pos 1))) → ⊥) [
       | zero ↦ λ h. cc
       | suc m ↦ λ h. elim h [
         | inl final ↦ cc
-        | inr left ↦ no_test_is_free m (left _ (down_from_one _))
+        | inr left ↦ no_test_is_free_behind_the_body m (left _ (down_from_one _))
       ]
     ] (successors _ (enters only_down empty []))
 
@@ -203,7 +263,7 @@ end_stays_only : (s : Store) (d : Configuration) → Next (at [] s) d → d ≡ 
 end_stays_only s d (inl step) = absurd step
 end_stays_only s d (inr final) = final.1
 
-next_is_a_step : (s : Store) (d : Configuration) → Next (at (skip ∷ []) s) d → d ≡ at [] s
+next_is_a_step : (s : Store) (d : Configuration) → Next (at (one skip ∷ []) s) d → d ≡ at [] s
 next_is_a_step s d (inl step) = same d (at [] s) step.0 step.1
 next_is_a_step s d (inr final) = absurd (cc)
 

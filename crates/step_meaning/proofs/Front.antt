@@ -1,12 +1,12 @@
 -- What follows from the front of a list alone, so that no proof elsewhere has to unfold it.
 use Rattle.std.proofs.Common.{◌≡◌, ℕ, zero, suc, inl, inr, ◌∷◌, ◌++◌, refl, sym, ◌∙◌, subst}
-use Rattle.step_meaning.specs.Syntax.{Expression, Statements, list_of, do_while, empty, sequence}
-use Rattle.step_meaning.specs.Step.{Configuration, Step, StepsFrom, IsFinal, Todo, behind_body, front}
+use Rattle.step_meaning.specs.Syntax.{Expression, Statements, do_while, empty, sequence}
+use Rattle.step_meaning.specs.Step.{Configuration, Step, StepsFrom, IsFinal, Todo, one, items_of, behind_body, front}
 use Rattle.step_meaning.specs.Run.{EndsWithin}
 
 -- a first `do` in a list stands for its body followed by a `while`
 pub do_is_body_and_while : (body : Statements) (c : Expression) (rest : Todo)
-    → front (do_while body c ∷ rest) ≡ front (list_of body ++ behind_body c body empty rest)
+    → front (one (do_while body c) ∷ rest) ≡ front (items_of body ++ behind_body c body empty rest)
 do_is_body_and_while empty c rest = refl
 do_is_body_and_while (sequence first more) c rest = refl
 

@@ -1,4 +1,5 @@
 pub mod Progress
+pub mod JumpsOnTheWay
 pub mod Stores
 pub mod Front
 mod Examples

@@ -5,7 +5,7 @@ use Rattle.std.proofs.lemmas.Int.{ints, int_max_is}
 use Rattle.std.proofs.lemmas.List.{get_or_past}
 use Rattle.linear_cons.specs.declared.affine.Affine.{Affine}
 use Rattle.step_meaning.specs.declared.count.Count.{Count}
-use Rattle.step_meaning.specs.Syntax.{Statement, Statements, assign, skip, return, if_else, while_loop, do_while, empty, sequence}
+use Rattle.step_meaning.specs.Syntax.{Statement, Statements, assign, skip, return, break, continue, if_else, while_loop, do_while, empty, sequence}
 use Rattle.step_meaning.specs.Counts.{before, before_statement, either_of, none, step_by}
 use Rattle.linear_cons.specs.Functions.{coefficient}
 use Rattle.step_meaning.specs.Countdown.{IsSmall, IsCounting, AreCounting, change_by}
@@ -40,6 +40,8 @@ mutual
   one_forward e (assign x v) may c = step_joined (change_by e x v) c
   one_forward e skip may c = step_joined (pos 0) c
   one_forward e return may c = absurd may
+  one_forward e break may c = absurd may
+  one_forward e continue may c = absurd may
   one_forward e (if_else test first second) may c =
       ap (λ d. either_of d (before (change_by e) second c)) (forward e first may.0 c)
       ∙ ap (either_of (joined (count_of e first) c)) (forward e second may.1 c)

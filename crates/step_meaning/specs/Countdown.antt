@@ -11,7 +11,7 @@ use Rattle.step_meaning.specs.declared.countdown.Countdown.{Countdown}
 use Rattle.step_meaning.specs.declared.countdown.Countdown.TheVariants.{Straight, Loop}
 use Rattle.step_meaning.specs.declared.expression.Op2.{Op2}
 use Rattle.step_meaning.specs.declared.expression.Op2.TheVariants.{Add, Sub, Mul, Less, LessEqual, Greater, GreaterEqual, Equal, NotEqual, And, Or}
-use Rattle.step_meaning.specs.Syntax.{Expression, number, variable, free, range, truth, negative, negation, pair, Statement, Statements, assign, skip, return, if_else, while_loop, do_while, empty, sequence}
+use Rattle.step_meaning.specs.Syntax.{Expression, number, variable, free, range, truth, negative, negation, pair, Statement, Statements, assign, skip, return, break, continue, if_else, while_loop, do_while, empty, sequence}
 use Rattle.step_meaning.specs.AffineExpressions.{IsAffine, ExpressionFits, ComparisonFits, coefficient_in, constant_in, less, strictly_less}
 use Rattle.step_meaning.specs.Counts.{HasNoLoop, before, none}
 
@@ -141,6 +141,8 @@ abbrev mutual
   IsCounting e (assign x v) = (coefficient e x ≡ pos 0) ⊎ IsShort (added x v)
   IsCounting e skip = ⊤
   IsCounting e return = ⊥
+  IsCounting e break = ⊥
+  IsCounting e continue = ⊥
   IsCounting e (if_else test first second) = AreCounting e first × AreCounting e second
   IsCounting e (while_loop test body step) = ⊥
   IsCounting e (do_while body test) = ⊥
@@ -174,6 +176,8 @@ CountsFrom row p (sequence (assign x v) more) =
 CountsFrom row p (sequence (while_loop test body step) more) = Asks test row × CountsDown body step row.affine × HasNoLoop more
 CountsFrom row p (sequence skip more) = ⊥
 CountsFrom row p (sequence return more) = ⊥
+CountsFrom row p (sequence break more) = ⊥
+CountsFrom row p (sequence continue more) = ⊥
 CountsFrom row p (sequence (if_else test first second) more) = ⊥
 CountsFrom row p (sequence (do_while body test) more) = ⊥
 CountsFrom row p empty = ⊥

@@ -3,6 +3,7 @@ pub mod Outcome
 pub mod Step
 pub mod Run
 pub mod Valid
+pub mod Inside
 pub mod ValidOnce
 pub mod Offsets
 pub mod Naming

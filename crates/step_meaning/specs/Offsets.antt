@@ -6,7 +6,7 @@ use Rattle.step_meaning.specs.declared.statement.Block.{Block, Then'}
 use Rattle.step_meaning.specs.declared.statement.Block.TheVariants.{End}
 use Rattle.step_meaning.specs.declared.statement.Stmt.{Stmt}
 use Rattle.step_meaning.specs.declared.statement.StmtKind.{StmtKind}
-use Rattle.step_meaning.specs.declared.statement.StmtKind.TheVariants.{Assign, Skip, Return, If, While, Do}
+use Rattle.step_meaning.specs.declared.statement.StmtKind.TheVariants.{Assign, Skip, Return, Break, Continue, If, While, Do}
 
 -- the offsets of a block's statements, and those of one statement that stands at `at`: of an `if` behind its own offset those of its first part
 -- and then of its second, of a loop those of its body and then of its step
@@ -19,6 +19,8 @@ abbrev mutual
   offsets_at at (Assign x e) = at ∷ []
   offsets_at at Skip = at ∷ []
   offsets_at at Return = at ∷ []
+  offsets_at at Break = at ∷ []
+  offsets_at at Continue = at ∷ []
   offsets_at at (If c y n) = at ∷ (offsets y ++ offsets n)
   offsets_at at (While c b s) = at ∷ (offsets b ++ offsets s)
   offsets_at at (Do b c) = offsets b ++ (at ∷ [])

@@ -1,9 +1,9 @@
 -- Runs of a program from its inputs, and how long they are.
 use Rattle.std.specs.Prelude.{◌≡◌, ℕ, zero, suc, ◌≤◌, ℤ, pos, negsuc, ◌⊎◌, [], ◌∷◌, length}
-use Rattle.step_meaning.specs.Syntax.{Statements, list_of, assign, skip, return, if_else, while_loop, do_while}
+use Rattle.step_meaning.specs.Syntax.{Statements, assign, skip, return, break, continue, if_else, while_loop, do_while}
 use Rattle.linear_cons.specs.Numbers.{number_at}
 use Rattle.step_meaning.specs.Outcome.{Store}
-use Rattle.step_meaning.specs.Step.{Configuration, Todo, Step, IsFinal, front}
+use Rattle.step_meaning.specs.Step.{Configuration, Todo, one, turn, items_of, Step, IsFinal, front}
 
 -- an input of a program of `vars` variables: sixteen whole numbers, of which those past the variables are 0
 pub record IsInput (vars : ℕ) (input : Store) : Type 0 where
@@ -12,7 +12,7 @@ pub record IsInput (vars : ℕ) (input : Store) : Type 0 where
 
 -- where the runs of a program with this body begin
 abbrev pub start : Statements → Store → Configuration
-start body input = record { todo = list_of body; store = input }
+start body input = record { todo = items_of body; store = input }
 
 -- steps lead from `c` to `d`
 pub data Reaches : Configuration → Configuration → Type 0 where
@@ -41,13 +41,16 @@ Longest (suc n) c = EndsWithin (suc n) c × ¬ EndsWithin n c
 -- With `tests` tests of a loop left, the next step of this list may be taken, and of the number left behind it `Behind` is said: a test of a
 -- loop needs one and leaves one less.
 abbrev pub TestsAllow : Todo → ℕ → (ℕ → Type 0) → Type 0
-TestsAllow (while_loop c body step ∷ rest) zero Behind = ⊥
-TestsAllow (while_loop c body step ∷ rest) (suc tests) Behind = Behind tests
-TestsAllow (assign x e ∷ rest) tests Behind = Behind tests
-TestsAllow (skip ∷ rest) tests Behind = Behind tests
-TestsAllow (return ∷ rest) tests Behind = Behind tests
-TestsAllow (if_else c first second ∷ rest) tests Behind = Behind tests
-TestsAllow (do_while body c ∷ rest) tests Behind = Behind tests
+TestsAllow (one (while_loop c body step) ∷ rest) zero Behind = ⊥
+TestsAllow (one (while_loop c body step) ∷ rest) (suc tests) Behind = Behind tests
+TestsAllow (one (assign x e) ∷ rest) tests Behind = Behind tests
+TestsAllow (one skip ∷ rest) tests Behind = Behind tests
+TestsAllow (one return ∷ rest) tests Behind = Behind tests
+TestsAllow (one break ∷ rest) tests Behind = Behind tests
+TestsAllow (one continue ∷ rest) tests Behind = Behind tests
+TestsAllow (one (if_else c first second) ∷ rest) tests Behind = Behind tests
+TestsAllow (one (do_while body c) ∷ rest) tests Behind = Behind tests
+TestsAllow (turn c body step ∷ rest) tests Behind = Behind tests
 TestsAllow [] tests Behind = Behind tests
 
 -- every run from `c` ends within `n` steps, of which at most `tests` are tests of a loop

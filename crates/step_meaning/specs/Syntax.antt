@@ -8,7 +8,7 @@ use Rattle.step_meaning.specs.declared.statement.Block.{Block, Then'}
 use Rattle.step_meaning.specs.declared.statement.Block.TheVariants.{End}
 use Rattle.step_meaning.specs.declared.statement.Stmt.{Stmt}
 use Rattle.step_meaning.specs.declared.statement.StmtKind.{StmtKind}
-use Rattle.step_meaning.specs.declared.statement.StmtKind.TheVariants.{Assign, Skip, Return, If, While, Do}
+use Rattle.step_meaning.specs.declared.statement.StmtKind.TheVariants.{Assign, Skip, Return, Break, Continue, If, While, Do}
 
 -- an expression: a number, a variable by its place, `?`, a range whose missing ends are infinite, a truth value, a sign before an
 -- operand, a binary operator between two
@@ -40,6 +40,8 @@ mutual
     assign : ℕ → Expression → Statement
     skip : Statement
     return : Statement
+    break : Statement
+    continue : Statement
     if_else : Expression → Statements → Statements → Statement
     while_loop : Expression → Statements → Statements → Statement
     do_while : Statements → Expression → Statement
@@ -68,6 +70,8 @@ abbrev mutual
   statement (Assign x e) = assign x (expression e)
   statement Skip = skip
   statement Return = return
+  statement Break = break
+  statement Continue = continue
   statement (If c y n) = if_else (expression c) (statements y) (statements n)
   statement (While c b s) = while_loop (expression c) (statements b) (statements s)
   statement (Do b c) = do_while (statements b) (expression c)
@@ -82,6 +86,8 @@ abbrev mutual
   size_of_statement (assign x e) = 1
   size_of_statement skip = 1
   size_of_statement return = 1
+  size_of_statement break = 1
+  size_of_statement continue = 1
   size_of_statement (if_else c y n) = 1 + size_of y + size_of n
   size_of_statement (while_loop c b s) = 1 + size_of b + size_of s
   size_of_statement (do_while b c) = 1 + size_of b

@@ -1,10 +1,10 @@
 -- Valid programs: what the type `Program` promises of its names and its body.
-use Rattle.std.specs.Prelude.{◌≢◌, ℕ, ◌<◌, ◌≤◌, ℤ, ◌≤ℤ◌, List, length, Option, None, Some, AllPairs, [], ◌∷◌, ⊤}
+use Rattle.std.specs.Prelude.{◌≢◌, Bool, true, false, IsTrue, ℕ, ◌<◌, ◌≤◌, ℤ, ◌≤ℤ◌, List, length, Option, None, Some, AllPairs, [], ◌∷◌, ⊤}
 use Rattle.step_meaning.specs.declared.expression.Op2.{Op2}
 use Rattle.step_meaning.specs.declared.expression.Op2.TheVariants.{Add, Sub, Mul, Less, LessEqual, Greater, GreaterEqual, Equal, NotEqual, And, Or}
 use Rattle.step_meaning.specs.declared.statement.Block.{Block}
-use Rattle.step_meaning.specs.Syntax.{Expression, number, variable, free, range, truth, negative, negation, pair, Statement, Statements, assign, skip, return, if_else, while_loop, do_while, empty, sequence, statements}
-use Rattle.step_meaning.specs.Step.{Todo}
+use Rattle.step_meaning.specs.Syntax.{Expression, number, variable, free, range, truth, negative, negation, pair, Statement, Statements, assign, skip, return, break, continue, if_else, while_loop, do_while, empty, sequence, statements}
+use Rattle.step_meaning.specs.Step.{Todo, one, turn}
 
 -- the lower end of a range isn't above its upper end
 abbrev pub IsInOrder : Option ℤ → Option ℤ → Type 0
@@ -68,6 +68,8 @@ abbrev mutual
   IsStatement vars (assign x e) = (x < vars) × IsNumber vars e
   IsStatement vars skip = ⊤
   IsStatement vars return = ⊤
+  IsStatement vars break = ⊤
+  IsStatement vars continue = ⊤
   IsStatement vars (if_else c first second) = IsTest vars c × IsBody vars first × IsBody vars second
   IsStatement vars (while_loop c body step) = IsTest vars c × IsBody vars body × IsBody vars step
   IsStatement vars (do_while body c) = IsBody vars body × IsTest vars c
@@ -79,10 +81,28 @@ abbrev mutual
 -- each statement still to do is over `vars` variables: so it is along the runs of a valid program
 abbrev pub AreStatements : ℕ → Todo → Type 0
 AreStatements vars [] = ⊤
-AreStatements vars (first ∷ rest) = IsStatement vars first × AreStatements vars rest
+AreStatements vars (one first ∷ rest) = IsStatement vars first × AreStatements vars rest
+AreStatements vars (turn c body step ∷ rest) = IsStatement vars (while_loop c body step) × AreStatements vars rest
+
+-- each `break` and `continue` stands inside the body of a loop, where `within` says whether all of these do
+abbrev mutual
+  pub IsInsideStatement : Bool → Statement → Type 0
+  IsInsideStatement within break = IsTrue within
+  IsInsideStatement within continue = IsTrue within
+  IsInsideStatement within (assign x e) = ⊤
+  IsInsideStatement within skip = ⊤
+  IsInsideStatement within return = ⊤
+  IsInsideStatement within (if_else c first second) = IsInside within first × IsInside within second
+  IsInsideStatement within (while_loop c body step) = IsInside true body × IsInside within step
+  IsInsideStatement within (do_while body c) = IsInside true body
+
+  pub IsInside : Bool → Statements → Type 0
+  IsInside within empty = ⊤
+  IsInside within (sequence first more) = IsInsideStatement within first × IsInside within more
 
 -- at most 15 names, no two of them equal, and a body over that many variables
 pub record IsValid (names : List (List ℕ)) (body : Block) : Type 0 where
   pub few : length names ≤ 15
   pub distinct : AllPairs (λ a b. a ≢ b) names
   pub well_sorted : IsBody (length names) (statements body)
+  pub inside : IsInside false (statements body)

@@ -1,11 +1,11 @@
 -- That a program is valid has one proof at most, so that the type `Program` may keep the fact. Nothing else is said here.
-use Rattle.std.specs.Prelude.{ℕ, ℤ, List, Option, None, Some}
+use Rattle.std.specs.Prelude.{Bool, true, false, ℕ, ℤ, List, Option, None, Some}
 use denote.Struct.Props as logic
 use Rattle.step_meaning.specs.declared.expression.Op2.{Op2}
 use Rattle.step_meaning.specs.declared.expression.Op2.TheVariants.{Add, Sub, Mul, And, Or}
 use Rattle.step_meaning.specs.declared.statement.Block.{Block}
-use Rattle.step_meaning.specs.Syntax.{Expression, range, negative, negation, pair, Statement, Statements, assign, skip, return, if_else, while_loop, do_while, empty, sequence, statements}
-use Rattle.step_meaning.specs.Valid.{IsInOrder, MakesNumber, MakesTest, IsNumber, IsTest, IsStatement, IsBody, IsValid}
+use Rattle.step_meaning.specs.Syntax.{Expression, range, negative, negation, pair, Statement, Statements, assign, skip, return, break, continue, if_else, while_loop, do_while, empty, sequence, statements}
+use Rattle.step_meaning.specs.Valid.{IsInOrder, MakesNumber, MakesTest, IsNumber, IsTest, IsStatement, IsBody, IsInsideStatement, IsInside, IsValid}
 
 IsInOrder-prop : (lo hi : Option ℤ) → IsProp (IsInOrder lo hi)
 IsInOrder-prop (Some lo) (Some hi) = Prim.hlevel logic.props
@@ -48,6 +48,8 @@ mutual
   IsStatement-prop vars (assign x e) = Prim.hlevel (IsNumber-prop vars e, logic.props)
   IsStatement-prop vars skip = Prim.hlevel logic.props
   IsStatement-prop vars return = Prim.hlevel logic.props
+  IsStatement-prop vars break = Prim.hlevel logic.props
+  IsStatement-prop vars continue = Prim.hlevel logic.props
   IsStatement-prop vars (if_else c yes_part no_part) =
       Prim.hlevel (IsTest-prop vars c, IsBody-prop vars yes_part, IsBody-prop vars no_part, logic.props)
   IsStatement-prop vars (while_loop c body step) =
@@ -59,7 +61,23 @@ mutual
   IsBody-prop vars (sequence first more) =
       Prim.hlevel (IsStatement-prop vars first, IsBody-prop vars more, logic.props)
 
+mutual
+  IsInsideStatement-prop : (within : Bool) (first : Statement) → IsProp (IsInsideStatement within first)
+  IsInsideStatement-prop within break = Prim.hlevel logic.props
+  IsInsideStatement-prop within continue = Prim.hlevel logic.props
+  IsInsideStatement-prop within (assign x e) = Prim.hlevel logic.props
+  IsInsideStatement-prop within skip = Prim.hlevel logic.props
+  IsInsideStatement-prop within return = Prim.hlevel logic.props
+  IsInsideStatement-prop within (if_else c first second) = Prim.hlevel (IsInside-prop within first, IsInside-prop within second, logic.props)
+  IsInsideStatement-prop within (while_loop c body step) = Prim.hlevel (IsInside-prop true body, IsInside-prop within step, logic.props)
+  IsInsideStatement-prop within (do_while body c) = IsInside-prop true body
+
+  IsInside-prop : (within : Bool) (body : Statements) → IsProp (IsInside within body)
+  IsInside-prop within empty = Prim.hlevel logic.props
+  IsInside-prop within (sequence first more) = Prim.hlevel (IsInsideStatement-prop within first, IsInside-prop within more, logic.props)
+
 pub IsValid-prop : (names : List (List ℕ)) (body : Block) → IsProp (IsValid names body)
 IsValid-prop names body =
     let sorted = λ (vars : ℕ). IsBody-prop vars (statements body) in
-    Prim.hlevel (sorted, logic.props)
+    let inside = IsInside-prop false (statements body) in
+    Prim.hlevel (sorted, inside, logic.props)

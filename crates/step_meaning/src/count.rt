@@ -101,7 +101,11 @@ fn turn_of_one(kind: &StmtKind, function: &Affine) -> Option<Count>
             let no = turn(no, function)?;
             yes.or_else(&no)
         }
-        StmtKind::Return | StmtKind::While { .. } | StmtKind::Do { .. } => None,
+        StmtKind::Return
+        | StmtKind::Break
+        | StmtKind::Continue
+        | StmtKind::While { .. }
+        | StmtKind::Do { .. } => None,
     }
 }
 

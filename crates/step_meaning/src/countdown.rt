@@ -80,7 +80,11 @@ fn is_loop_free(kind: &StmtKind) -> bool
     ensures { IsTrue result ↔ IsLoopFree (statement kind.now) }
 {
     match kind {
-        StmtKind::Assign { .. } | StmtKind::Skip | StmtKind::Return => true,
+        StmtKind::Assign { .. }
+        | StmtKind::Skip
+        | StmtKind::Return
+        | StmtKind::Break
+        | StmtKind::Continue => true,
         StmtKind::If { test: _, yes, no } => has_no_loop(yes) && has_no_loop(no),
         StmtKind::While { .. } | StmtKind::Do { .. } => false,
     }

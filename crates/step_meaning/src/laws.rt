@@ -6,6 +6,7 @@ ghost use Rattle.step_meaning.specs.Outcome.{Store};
 ghost use Rattle.step_meaning.specs.Step.{Configuration, Step, IsFinal};
 ghost use Rattle.step_meaning.specs.Run.{IsInput, start};
 ghost use Rattle.step_meaning.specs.Valid.{AreStatements};
+ghost use Rattle.step_meaning.specs.Inside.{AreInside};
 
 use crate::program::Program;
 
@@ -23,6 +24,14 @@ pub fn steps_keep_configurations_valid()
 /// A law: the runs of a program begin at valid statements. So no run of a program is stuck.
 pub fn runs_begin_at_valid_statements(program: &Program)
     ensures { (input : Store) → AreStatements (length program.now.names) (start (statements program.now.body) input).todo }
+{
+    let _ = &program.body;
+}
+
+/// A law: on the way of a program's runs the mark of its loop stands behind each `break` and `continue` that is still to do.
+pub fn jumps_have_their_marks(program: &Program)
+    ensures begin { (input : Store) → AreInside (start (statements program.now.body) input).todo }
+    ensures stay { (c d : Configuration) → AreInside c.todo → Step c d → AreInside d.todo }
 {
     let _ = &program.body;
 }

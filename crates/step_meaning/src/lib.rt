@@ -17,7 +17,8 @@ pub use countdown::Countdown;
 pub use expression::{Expr, Op2};
 pub use function::{function_of, total_size};
 pub use laws::{
-    no_configuration_is_stuck, runs_begin_at_valid_statements, steps_keep_configurations_valid,
+    jumps_have_their_marks, no_configuration_is_stuck, runs_begin_at_valid_statements,
+    steps_keep_configurations_valid,
 };
 pub use names::Names;
 pub use program::Program;

@@ -29,6 +29,10 @@ pub enum StmtKind {
     },
     Skip,
     Return,
+    /// Goes on behind the nearest loop.
+    Break,
+    /// Goes on at the step of the nearest loop, and then at its test.
+    Continue,
     If {
         test: Expr,
         yes: Block,

@@ -3,7 +3,7 @@ use Rattle.std.proofs.Common.{◌≡◌, ℕ, ◌+◌, ℤ, Bool, true, false, L
 use Rattle.std.specs.Bool.{IsFalse}
 use Rattle.derivation.specs.declared.symbol.Symbol.TheVariants as S
 use Rattle.derivation.specs.Pieces.{token, look, first_before, Fits}
-use Rattle.concrete_syntax.specs.Trees.{End, Operand, operand_at, OperandKind, number, name, truth, unknown, call, signed, parentheses, range, operation, Tail, ended, further, Expression, Name, Action, assigns, steps, Simple, acts, steps_before, Part, Declaration, Start, starts_with_nothing, starts_with, declares, Statement, statement_at, StatementKind, simple, skip, braces, conditional, while_loop, do_loop, for_loop, return, Otherwise, without, otherwise, Items, none, declaration, statement, Prelude, extern_call, typedef_bool, Program}
+use Rattle.concrete_syntax.specs.Trees.{End, Operand, operand_at, OperandKind, number, name, truth, unknown, call, signed, parentheses, range, operation, Tail, ended, further, Expression, Name, Action, assigns, steps, Simple, acts, steps_before, Part, Declaration, Start, starts_with_nothing, starts_with, declares, Statement, statement_at, StatementKind, simple, skip, braces, conditional, while_loop, do_loop, for_loop, return, break, continue, Otherwise, without, otherwise, Items, none, declaration, statement, Prelude, extern_call, typedef_bool, Program}
 use Rattle.source_syntax.specs.Language.{Piece, is_at, no_operator, no_else, binary_operator, is_else}
 use Rattle.source_syntax.specs.Spelling.{sign, leading, opening, leading_opening, operator, prefix_sign, assignment_sign, size_pieces, minus_pieces, end_pieces, operand_pieces, operand_kind_pieces, tail_pieces, expression_pieces, optional_pieces, action_pieces, name_pieces, simple_pieces, initialiser_pieces, part_pieces, parts_pieces, declaration_pieces, start_pieces, finish_pieces, test_pieces, statement_pieces, statement_kind_pieces, otherwise_pieces, items_pieces, void_pieces, prelude_pieces, preludes_pieces, program_pieces}
 use Rattle.syntax_laws.specs.Numbering.{FitsButForNumbers, tokens_in, TreesCanBeNumbered}
@@ -249,6 +249,8 @@ mutual
   statement_kind_numbered levels n (return value) behind =
       let this = optional_numbered levels (n + 1) value (token (sign S.Semicolon) ∷ behind) in
       (return this.0, this.1 + 1, ap (λ ps. token (leading S.Return) ∷ ps) this.2)
+  statement_kind_numbered levels n break behind = (break, n + 1 + 1, refl)
+  statement_kind_numbered levels n continue behind = (continue, n + 1 + 1, refl)
 
   otherwise_numbered : (levels n : ℕ) (other : Otherwise) (behind : List Piece) → IsNumbered (otherwise_pieces levels) n other behind
   otherwise_numbered levels n without behind = (without, n, refl)

@@ -7,7 +7,7 @@ use step_meaning::{Block, Expr, Names, Op2, Stmt, StmtKind};
 
 // The items of `main`, what they stand for, and the offsets of the statements from behind the `{` of `main`, an outer one before those in
 // it. Operators have parentheses, the parts of a statement braces, and a missing end of a range is `*`.
-const PROGRAMS: [(&str, &str, &[u32]); 12] = [
+const PROGRAMS: [(&str, &str, &[u32]); 13] = [
     ("int a, b, c; a = a - b - c;", "a=((a-b)-c);", &[13]),
     ("int a, b; a = a - b * 2 + -b;", "a=((a-(b*2))+-b);", &[10]),
     (
@@ -48,10 +48,15 @@ const PROGRAMS: [(&str, &str, &[u32]); 12] = [
         "a=[*,*];b=-[-1,2];",
         &[4, 21],
     ),
+    (
+        "int x; while (x) { if (?) break; continue; }",
+        "while(x!=0){if?{break;}{}continue;}{}",
+        &[7, 19, 26, 33],
+    ),
 ];
 
 // Texts with the number of their fault and its offset.
-const FAULTS: [(&str, u8, u32); 53] = [
+const FAULTS: [(&str, u8, u32); 61] = [
     ("int main() { int x = x; }", 5, 21),
     ("int main() { { int x; } x = 1; }", 5, 24),
     ("int main() { for (int x = 1; ; ) ; x = 1; }", 5, 35),
@@ -64,6 +69,14 @@ const FAULTS: [(&str, u8, u32); 53] = [
     ("int main() { int a = [inf, 3]; }", 8, 21),
     ("int main() { int a = [0, -inf]; }", 8, 21),
     ("int main() { int a = [3, 2] + (1 < 2); }", 8, 21),
+    ("int main() { break; }", 17, 13),
+    ("int main() { while (?) ; break; }", 17, 25),
+    ("int main() { do ; while (?); continue; }", 17, 29),
+    ("int main() { for (;;) ; if (?) ; else continue; }", 17, 38),
+    ("int main() { break; x = 1; }", 17, 13),
+    ("int main() { x = 1; break; }", 5, 13),
+    ("int main() { while (?) break }", 4, 29),
+    ("int main() { int break; }", 4, 17),
     ("int main() { if x }", 4, 16),
     ("int main() { int a; a = 1 }", 4, 26),
     ("int main() { int else; }", 4, 17),
@@ -180,12 +193,13 @@ const FAULTS: [(&str, u8, u32); 53] = [
 ];
 
 // Texts that are programs, though they look as if they had a fault.
-const ACCEPTED: [&str; 8] = [
+const ACCEPTED: [&str; 9] = [
     "int main(void){return;}",
     "int main() { int x = [-0, 0]; }",
     "int main() { int E, A, AX, exit; E = A; }",
     "int main() { int x; x *= 1 + 1; x += ?; ++x; }",
     "int main() { int x; if (x) for (;;) if (x) ; else do if (x) ; else ; while (x); else ; }",
+    "int main() { for (;;) { if (?) break; else { continue; } } do break; while (?); while (?) while (?) ; }",
     "int main() { int a; if (+?) ; if ((?)) ; if (!?) ; if (-?) ; if (? && ?) ; if (? == ?) ; if (? + 1) ; }",
     "typedef enum {false, true} bool; typedef enum {false, true} bool; extern int __VERIFIER_nondet_int(); int main() { }",
     "int main() { int x; x = - - - - - - - - - - - - - - - - - - - - - - - - - - - - - - - - - - - - - - - - - - - - - - - - - - - - - - - - - - - - - - - 1; }",
@@ -277,6 +291,8 @@ impl Shown<'_> {
         match &statement.kind {
             StmtKind::Skip => self.push(";"),
             StmtKind::Return => self.push("return;"),
+            StmtKind::Break => self.push("break;"),
+            StmtKind::Continue => self.push("continue;"),
             StmtKind::Assign { var, value } => {
                 self.push_name(*var)?;
                 self.push("=")?;

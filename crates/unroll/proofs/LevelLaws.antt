@@ -2,57 +2,72 @@
 use Rattle.std.proofs.Common.{◌≡◌, ◌↔◌, ◌⊎◌, inl, inr, ℕ, zero, suc, ◌≤◌, max, Bool, true, false, [], ◌∷◌, None, Some, refl, sym, subst, ◌∙◌, arith, ⊎_elim}
 use Rattle.unroll.specs.Building.{Tells, left_by}
 use Rattle.step_meaning.specs.Run.{EndsInTests, EndsWithin, Longest, TestsAllow}
-use Rattle.step_meaning.specs.Step.{Configuration, IsFinal, Step, StepsFrom, Todo, front}
-use Rattle.step_meaning.specs.Syntax.{assign, skip, return, if_else, while_loop, do_while}
+use Rattle.step_meaning.specs.Step.{Configuration, IsFinal, Step, StepsFrom, Todo, front, one, turn}
+use Rattle.step_meaning.specs.Syntax.{assign, skip, return, break, continue, if_else, while_loop, do_while}
 
 -- the first statement is a loop
 abbrev pub is_loop : Todo → Bool
-is_loop (while_loop c body step ∷ rest) = true
-is_loop (assign x e ∷ rest) = false
-is_loop (skip ∷ rest) = false
-is_loop (return ∷ rest) = false
-is_loop (if_else c first second ∷ rest) = false
-is_loop (do_while body c ∷ rest) = false
+is_loop (one (while_loop c body step) ∷ rest) = true
+is_loop (one (assign x e) ∷ rest) = false
+is_loop (one skip ∷ rest) = false
+is_loop (one return ∷ rest) = false
+is_loop (one break ∷ rest) = false
+is_loop (one continue ∷ rest) = false
+is_loop (one (if_else c first second) ∷ rest) = false
+is_loop (one (do_while body c) ∷ rest) = false
+is_loop (turn c body step ∷ rest) = false
 is_loop [] = false
 
 pub allowed : (xs : Todo) (tests left : ℕ) (P : ℕ → Type 0) → left_by (is_loop xs) tests ≡ Some left → TestsAllow xs tests P → P left
-allowed (while_loop c body step ∷ rest) zero left P is allows = absurd allows
-allowed (while_loop c body step ∷ rest) (suc tests) left P is allows = let same : tests ≡ left = cc in subst P same allows
-allowed (assign x e ∷ rest) tests left P is allows = let same : tests ≡ left = cc in subst P same allows
-allowed (skip ∷ rest) tests left P is allows = let same : tests ≡ left = cc in subst P same allows
-allowed (return ∷ rest) tests left P is allows = let same : tests ≡ left = cc in subst P same allows
-allowed (if_else c first second ∷ rest) tests left P is allows = let same : tests ≡ left = cc in subst P same allows
-allowed (do_while body c ∷ rest) tests left P is allows = let same : tests ≡ left = cc in subst P same allows
+allowed (one (while_loop c body step) ∷ rest) zero left P is allows = absurd allows
+allowed (one (while_loop c body step) ∷ rest) (suc tests) left P is allows = let same : tests ≡ left = cc in subst P same allows
+allowed (one (assign x e) ∷ rest) tests left P is allows = let same : tests ≡ left = cc in subst P same allows
+allowed (one skip ∷ rest) tests left P is allows = let same : tests ≡ left = cc in subst P same allows
+allowed (one return ∷ rest) tests left P is allows = let same : tests ≡ left = cc in subst P same allows
+allowed (one break ∷ rest) tests left P is allows = let same : tests ≡ left = cc in subst P same allows
+allowed (one continue ∷ rest) tests left P is allows = let same : tests ≡ left = cc in subst P same allows
+allowed (one (if_else c first second) ∷ rest) tests left P is allows = let same : tests ≡ left = cc in subst P same allows
+allowed (one (do_while body c) ∷ rest) tests left P is allows = let same : tests ≡ left = cc in subst P same allows
+allowed (turn c body step ∷ rest) tests left P is allows = let same : tests ≡ left = cc in subst P same allows
 allowed [] tests left P is allows = let same : tests ≡ left = cc in subst P same allows
 
 pub allow : (xs : Todo) (tests left : ℕ) (P : ℕ → Type 0) → left_by (is_loop xs) tests ≡ Some left → P left → TestsAllow xs tests P
-allow (while_loop c body step ∷ rest) zero left P is holds = absurd (cc)
-allow (while_loop c body step ∷ rest) (suc tests) left P is holds = let same : left ≡ tests = cc in subst P same holds
-allow (assign x e ∷ rest) tests left P is holds = let same : left ≡ tests = cc in subst P same holds
-allow (skip ∷ rest) tests left P is holds = let same : left ≡ tests = cc in subst P same holds
-allow (return ∷ rest) tests left P is holds = let same : left ≡ tests = cc in subst P same holds
-allow (if_else c first second ∷ rest) tests left P is holds = let same : left ≡ tests = cc in subst P same holds
-allow (do_while body c ∷ rest) tests left P is holds = let same : left ≡ tests = cc in subst P same holds
+allow (one (while_loop c body step) ∷ rest) zero left P is holds = absurd (cc)
+allow (one (while_loop c body step) ∷ rest) (suc tests) left P is holds = let same : left ≡ tests = cc in subst P same holds
+allow (one (assign x e) ∷ rest) tests left P is holds = let same : left ≡ tests = cc in subst P same holds
+allow (one skip ∷ rest) tests left P is holds = let same : left ≡ tests = cc in subst P same holds
+allow (one return ∷ rest) tests left P is holds = let same : left ≡ tests = cc in subst P same holds
+allow (one break ∷ rest) tests left P is holds = let same : left ≡ tests = cc in subst P same holds
+allow (one continue ∷ rest) tests left P is holds = let same : left ≡ tests = cc in subst P same holds
+allow (one (if_else c first second) ∷ rest) tests left P is holds = let same : left ≡ tests = cc in subst P same holds
+allow (one (do_while body c) ∷ rest) tests left P is holds = let same : left ≡ tests = cc in subst P same holds
+allow (turn c body step ∷ rest) tests left P is holds = let same : left ≡ tests = cc in subst P same holds
 allow [] tests left P is holds = let same : left ≡ tests = cc in subst P same holds
 
 pub refused : (xs : Todo) (tests : ℕ) (P : ℕ → Type 0) → left_by (is_loop xs) tests ≡ None → TestsAllow xs tests P → ⊥
-refused (while_loop c body step ∷ rest) zero P is allows = allows
-refused (while_loop c body step ∷ rest) (suc tests) P is allows = absurd (cc)
-refused (assign x e ∷ rest) tests P is allows = absurd (cc)
-refused (skip ∷ rest) tests P is allows = absurd (cc)
-refused (return ∷ rest) tests P is allows = absurd (cc)
-refused (if_else c first second ∷ rest) tests P is allows = absurd (cc)
-refused (do_while body c ∷ rest) tests P is allows = absurd (cc)
+refused (one (while_loop c body step) ∷ rest) zero P is allows = allows
+refused (one (while_loop c body step) ∷ rest) (suc tests) P is allows = absurd (cc)
+refused (one (assign x e) ∷ rest) tests P is allows = absurd (cc)
+refused (one skip ∷ rest) tests P is allows = absurd (cc)
+refused (one return ∷ rest) tests P is allows = absurd (cc)
+refused (one break ∷ rest) tests P is allows = absurd (cc)
+refused (one continue ∷ rest) tests P is allows = absurd (cc)
+refused (one (if_else c first second) ∷ rest) tests P is allows = absurd (cc)
+refused (one (do_while body c) ∷ rest) tests P is allows = absurd (cc)
+refused (turn c body step ∷ rest) tests P is allows = absurd (cc)
 refused [] tests P is allows = absurd (cc)
 
 weaker : (xs : Todo) (tests : ℕ) (P Q : ℕ → Type 0) → ((left : ℕ) → P left → Q left) → TestsAllow xs tests P → TestsAllow xs tests Q
-weaker (while_loop c body step ∷ rest) zero P Q less allows = allows
-weaker (while_loop c body step ∷ rest) (suc tests) P Q less allows = less tests allows
-weaker (assign x e ∷ rest) tests P Q less allows = less tests allows
-weaker (skip ∷ rest) tests P Q less allows = less tests allows
-weaker (return ∷ rest) tests P Q less allows = less tests allows
-weaker (if_else c first second ∷ rest) tests P Q less allows = less tests allows
-weaker (do_while body c ∷ rest) tests P Q less allows = less tests allows
+weaker (one (while_loop c body step) ∷ rest) zero P Q less allows = allows
+weaker (one (while_loop c body step) ∷ rest) (suc tests) P Q less allows = less tests allows
+weaker (one (assign x e) ∷ rest) tests P Q less allows = less tests allows
+weaker (one skip ∷ rest) tests P Q less allows = less tests allows
+weaker (one return ∷ rest) tests P Q less allows = less tests allows
+weaker (one break ∷ rest) tests P Q less allows = less tests allows
+weaker (one continue ∷ rest) tests P Q less allows = less tests allows
+weaker (one (if_else c first second) ∷ rest) tests P Q less allows = less tests allows
+weaker (one (do_while body c) ∷ rest) tests P Q less allows = less tests allows
+weaker (turn c body step ∷ rest) tests P Q less allows = less tests allows
 weaker [] tests P Q less allows = less tests allows
 
 -- ---- more steps

@@ -1,5 +1,5 @@
 -- At which leaves stores stand in the trees before a step, and what ranks and complements these have.
-use Rattle.std.proofs.Common.{◌≡◌, ◌↔◌, ◌⊎◌, inl, inr, ℕ, zero, suc, ◌<◌, ◌≤◌, max, ℤ, pos, ◌<ℤ◌, Bool, true, false, List, [], ◌∷◌, ◌++◌, cond, Option, None, Some, IsTrue, length, set, refl, ap, ◌∙◌, arith, ⊎_elim}
+use Rattle.std.proofs.Common.{◌≡◌, ◌↔◌, ◌⊎◌, inl, inr, ℕ, zero, suc, ◌<◌, ◌≤◌, max, pos, ◌<ℤ◌, Bool, true, false, List, [], ◌∷◌, ◌++◌, cond, Option, None, Some, IsTrue, length, set, refl, ap, ◌∙◌, arith, ⊎_elim}
 use Rattle.std.proofs.lemmas.Int.{ints}
 use Rattle.linear_cons.specs.Functions.{NumbersFit, complement_of, constant_of, value_at}
 use Rattle.linear_cons.specs.Rows.{complement}

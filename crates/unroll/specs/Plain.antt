@@ -4,7 +4,7 @@ use Rattle.step_meaning.specs.AffineExpressions.{ExpressionFits, IsAffine, IsAff
 use Rattle.step_meaning.specs.Syntax.{Expression, number, variable, free, range, truth, negative, negation, pair}
 use Rattle.control_flow.specs.Labels.{Action, ends, assigns, passes, tests}
 use Rattle.step_meaning.specs.Valid.{IsTest}
-use Rattle.step_meaning.specs.Syntax.{Statement, Statements, assign, skip, return, if_else, while_loop, do_while, empty, sequence}
+use Rattle.step_meaning.specs.Syntax.{Statement, Statements, assign, skip, return, break, continue, if_else, while_loop, do_while, empty, sequence}
 
 -- a whole `?`, or a test without `?` that compares affine expressions
 abbrev pub IsPlainTest : Expression → Type 0
@@ -23,6 +23,8 @@ abbrev mutual
   IsPlainStatement (assign x e) = IsAffine e
   IsPlainStatement skip = ⊤
   IsPlainStatement return = ⊤
+  IsPlainStatement break = ⊤
+  IsPlainStatement continue = ⊤
   IsPlainStatement (if_else c first second) = IsPlainTest c × IsPlain first × IsPlain second
   IsPlainStatement (while_loop c body step) = IsPlainTest c × IsPlain body × IsPlain step
   IsPlainStatement (do_while body c) = IsPlain body × IsPlainTest c

@@ -37,7 +37,7 @@ fn is_plain_statement(kind: &StmtKind) -> bool
 {
     match kind {
         StmtKind::Assign { var: _, value } => is_affine(value),
-        StmtKind::Skip | StmtKind::Return => true,
+        StmtKind::Skip | StmtKind::Return | StmtKind::Break | StmtKind::Continue => true,
         StmtKind::If { test, yes, no } => is_plain_test(test) && are_plain(yes) && are_plain(no),
         StmtKind::While { test, body, step } => {
             is_plain_test(test) && are_plain(body) && are_plain(step)

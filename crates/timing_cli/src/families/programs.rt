@@ -1,7 +1,7 @@
 //! Programs over one variable.
-ghost use Rattle.std.specs.Prelude.{IfOk};
+ghost use Rattle.std.specs.Prelude.{Bool, IfOk};
 ghost use Rattle.step_meaning.specs.Syntax.{expression, statement, statements};
-ghost use Rattle.step_meaning.specs.Valid.{IsBody, IsStatement, IsTest};
+ghost use Rattle.step_meaning.specs.Valid.{IsBody, IsInside, IsInsideStatement, IsStatement, IsTest};
 
 use crate::fault::Fault;
 use control_flow::Graph;
@@ -22,7 +22,8 @@ pub fn loops(alloc: Global, labels: u32) -> Result<Graph, Fault> {
 
 /// The graph of the program with the body.
 fn graph(alloc: Global, body: Block) -> Result<Graph, Fault>
-    requires { IsBody 1 (statements body) }
+    requires sorted { IsBody 1 (statements body) }
+    requires inside { (within : Bool) → IsInside within (statements body) }
 {
     let program = program(alloc, body)?;
     let graph = Graph::of(alloc, &program)?;
@@ -31,7 +32,8 @@ fn graph(alloc: Global, body: Block) -> Result<Graph, Fault>
 
 /// The program with the variable `x` and the body.
 fn program(alloc: Global, body: Block) -> Result<Program, AllocError>
-    requires { IsBody 1 (statements body) }
+    requires sorted { IsBody 1 (statements body) }
+    requires inside { (within : Bool) → IsInside within (statements body) }
 {
     let mut name = Vec::new(alloc);
     name.push(b'x')?;
@@ -43,7 +45,8 @@ fn program(alloc: Global, body: Block) -> Result<Program, AllocError>
 
 /// So many times `x = x - 1`.
 fn decrements(alloc: Global, count: u32) -> Result<Block, AllocError>
-    ensures { IfOk result (λ block. IsBody 1 (statements block)) }
+    ensures sorted { IfOk result (λ block. IsBody 1 (statements block)) }
+    ensures inside { IfOk result (λ block. (within : Bool) → IsInside within (statements block)) }
 {
     let mut block = Block::End;
     for _ in 0..count {
@@ -54,7 +57,8 @@ fn decrements(alloc: Global, count: u32) -> Result<Block, AllocError>
 
 /// `x = x - 1` within so many loops.
 fn nested(alloc: Global, depth: u32) -> Result<Block, AllocError>
-    ensures { IfOk result (λ block. IsBody 1 (statements block)) }
+    ensures sorted { IfOk result (λ block. IsBody 1 (statements block)) }
+    ensures inside { IfOk result (λ block. (within : Bool) → IsInside within (statements block)) }
 {
     let mut block = decrements(alloc, 1)?;
     for _ in 0..depth {
@@ -71,8 +75,11 @@ fn nested(alloc: Global, depth: u32) -> Result<Block, AllocError>
 /// The statement, followed by the others.
 fn link(alloc: Global, kind: StmtKind, rest: Block) -> Result<Block, AllocError>
     requires first { IsStatement 1 (statement kind) }
+    requires first_inside { (within : Bool) → IsInsideStatement within (statement kind) }
     requires rest { IsBody 1 (statements rest) }
-    ensures { IfOk result (λ block. IsBody 1 (statements block)) }
+    requires rest_inside { (within : Bool) → IsInside within (statements rest) }
+    ensures sorted { IfOk result (λ block. IsBody 1 (statements block)) }
+    ensures inside { IfOk result (λ block. (within : Bool) → IsInside within (statements block)) }
 {
     let first = Box::new(alloc, Stmt { at: 0, kind })?;
     let rest = Box::new(alloc, rest)?;
@@ -81,7 +88,8 @@ fn link(alloc: Global, kind: StmtKind, rest: Block) -> Result<Block, AllocError>
 
 /// `x = x - 1`.
 fn decrement(alloc: Global) -> Result<StmtKind, AllocError>
-    ensures { IfOk result (λ kind. IsStatement 1 (statement kind)) }
+    ensures sorted { IfOk result (λ kind. IsStatement 1 (statement kind)) }
+    ensures inside { IfOk result (λ kind. (within : Bool) → IsInsideStatement within (statement kind)) }
 {
     let value = Expr::Pair {
         op: Op2::Sub,

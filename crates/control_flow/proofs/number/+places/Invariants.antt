@@ -1,6 +1,7 @@
-use Rattle.std.proofs.Common.{◌≡◌, ◌+◌, ◌*◌, ◌≤◌, ◌++◌, List, length}
-use Rattle.step_meaning.specs.Syntax.{Statement, statements, statement, size_of, size_of_statement}
-use Rattle.control_flow.specs.Labels.{labels_of}
+use Rattle.std.proofs.Common.{◌≡◌, ◌+◌, ◌*◌, ◌≤◌, ◌++◌, length}
+use Rattle.step_meaning.specs.Step.{Todo}
+use Rattle.step_meaning.specs.Syntax.{statements, statement, size_of, size_of_statement}
+use Rattle.control_flow.specs.Labels.{inside, labels_of}
 use Rattle.control_flow.specs.Tables.{actions, actions_of}
 use Rattle.control_flow.proofs.number.+places.Given as goal
 
@@ -15,6 +16,6 @@ abbrev pub invariant-place_all-loop-left : goal.invariant-place_all-loop-left
 invariant-place_all-loop-left l = record {
   fewer : size_of (statements l.left) ≤ size_of (statements l.block);
   count : length l.nodes.items + size_of (statements l.left) ≡ length l.initial.nodes.items + size_of (statements l.block);
-  labels : (rest : List Statement) → actions l.nodes.items ++ actions_of (labels_of (length l.nodes.items) l.after rest (statements l.left))
-      ≡ actions l.initial.nodes.items ++ actions_of (labels_of (length l.initial.nodes.items) l.after rest (statements l.block));
+  labels : (rest : Todo) → actions l.nodes.items ++ actions_of (labels_of (length l.nodes.items) l.after (inside l.jumps.out l.jumps.mark) rest (statements l.left))
+      ≡ actions l.initial.nodes.items ++ actions_of (labels_of (length l.initial.nodes.items) l.after (inside l.jumps.out l.jumps.mark) rest (statements l.block));
 }

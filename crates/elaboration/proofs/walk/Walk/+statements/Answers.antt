@@ -1,4 +1,4 @@
-use Rattle.std.proofs.Common.{◌≡◌, take, ap, ◌∙◌, arith}
+use Rattle.std.proofs.Common.{◌≡◌, true, take, ap, ◌∙◌, arith}
 use Rattle.std.proofs.lemmas.Result.{on_ok_weaker}
 use Rattle.concrete_syntax.specs.Mirror.{expression as expression_of, declaration as declaration_of, start as start_of, optional, optional_simple as optional_simple_of, statement as statement_of, statement_kind, otherwise as otherwise_of, items as items_of}
 use Rattle.concrete_syntax.specs.Trees as tree
@@ -20,9 +20,9 @@ items-loop-left-preserved-in-Declaration t c =
     let weight = ap items_weight split in
     let lighter = c.loop-left.invariant.1 in (
       step_on now c.declaration.new.self _ c.loop-left.out.items c.declaration.new.out.items _
-          (declaration_walked now.scope (declaration_of c.in-Declaration.first)) (λ s. items_walked s rest)
-          (items_walked now.scope (items_of c.loop-left.left.now)) _
-          made.gone made.added (ap (items_walked now.scope) split) c.loop-left.invariant.0,
+          (declaration_walked now.scope (declaration_of c.in-Declaration.first)) (λ s. items_walked c.args.in_loop s rest)
+          (items_walked c.args.in_loop now.scope (items_of c.loop-left.left.now)) _
+          made.gone made.added (ap (items_walked c.args.in_loop now.scope) split) c.loop-left.invariant.0,
       omega (arith, weight, lighter),
     )
 
@@ -37,9 +37,9 @@ items-loop-left-preserved t c =
     let weight = ap items_weight split in
     let lighter = c.loop-left.invariant.1 in (
       step_on now c.statement.new.self _ c.loop-left.out.items c.statement.new.out.items _
-          (statement_walked now.scope (statement_of c.deref.result.now)) (λ s. items_walked s rest)
-          (items_walked now.scope (items_of c.loop-left.left.now)) _
-          made.gone made.added (ap (items_walked now.scope) split) c.loop-left.invariant.0,
+          (statement_walked c.args.in_loop now.scope (statement_of c.deref.result.now)) (λ s. items_walked c.args.in_loop s rest)
+          (items_walked c.args.in_loop now.scope (items_of c.loop-left.left.now)) _
+          made.gone made.added (ap (items_walked c.args.in_loop now.scope) split) c.loop-left.invariant.0,
       omega (arith, weight, lighter),
     )
 
@@ -67,10 +67,10 @@ statement-returns-in_ok-items-in-Braces-clause-gone t c =
     let is : statement_kind c.args.tree.now.kind ≡ tree.braces all = ap statement_kind c.in-Braces.is in
     rw is (
       gone.0,
-      closed outer (items_walked outer all).scope c.close.new.self c.depth-depth.result c.depth-depth.ensures
+      closed outer (items_walked c.args.in_loop outer all).scope c.close.new.self c.depth-depth.result c.depth-depth.ensures
           (c.close.ensures.declared ∙ ap (λ s. s.declared) gone.1)
           (c.close.ensures.visible ∙ ap (λ s. take c.depth-depth.result s.visible) gone.1)
-          (items_kept outer all),
+          (items_kept c.args.in_loop outer all),
       gone.2,
     )
 
@@ -87,16 +87,16 @@ for_loop-returns-clause-gone t c =
     let inside = start_walked old.scope start in
     let gone =
     both_gone old begun last inside
-    (λ s. joined (staying s (optional_faults s test)) (joined (staying s (optional_simple_walked s step).faults) (statement_walked s part)))
+    (λ s. joined (staying s (optional_faults s test)) (joined (staying s (optional_simple_walked s step).faults) (statement_walked true s part)))
     c.in_ok-for_start.ensures.gone
     (both_gone begun tested last (staying begun.scope (optional_faults begun.scope test))
-    (λ s. joined (staying s (optional_simple_walked s step).faults) (statement_walked s part))
+    (λ s. joined (staying s (optional_simple_walked s step).faults) (statement_walked true s part))
     c.in_ok-test.ensures.found
-    (both_gone tested c.last_part.new.self last (staying tested.scope (optional_simple_walked tested.scope step).faults) (λ s. statement_walked s part)
+    (both_gone tested c.last_part.new.self last (staying tested.scope (optional_simple_walked tested.scope step).faults) (λ s. statement_walked true s part)
     c.in_ok-step.ensures.found c.in_ok-looped.ensures.gone))
     in (
       gone.0,
-      closed old.scope (statement_walked inside.scope part).scope c.close.new.self c.depth-depth.result c.depth-depth.ensures
+      closed old.scope (statement_walked true inside.scope part).scope c.close.new.self c.depth-depth.result c.depth-depth.ensures
           (c.close.ensures.declared ∙ ap (λ s. s.declared) gone.1)
           (c.close.ensures.visible ∙ ap (λ s. take c.depth-depth.result s.visible) gone.1)
           (start_kept old.scope start part),
@@ -113,9 +113,9 @@ conditional-returns-clause-gone t c =
     let faults = expression_faults old.scope (expression_of c.args.condition.now) in
     on_ok_weaker c.add.result
     (λ added. both_gone old tested last (staying old.scope faults)
-    (λ s. joined (statement_walked s part) (otherwise_walked (statement_walked s part).scope other))
+    (λ s. joined (statement_walked c.args.in_loop s part) (otherwise_walked c.args.in_loop (statement_walked c.args.in_loop s part).scope other))
     c.in_ok-test.ensures.found
-    (both_gone tested c.body.new.self last (statement_walked tested.scope part) (λ s. otherwise_walked s other)
+    (both_gone tested c.body.new.self last (statement_walked c.args.in_loop tested.scope part) (λ s. otherwise_walked c.args.in_loop s other)
     c.in_ok-yes.ensures.gone c.in_ok-no.ensures.gone))
     c.add.ensures.meaning
 
@@ -124,6 +124,6 @@ do_loop-returns-clause-gone t c =
     let old = c.args.self.now in
     let condition = expression_of c.args.condition.now in
     on_ok_weaker c.add.result
-    (λ added. both_gone old c.body.new.self c.test.new.self (statement_walked old.scope (statement_of c.args.part.now))
+    (λ added. both_gone old c.body.new.self c.test.new.self (statement_walked true old.scope (statement_of c.args.part.now))
     (λ s. staying s (expression_faults s condition)) c.in_ok-body.ensures.gone c.in_ok-test.ensures.found)
     c.add.ensures.meaning

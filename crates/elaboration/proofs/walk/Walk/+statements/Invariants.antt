@@ -35,6 +35,6 @@ decreases-items l = 4 * items_weight (items_of l.tree.now)
 -- the items that are left find, behind what was found, what the whole finds
 abbrev pub invariant-items-loop-left : goal.invariant-items-loop-left
 invariant-items-loop-left l =
-    IsLeft l.self l.out.items (items_walked l.self.scope (items_of l.left))
-    l.fn.self l.fn.out.items (items_walked l.fn.self.scope (items_of l.tree))
+    IsLeft l.self l.out.items (items_walked l.in_loop l.self.scope (items_of l.left))
+    l.fn.self l.fn.out.items (items_walked l.fn.in_loop l.fn.self.scope (items_of l.tree))
     × (items_weight (items_of l.left) ≤ items_weight (items_of l.tree))
