@@ -13,7 +13,7 @@ use Rattle.decision_tree.specs.declared.affine_rank.AffineRank.{AffineRank}
 use Rattle.tree_unify.specs.Shapes.{GraftFits, JoinFits, OnSide, TrimWithFits, grafted, joined_at, leaf_met, on_side, trimmed_with}
 use Rattle.tree_unify.specs.declared.join.Join.TheVariants.{Either}
 use Rattle.backward_transfer.specs.AffineShapes.{affine_ranks, same_rank}
-use Rattle.ctl_rounds.specs.Bounds.{EitherFits, either_of}
+use Rattle.ctl_rounds.specs.Covers.{EitherFits, either_of}
 
 abbrev met : Plan AffineRank → Plan AffineRank → Plan AffineRank
 met first second = leaf_met same_rank affine_ranks.where_greater affine_ranks.greater_fits Either first second

@@ -1,7 +1,7 @@
-pub mod Supported
+pub mod Showing
 pub mod Kept
-pub mod Bounding
+pub mod CoverLaws
+pub mod Certifying
 pub mod Fit
 pub mod Asking
-pub mod Adding
 mod Joining

@@ -1,6 +1,8 @@
 pub mod Parts
+pub mod Covers
 pub mod Bounds
-pub mod Checked
+pub mod Certified
+pub mod Finding
 pub mod Fitting
 pub mod Asked
 pub mod Subjects

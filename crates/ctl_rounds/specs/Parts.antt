@@ -19,7 +19,8 @@ truth_trees labels = replicate labels (at_once Atom)
 abbrev pub end_trees : ℕ → List (Plan AffineRank)
 end_trees labels = at_once End ∷ replicate (labels - 1) bottom
 
--- the two families are those of a program with so many labels
+-- the two families, with their numbers, are those of a program with so many labels
 abbrev pub AreParts : ℕ → List (Family AffineRank) → Type 0
-AreParts labels (truth ∷ (end ∷ [])) = (truth.trees ≡ truth_trees labels) × (end.trees ≡ end_trees labels)
+AreParts labels (truth ∷ (end ∷ [])) =
+    (truth.part ≡ 0) × (truth.trees ≡ truth_trees labels) × (end.part ≡ 1) × (end.trees ≡ end_trees labels)
 AreParts labels _ = ⊥

@@ -1,13 +1,13 @@
 //! What an analysis answers.
-use decision_tree::{AffineRank, FamilyList, Tree};
+use decision_tree::{AffineRank, FamilyList};
 
-/// Families for the claim that every run ends, each of which the check left so, and what they say of inputs.
+/// Families that show the parts of a formula, each of which the check left so or needs no check.
 #[derive(Drop)]
 pub struct Certificate {
-    /// The families, in the order in which they were found; there is at least one.
+    /// The families of the smaller parts, one for each, in the order of their numbers.
+    pub parts: FamilyList<AffineRank>,
+    /// The families of the whole formula, in the order in which they were found; there is at least one.
     pub tops: FamilyList<AffineRank>,
-    /// The first claim of theirs for each input, but for families that couldn't be joined to it.
-    pub cover: Tree<AffineRank>,
     /// The turns of advice, each of which asked each adviser once.
     pub turns: u32,
 }

@@ -1,25 +1,11 @@
-//! `AF exit`, and the families of its smaller parts, which are supported by their shape.
+//! The families of the smaller parts of `AF exit`, which are supported by their shape.
 ghost use Rattle.std.specs.Prelude.{◌≡◌, ◌<◌, ◌++◌, IfOk, OnOk, map, replicate};
 ghost use Rattle.decision_tree.specs.Plans.{plan_of};
-ghost use Rattle.ctl_formula.specs.Formulas as formulas;
-ghost use Rattle.ctl_formula.specs.Mirror.{ctl};
 ghost use Rattle.ctl_rounds.specs.Parts.{AreParts, at_once, end_trees, truth_trees};
 
-use ctl_formula::Formula;
 use decision_tree::{AffineRank, Family, Tree, TreeList, Why};
 use linear_cons::Affine;
 use std::alloc::{AllocError, Global};
-
-/// The formula that every run ends.
-pub(crate) fn af_exit(alloc: Global) -> Result<Formula, AllocError>
-    ensures { IfOk result (λ formula. ctl formula ≡ formulas.af_exit) }
-{
-    Ok(Formula::Until {
-        all: true,
-        keep: Box::new(alloc, Formula::True)?,
-        goal: Box::new(alloc, Formula::Exit)?,
-    })
-}
 
 /// The families of the truth and of `exit` for a program of so many labels.
 pub(crate) fn parts(alloc: Global, labels: u32) -> Result<Vec<Family<AffineRank>>, AllocError>
@@ -36,7 +22,8 @@ pub(crate) fn parts(alloc: Global, labels: u32) -> Result<Vec<Family<AffineRank>
 
 // The truth holds at each label.
 fn truth(alloc: Global, labels: u32) -> Result<Family<AffineRank>, AllocError>
-    ensures { IfOk result (λ family. family.trees ≡ truth_trees labels) }
+    ensures number { IfOk result (λ family. family.part ≡ 0) }
+    ensures trees { IfOk result (λ family. family.trees ≡ truth_trees labels) }
 {
     let mut trees = Vec::with_capacity(alloc, labels as usize)?;
     add_copies(alloc, &at_once(Why::Atom), labels, &mut trees)?;
@@ -49,7 +36,8 @@ fn truth(alloc: Global, labels: u32) -> Result<Family<AffineRank>, AllocError>
 // The end is at label 0 alone.
 fn end(alloc: Global, labels: u32) -> Result<Family<AffineRank>, AllocError>
     requires { 0 < labels }
-    ensures { IfOk result (λ family. family.trees ≡ end_trees labels) }
+    ensures number { IfOk result (λ family. family.part ≡ 1) }
+    ensures trees { IfOk result (λ family. family.trees ≡ end_trees labels) }
 {
     let mut trees = Vec::with_capacity(alloc, labels as usize)?;
     trees.push(at_once(Why::End))?;

@@ -1,76 +1,31 @@
 //! Sweeps, and turns of advice.
-ghost use Rattle.std.specs.Prelude.{◌≡◌, ◌↔◌, ◌<◌, ◌≤◌, ℕ, ◌^◌, ◌⊎◌, [], ◌∷◌, ◌++◌, None, All, IfOk, IfSome, IsTrue, OnOk, length, option_map};
-ghost use Rattle.step_meaning.specs.Syntax.{Statements, statements};
+ghost use Rattle.std.specs.Prelude.{◌≡◌, ◌<◌, ◌≤◌, ℕ, ◌^◌, ◌⊎◌, [], ◌∷◌, ◌++◌, All, IfOk, IfSome, OnOk, length, option_map};
+ghost use Rattle.step_meaning.specs.Syntax.{statements};
 ghost use Rattle.backward_sweeps.specs.Doing.{AreOnward};
 ghost use Rattle.control_flow.specs.Labels.{all_labels};
+ghost use Rattle.ctl_formula.specs.Formulas.{af_exit};
+ghost use Rattle.ctl_formula.specs.Mirror.{ctl};
 ghost use Rattle.decision_tree.specs.Extent.{IsWhole};
 ghost use Rattle.decision_tree.specs.Plans.{plan_of};
+ghost use Rattle.tree_support.specs.Told.{told_by};
 ghost use Rattle.ctl_rounds.specs.Asked.{RoseBy};
-ghost use Rattle.ctl_rounds.specs.Bounds.{AreBounding, AreFound, AreFoundSoFar, claims_of};
+ghost use Rattle.ctl_rounds.specs.Covers.{claims_of};
+ghost use Rattle.ctl_rounds.specs.Finding.{AreFoundSoFar, IsTop};
 ghost use Rattle.ctl_rounds.specs.Subjects.{IsSubject};
 
-use crate::certificate::Certificate;
 use crate::checking::Subject;
-use crate::cover::{extended, is_whole};
+use crate::covering::{extended, tree_at_entry};
 use crate::fitting::fitted;
+use crate::found::Found;
 use advice::{Adviser, Hint, consult};
 use backward_sweeps::{Action, actions, swept};
-use decision_tree::{AffineRank, Family, FamilyList, Tree, TreeList};
+use decision_tree::{AffineRank, Family, TreeList};
 use loop_facts::{Facts, holds_under, proposal};
 use num_domain::NumDomain;
-use std::alloc::{AllocError, Global};
-use tree_unify::laws::either_has_the_first_defined_leaf;
+use std::alloc::AllocError;
 
 /// The most turns of advice.
 const TURNS: u32 = 8;
-
-/// Families that the check left so, the one that hints begin from last, and the first claim of theirs for each input, once one of their trees
-/// at the entry could begin a cover.
-#[derive(Drop)]
-pub(crate) struct Found {
-    tops: Vec<Family<AffineRank>>,
-    cover: Option<Tree<AffineRank>>,
-}
-
-impl Found {
-    /// No family.
-    pub(crate) fn none(alloc: Global) -> Found
-        ensures tops { result.tops.items ≡ [] }
-        ensures cover { option_map plan_of result.cover ≡ None }
-    {
-        Found {
-            tops: Vec::new(alloc),
-            cover: None,
-        }
-    }
-
-    /// Whether each input has a claim.
-    fn is_whole(&self) -> bool
-        ensures { IsTrue result ↔ IsWhole (claims_of (option_map plan_of self.now.cover)) }
-    {
-        match &self.cover {
-            Some(cover) => is_whole(cover),
-            None => false,
-        }
-    }
-
-    /// What was found in so many turns of advice.
-    pub(crate) fn certificate(self, turns: u32) -> Certificate
-        ensures found { (vars : ℕ) (body : Statements) → AreFoundSoFar vars body self.tops.items (option_map plan_of self.cover)
-            → 0 < length self.tops.items → AreFound vars body result.tops (plan_of result.cover) }
-        ensures cover { plan_of result.cover ≡ claims_of (option_map plan_of self.cover) }
-        ensures turns { result.turns ≡ turns }
-    {
-        Certificate {
-            tops: FamilyList::of(self.tops),
-            cover: match self.cover {
-                Some(cover) => cover,
-                None => Tree::Bottom,
-            },
-            turns,
-        }
-    }
-}
 
 impl<'a, D: NumDomain> Subject<'a, D> {
     /// What the check leaves of the trees that sweeps find, and then, in at most eight turns as long as some input has no claim, of those
@@ -79,14 +34,17 @@ impl<'a, D: NumDomain> Subject<'a, D> {
         &self,
         advisers: &mut Vec<Box<dyn Adviser>>,
         delay: u32,
-    ) -> Result<Certificate, AllocError>
-        requires subject { IsSubject D.has self.now.program.now self.now.graph.now self.now.inv.now self.now.labels }
+    ) -> Result<Found, AllocError>
+        requires subject { IsSubject D.has self.now.program.now self.now.graph.now self.now.inv.now (ctl self.now.formula.now)
+            self.now.parts.now self.now.labels }
         requires patient { All (λ adviser. asked_of adviser ≤ 2 ^ 32) advisers.old.items }
-        ensures found { IfOk result (λ certificate. AreFound (length self.now.program.now.names) (statements self.now.program.now.body)
-            certificate.tops (plan_of certificate.cover)) }
-        ensures turns { IfOk result (λ certificate. IsWhole (plan_of certificate.cover) ⊎ (certificate.turns ≡ 8)) }
+        ensures found { IfOk result (λ found. AreFoundSoFar (length self.now.program.now.names) (statements self.now.program.now.body)
+            (told_by D.told_bounds D.told_rows D.seen_empty self.now.inv.now) af_exit self.now.parts.now
+            found.tops.items (option_map plan_of found.cover)) }
+        ensures some { IfOk result (λ found. 0 < length found.tops.items) }
+        ensures turns { IfOk result (λ found. IsWhole (claims_of (option_map plan_of found.cover)) ⊎ (found.turns ≡ 8)) }
         ensures asked { (times : ℕ) × (times ≤ 8) × RoseBy (λ adviser. asked_of adviser) times advisers.old.items advisers.new.items
-            × IfOk result (λ certificate. certificate.turns ≡ times) }
+            × IfOk result (λ found. found.turns ≡ times) }
     {
         let actions = actions(self.alloc, self.graph, self.inv)?;
         let mut found = self.begun(&actions, delay)?;
@@ -99,15 +57,18 @@ impl<'a, D: NumDomain> Subject<'a, D> {
             turns += 1;
             self.follow(&actions, &hints, &mut found)?;
         }
-        Ok(found.certificate(turns))
+        found.turns = turns;
+        Ok(found)
     }
 
     /// What the check leaves of the trees that sweeps find.
     fn begun(&self, actions: &[Action], delay: u32) -> Result<Found, AllocError>
-        requires subject { IsSubject D.has self.now.program.now self.now.graph.now self.now.inv.now self.now.labels }
+        requires subject { IsSubject D.has self.now.program.now self.now.graph.now self.now.inv.now (ctl self.now.formula.now)
+            self.now.parts.now self.now.labels }
         requires actions { length actions.now ≡ length (all_labels (statements self.now.program.now.body)) }
         requires onward { AreOnward actions.now }
         ensures found { IfOk result (λ found. AreFoundSoFar (length self.now.program.now.names) (statements self.now.program.now.body)
+            (told_by D.told_bounds D.told_rows D.seen_empty self.now.inv.now) af_exit self.now.parts.now
             found.tops.items (option_map plan_of found.cover)) }
         ensures some { IfOk result (λ found. 0 < length found.tops.items) }
     {
@@ -125,12 +86,15 @@ impl<'a, D: NumDomain> Subject<'a, D> {
         hints: &[Hint],
         found: &mut Found,
     ) -> Result<(), AllocError>
-        requires subject { IsSubject D.has self.now.program.now self.now.graph.now self.now.inv.now self.now.labels }
+        requires subject { IsSubject D.has self.now.program.now self.now.graph.now self.now.inv.now (ctl self.now.formula.now)
+            self.now.parts.now self.now.labels }
         requires actions { length actions.now ≡ length (all_labels (statements self.now.program.now.body)) }
         requires onward { AreOnward actions.now }
         requires found { AreFoundSoFar (length self.now.program.now.names) (statements self.now.program.now.body)
+            (told_by D.told_bounds D.told_rows D.seen_empty self.now.inv.now) af_exit self.now.parts.now
             found.old.tops.items (option_map plan_of found.old.cover) }
         ensures found { OnOk result (AreFoundSoFar (length self.now.program.now.names) (statements self.now.program.now.body)
+            (told_by D.told_bounds D.told_rows D.seen_empty self.now.inv.now) af_exit self.now.parts.now
             found.new.tops.items (option_map plan_of found.new.cover)) }
         ensures some { 0 < length found.old.tops.items → OnOk result (0 < length found.new.tops.items) }
     {
@@ -153,11 +117,12 @@ impl<'a, D: NumDomain> Subject<'a, D> {
         current: &Family<AffineRank>,
         hint: &Hint,
     ) -> Result<Option<Family<AffineRank>>, AllocError>
-        requires subject { IsSubject D.has self.now.program.now self.now.graph.now self.now.inv.now self.now.labels }
+        requires subject { IsSubject D.has self.now.program.now self.now.graph.now self.now.inv.now (ctl self.now.formula.now)
+            self.now.parts.now self.now.labels }
         requires actions { length actions.now ≡ length (all_labels (statements self.now.program.now.body)) }
         requires onward { AreOnward actions.now }
-        ensures { IfOk result (λ found. IfSome found (λ family.
-            AreBounding (length self.now.program.now.names) (statements self.now.program.now.body) family.trees)) }
+        ensures { IfOk result (λ found. IfSome found (IsTop (length self.now.program.now.names) (statements self.now.program.now.body)
+            (told_by D.told_bounds D.told_rows D.seen_empty self.now.inv.now) af_exit self.now.parts.now)) }
     {
         let trees = current.trees.items();
         let variables = self.program.names.items().len() as u32;
@@ -177,10 +142,11 @@ impl<'a, D: NumDomain> Subject<'a, D> {
 
     /// What the check leaves of the trees that are proposed, where those that can't be printed claim nothing.
     fn left_of(&self, trees: TreeList<AffineRank>) -> Result<Family<AffineRank>, AllocError>
-        requires subject { IsSubject D.has self.now.program.now self.now.graph.now self.now.inv.now self.now.labels }
+        requires subject { IsSubject D.has self.now.program.now self.now.graph.now self.now.inv.now (ctl self.now.formula.now)
+            self.now.parts.now self.now.labels }
         requires labels { length trees ≡ length (all_labels (statements self.now.program.now.body)) }
-        ensures { IfOk result (λ family.
-            AreBounding (length self.now.program.now.names) (statements self.now.program.now.body) family.trees) }
+        ensures { IfOk result (IsTop (length self.now.program.now.names) (statements self.now.program.now.body)
+            (told_by D.told_bounds D.told_rows D.seen_empty self.now.inv.now) af_exit self.now.parts.now) }
     {
         self.checked(fitted(self.alloc, trees, &self.program.names)?)
     }
@@ -191,16 +157,20 @@ impl<'a, D: NumDomain> Subject<'a, D> {
         family: Family<AffineRank>,
         found: &mut Found,
     ) -> Result<(), AllocError>
-        requires subject { IsSubject D.has self.now.program.now self.now.graph.now self.now.inv.now self.now.labels }
-        requires family { AreBounding (length self.now.program.now.names) (statements self.now.program.now.body) family.trees }
+        requires subject { IsSubject D.has self.now.program.now self.now.graph.now self.now.inv.now (ctl self.now.formula.now)
+            self.now.parts.now self.now.labels }
+        requires family { IsTop (length self.now.program.now.names) (statements self.now.program.now.body)
+            (told_by D.told_bounds D.told_rows D.seen_empty self.now.inv.now) af_exit self.now.parts.now family }
         requires found { AreFoundSoFar (length self.now.program.now.names) (statements self.now.program.now.body)
+            (told_by D.told_bounds D.told_rows D.seen_empty self.now.inv.now) af_exit self.now.parts.now
             found.old.tops.items (option_map plan_of found.old.cover) }
         ensures found { OnOk result (AreFoundSoFar (length self.now.program.now.names) (statements self.now.program.now.body)
+            (told_by D.told_bounds D.told_rows D.seen_empty self.now.inv.now) af_exit self.now.parts.now
             found.new.tops.items (option_map plan_of found.new.cover)) }
         ensures tops { OnOk result (found.new.tops.items ≡ found.old.tops.items ++ family ∷ []) }
+        ensures turns { found.new.turns ≡ found.old.turns }
     {
-        either_has_the_first_defined_leaf::<AffineRank>();
-        let entry = self.at_entry(&family);
+        let entry = tree_at_entry(self.graph, &family);
         match extended(self.alloc, &found.cover, entry)? {
             Some(next) => found.cover = Some(next),
             None => {}

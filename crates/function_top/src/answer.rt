@@ -1,10 +1,18 @@
 //! From a source to what is to be written.
 
-ghost use Rattle.std.specs.Prelude.{◌≡◌, ◌≤◌, ◌<◌, ◌+◌, ◌^◌, ℕ, List, All, IfOk, IfSome, OnErr, MatchOption, length};
+ghost use Rattle.std.specs.Prelude.{◌≡◌, ◌≤◌, ◌<◌, ◌+◌, ◌^◌, ◌⊎◌, ℕ, List, All, IfOk, IfSome, OnErr, MatchOption, Some, length, pos};
 ghost use Rattle.outside.specs.Faults.{Rose};
 ghost use Rattle.outside.specs.Source.{ConsumesUpTo};
+ghost use Rattle.step_meaning.specs.Countdown.{IsCountdown};
+ghost use Rattle.step_meaning.specs.Counts.{HasNoLoop};
 ghost use Rattle.step_meaning.specs.Syntax.{statements};
+ghost use Rattle.linear_cons.specs.Functions.{constant_of};
+ghost use Rattle.count_down.specs.Candidates.{last_steps};
+ghost use Rattle.count_down.specs.Trees.{ranked};
+ghost use Rattle.decision_tree.specs.Extent.{ComplementsFit, IsTreeOver, IsWhole};
+ghost use Rattle.decision_tree.specs.Plans.{plan_of, rank_of};
 ghost use Rattle.ctl_rounds.specs.Asked.{RoseBy};
+ghost use Rattle.ctl_rounds.specs.Bounds.{BoundsInputs};
 ghost use Rattle.function_top.specs.declared.order.Order.{Order};
 ghost use Rattle.function_top.specs.Due.{IsDueOn, IsDueOnProgram};
 ghost use Rattle.function_top.specs.Refusals.{fault_text};
@@ -17,7 +25,10 @@ use crate::report::{fault as fault_line, report};
 use crate::status::Status;
 use advice::Adviser;
 use control_flow::{FlowFault, Graph};
-use ctl_rounds::analyse;
+use ctl_formula::Formula;
+use ctl_rounds::laws::{covers_can_be_printed, covers_hold};
+use ctl_rounds::{analyse, cover};
+use decision_tree::{AffineRank, Tree};
 use forward_inv::{Inv, invariants};
 use interval_dom::Boxes;
 use num_domain::NumDomain;
@@ -27,6 +38,7 @@ use poly_dom::Poly;
 use source_parse::{a_program_has_no_fault, parse};
 use std::alloc::{AllocError, Global};
 use step_meaning::Program;
+use tree_support::laws::invariants_tell_the_truth;
 
 /// Reads the source, and answers what is to be written for it, or `None` where a read failed. The only error is want of memory.
 pub fn answer<S: Source>(
@@ -137,9 +149,38 @@ fn analysed<D: NumDomain>(
         → RoseBy (λ adviser. asked_of adviser) 8 advisers.old.items advisers.new.items) }
 {
     let exact = exact(alloc, order.delay, graph, program)?;
+    let cover = bounded::<D>(alloc, order.delay, graph, program, advisers)?;
+    Ok(report(alloc, exact, &cover, &program.names)?)
+}
+
+// The cover of a certificate that every run ends, over one kind of sets.
+fn bounded<D: NumDomain>(
+    alloc: Global,
+    delay: u32,
+    graph: &Graph,
+    program: &Program,
+    advisers: &mut Vec<Box<dyn Adviser>>,
+) -> Result<Tree<AffineRank>, AllocError>
+    requires names { graph.now.names ≡ program.now.names }
+    requires body { statements graph.now.body ≡ statements program.now.body }
+    requires patient { All (λ adviser. asked_of adviser ≤ 2 ^ 32) advisers.old.items }
+    ensures bounds { IfOk result (λ cover. BoundsInputs (length program.now.names) (statements program.now.body) (plan_of cover)) }
+    ensures over { IfOk result (λ cover. IsTreeOver (length program.now.names) (plan_of cover)) }
+    ensures complements { IfOk result (λ cover. ComplementsFit (plan_of cover)) }
+    ensures asked { (times : ℕ) × (times ≤ 8) × RoseBy (λ adviser. asked_of adviser) times advisers.old.items advisers.new.items
+        × IfOk result (λ cover. IsWhole (plan_of cover) ⊎ (times ≡ 8)) }
+    ensures countdown { IsCountdown (statements program.now.body) → IfOk result (λ cover. IsWhole (plan_of cover)) }
+    ensures loopless { HasNoLoop (statements program.now.body) → IfOk result (λ cover.
+        rank_of (plan_of cover) ≡ Some (ranked (constant_of (pos (last_steps (statements program.now.body)))))) }
+{
     let inv: Inv<D> = invariants(alloc, graph)?;
-    let certificate = analyse(alloc, graph, program, &inv, advisers, order.delay)?;
-    Ok(report(alloc, exact, &certificate.cover, &program.names)?)
+    let formula = Formula::af_exit(alloc)?;
+    let certificate = analyse(alloc, graph, program, &inv, &formula, advisers, delay)?;
+    invariants_tell_the_truth::<D>();
+    covers_hold();
+    covers_can_be_printed();
+    let cover = cover(alloc, &certificate, graph)?;
+    Ok(cover)
 }
 
 // The line of a text of more than 65,536 bytes.

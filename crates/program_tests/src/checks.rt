@@ -396,19 +396,8 @@ fn formula_of(alloc: Global, part: Part) -> Result<Formula, AllocError> {
     match part {
         Truth => Ok(Formula::True),
         Exit => Ok(Formula::Exit),
-        Ending => af_exit(alloc),
+        Ending => Formula::af_exit(alloc),
     }
-}
-
-/// `AF exit`.
-fn af_exit(alloc: Global) -> Result<Formula, AllocError> {
-    let keep = Box::new(alloc, Formula::True)?;
-    let goal = Box::new(alloc, Formula::Exit)?;
-    Ok(Formula::Until {
-        all: true,
-        keep,
-        goal,
-    })
 }
 
 /// Each tree has fewer leaves than a number can count.

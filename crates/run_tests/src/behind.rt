@@ -68,6 +68,27 @@ fn what_stands_behind_a_loop_adds_its_steps(rt: HostRuntime) -> Result<(), Fail>
     Ok(())
 }
 
+/// Two loops behind each other: from two turns of the first on each turn of either takes two steps, and each loop has a last test.
+const TWO_LOOPS: [&str; 3] = [
+    "while (x > 0) x = x - 1; while (y > 0) y = y - 1;",
+    "while (x != 0) x = x - 1; while (y > 0) y = y - 1;",
+    "while (x != 0) x = x - 1; while (y != 0) y = y - 1;",
+];
+
+#[test]
+fn two_loops_behind_each_other_are_both_bounded(rt: HostRuntime) -> Result<(), Fail> {
+    let alloc = rt.alloc();
+    let line = "\nx - 2 >= 0 and y - 1 >= 0: within 2*x + 2*y + 2 steps\n";
+    for turning in TWO_LOOPS {
+        let text = format!(in alloc; "int main() {{ int x, y; {turning} }}")?;
+        assert!(rt;
+            is_reported(alloc, NO_OPTIONS, &text, line)?,
+            "{line} of {text}"
+        );
+    }
+    Ok(())
+}
+
 /// Whether the report on the text has the line.
 fn is_reported(alloc: Global, words: &[&str], text: &str, line: &str) -> Result<bool, AllocError> {
     let (_, written) = outcome_of(alloc, words, text.as_bytes())?;
@@ -79,8 +100,9 @@ fn is_reported(alloc: Global, words: &[&str], text: &str, line: &str) -> Result<
     Ok(false)
 }
 
-/// Hints on a loop before another, on one of two sides, on one that is left by a `return`, and behind a test of a loop in the body.
-const CASES: [Case; 4] = [
+/// Hints on a loop before another, on one of two sides, on one that is left by a `return`, behind a test of a loop in the body, and on the
+/// first of two loops.
+const CASES: [Case; 5] = [
     (
         "int main() { int x, y, z; if (x < -x) { while (z > 0) { if (x - y < 3) { y = z; } y = x + z; } } while (x > 0) x = x - 1; }",
         &["function", "--delay", "1"],
@@ -113,6 +135,15 @@ const CASES: [Case; 4] = [
         Status::AllInputs,
         "exact, 0 tests:\n-x + 4 >= 0: exactly 4 steps\n\
         proved:\n-x + 4 >= 0: within 4 steps\nx - 5 >= 0: within x + 7 steps\nunknown:\nverdict: all inputs\n",
+    ),
+    (
+        "int main() { int x, y, z; y = y - 2; do { x = x - 1; z = 1 - y; } while (x > -2); if (y == x + z) { if (y >= 4) if (z < z + x) { x = y; } else if (z >= 0) ; else z = z - 1; } else if (y < -2) if (z < 4) ; else ; else if (y < 2) { ; } else ; while (x > 0) x = x - 1; }",
+        &["function", "--delay", "1"],
+        Status::AllInputs,
+        "exact, 1 tests:\n\
+        proved:\n-x + 2*y - 4 >= 0 and -x - 1 >= 0 and -y + 5 >= 0 and x - 2*y + 4 >= 0: within 7 steps\n\
+        -x + 2*y - 5 >= 0 and -x - 1 >= 0: within 9 steps\n-x - 1 >= 0 and x - 2*y + 3 >= 0: within 9 steps\n\
+        x >= 0: within 3*x + 13 steps\nunknown:\nverdict: all inputs\n",
     ),
 ];
 

@@ -10,10 +10,11 @@ mod programs;
 
 use crate::fault::Fault;
 use control_flow::Graph;
+use ctl_formula::Formula;
 use decision_tree::{AffineRank, Family, Tree, TreeList};
 use forward_inv::{Inv, invariants};
 use interval_dom::Boxes;
-use made::{Claims, af_exit, line_trees, loop_trees, parts};
+use made::{Claims, line_trees, loop_trees, parts};
 use programs::{line, loops};
 use std::alloc::{AllocError, Global};
 use tree_check::check;
@@ -89,7 +90,7 @@ fn checked(
     times: u32,
 ) -> Result<Outcome, Fault> {
     let inv: Inv<Boxes> = invariants(alloc, graph)?;
-    let formula = af_exit(alloc)?;
+    let formula = Formula::af_exit(alloc)?;
     let parts = parts(alloc, graph.labels())?;
     let mut outcome = Outcome::NOTHING;
     for _ in 0..times {

@@ -3,7 +3,7 @@ use Rattle.std.proofs.Common.{◌≡◌, ℕ, zero, suc, ◌≤◌, pos, inl, in
 use Rattle.std.proofs.lemmas.Int.{ints}
 use Rattle.step_meaning.specs.Syntax.{Statements}
 use Rattle.step_meaning.specs.Outcome.{Store}
-use Rattle.step_meaning.specs.Run.{EndsWithinBound, IsInput, start}
+use Rattle.step_meaning.specs.Run.{start}
 use Rattle.step_meaning.specs.Valid.{IsBody}
 use Rattle.step_meaning.proofs.Progress.{trichotomy}
 use Rattle.linear_cons.specs.declared.affine.Affine.{Affine}
@@ -17,16 +17,13 @@ use Rattle.decision_tree.specs.declared.reason.Pick.{Pick}
 use Rattle.decision_tree.specs.declared.reason.Pick.TheVariants.{All as Every, Yes, No, Value}
 use Rattle.decision_tree.specs.declared.reason.Why.{Why}
 use Rattle.decision_tree.specs.declared.reason.Why.TheVariants.{End, Atom, Both, Left, Right, Step as Stepping}
-use Rattle.decision_tree.specs.Evaluation.{eval}
-use Rattle.decision_tree.specs.Plans.{leaf}
-use Rattle.ctl_formula.specs.Formulas.{Ctl, truth, falsity, exit, not_exit, always, never, least, negation, both, either, next, until, weak, af_exit}
+use Rattle.ctl_formula.specs.Formulas.{Ctl, truth, falsity, exit, not_exit, always, never, least, negation, both, either, next, until, weak}
 use Rattle.ctl_formula.specs.Parts.{number_from}
 use Rattle.ctl_formula.specs.Satisfaction.{Sat}
 use Rattle.ctl_formula.proofs.Alike.{sat_respects, within_respects}
 use Rattle.ctl_formula.proofs.Classical.{classically}
-use Rattle.ctl_formula.proofs.Ends.{af_exit_ends}
 use Rattle.forward_inv.specs.States.{IsReachedState, entered}
-use Rattle.tree_support.specs.Certificates.{IsShown, ShowsEnding, SmallerAreShown, affine_ranks, operands_from}
+use Rattle.tree_support.specs.Certificates.{IsShown, SmallerAreShown, affine_ranks, operands_from}
 use Rattle.tree_support.specs.Flow.{Arc, flow_of}
 use Rattle.tree_support.specs.Forming.{Formed, given}
 use Rattle.tree_support.specs.Setting.{Setting, Trees}
@@ -196,39 +193,15 @@ module _ (vars : ℕ) (body : Statements) (told : Told) (few : vars ≤ 15) (val
         → IsShown body told f (operands k f) family → IsSound vars body f family
     sound k f smaller family shown = started f family (holds k f smaller family shown)
 
-  within : (all : Bool) (f g : Ctl) (parts : ℕ → Trees AffineRank) (family : Trees AffineRank) → HoldsWhere m (parts 0) (Sat f)
-      → HoldsWhere m (parts 1) (Sat g) → IsShown body told (until all f g) parts family → IsSoundWithin vars body (until all f g) family
-  within all f g parts family kept met shown =
-      let at = until_within m family shown.spares all f g parts kept met shown.supported in record {
-        states = at;
-        inputs = λ input why rank is_input is.
-            within_respects (value_at rank.value input) (until all f g) (configuration body (entry_of body) input) (start body input)
-            (entry_is_start body, refl) (at (entry_of body) input why rank (entered input is_input) is);
-      }
-
   pub sound_within : (families : ℕ → Trees AffineRank) (k : ℕ) (all : Bool) (f g : Ctl) → SmallerAreShown body told families k (until all f g)
       → (family : Trees AffineRank) → IsShown body told (until all f g) (operands_from families k (until all f g)) family
       → IsSoundWithin vars body (until all f g) family
   sound_within families k all f g smaller family shown =
       let kept = holds families k f smaller.0 (families (number_from k f)) smaller.1 in
       let met = holds families (suc (number_from k f)) g smaller.2 (families (number_from (suc (number_from k f)) g)) smaller.3 in
-      within all f g (operands_from families k (until all f g)) family kept met shown
-
-  -- ---- every run ends
-
-  module _ (parts : ℕ → Trees AffineRank) (family : Trees AffineRank) (shows : ShowsEnding body told parts family) where
-    ending : IsSoundWithin vars body af_exit family
-    ending =
-        within true truth exit parts family (λ label store reached claim. tt)
-        (holds_by m (parts 1) shows.inner exit (exit_by m (parts 1) shows.inner) shows.goal)
-        (record { supported = shows.whole; spares = shows.spares })
-
-    pub bounds : (label : ℕ) (store : Store) (why : Why) (rank : AffineRank) → IsReachedState vars body label store
-        → eval (family label) store ≡ leaf why rank → EndsWithinBound (value_at rank.value store) (configuration body label store)
-    bounds label store why rank reached is =
-        (af_exit_ends (value_at rank.value store) (configuration body label store)).0 (ending.states label store why rank reached is)
-
-    pub bounds_from_start : (input : Store) (why : Why) (rank : AffineRank) → IsInput vars input → eval (family (entry_of body)) input ≡ leaf why rank
-        → EndsWithinBound (value_at rank.value input) (start body input)
-    bounds_from_start input why rank is_input is =
-        (af_exit_ends (value_at rank.value input) (start body input)).0 (ending.inputs input why rank is_input is)
+      let at = until_within m family shown.spares all f g (operands_from families k (until all f g)) kept met shown.supported in record {
+        states = at;
+        inputs = λ input why rank is_input is.
+            within_respects (value_at rank.value input) (until all f g) (configuration body (entry_of body) input) (start body input)
+            (entry_is_start body, refl) (at (entry_of body) input why rank (entered input is_input) is);
+      }

@@ -6,7 +6,7 @@ use Rattle.decision_tree.specs.contracts.affine_rank.AffineRankRank.TheImpl as a
 use Rattle.decision_tree.specs.declared.affine_rank.AffineRank.{AffineRank}
 use Rattle.decision_tree.specs.declared.rank.Rank.{Ghosts as Ranks}
 use Rattle.decision_tree.specs.Plans.{Plan, bottom, top, leaf, branch}
-use Rattle.ctl_formula.specs.Formulas.{Ctl, truth, falsity, exit, not_exit, always, never, least, negation, both, either, next, until, weak, af_exit}
+use Rattle.ctl_formula.specs.Formulas.{Ctl, truth, falsity, exit, not_exit, always, never, least, negation, both, either, next, until, weak}
 use Rattle.ctl_formula.specs.Parts.{number_from, operand_from}
 use Rattle.tree_support.specs.Flow.{chosen_place}
 use Rattle.tree_support.specs.Setting.{Trees}
@@ -70,11 +70,3 @@ pub record IsCertificate (body : Statements) (told : Told) (formula : Ctl) (fami
   where
     pub smaller : SmallerAreShown body told families 0 formula
     pub whole : All (IsShown body told formula (operands_from families 0 formula)) tops
-
--- The family is supported for `AF exit` over those of its parts, the truth and `exit`, of which the second is supported too, and leaves
--- alone the place where a value is kept while it is chosen. The family of the truth has nothing to show.
-pub record ShowsEnding (body : Statements) (told : Told) (parts : ℕ → Trees AffineRank) (family : Trees AffineRank) : Type 0 where
-  pub inner : ℕ → Trees AffineRank
-  pub goal : IsSupported affine_ranks (setting_of body told exit inner) (parts 1)
-  pub whole : IsSupported affine_ranks (setting_of body told af_exit parts) family
-  pub spares : (label : ℕ) → SparesPlace chosen_place (family label)

@@ -1,21 +1,13 @@
 //! Laws of the definitions, each the contract of a function that does nothing: why what a supported family says is true.
 ghost use Rattle.std.specs.Prelude.{◌≡◌, ◌<◌, ◌≤◌, ℕ, Bool, List, All, AllPairs};
 ghost use Rattle.step_meaning.specs.Syntax.{Statements};
-ghost use Rattle.step_meaning.specs.Outcome.{Store};
-ghost use Rattle.step_meaning.specs.Run.{EndsWithinBound, IsInput, start};
 ghost use Rattle.step_meaning.specs.Valid.{IsBody};
-ghost use Rattle.linear_cons.specs.Functions.{value_at};
-ghost use Rattle.control_flow.specs.Edges.{configuration};
-ghost use Rattle.control_flow.specs.Labels.{entry_of};
 ghost use Rattle.ctl_formula.specs.Formulas.{Ctl, until};
 ghost use Rattle.decision_tree.specs.declared.affine_rank.AffineRank.{AffineRank};
-ghost use Rattle.decision_tree.specs.declared.reason.Why.{Why};
-ghost use Rattle.decision_tree.specs.Evaluation.{eval};
 ghost use Rattle.decision_tree.specs.Paths.{leaf_numbered, path_of};
-ghost use Rattle.decision_tree.specs.Plans.{leaf, leaves_of, top};
+ghost use Rattle.decision_tree.specs.Plans.{leaves_of, top};
 ghost use Rattle.forward_inv.specs.Invariants.{AreInvariants};
-ghost use Rattle.forward_inv.specs.States.{IsReachedState};
-ghost use Rattle.tree_support.specs.Certificates.{IsShown, ShowsEnding, SmallerAreShown, operands_from};
+ghost use Rattle.tree_support.specs.Certificates.{IsShown, SmallerAreShown, operands_from};
 ghost use Rattle.tree_support.specs.Elimination.{EachOfSet, Eliminates, IsByPoint, IsByStore, IsElsewhere, KeepsSet, cause_of, within};
 ghost use Rattle.tree_support.specs.Setting.{Setting, Trees};
 ghost use Rattle.tree_support.specs.Soundness.{IsSound, IsSoundWithin};
@@ -43,19 +35,6 @@ pub fn shown_formulas_hold()
         → (families : ℕ → Trees AffineRank) (k : ℕ) (all : Bool) (keep goal : Ctl) → SmallerAreShown body told families k (until all keep goal)
         → (family : Trees AffineRank) → IsShown body told (until all keep goal) (operands_from families k (until all keep goal)) family
         → IsSoundWithin vars body (until all keep goal) family }
-{}
-
-/// Where a supported family for `AF exit` is defined, every run ends within the value of the leaf's rank, which is a natural: from each
-/// state that is reached, and so from the start with each input.
-pub fn supported_families_bound_runs()
-    ensures states { (vars : ℕ) (body : Statements) (told : Told) → vars ≤ 15 → IsBody vars body → IsTrueOfReached vars body told
-        → (parts : ℕ → Trees AffineRank) (family : Trees AffineRank) → ShowsEnding body told parts family
-        → (label : ℕ) (store : Store) (why : Why) (rank : AffineRank) → IsReachedState vars body label store → eval (family label) store ≡ leaf why rank
-        → EndsWithinBound (value_at rank.value store) (configuration body label store) }
-    ensures inputs { (vars : ℕ) (body : Statements) (told : Told) → vars ≤ 15 → IsBody vars body → IsTrueOfReached vars body told
-        → (parts : ℕ → Trees AffineRank) (family : Trees AffineRank) → ShowsEnding body told parts family
-        → (input : Store) (why : Why) (rank : AffineRank) → IsInput vars input → eval (family (entry_of body)) input ≡ leaf why rank
-        → EndsWithinBound (value_at rank.value input) (start body input) }
 {}
 
 /// A legal elimination gives up each leaf that it lists, for the reason that it names, and lists none twice; all other leaves, all paths

@@ -1,9 +1,4 @@
 //! Trees for the labels of the programs, and what they are checked for.
-ghost use Rattle.std.specs.Prelude.{◌≡◌, IfOk};
-ghost use Rattle.ctl_formula.specs.Formulas as formulas;
-ghost use Rattle.ctl_formula.specs.Mirror.{ctl};
-
-use ctl_formula::Formula;
 use decision_tree::{AffineRank, Family, Pick, Tree, TreeList, Why};
 use linear_cons::{Affine, Row, RowKind};
 use std::alloc::{AllocError, Global};
@@ -90,18 +85,7 @@ fn leaf(why: Why, rank: &Affine) -> Tree<AffineRank> {
     }
 }
 
-/// `AF exit`.
-pub fn af_exit(alloc: Global) -> Result<Formula, AllocError>
-    ensures { IfOk result (λ formula. ctl formula ≡ formulas.af_exit) }
-{
-    Ok(Formula::Until {
-        all: true,
-        keep: Box::new(alloc, Formula::True)?,
-        goal: Box::new(alloc, Formula::Exit)?,
-    })
-}
-
-/// The families of its parts for so many labels: the truth holds everywhere, and the end is at label 0.
+/// The families of the parts of `AF exit` for so many labels: the truth holds everywhere, and the end is at label 0.
 pub fn parts(alloc: Global, labels: u32) -> Result<Vec<Family<AffineRank>>, AllocError> {
     let none = Affine::constant(0);
     let mut truth = Vec::new(alloc);

@@ -1,5 +1,4 @@
-use Rattle.std.proofs.Common.{◌+◌, length, rules, arith}
-use Rattle.step_meaning.specs.Syntax.{statements}
+use Rattle.std.proofs.Common.{◌+◌, rules, arith}
 use Rattle.ctl_rounds.proofs.Asking.{asked_again, can_be_asked, unasked}
 use Rattle.ctl_rounds.proofs.checking.Subject.advised.Goals as goal
 
@@ -43,7 +42,3 @@ loop-turns-preserved g c =
       asked_again (λ a. (goal.Adviser-dyn g (a.vtable, a.value)).asked_of a.value) c.loop-turns.turns c.args.advisers.now.items
           c.loop-turns.advisers.items c.consult.new.advisers.items c.loop-turns.invariant.3 c.in_ok-hints.ensures.asked,
     )
-
-pub returns-clause-found : goal.returns-clause-found
-returns-clause-found g c =
-    c.certificate.ensures.found (length c.args.self.now.program.now.names) (statements c.args.self.now.program.now.body) c.loop-turns.invariant.0 c.loop-turns.invariant.1

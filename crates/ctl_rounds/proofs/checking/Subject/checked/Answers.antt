@@ -1,69 +1,68 @@
-use Rattle.std.proofs.Common.{ℕ, length, subst, ◌∙◌}
+use Rattle.std.proofs.Common.{ℕ, List, length, subst, ◌∙◌}
 use Rattle.step_meaning.specs.Syntax.{statements}
-use Rattle.control_flow.specs.Labels.{all_labels, entry_of}
 use Rattle.count_down.proofs.Over.{over_spares}
 use Rattle.ctl_formula.specs.Formulas.{af_exit}
+use Rattle.decision_tree.specs.Extent.{ComplementsFit, IsTreeOver}
+use Rattle.decision_tree.specs.declared.affine_rank.AffineRank.{AffineRank}
+use Rattle.decision_tree.specs.declared.family.Family.{Family}
 use Rattle.tree_check.specs.Checking.{families_of}
 use Rattle.tree_support.specs.Certificates.{SparesPlace, affine_ranks}
+use Rattle.tree_support.specs.declared.dropped.Dropped.{Dropped}
 use Rattle.tree_support.specs.Elimination.{Eliminates}
 use Rattle.tree_support.specs.Flow.{chosen_place}
-use Rattle.tree_support.specs.Setting.{trees_in}
+use Rattle.tree_support.specs.Setting.{Setting, trees_in}
 use Rattle.tree_support.specs.Support.{IsSupported}
 use Rattle.tree_support.specs.Told.{setting_of, told_by}
-use Rattle.ctl_rounds.specs.Checked.{IsChecked}
-use Rattle.ctl_rounds.specs.Parts.{AreParts}
-use Rattle.ctl_rounds.proofs.Bounding.{complements, over_variables, shows}
 use Rattle.ctl_rounds.proofs.Fit.{fit_at}
-use Rattle.ctl_rounds.proofs.Supported.{end_supported, truth_whole}
+use Rattle.ctl_rounds.proofs.Kept.{complements_undefined, each_kept, over_undefined}
+use Rattle.ctl_rounds.proofs.Showing.{are_operands}
 use Rattle.ctl_rounds.proofs.checking.Subject.checked.Goals as goal
 
-pub returns-clause-checked : goal.returns-clause-checked
-returns-clause-checked g c =
-    let body = statements c.args.self.now.program.now.body in
+pub returns-clause-legal : goal.returns-clause-legal
+returns-clause-legal g c =
     let told = told_by g.D.NumDomain.told_bounds g.D.NumDomain.told_rows g.D.NumDomain.seen_empty c.args.self.now.inv.now in
-    let parts = c.in_ok-parts.parts.items in
+    let families = families_of c.args.self.now.parts.now in
+    let graph = statements c.args.self.now.graph.now.body in
     let old = c.args.trees in
     let new = c.check.new.family.trees in
     let drops = c.in_ok-_dropped._dropped.items in
-    let same = c.requires.subject.body in
-    let graph = statements c.args.self.now.graph.now.body in
-    let are : AreParts (length (all_labels body)) parts =
-    subst (λ n. AreParts n parts) c.requires.subject.labels c.in_ok-parts.ensures in
-    let legal : Eliminates affine_ranks (setting_of graph told af_exit (families_of parts)) (trees_in old) drops (trees_in new) =
-    rw (c.deref.ensures.value, c.in_ok-formula.ensures) at c.in_ok-_dropped.ensures.legal in
-    let supported : IsSupported affine_ranks (setting_of graph told af_exit (families_of parts)) (trees_in new) =
-    rw (c.deref.ensures.value, c.in_ok-formula.ensures) at c.in_ok-_dropped.ensures.supported in
-    record {
-      parts = families_of parts;
-      truth = truth_whole (length (all_labels body)) parts are;
-      inner = families_of parts;
-      goal = end_supported body told (families_of parts) (length (all_labels body)) parts are;
-      drops = drops;
-      legal = subst (λ b. Eliminates affine_ranks (setting_of b told af_exit (families_of parts)) (trees_in old) drops (trees_in new)) same legal;
-      supported = subst (λ b. IsSupported affine_ranks (setting_of b told af_exit (families_of parts)) (trees_in new)) same supported;
-      labels = c.check.ensures.labels;
-    }
+    let legal : Eliminates affine_ranks (setting_of graph told af_exit families) (trees_in old) drops (trees_in new) =
+    rw c.requires.subject.formula at c.in_ok-_dropped.ensures.legal in
+    (drops, subst (λ b. Eliminates affine_ranks (setting_of b told af_exit families) (trees_in old) drops (trees_in new)) c.requires.subject.body legal)
 
-pub returns-clause-bounding : goal.returns-clause-bounding
-returns-clause-bounding g c =
+pub returns-clause-top : goal.returns-clause-top
+returns-clause-top g c =
     let program = c.args.self.now.program.now in
     let body = statements program.body in
     let vars = length program.names in
-    let valid = program.valid in
     let told = told_by g.D.NumDomain.told_bounds g.D.NumDomain.told_rows g.D.NumDomain.seen_empty c.args.self.now.inv.now in
+    let parts : List (Family AffineRank) = c.args.self.now.parts.now in
+    let families = families_of parts in
+    let graph = statements c.args.self.now.graph.now.body in
     let old = c.args.trees in
     let new = c.check.new.family.trees in
-    let is : IsChecked body told old new = returns-clause-checked g c in
-    let truth = c.invariants_tell_the_truth.ensures vars body c.args.self.now.inv.now c.requires.subject.invariants in
-    let spares : (label : ℕ) → SparesPlace chosen_place (trees_in old label) = λ label. over_spares vars chosen_place valid.few (trees_in old label) ((fit_at vars old c.requires.fit label).over) in
-    let ending = shows body told old new is
-    (c.eliminations_spare_places.ensures (setting_of body told af_exit is.parts) (trees_in old) (trees_in new) is.drops is.legal chosen_place spares) in
+    let at : Setting AffineRank = setting_of body told af_exit families in
+    let eliminated = returns-clause-legal g c in
+    let drops : List Dropped = eliminated.0 in
+    let legal : Eliminates affine_ranks at (trees_in old) drops (trees_in new) = eliminated.1 in
+    let supported : IsSupported affine_ranks (setting_of graph told af_exit families) (trees_in new) =
+    rw c.requires.subject.formula at c.in_ok-_dropped.ensures.supported in
+    let whole : IsSupported affine_ranks at (trees_in new) =
+    subst (λ b. IsSupported affine_ranks (setting_of b told af_exit families) (trees_in new)) c.requires.subject.body supported in
+    let fit = fit_at vars old c.requires.fit in
+    let spares : (label : ℕ) → SparesPlace chosen_place (trees_in old label) =
+    λ label. over_spares vars chosen_place program.valid.few (trees_in old label) ((fit label).over) in
     record {
-      labels = is.labels ∙ c.requires.labels;
-      states = c.supported_families_bound_runs.ensures.states vars body told valid.few valid.well_sorted truth is.parts (trees_in new) ending;
-      entry = record {
-        inputs = c.supported_families_bound_runs.ensures.inputs vars body told valid.few valid.well_sorted truth is.parts (trees_in new) ending;
-        complements = complements body told old new is (entry_of body) ((fit_at vars old c.requires.fit (entry_of body)).complements);
-        variables = over_variables body told old new is vars (λ label. (fit_at vars old c.requires.fit label).over) (entry_of body);
+      shown = record {
+        supported = subst (λ operands. IsSupported affine_ranks (setting_of body told af_exit operands) (trees_in new))
+            (are_operands c.args.self.now.labels parts c.requires.subject.parts) whole;
+        spares = c.eliminations_spare_places.ensures at (trees_in old) (trees_in new) drops legal chosen_place spares;
+      };
+      number = c.check.ensures.part;
+      fits = record {
+        labels = c.check.ensures.labels ∙ c.requires.labels;
+        over = each_kept affine_ranks at (IsTreeOver vars) (over_undefined vars) drops (trees_in old) (trees_in new) legal (λ label. (fit label).over);
+        complements = each_kept affine_ranks at ComplementsFit complements_undefined drops (trees_in old) (trees_in new) legal
+            (λ label. (fit label).complements);
       };
     }

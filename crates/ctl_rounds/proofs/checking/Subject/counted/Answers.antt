@@ -1,14 +1,16 @@
-use Rattle.std.proofs.Common.{◌≡◌, ◌<◌, ◌+◌, None, [], ◌∷◌, ◌++◌, length, option_map, ap, subst, sym, ◌∙◌, arith}
+use Rattle.std.proofs.Common.{◌≡◌, ◌<◌, None, List, [], ◌∷◌, ◌++◌, length, option_map, ap, subst, sym, ◌∙◌, arith}
 use Rattle.step_meaning.specs.Syntax.{statements}
 use Rattle.control_flow.specs.Labels.{entry_of}
+use Rattle.ctl_formula.specs.Formulas.{af_exit}
 use Rattle.decision_tree.specs.Extent.{IsWhole}
 use Rattle.decision_tree.specs.Plans.{plan_of, rank_of}
+use Rattle.tree_check.specs.Checking.{families_of}
+use Rattle.tree_support.specs.declared.dropped.Dropped.{Dropped}
 use Rattle.tree_support.specs.Setting.{trees_in}
-use Rattle.tree_support.specs.Told.{told_by}
-use Rattle.ctl_rounds.specs.Bounds.{Covers, MayBegin, at_entry}
-use Rattle.ctl_rounds.specs.Checked.{IsChecked}
-use Rattle.ctl_rounds.proofs.Adding.{begins, nodes_of}
-use Rattle.ctl_rounds.proofs.Bounding.{grounded, short, unchanged}
+use Rattle.tree_support.specs.Told.{setting_of, told_by}
+use Rattle.ctl_rounds.specs.Covers.{Covers, MayBegin, at_entry, claims_of}
+use Rattle.ctl_rounds.proofs.Certifying.{grounded, short, unchanged}
+use Rattle.ctl_rounds.proofs.CoverLaws.{begins, nodes_of}
 use Rattle.ctl_rounds.proofs.Fit.{all_fit}
 use Rattle.ctl_rounds.proofs.checking.Subject.counted.Given as given
 use Rattle.ctl_rounds.proofs.checking.Subject.counted.Goals as goal
@@ -29,26 +31,29 @@ checked-requires-clause-fit g c =
     })
 
 -- there is one family
-tops_are : (g : given.Over) (c : goal.After-certificate g) → c.keep.new.found.tops.items ≡ c.in_ok-family.family ∷ []
+tops_are : (g : given.Over) (c : goal.In_ok-keep g) → c.keep.new.found.tops.items ≡ c.in_ok-family.family ∷ []
 tops_are g c = c.in_ok-keep.ensures.tops ∙ ap (λ list. list ++ c.in_ok-family.family ∷ []) c.none-found.ensures.tops
 
--- the cover is the tree at the entry, of which nothing was dropped
-cover_is : (g : given.Over) (c : goal.After-certificate g)
-    → plan_of c.certificate.result.cover ≡ trees_in c.args.family.trees (entry_of (statements c.args.self.now.program.now.body))
-cover_is g c =
+-- what it claims is the tree at the entry, of which nothing was dropped
+claims_are : (g : given.Over) (c : goal.In_ok-keep g)
+    → claims_of (option_map plan_of c.keep.new.found.cover) ≡ trees_in c.args.family.trees (entry_of (statements c.args.self.now.program.now.body))
+claims_are g c =
     let program = c.args.self.now.program.now in
     let body = statements program.body in
     let vars = length program.names in
     let valid = program.valid in
     let told = told_by g.D.NumDomain.told_bounds g.D.NumDomain.told_rows g.D.NumDomain.seen_empty c.args.self.now.inv.now in
+    let families = families_of c.args.self.now.parts.now in
     let old = c.args.family.trees in
     let new = c.in_ok-family.family.trees in
-    let is : IsChecked body told old new = c.in_ok-family.ensures.checked in
-    let ground = grounded program told old new is c.args.self.now.labels c.requires.subject.labels c.requires.subject.few in
-    let kept : is.drops ≡ [] =
-    c.candidates_are_kept.ensures.kept vars program.body told is.parts old ground c.requires.candidate is.drops (trees_in new) is.legal in
-    let same = unchanged body told old new is kept (entry_of body) in
-    let few_labels = short body c.args.self.now.labels c.requires.subject.labels c.requires.subject.few in
+    let subject = c.requires.subject in
+    let eliminated = c.in_ok-family.ensures.legal in
+    let drops : List Dropped = eliminated.0 in
+    let ground = grounded program c.args.self.now.parts.now c.args.self.now.labels subject.parts subject.labels subject.few in
+    let kept : drops ≡ [] =
+    c.candidates_are_kept.ensures.kept vars program.body told families old ground c.requires.candidate drops (trees_in new) eliminated.1 in
+    let same = unchanged (setting_of body told af_exit families) old new drops kept eliminated.1 (entry_of body) in
+    let few_labels = short body c.args.self.now.labels subject.labels subject.few in
     let law = c.candidates_are_over_the_variables.ensures in
     let leaves = law.leaves vars body old valid.few valid.well_sorted few_labels c.requires.candidate (entry_of body) in
     let nodes = nodes_of (trees_in old (entry_of body)) in
@@ -56,16 +61,14 @@ cover_is g c =
     subst MayBegin (sym same)
     (omega (arith, leaves, nodes), law.complements vars body old valid.few valid.well_sorted few_labels c.requires.candidate (entry_of body)) in
     let firsts = subst (λ list. Covers None (at_entry body list) (option_map plan_of c.keep.new.found.cover)) (tops_are g c) c.in_ok-keep.ensures.found.firsts in
-    c.certificate.ensures.cover ∙ begins (trees_in new (entry_of body)) firsts.0 (option_map plan_of c.keep.new.found.cover) may firsts.1 firsts.2 ∙ same
+    begins (trees_in new (entry_of body)) firsts.0 (option_map plan_of c.keep.new.found.cover) may firsts.1 firsts.2 ∙ same
 
 pub returns-clause-whole : goal.returns-clause-whole
-returns-clause-whole g c = subst IsWhole (sym (cover_is g c)) c.requires.entry
+returns-clause-whole g c = subst IsWhole (sym (claims_are g c)) c.requires.entry
 
 pub returns-clause-loopless : goal.returns-clause-loopless
-returns-clause-loopless g c = λ free. ap rank_of (cover_is g c)
+returns-clause-loopless g c = λ free. ap rank_of (claims_are g c)
     ∙ c.loopless_candidates_promise_the_most_steps.ensures c.args.family.trees (statements c.args.self.now.program.now.body) free c.requires.candidate
 
-pub returns-clause-found : goal.returns-clause-found
-returns-clause-found g c =
-    c.certificate.ensures.found (length c.args.self.now.program.now.names) (statements c.args.self.now.program.now.body) c.in_ok-keep.ensures.found
-    (subst (λ list. 0 < length list) (sym (tops_are g c)) (omega arith))
+pub returns-clause-some : goal.returns-clause-some
+returns-clause-some g c = subst (λ list. 0 < length list) (sym (tops_are g c)) (omega arith)
