@@ -1,6 +1,3 @@
-pub mod Walking
-pub mod Following
-pub mod Leaving
 pub mod Surveying
 pub mod Settling
 pub mod Sparing

@@ -19,7 +19,7 @@ use Rattle.tree_support.specs.Setting.{Setting, Trees}
 use Rattle.tree_support.specs.Support.{HasNoStore}
 use Rattle.tree_support.specs.Systems.{System, of_leaf, region}
 use Rattle.tree_support.proofs.Readers.{IsSameAhead, leaf_same}
-use Rattle.tree_check.specs.Moves.{target_of}
+use Rattle.arc_search.specs.Moves.{target_of}
 use Rattle.tree_check.specs.Rounds.{Avoid, IsSupportedAt}
 
 module _ {R : Type 0} (ranks : Ranks R) (at : Setting R) (old new : Trees R) where

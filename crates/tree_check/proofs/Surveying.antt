@@ -21,9 +21,9 @@ use Rattle.rows_in_hand.specs.declared.finding.Finding.{Finding}
 use Rattle.rows_in_hand.specs.Hands.{Held, IsMetNowhere, all_asked, asked, kind_of}
 use Rattle.rows_in_hand.specs.Searches.{Finds, IsSearched}
 use Rattle.tree_check.specs.Surveys.{IsReviewed, IsSurveyed, systems_within}
-use Rattle.tree_check.specs.Walks.{side_of}
+use Rattle.arc_search.specs.Walks.{side_of}
 use Rattle.tree_support.proofs.Nowhere.{leaf_nowhere}
-use Rattle.tree_check.proofs.Following.{nowhere_more}
+use Rattle.arc_search.proofs.Following.{nowhere_more}
 
 module _ {R : Type 0} (ranks : Ranks R) where
   module _ (at : Setting R) (family : Trees R) (label : ℕ) where

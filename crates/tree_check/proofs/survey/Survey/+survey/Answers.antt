@@ -3,7 +3,7 @@ use Rattle.decision_tree.specs.Plans.{plan_of}
 use Rattle.tree_support.specs.Forming.{given}
 use Rattle.tree_support.specs.Setting.{trees_in}
 use Rattle.rows_in_hand.specs.Hands.{all_asked}
-use Rattle.tree_check.specs.Walks.{side_of}
+use Rattle.arc_search.specs.Walks.{side_of}
 use Rattle.rows_in_hand.proofs.Choosing.{held_same}
 use Rattle.tree_check.proofs.Surveying.{surveyed_first, surveyed_nowhere, surveyed_then}
 use Rattle.tree_check.proofs.survey.Survey.+survey.Goals as goal

@@ -1,8 +1,0 @@
-use Rattle.tree_support.specs.Systems.{unnatural}
-use Rattle.rows_in_hand.specs.Hands.{all_asked}
-use Rattle.tree_check.proofs.Walking.{claim_searched}
-use Rattle.tree_check.proofs.leaf.refute_rank.Goals as goal
-
-pub returns-clause-searched : goal.returns-clause-searched
-returns-clause-searched g c asks held =
-    claim_searched g.R.Rank 2 asks (unnatural c.args.rank.now) c.negative-formed.result c.in_ok-refuted.refuted c.try_claim.new.found c.negative-formed.ensures (c.in_ok-refuted.ensures.tried (all_asked asks) held)
