@@ -143,6 +143,7 @@ impl Answer {
             Tree::Top(cause) => self.push_cause(cause),
             Tree::Leaf { why, rank } => {
                 self.push(word_of(why));
+                self.push_put(why);
                 self.push_function(&rank.value);
             }
             Tree::Node { row, yes, no } => {
@@ -153,6 +154,14 @@ impl Answer {
                 self.push(if is_leaf { " : " } else { ") : " });
                 self.push_tree(no);
             }
+        }
+    }
+
+    /// Adds the function whose value is put, where the reason is such a step.
+    fn push_put(&mut self, why: &Why) {
+        if let Why::Step(Pick::Value(value)) = why {
+            self.push_function(value);
+            self.push(", ");
         }
     }
 

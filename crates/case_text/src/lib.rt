@@ -1,10 +1,11 @@
-//! Functions, rows, ranges, trees and answers of single layers, read from lines of text and written.
+//! Functions, rows, ranges, trees, formulas and answers of single layers, read from lines of text and written.
 //!
 //! It is for programs that are told in lines what to do, and promises nothing but that each call returns. The front door: `spaced` and `Words`,
-//! `read_function`, `read_linear`, `read_constraint`, `read_row`, `read_rows`, `read_tree`, and `Answer`.
+//! `read_function`, `read_linear`, `read_constraint`, `read_row`, `read_rows`, `read_tree`, `read_formula`, and `Answer`.
 #![tactic(auto)]
 
 mod answer;
+mod formulas;
 mod functions;
 mod line;
 mod many;
@@ -12,6 +13,7 @@ mod trees;
 mod words;
 
 pub use answer::Answer;
+pub use formulas::read_formula;
 pub use functions::{read_constraint, read_function, read_linear, read_row, read_rows};
 pub use trees::{read_leaf, read_tree};
 pub use words::{Words, spaced};

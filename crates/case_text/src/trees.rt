@@ -10,7 +10,7 @@ const LEVELS: u32 = 64;
 
 /// Reads a tree. It is one of
 /// - `nothing`, which claims nothing; `given`, `nodes N` and `rows N`, which gave a claim up for that cause;
-/// - `end F` and the like, a claim of the function's value for the reason;
+/// - `end F` and the like, a claim of the function's value for the reason, which is `step_value G, F` where the value of G is put;
 /// - `R ? T : T`, the trees where the row's function is at least 0 and elsewhere;
 /// - `line yes N R beside LEAF then T`, a line of so many rows that goes on down the yes sides, or `no` for the others, with a leaf beside each. In the row
 ///   and in the leaf `k` is the row's number: 1, 2, .. from the root down the yes sides, or from the end up the no sides;
@@ -81,8 +81,7 @@ pub fn read_leaf(words: &mut Words<'_>) -> Option<Tree<AffineRank>> {
     if matches!(word, "given" | "nodes" | "rows") {
         return Some(Tree::Top(read_cause(words)));
     }
-    let why = why_of(word)?;
-    words.take();
+    let why = read_why(word, words)?;
     let value = read_function(words);
     Some(Tree::Leaf {
         why,
@@ -107,7 +106,20 @@ fn read_cause(words: &mut Words<'_>) -> Cause {
     }
 }
 
-/// The reason that the word names.
+/// Reads the reason for which a leaf claims something, where this is its first word.
+fn read_why(word: &str, words: &mut Words<'_>) -> Option<Why> {
+    if word == "step_value" {
+        words.take();
+        let value = read_function(words);
+        words.expect(",");
+        return Some(Why::Step(Pick::Value(value)));
+    }
+    let why = why_of(word)?;
+    words.take();
+    Some(why)
+}
+
+/// The reason that the word names alone.
 fn why_of(word: &str) -> Option<Why> {
     match word {
         "end" => Some(Why::End),

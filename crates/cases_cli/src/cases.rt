@@ -114,6 +114,7 @@ fn push_answer(
     let name = words.take();
     if domain_cases::answers(alloc, name, &mut words, answer)?
         || tree_cases::answers(alloc, name, &mut words, answer)?
+        || check_cases::answers(alloc, name, &mut words, answer)?
     {
         return Ok(words.fault());
     }
