@@ -7,6 +7,7 @@ PROGRAM is the built program, crates/timing_cli/out/timing_cli by default (`rt r
 100 or 1,000 labels, and each label but the end has a tree of one row and two leaves. `check` drops nothing of the family of a line of assignments;
 in `fall` a claim at its end is wrong, and all the others that rest on it fall in one round. `loops` drops nothing of the family of nested loops; in
 `rounds` the claim at the outermost loop is wrong, and each round drops one label's leaf. What it takes to make and to copy the families is left out.
+At last a loop of three labels has trees of 100 or 400 leaves, one for each value of its variable, of which each round drops one a label.
 Nothing is asserted: machines differ and are shared.
 """
 import os
@@ -18,6 +19,7 @@ from timing import layers
 FEW, MANY = 100, 1000
 TIMES = 100
 RUNS = 5
+FEW_LEAVES, MANY_LEAVES = 100, 400
 # Each job, with how many leaves it drops and leaves behind at that many labels.
 JOBS = {
     "check": lambda labels: (0, 2 * labels - 1),
@@ -26,6 +28,8 @@ JOBS = {
     "rounds": lambda labels: (2 * labels - 3, 2),
     "copy": lambda labels: (0, 2 * labels - 1),
 }
+# Of the leaves of the two labels of a loop all fall but the one to which no store comes.
+VALUES = {"values": lambda leaves: (2 * leaves - 1, 2)}
 
 
 def seconds(program, job, labels, times):
@@ -37,7 +41,7 @@ def seconds(program, job, labels, times):
         child.stdin.close()
         told = tuple(map(int, child.stdout.read().split()))
         _, status, usage = os.wait4(child.pid, 0)
-        if status or times and told != JOBS[job](labels):
+        if status or times and told != (JOBS | VALUES)[job](labels):
             sys.exit(f"{job} {labels} {times}: status {status}, {told}")
         best = min(best, usage.ru_utime + usage.ru_stime)
     return best
@@ -46,6 +50,11 @@ def seconds(program, job, labels, times):
 def milliseconds(program, job, labels):
     """What the job takes when it is done once, the making of its families left out."""
     return (seconds(program, job, labels, TIMES) - seconds(program, job, labels, 0)) / TIMES * 1e3
+
+
+def falling(program, leaves):
+    """What one check takes in milliseconds whose leaves fall one by one."""
+    return (seconds(program, "values", leaves, 1) - seconds(program, "values", leaves, 0)) * 1e3
 
 
 def main():
@@ -57,6 +66,8 @@ def main():
         if job != "copy":
             few, many = (milliseconds(program, job, labels) - copy[labels] for labels in (FEW, MANY))
             print(f"{job:6}   {few:15.3f}   {many:16.3f}   {many / few:10.1f}   {many / copy[MANY]:11.1f}", flush=True)
+    few, many = (falling(program, leaves) for leaves in (FEW_LEAVES, MANY_LEAVES))
+    print(f"leaves that fall one by one: {few:.0f} ms at {FEW_LEAVES}, {many / few:.1f} times as much at {MANY_LEAVES}")
     return 0
 
 

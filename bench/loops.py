@@ -1,6 +1,6 @@
 #!/usr/bin/env python3
-"""Prints, for five kinds of programs that grow and whose loops are left to sweeps and hints, the time of the built command divided by that for the
-smallest of the kind.
+"""Prints, for six kinds of programs that grow and whose loops are left to sweeps and hints, the time of the built command divided by that for the
+smallest of the kind, and by that for the one before.
 
 Each ratio is one of medians over several runs, less the time for an empty program. Nothing is asserted: machines differ and are shared.
 """
@@ -39,7 +39,14 @@ def nested(count):
     return f"int main() {{ int {', '.join(names)}; " + front + "} " * count + "}"
 
 
-KINDS = [(straight, (100, 300, 1000)), (choices, (2, 4, 6, 8)), (leaving, (100, 300, 500)), (one_after_another, (1, 5, 20)), (nested, (1, 2, 3))]
+def tests_behind(count):
+    """A loop with so many tests behind it, each of a variable of its own and with two assignments."""
+    names = [f"a{number}" for number in range(count)]
+    tests = "".join(f"if ({name} > 0) {{ y = 1; y = 2; }} " for name in names)
+    return f"int main() {{ int x, y, {', '.join(names)}; while (x != 0) x = x - 1; {tests}}}"
+
+
+KINDS = [(straight, (100, 300, 1000)), (choices, (2, 4, 6, 8)), (leaving, (100, 300, 500)), (one_after_another, (1, 5, 20)), (nested, (1, 2, 3)), (tests_behind, (6, 8, 9, 10))]
 
 
 def seconds(binary, text):
@@ -49,11 +56,13 @@ def seconds(binary, text):
 def main():
     binary = built()
     empty = seconds(binary, "int main() { }")
-    print("kind               size  time / that of the first")
+    print("kind               size  time / that of the first  / that of the one before")
     for program, sizes in KINDS:
-        base = seconds(binary, program(sizes[0])) - empty
+        base = before = seconds(binary, program(sizes[0])) - empty
         for size in sizes:
-            print(f"{program.__name__:17}  {size:4}  {(seconds(binary, program(size)) - empty) / base:8.1f}", flush=True)
+            time = seconds(binary, program(size)) - empty
+            print(f"{program.__name__:17}  {size:4}  {time / base:24.1f}  {time / before:24.1f}", flush=True)
+            before = time
     return 0
 
 

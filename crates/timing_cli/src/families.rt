@@ -14,13 +14,16 @@ use ctl_formula::Formula;
 use decision_tree::{AffineRank, Family, Tree, TreeList};
 use forward_inv::{Inv, invariants};
 use interval_dom::Boxes;
-use made::{Claims, line_trees, loop_trees, parts};
+use made::{Claims, line_trees, loop_trees, parts, value_trees};
 use programs::{line, loops};
 use std::alloc::{AllocError, Global};
 use tree_check::check;
 
 /// The most labels of a program, the end included.
 const LABELS: u32 = 1024;
+
+/// The labels of a loop of one assignment: the end, the test and the assignment.
+const OF_A_LOOP: u32 = 3;
 
 /// The number of the whole formula, behind those of its two parts.
 const WHOLE: u32 = 2;
@@ -41,7 +44,7 @@ impl Outcome {
     };
 }
 
-/// What the job comes to for a program of so many labels.
+/// What the job comes to for a program of so many labels, or, of `values`, for trees of so many leaves.
 pub fn done(alloc: Global, job: &str, labels: u32, times: u32) -> Result<Outcome, Fault> {
     if labels < 2 || labels > LABELS {
         return Err(Fault::Job);
@@ -52,6 +55,7 @@ pub fn done(alloc: Global, job: &str, labels: u32, times: u32) -> Result<Outcome
         "fall" => in_line(alloc, labels, Claims::WrongAtEnd, times),
         "loops" => in_loops(alloc, labels, Claims::True, times),
         "rounds" => in_loops(alloc, labels, Claims::WrongAtEnd, times),
+        "values" => by_values(alloc, labels, times),
         _ => Err(Fault::Job),
     }
 }
@@ -67,6 +71,13 @@ fn in_line(alloc: Global, labels: u32, claims: Claims, times: u32) -> Result<Out
 fn in_loops(alloc: Global, labels: u32, claims: Claims, times: u32) -> Result<Outcome, Fault> {
     let graph = loops(alloc, labels)?;
     let trees = loop_trees(alloc, labels, claims)?;
+    checked(alloc, &graph, &trees, times)
+}
+
+/// Checks trees of so many leaves for the labels of a loop.
+fn by_values(alloc: Global, leaves: u32, times: u32) -> Result<Outcome, Fault> {
+    let graph = loops(alloc, OF_A_LOOP)?;
+    let trees = value_trees(alloc, leaves)?;
     checked(alloc, &graph, &trees, times)
 }
 

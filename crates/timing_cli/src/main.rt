@@ -19,8 +19,9 @@
 //! `checks JOB LABELS TIMES` works on families of trees for a program of LABELS labels, from 2 to 1,024. Each label but the end has a tree
 //! of one row and two leaves. `check` copies the family of a line of assignments and checks the copy, which gives up nothing; in `fall` the
 //! claim at the last assignment is wrong, and the others are given up after it in one round. `loops` and `rounds` do the same for loops
-//! that are nested; there the claim at the outermost loop is wrong, and each round gives up one more. `copy` only copies the family of
-//! `check`. It prints how many leaves the last check gave up, and how many defined ones it left.
+//! that are nested; there the claim at the outermost loop is wrong, and each round gives up one more. In `values` the number is that of the
+//! leaves that each tree of a loop of three labels has, one for each value of its variable, and each round gives up one more of each. `copy`
+//! only copies the family of `check`. It prints how many leaves the last check gave up, and how many defined ones it left.
 //!
 //! Any other line ends it with status 2. It stands on the layers that do the jobs.
 #![tactic(auto)]

@@ -44,6 +44,38 @@ pub fn loop_trees(
     Ok(trees)
 }
 
+/// The trees for the three labels of a loop, with so many leaves at each of its two, one for each value of `x`. The claim of the test where
+/// `x` is at most 0 is wrong, and with it that at 1, at 2, and so on.
+pub fn value_trees(alloc: Global, leaves: u32) -> Result<Vec<Tree<AffineRank>>, AllocError> {
+    let mut trees = trees_with_end(alloc)?;
+    trees.push(by_value(alloc, leaves, &line(2, 1))?)?;
+    trees.push(by_value(alloc, leaves, &line(2, 0))?)?;
+    Ok(trees)
+}
+
+/// The rank at a leaf for each value of `x` from 1 on, and no step at the last one, where `x` is at most 0.
+fn by_value(alloc: Global, leaves: u32, rank: &Affine) -> Result<Tree<AffineRank>, AllocError> {
+    let step = Why::Step(Pick::All);
+    let mut tree = leaf(step, &Affine::constant(0));
+    for value in 1..leaves {
+        tree = from(alloc, value, leaf(step, rank), tree)?;
+    }
+    Ok(tree)
+}
+
+/// The first tree where `x` is at least the value, and the second elsewhere.
+fn from(
+    alloc: Global,
+    value: u32,
+    yes: Tree<AffineRank>,
+    no: Tree<AffineRank>,
+) -> Result<Tree<AffineRank>, AllocError> {
+    match Row::of(line(1, -i128::from(value))) {
+        RowKind::Row(row) => Tree::branch(alloc, row, yes, no),
+        RowKind::Always | RowKind::Never => Ok(no),
+    }
+}
+
 /// A list with the tree of label 0, where the goal holds now.
 fn trees_with_end(alloc: Global) -> Result<Vec<Tree<AffineRank>>, AllocError> {
     let mut trees = Vec::new(alloc);
