@@ -1,0 +1,12 @@
+pub mod Calculus
+pub mod Completions
+pub mod Choices
+pub mod Sums
+pub mod Parts
+pub mod Words
+pub mod Answering
+pub mod Reading
+pub mod Groups
+mod Whole
+mod OneTree
+mod FaultLaws

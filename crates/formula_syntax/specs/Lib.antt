@@ -1,0 +1,13 @@
+pub mod Words
+pub mod Language
+pub mod Trees
+pub mod Mirror
+pub mod Spelling
+pub mod Pending
+pub mod Leads
+pub mod Openings
+pub mod Reads
+pub mod Inners
+pub mod Failures
+pub mod Texts
+pub mod Laws

@@ -1,0 +1,111 @@
+//! Readers of single words. Each reads from a word on, by its number, and answers the number of the word behind.
+
+ghost use Rattle.std.specs.Prelude.{◌≡◌, ◌≤◌, IfOk, IfErr, ℕ};
+ghost use Rattle.derivation.specs.Comes.{IsNext};
+ghost use Rattle.formula_syntax.specs.Words.{sign as sign_word, name as named, IsBehind};
+ghost use Rattle.formula_syntax.specs.Language.{rest_from};
+ghost use Rattle.formula_syntax.specs.Failures.{IfFault};
+ghost use Rattle.formula_syntax.specs.Pending.{an_until};
+ghost use Rattle.formula_syntax.specs.Reads.{Reads, Refuses, MissesSign, MissesOpening, MissesName};
+
+use crate::fault::{Failure, Fault};
+use crate::lexeme::{Lexeme, after};
+use crate::opening::until_of;
+use crate::sign::Sign;
+use derivation::Rule;
+use std::alloc::Global;
+
+/// How many levels of nesting may be open at a word.
+pub const MOST_LEVELS: u32 = 64;
+
+/// How many operators a formula may have.
+pub const MOST_OPERATORS: u32 = 64;
+
+/// The number behind a sign or reserved word that has to stand here.
+pub fn sign(words: &[Lexeme<'_>], at: usize, wanted: Sign) -> Result<usize, Fault>
+    ensures read { IfOk result (λ next. IsNext (sign_word wanted) (rest_from words.now at) (rest_from words.now next)) }
+    ensures forward { IfOk result (IsBehind words.now at) }
+    ensures missed { IfErr result (λ fault. MissesSign (rest_from words.now at) wanted fault.rule × (fault.at ≡ at)) }
+{
+    match after(words, at, wanted) {
+        Some(next) => Ok(next),
+        None => Err(Fault {
+            rule: Rule::Expected,
+            at,
+        }),
+    }
+}
+
+/// The number behind a sign that has to stand here and opens this level.
+pub fn opening(words: &[Lexeme<'_>], at: usize, wanted: Sign, level: u32) -> Result<usize, Fault>
+    ensures read { IfOk result (λ next. IsNext (sign_word wanted) (rest_from words.now at) (rest_from words.now next)) }
+    ensures shallow { IfOk result (λ _. level ≤ 64) }
+    ensures forward { IfOk result (IsBehind words.now at) }
+    ensures missed { IfErr result (λ fault. MissesOpening (rest_from words.now at) wanted level fault.rule × (fault.at ≡ at)) }
+{
+    let next = match after(words, at, wanted) {
+        Some(next) => next,
+        None => {
+            return Err(Fault {
+                rule: Rule::Expected,
+                at,
+            });
+        }
+    };
+    if level > MOST_LEVELS {
+        return Err(Fault {
+            rule: Rule::Nesting,
+            at,
+        });
+    }
+    Ok(next)
+}
+
+/// A name that has to stand here, as bytes of its own, and the number of the word behind it.
+pub fn owned_name(
+    alloc: Global,
+    words: &[Lexeme<'_>],
+    at: usize,
+) -> Result<(Vec<u8>, usize), Failure>
+    ensures read { IfOk result (λ found. IsNext (named found.0.items) (rest_from words.now at) (rest_from words.now found.1)) }
+    ensures forward { IfOk result (λ found. IsBehind words.now at found.1) }
+    ensures missed { IfFault result (λ fault. MissesName (rest_from words.now at) fault.rule × (fault.at ≡ at)) }
+{
+    let (bytes, next) = name(words, at)?;
+    let owned = bytes.to_vec(alloc)?;
+    Ok((owned, next))
+}
+
+// A name that has to stand here, and the number of the word behind it.
+fn name<'t>(words: &[Lexeme<'t>], at: usize) -> Result<(&'t [u8], usize), Fault>
+    ensures read { IfOk result (λ found. IsNext (named found.0.now) (rest_from words.now at) (rest_from words.now found.1)) }
+    ensures forward { IfOk result (λ found. IsBehind words.now at found.1) }
+    ensures missed { IfErr result (λ fault. MissesName (rest_from words.now at) fault.rule × (fault.at ≡ at)) }
+{
+    let missing = Fault {
+        rule: Rule::Expected,
+        at,
+    };
+    let Some(word) = words.get(at) else {
+        return Err(missing);
+    };
+    match *word {
+        Lexeme::Name(bytes) => Ok((bytes, at + 1)),
+        _ => Err(missing),
+    }
+}
+
+/// Whether `W` or `U` stands here, as one of them has to, and the number of the word behind it.
+pub fn until(words: &[Lexeme<'_>], at: usize) -> Result<(bool, usize), Fault>
+    ensures read { IfOk result (λ found. (count : ℕ) → Reads count an_until found.0 (rest_from words.now at) count (rest_from words.now found.1)) }
+    ensures forward { IfOk result (λ found. IsBehind words.now at found.1) }
+    ensures refused { IfErr result (λ fault. (count : ℕ) → Refuses count an_until (rest_from words.now at) fault.rule (rest_from words.now fault.at)) }
+{
+    match until_of(words, at) {
+        Some(weak) => Ok((weak, at + 1)),
+        None => Err(Fault {
+            rule: Rule::Expected,
+            at,
+        }),
+    }
+}
