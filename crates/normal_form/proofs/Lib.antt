@@ -1,0 +1,2 @@
+pub mod NoNegation
+pub mod SameVariables
