@@ -1,0 +1,5 @@
+pub mod Weights
+pub mod Firsts
+mod LawsOf
+mod Variables
+mod Faulty
