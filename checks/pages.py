@@ -11,7 +11,7 @@ import sys
 from pathlib import Path
 
 TOP = Path(__file__).resolve().parent.parent
-PAGES = ["README.md"] + [f"docs/{name}.md" for name in ("ARCHITECTURE", "DECISIONS", "DOMAINS", "EXAMPLES", "GLOSSARY", "LANGUAGE", "PROOFS", "REPORT", "WORKING")]
+PAGES = ["README.md"] + [f"docs/{name}.md" for name in ("ARCHITECTURE", "DECISIONS", "DOMAINS", "EXAMPLES", "FORMULAS", "GLOSSARY", "LANGUAGE", "PROOFS", "REPORT", "WORKING")]
 # Words of the toolchain and of the command line, which the code doesn't spell.
 ELSEWHERE = {"Answers", "Invariants", "IfErr", "IfOk", "IfSome", "MatchOption", "OnErr", "OnOk", "abbrev", "always", "certificate", "const", "continue", "enum",
              "extern", "function", "indexmap", "main", "noexec", "num_traits", "result", "start_io", "thiserror", "typedef", "unfoldable", "verdict"}
