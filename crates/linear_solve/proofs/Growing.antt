@@ -9,7 +9,7 @@ use Rattle.linear_cons.specs.declared.row.Row.{Row}
 use Rattle.linear_cons.specs.declared.row.RowKind.TheVariants.{Always, Row as Kept}
 use Rattle.linear_cons.specs.Functions.{coefficient, form_at}
 use Rattle.linear_cons.specs.Rows.{IsRowOf, PointMeets, PointMeetsAll}
-use Rattle.linear_solve.specs.Elimination.{Grows, ImpliesMixtures, ImpliesPairs, ImpliesRest, IsEliminated, IsLower, IsMade, IsUpper, StandFor, lowers_of, made_of, mixture, one_above, one_below, others_of, uppers_of}
+use Rattle.linear_solve.specs.Elimination.{AreMany, Grows, ImpliesMixtures, ImpliesPairs, ImpliesRest, IsEliminated, IsLower, IsMade, IsUpper, StandFor, lowers_of, made_of, mixture, one_above, one_below, others_of, uppers_of}
 use Rattle.linear_solve.proofs.Lists.{all_more, all_end, all_none, all_of, member_of, take_snoc}
 use Rattle.linear_solve.proofs.Mixing.{always_point, kept_point}
 
@@ -50,6 +50,18 @@ grows_further rows place old new next before after = record {
 -- rows that stand for the list
 pub grows_standing : (rows : List Row) (place : ℕ) (old new : List Row) → StandFor old new → Grows rows place old new
 grows_standing rows place old new stand = record { among = λ row member. inl (stand.among row member); implies = stand.implies }
+
+-- a list that the elimination makes has many rows: they are made
+pub many_made : (rows : List Row) (place : ℕ) (made : List Row) → Grows rows place [] made → AreMany (Contains made) → AreMany (IsMade rows place)
+many_made rows place made grown many = record {
+  some = many.some;
+  each = λ row member. ⊎_elim
+      (λ (none : Contains [] row). absurd (omega (arith, none.1)))
+      (λ (is : IsMade rows place row). is)
+      (grown.among row (many.each row member));
+  distinct = many.distinct;
+  many = many.many;
+}
 
 -- ---- the rows without the place
 

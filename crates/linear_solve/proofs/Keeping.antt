@@ -4,7 +4,7 @@ use Rattle.std.proofs.lemmas.Int.{ints}
 use Rattle.std.proofs.lemmas.List.Elements.{All-map}
 use Rattle.linear_cons.specs.declared.affine.Affine.{Affine}
 use Rattle.linear_cons.specs.declared.row.Row.{Row}
-use Rattle.linear_solve.specs.Answers.{IsAnswerTo, MayOutgrow, NeverOutgrows}
+use Rattle.linear_solve.specs.Answers.{IsAnswerTo, MayOutgrow, TightestOutgrown}
 use Rattle.linear_solve.specs.Elimination.{StandFor}
 use Rattle.linear_solve.specs.Systems.{HasOpposed, IsOctagonList, IsOctagonRow, occurring}
 use Rattle.linear_cons.specs.Tightest.{AreDistinct, AreTightest, IsCovered}
@@ -83,8 +83,12 @@ outgrow_kept rows kept stand large bound sized =
     let power = power_le (34 * bound) (occurring kept + 1) (occurring rows + 1) (omega (arith, fewer)) in
     omega (arith, more, power)
 
-outgrows_kept : (rows kept : List Row) → AreTightest (functions_of rows) kept → NeverOutgrows rows → NeverOutgrows kept
-outgrows_kept rows kept tightest never left again = never left (tightest_again rows kept left tightest again)
+outgrown_kept : (rows kept : List Row) → AreTightest (functions_of rows) kept → TightestOutgrown kept → TightestOutgrown rows
+outgrown_kept rows kept tightest is = record {
+  kept = is.kept;
+  tightest = tightest_again rows kept is.kept tightest is.tightest;
+  outgrown = is.outgrown;
+}
 
 pub answer_of_kept : (rows kept : List Row) (answer : Answer) → StandFor rows kept → AreTightest (functions_of rows) kept → IsAnswerTo kept answer → IsAnswerTo rows answer
 answer_of_kept rows kept Empty stand tightest is = no_store_of_kept rows kept stand is
@@ -103,6 +107,6 @@ answer_of_kept rows kept (Rows count) stand tightest is = (
     unopposed = λ two. is.1.unopposed (opposed_kept rows kept tightest two);
     no_octagons = λ octagons. is.1.no_octagons (octagons_kept rows kept stand octagons);
     many = overflow rows kept stand is.1.many;
-    grows = λ never. is.1.grows (outgrows_kept rows kept tightest never);
+    outgrown = outgrown_kept rows kept tightest is.1.outgrown;
   },
 )

@@ -6,12 +6,12 @@ use Rattle.std.proofs.lemmas.Bool.{false_from_ne_true, false≢true, true_from_n
 use Rattle.std.proofs.lemmas.Bool.Decides.{Decides-int_eq}
 use Rattle.linear_cons.specs.declared.row.Row.{Row}
 use Rattle.linear_cons.specs.Functions.{coefficient}
-use Rattle.linear_solve.specs.Elimination.{IsEliminated, IsMade, IsNext, NeverGrows, lowers_of, made_of, mixture, others_of, uppers_of}
+use Rattle.linear_solve.specs.Elimination.{IsEliminated, IsMade, lowers_of, made_of, mixture, others_of, uppers_of}
 use Rattle.linear_solve.specs.Systems.{occurring, occurs, rows_after}
 use Rattle.linear_solve.proofs.Growing.{sides_fit}
 use Rattle.linear_solve.proofs.Mixing.{kept_unmentioned, mixture_unmentioned}
 use Rattle.linear_solve.proofs.Extending.{made_unmentioned}
-use Rattle.linear_solve.proofs.Occurring.{occurring_lt, occurs_positive, occurs_in, occurs_of}
+use Rattle.linear_solve.proofs.Occurring.{occurring_lt, occurs_in, occurs_of}
 
 -- ---- fewer places occur
 
@@ -132,20 +132,3 @@ after_left rows place left n p less eliminated =
 pub after_made : (rows : List Row) (place n : ℕ) → 0 < n → made_of place rows ≤ rows_after n (length rows)
 after_made rows place zero some = absurd (omega arith)
 after_made rows place (suc n) some = le_trans (made_bound place rows) (after_from n (max (length rows) (length rows * length rows / 4)))
-
--- ---- lists that never grow
-
--- an elimination of a list that never grows makes no more than 4,096 rows of as many
-pub never_made : (rows : List Row) (place n : ℕ) → IsNext rows place → occurring rows ≤ n → length rows ≤ 4096 → NeverGrows n rows → 4096 < made_of place rows → ⊥
-never_made rows place zero next places few never many = absurd (let some = occurs_positive rows place next.0 next.1 in omega (arith, some, places))
-never_made rows place (suc n) next places few never many = let short = (never place next).0 in absurd (omega (arith, short, few, many))
-
--- what is left of a list that never grows never grows
-pub never_left : (rows : List Row) (place : ℕ) (left : List Row) (n : ℕ) → IsNext rows place → IsEliminated rows place left → occurring rows ≤ n → length rows ≤ 4096 → NeverGrows n rows →
-    ((k : ℕ) → occurring left ≤ k → length left ≤ 4096 → NeverGrows k left → ⊥) → ⊥
-never_left rows place left zero next eliminated places few never grows = absurd (let some = occurs_positive rows place next.0 next.1 in omega (arith, some, places))
-never_left rows place left (suc n) next eliminated places few never grows =
-    let fewer = fewer_occur rows place left next.0 next.1 eliminated in
-    let made = (never place next).0 in
-    let short = eliminated.short in
-    grows n (omega (arith, fewer, places)) (omega (arith, made, short, few)) ((never place next).1 left eliminated)

@@ -4,7 +4,7 @@ use Rattle.linear_cons.specs.declared.row.Row.{Row}
 use Rattle.linear_cons.specs.Exact.{IsOutside}
 use Rattle.linear_cons.specs.Numbers.{number_at}
 use Rattle.linear_cons.specs.Rows.{MeetsAll, PointMeetsAll}
-use Rattle.linear_solve.specs.Elimination.{NeverGrows}
+use Rattle.linear_solve.specs.Elimination.{AreMany, IsEliminated, IsMade, IsNext}
 use Rattle.linear_cons.specs.Tightest.{AreTightest}
 use Rattle.linear_solve.specs.Systems.{HasOpposed, IsOctagonList, IsSized, occurring, rows_after}
 use Rattle.linear_solve.specs.declared.answer.Answer.{Answer}
@@ -30,22 +30,36 @@ MayOutgrow n rows = (bound : ℕ) → All (IsSized bound) rows → 2 ^ 126 < (34
 abbrev pub MayOverflow : ℕ → List Row → Type 0
 MayOverflow n rows = 4096 < rows_after n (length rows)
 
+-- eliminations in the order chosen come to more than 4,096 rows, no two of them with the same coefficients: the next one makes so
+-- many, or what it leaves is outgrown
+pub data Outgrown : List Row → Type 0 where
+  makes_many : (rows : List Row) (place : ℕ) → IsNext rows place → AreMany (IsMade rows place) → Outgrown rows
+  leaves_outgrown : (rows : List Row) (place : ℕ) (left : List Row) → IsNext rows place → IsEliminated rows place left → Outgrown left → Outgrown rows
+
 -- what an answer that the numbers outgrow 128 bits excludes: opposed rows, octagon lists, small numbers
 pub record MayBeWide (rows : List Row) : Type 0 where
   pub unopposed : ¬ HasOpposed rows
   pub no_octagons : ¬ IsOctagonList rows
   pub large : MayOutgrow (occurring rows) rows
 
--- whichever tightest rows are left of the list, eliminations in the order chosen never make their list longer
-abbrev pub NeverOutgrows : List Row → Type 0
-NeverOutgrows rows = (kept : List Row) → AreTightest (map (λ (row : Row). row.affine) rows) kept → NeverGrows 16 kept
+-- the tightest rows of the list are outgrown
+pub record TightestOutgrown (rows : List Row) : Type 0 where
+  pub kept : List Row
+  pub tightest : AreTightest (map (λ (row : Row). row.affine) rows) kept
+  pub outgrown : Outgrown kept
 
--- what an answer that the rows are too many excludes: opposed rows, octagon lists, few rows, and lists that never grow
+-- the elimination of the place makes more than 4,096 rows of the tightest rows of the list, no two of them with the same coefficients
+pub record MakesMany (rows : List Row) (place : ℕ) : Type 0 where
+  pub kept : List Row
+  pub tightest : AreTightest (map (λ (row : Row). row.affine) rows) kept
+  pub many : AreMany (IsMade kept place)
+
+-- what an answer that the rows are too many excludes: opposed rows, octagon lists, few rows, and lists that eliminations leave short
 pub record MayBeMany (rows : List Row) : Type 0 where
   pub unopposed : ¬ HasOpposed rows
   pub no_octagons : ¬ IsOctagonList rows
   pub many : MayOverflow (occurring rows) rows
-  pub grows : ¬ NeverOutgrows rows
+  pub outgrown : TightestOutgrown rows
 
 -- what each answer says of the rows
 abbrev pub IsAnswerTo : List Row → Answer → Type 0
@@ -93,4 +107,4 @@ pub record IsProjection (rows : List Row) (place : ℕ) (left : List Row) : Type
 abbrev pub IsProjected : List Row → ℕ → Projected → Type 0
 IsProjected rows place (Left left) = IsProjection rows place left.items
 IsProjected rows place (TooWide operands) = IsOutside operands × (¬ IsOctagonList rows) × MayOutgrow 1 rows
-IsProjected rows place (TooMany count) = (4096 < count) × (¬ IsOctagonList rows) × MayOverflow 1 rows
+IsProjected rows place (TooMany count) = (4096 < count) × (¬ IsOctagonList rows) × MayOverflow 1 rows × MakesMany rows place

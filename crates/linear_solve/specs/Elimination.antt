@@ -1,6 +1,6 @@
 -- One elimination: the rows that it makes, what they imply, and how many they are.
 use Rattle.std.specs.Prelude.{◌≡◌, ◌⊎◌, ℕ, zero, suc, ◌+◌, ◌-◌, ◌*◌, ◌<◌, ◌≤◌, ℤ, pos, negsuc, ◌-ℤ◌, ◌<ℤ◌, ◌≤ℤ◌, List, [], ◌∷◌, length}
-use Rattle.std.specs.Prelude.{All, Contains, true, ⊤}
+use Rattle.std.specs.Prelude.{All, Contains, true}
 use Rattle.linear_cons.specs.declared.affine.Affine.{Affine}
 use Rattle.linear_cons.specs.declared.row.Row.{Row}
 use Rattle.linear_cons.specs.declared.row.RowKind.TheVariants.{Never, Row as Kept}
@@ -65,6 +65,13 @@ pub record HasUnfitPair (rows : List Row) (place : ℕ) : Type 0 where
 -- the row does not have the place and is one of the list, or is the combination of a pair
 abbrev pub IsMade : List Row → ℕ → Row → Type 0
 IsMade rows place row = (Contains rows row × (coefficient row.affine place ≡ pos 0)) ⊎ IsMixture rows place row
+
+-- more than 4,096 rows with the property, no two of them with the same coefficients
+pub record AreMany (Is : Row → Type 0) : Type 0 where
+  pub some : List Row
+  pub each : (row : Row) → Contains some row → Is row
+  pub distinct : AreDistinct some
+  pub many : 4096 < length some
 
 -- rows that stand for others: some of them, which imply them all, one for each linear part
 pub record StandFor (rows kept : List Row) : Type 0 where
@@ -141,9 +148,3 @@ IsNothing rows = (num : List ℤ) (den : ℤ) → pos 0 <ℤ den → PointMeetsA
 abbrev pub IsNext : List Row → ℕ → Type 0
 IsNext rows place = (place < 16) × (occurs place rows ≡ true)
     × ((other : ℕ) → other < 16 → occurs other rows ≡ true → pairs_of place rows ≤ pairs_of other rows)
-
--- n eliminations, each of a place that may be next, never make more rows than there were
-abbrev pub NeverGrows : ℕ → List Row → Type 0
-NeverGrows zero rows = ⊤
-NeverGrows (suc n) rows = (place : ℕ) → IsNext rows place → (made_of place rows ≤ length rows)
-    × ((left : List Row) → IsEliminated rows place left → NeverGrows n left)

@@ -3,8 +3,8 @@ ghost use Rattle.std.specs.Prelude.{◌≡◌, ◌<◌, ◌≤◌, ◌+◌, ◌+
 ghost use Rattle.std.specs.Prelude.{true, ⊤};
 ghost use Rattle.linear_cons.specs.Exact.{IsOutside};
 ghost use Rattle.linear_cons.specs.declared.row.Row.{Row};
-ghost use Rattle.linear_solve.specs.Elimination.{Grows, HasNeverPair, HasUnfitPair, ImpliesMixtures, ImpliesRest, IsEliminated, IsLower};
-ghost use Rattle.linear_solve.specs.Elimination.{made_of, others_of, uppers_of};
+ghost use Rattle.linear_solve.specs.Elimination.{AreMany, Grows, HasNeverPair, HasUnfitPair, ImpliesMixtures, ImpliesRest};
+ghost use Rattle.linear_solve.specs.Elimination.{IsEliminated, IsLower, IsMade, made_of, others_of, uppers_of};
 ghost use Rattle.linear_solve.specs.Solving.{IfStopRows, IfStopWide};
 
 use crate::answer::Stop;
@@ -24,6 +24,7 @@ pub(crate) fn eliminate(alloc: Global, rows: &[Row], place: u8) -> Result<Option
     ensures unfit { IfErr result (λ stop. IfStopWide stop (λ _. HasUnfitPair rows.now place)) }
     ensures many { IfErr result (λ stop. IfStopRows stop (λ count. 4096 < count)) }
     ensures counted { IfErr result (λ stop. IfStopRows stop (λ _. 4096 < made_of place rows.now)) }
+    ensures distinct { IfErr result (λ stop. IfStopRows stop (λ _. AreMany (IsMade rows.now place))) }
 {
     let mut made = rows_without(alloc, rows, place)?;
     for lower in rows {
@@ -47,6 +48,7 @@ fn limited(rows: Vec<Row>) -> Result<Vec<Row>, Stop>
     ensures fits { IfErr result (λ stop. IfStopWide stop (λ _. ⊥)) }
     ensures many { IfErr result (λ stop. IfStopRows stop (λ count. 4096 < count)) }
     ensures counted { IfErr result (λ stop. IfStopRows stop (λ _. 4096 < length rows.items)) }
+    ensures distinct { IfErr result (λ stop. IfStopRows stop (λ _. AreMany (Contains rows.items))) }
 {
     if rows.len() <= MOST_ROWS {
         return Ok(rows);

@@ -3,8 +3,7 @@ ghost use Rattle.std.specs.Prelude.{◌<◌, ◌≤◌, ℕ, List, IfOk, IfErr, 
 ghost use Rattle.linear_cons.specs.Exact.{IsOutside};
 ghost use Rattle.linear_cons.specs.Tightest.{AreDistinct};
 ghost use Rattle.linear_cons.specs.declared.row.Row.{Row};
-ghost use Rattle.linear_solve.specs.Answers.{HasNoStore, IsAnswerTo, IsPointOf};
-ghost use Rattle.linear_solve.specs.Elimination.{NeverGrows};
+ghost use Rattle.linear_solve.specs.Answers.{HasNoStore, IsAnswerTo, IsPointOf, Outgrown};
 ghost use Rattle.linear_solve.specs.Findings.{IsFinding};
 ghost use Rattle.linear_solve.specs.Solving.{IfStopRows, IfStopWide, IsMemory, IsModest, IsModestPoint, IsTame, IsTamePoint};
 ghost use Rattle.linear_solve.specs.Systems.{occurring, rows_after};
@@ -87,8 +86,7 @@ fn solve(alloc: Global, rows: &[Row]) -> Result<Option<Point>, Stop>
     ensures immodest { IfErr result (λ stop. IfStopWide stop (λ _. (size c root : ℕ) → IsModest size c root rows.now → ⊥)) }
     ensures many { IfErr result (λ stop. IfStopRows stop (λ count. 4096 < count)) }
     ensures counted { IfErr result (λ stop. IfStopRows stop (λ _. 4096 < rows_after (occurring rows.now) (length rows.now))) }
-    ensures growing { IfErr result (λ stop. IfStopRows stop (λ _. (n : ℕ) → occurring rows.now ≤ n → length rows.now ≤ 4096
-        → NeverGrows n rows.now → ⊥)) }
+    ensures outgrown { IfErr result (λ stop. IfStopRows stop (λ _. Outgrown rows.now)) }
     ensures wild { IfErr result (λ stop. (bound : ℕ) → IsTame bound rows.now → IsMemory stop) }
 {
     let place = match next_place(rows) {

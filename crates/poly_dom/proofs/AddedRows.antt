@@ -1,10 +1,11 @@
 -- Lists of rows that grow.
 use Rattle.std.proofs.Common.{◌≡◌, ◌⊎◌, ◌<◌, ◌≤◌, ℤ, true, false, Bool, not, List, [], ◌∷◌, ◌++◌, length, Some, Contains, inl, inr, ⊎_elim, arith, refl, sym, subst, ◌∙◌}
-use Rattle.std.proofs.Common.{◌+◌, ◌≤ℤ◌, pos, cond, suc, zero, take, drop}
+use Rattle.std.proofs.Common.{◌+◌, ◌≤ℤ◌, pos, ℕ, cond, suc, zero, drop, ap}
 use Rattle.std.specs.List.{filter, remove}
-use Rattle.std.proofs.lemmas.List.Elements.{All-append, All-contains_itself, All-drop, All-filter, All-take, Contains-append_cases}
+use Rattle.std.proofs.lemmas.List.Elements.{All-append, All-contains_itself, All-drop, All-filter, Contains-append_cases}
 use Rattle.std.proofs.lemmas.List.Elements.{Contains-append_left, Contains-append_right}
 use Rattle.std.proofs.lemmas.List.{length-append}
+use Rattle.std.proofs.lemmas.List.Sums.{count_by-le-length, length-filter}
 use Rattle.linear_cons.specs.declared.row.Row.{Row}
 use Rattle.linear_cons.specs.Functions.{complement_of, value_at}
 use Rattle.linear_cons.specs.Rows.{Meets, MeetsAll}
@@ -29,20 +30,23 @@ added_told row rows few told = record {
   keeps = λ store met own. met;
   met = λ store met. settled_row_holds rows row store told met;
   inside = λ small store met. met;
+  rest = λ full store met. All-drop (λ r. Meets store r) 1 rows met;
   among = λ other member. inl member;
   few = few;
 }
 
--- a row behind some of the old ones, which imply the old ones with it where nothing is given up
+-- a row behind some of the old ones, which imply the old ones with it, and of 256 all but the oldest
 pub added_behind : (row : Row) (old kept : List Row) → ((other : Row) → Contains kept other → Contains old other)
-    → (length old < 256 → (store : List ℤ) → MeetsAll store kept → Meets store row → MeetsAll store old) → length kept < 256
+    → (length old < 256 → (store : List ℤ) → MeetsAll store kept → Meets store row → MeetsAll store old)
+    → (length old ≡ 256 → (store : List ℤ) → MeetsAll store kept → Meets store row → MeetsAll store (drop 1 old)) → length kept < 256
     → IsAdded row old (kept ++ row ∷ [])
-added_behind row old kept are implied few = record {
+added_behind row old kept are implied implied_rest few = record {
   keeps = λ store met own. All-append (λ r. Meets store r) kept (row ∷ [])
       (all_of (λ r. Meets store r) kept (λ other member. member_of (λ r. Meets store r) old other met (are other member)))
       (all_one (λ r. Meets store r) row own);
   met = λ store met. last store met;
   inside = λ small store met. implied small store (first store met) (last store met);
+  rest = λ full store met. implied_rest full store (first store met) (last store met);
   among = λ other member. ⊎_elim (λ old. inl (are other old)) (λ one. inr (only row other one))
       (Contains-append_cases kept (row ∷ []) other member);
   few = let long = length-append kept (row ∷ []) in omega (arith, long, few);
@@ -57,6 +61,10 @@ added_behind row old kept are implied few = record {
         (λ other member. member_of (λ r. Meets store r) (kept ++ row ∷ []) other met (Contains-append_left kept (row ∷ []) other member))
 
 -- ---- the rows that another doesn't tell
+
+-- what passes a test is no more
+filter_short : {X : Type 0} (p : X → Bool) (xs : List X) → length (filter p xs) ≤ length xs
+filter_short p xs = let few = count_by-le-length p xs in let same = length-filter p xs in omega (arith, few, same)
 
 -- the test that the row doesn't tell another
 abbrev pub untold : Row → Row → Bool
@@ -83,24 +91,59 @@ untold_met row (given ∷ rows) store met own =
         (all_one (λ r. Meets store r) given (kept 0 given (omega arith)))
         (rest (λ k d h. kept (suc k) d (omega (arith, h))))
 
+-- where it tells none, with the row all but the oldest imply all but the oldest
+untold_rest : (row : Row) (rows : List Row) (store : List ℤ) → length (filter (untold row) rows) ≡ length rows
+    → MeetsAll store (drop 1 (filter (untold row) rows)) → Meets store row → MeetsAll store (drop 1 rows)
+untold_rest row [] store whole met own = met
+untold_rest row (given ∷ rows) store whole met own =
+    by (tells row.affine given.affine) refl whole met
+  where
+    by : (told : Bool) → tells row.affine given.affine ≡ told
+        → length (cond (not told) (given ∷ filter (untold row) rows) (filter (untold row) rows)) ≡ suc (length rows)
+        → MeetsAll store (drop 1 (cond (not told) (given ∷ filter (untold row) rows) (filter (untold row) rows))) → MeetsAll store rows
+    by true is long kept = absurd (let few = filter_short (untold row) rows in omega (arith, few, long))
+    by false is long kept = untold_met row rows store kept own
+
+-- the row behind those that it doesn't tell, where there is room
+added_small : (row : Row) (old room : List Row) → room ≡ filter (untold row) old → length room < 256 → IsAdded row old (room ++ row ∷ [])
+added_small row old room are few = added_behind row old room
+    (λ other member. untold_in row old other (subst (λ rows. Contains rows other) are member))
+    (λ small. all)
+    (λ full store met own. All-drop (λ r. Meets store r) 1 old (all store met own))
+    few
+  where
+    all : (store : List ℤ) → MeetsAll store room → Meets store row → MeetsAll store old
+    all store met own = untold_met row old store (subst (MeetsAll store) are met) own
+
+-- the row behind all but the oldest, where it tells none of 256
+added_full : (row : Row) (old room : List Row) → length (filter (untold row) old) ≡ 256
+    → room ≡ drop 1 (filter (untold row) old) → length room < 256 → IsAdded row old (room ++ row ∷ [])
+added_full row old room full are few = added_behind row old room
+    (λ other member. untold_in row old other (member_of (Contains (filter (untold row) old)) (drop 1 (filter (untold row) old)) other
+    (All-drop (Contains (filter (untold row) old)) 1 (filter (untold row) old) (All-contains_itself (filter (untold row) old)))
+    (subst (λ rows. Contains rows other) are member)))
+    (λ small. absurd (let short = filter_short (untold row) old in omega (arith, short, small, full)))
+    (λ whole store met own. untold_rest row old store (full ∙ sym whole) (subst (MeetsAll store) are met) own)
+    few
+
 -- the row behind those that it doesn't tell, once there is room
-pub added_row : (row : Row) (old kept room new : List Row) → kept ≡ filter (untold row) old → length kept ≤ length old
+pub added_row : (row : Row) (old kept room new : List Row) → length old ≤ 256 → kept ≡ filter (untold row) old
     → HasRoom kept room → new ≡ room ++ row ∷ [] → IsAdded row old new
-added_row row old kept room new are short made is =
-    subst (IsAdded row old) (sym is) (added_behind row old room
-    (λ other member. untold_in row old other (subst (λ rows. Contains rows other) are (made.among other member)))
-    (λ small store met own. untold_met row old store (subst (MeetsAll store) (made.same (omega (arith, short, small)) ∙ are) met) own)
-    made.room)
+added_row row old kept room new fit are made is = subst (IsAdded row old) (sym is) (⊎_elim
+    (λ (small : length kept < 256). added_small row old room (made.same small ∙ are) made.room)
+    (λ (full : length kept ≡ 256). added_full row old room (ap length (sym are) ∙ full) (made.rest full ∙ ap (λ rows. drop 1 rows) are) made.room)
+    (below_or_at (length kept) (let short = filter_short (untold row) old in let same = ap length are in omega (arith, short, same, fit))))
+  where
+    below_or_at : (n : ℕ) → n ≤ 256 → (n < 256) ⊎ (n ≡ 256)
+    below_or_at n few = grind arith
 
 -- a list without its oldest row
 pub without_oldest : (old new : List Row) → new ≡ remove old 0 → length new + 1 ≡ length old → length old ≤ 256
     → 256 ≤ length old → HasRoom old new
 without_oldest old new is less few full = record {
-  among = λ row member. member_of (Contains old) (remove old 0) row (All-append (Contains old) (take 0 old) (drop 1 old)
-      (All-take (Contains old) 0 old (All-contains_itself old)) (All-drop (Contains old) 1 old (All-contains_itself old)))
-      (subst (λ rows. Contains rows row) is member);
   room = omega (arith, less, few);
   same = λ small. absurd (omega (arith, small, full));
+  rest = λ whole. is;
 }
 
 -- ---- several rows more

@@ -1,5 +1,5 @@
 -- Lists of rows: what they imply, and what lists that grow keep.
-use Rattle.std.specs.Prelude.{◌≡◌, ◌⊎◌, ◌<◌, ◌≤◌, ℤ, List, Contains, length}
+use Rattle.std.specs.Prelude.{◌≡◌, ◌⊎◌, ◌<◌, ◌≤◌, ℤ, List, Contains, drop, length}
 use Rattle.linear_cons.specs.declared.bounds.Bounds.{Bounds}
 use Rattle.linear_cons.specs.declared.row.Row.{Row}
 use Rattle.linear_cons.specs.Bounds.{LiesIn}
@@ -18,20 +18,21 @@ ImplyAll rows others = (store : List ℤ) → MeetsAll store rows → MeetsAll s
 abbrev pub AreBounds : List Row → Bounds → Type 0
 AreBounds rows bounds = (store : List ℤ) → IsStore store → MeetsAll store rows → LiesIn bounds store
 
--- a list with one more row, in which rows that others tell are left out and the oldest may be given up: it keeps to what the
--- old list and the row say, says what the row says, and says what the old list says where nothing is given up
+-- a list with one more row, in which rows that others tell are left out and the oldest of 256 may be given up: it keeps to what
+-- the old list and the row say, says what the row says, and says what the old list says, of 256 rows what all but the oldest say
 pub record IsAdded (row : Row) (old new : List Row) : Type 0 where
   pub keeps : (store : List ℤ) → MeetsAll store old → Meets store row → MeetsAll store new
   pub met : Imply new row
   pub inside : length old < 256 → ImplyAll new old
+  pub rest : length old ≡ 256 → ImplyAll new (drop 1 old)
   pub among : (other : Row) → Contains new other → Contains old other ⊎ (other ≡ row)
   pub few : length new ≤ 256
 
--- a list with room for one more row: some of the old ones, and all of them where there was room
+-- a list with room for one more row: the old ones where there was room, and of 256 all but the oldest
 pub record HasRoom (old new : List Row) : Type 0 where
-  pub among : (row : Row) → Contains new row → Contains old row
   pub room : length new < 256
   pub same : length old < 256 → new ≡ old
+  pub rest : length old ≡ 256 → new ≡ drop 1 old
 
 -- a list with more rows, of those of another
 pub record AddsAll (rows old new : List Row) : Type 0 where

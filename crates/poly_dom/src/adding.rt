@@ -24,6 +24,7 @@ pub(crate) fn add(rows: &mut Vec<Row>, row: &Row) -> Result<(), AllocError>
 }
 
 /// Gives up the oldest row where there are `MOST`.
+#[tactic(auto, using(crate::proofs::AddedRows::without_oldest))]
 fn make_room(rows: &mut Vec<Row>)
     requires { length rows.old.items ≤ 256 }
     ensures { HasRoom rows.old.items rows.new.items }

@@ -67,7 +67,7 @@ impl Poly {
 }
 
 impl NumDomain for Poly {
-    ghost use Rattle.std.specs.Prelude.{◌≡◌, ◌<◌, ◌≤◌, ◌↔◌, ◌⊎◌, ℕ, ℤ, List, Contains, length, true, false, IfOk, OnErr};
+    ghost use Rattle.std.specs.Prelude.{◌≡◌, ◌<◌, ◌≤◌, ◌↔◌, ◌⊎◌, ℕ, ℤ, List, All, Contains, drop, length, true, false, IfOk, OnErr};
     ghost use Rattle.linear_cons.specs.declared.row.Row.{Row};
     ghost use Rattle.linear_cons.specs.Rows.{MeetsAll};
     ghost use Rattle.num_domain.specs.Domain.{AllMeet, IsMeet, IsPlain, IsStore, IsUnchanged, KeepsMeeting, SameMembers};
@@ -94,6 +94,7 @@ impl NumDomain for Poly {
         ensures plain { IfOk result (λ _. (place : ℕ) → IsPlain row.now place → AllMeet row.now (Has self.new)) }
         ensures met { IfOk result (λ _. AllMeet row.now (Has self.new)) }
         ensures exact { IfOk result (λ _. length (rows_of self.old) < 256 → IsMeet row.now (Has self.old) (Has self.new)) }
+        ensures rest { IfOk result (λ _. length (rows_of self.old) ≡ 256 → All (λ row. AllMeet row (Has self.new)) (drop 1 (rows_of self.old))) }
         ensures err { OnErr result (IsUnchanged Has is_empty_poly rows_of bounds_of self.old self.new) }
     {
         if self.empty {

@@ -2,10 +2,10 @@ use Rattle.std.proofs.Common.{◌≤◌, ◌<◌, ◌<ℤ◌, Bool, pos, arith, 
 use Rattle.std.proofs.lemmas.Int.{ints}
 use Rattle.linear_cons.specs.Functions.{coefficient}
 use Rattle.linear_cons.specs.Numbers.{Fits128}
-use Rattle.linear_solve.proofs.Growing.{above_one, eliminated, grows_further, made_within, mixtures_grow, pairs_grow, pairs_more, pairs_skipped, rest_grows, short_more, short_same, lowers_more}
+use Rattle.linear_solve.proofs.Growing.{above_one, eliminated, grows_further, made_within, many_made, mixtures_grow, pairs_grow, pairs_more, pairs_skipped, rest_grows, short_more, short_same, lowers_more}
 use Rattle.linear_solve.proofs.Outcomes.{if_err_is, stop_rows_map}
 use Rattle.linear_solve.proofs.Tightening.{stand_for}
-use Rattle.linear_solve.specs.Elimination.{IsLower, made_of}
+use Rattle.linear_solve.specs.Elimination.{AreMany, IsLower, IsMade, made_of}
 use Rattle.linear_solve.specs.Solving.{IfStopRows}
 use Rattle.linear_solve.specs.declared.answer.Stop.{Stop}
 use Rattle.linear_solve.proofs.eliminate.eliminate.Goals as goal
@@ -63,3 +63,14 @@ returns-in_err-kept-clause-counted c =
     let more : 4096 < length c.add_mixtures.new.made.items → 4096 < made_of c.args.place c.args.rows.now = λ many. omega (arith, many, within) in
     if_err_is _ _ (λ (stop : Stop). IfStopRows stop (λ _. 4096 < made_of c.args.place c.args.rows.now)) c.from_residual-in_err-kept.ensures.1
     (stop_rows_map _ _ _ more c.in_err-kept.ensures.counted)
+
+pub returns-in_err-kept-clause-distinct : goal.returns-in_err-kept-clause-distinct
+returns-in_err-kept-clause-distinct c =
+    let grown = grows_further _ _ _ _ _ c.loop-lower.invariant.grows (c.in_ok-add_mixtures.ensures.grows (ap (λ (t : Bool). Ok t) c.if-not-branch.false)) in
+    if_err_is _ _ (λ (stop : Stop). IfStopRows stop (λ _. AreMany (IsMade c.args.rows.now c.args.place))) c.from_residual-in_err-kept.ensures.1
+    (stop_rows_map _ _ _ (many_made _ _ _ grown) c.in_err-kept.ensures.distinct)
+
+pub returns-in_err-few-clause-distinct : goal.returns-in_err-few-clause-distinct
+returns-in_err-few-clause-distinct c =
+    if_err_is _ _ (λ (stop : Stop). IfStopRows stop (λ _. AreMany (IsMade c.args.rows.now c.args.place))) c.from_residual-in_err-few.ensures.1
+    (stop_rows_map _ _ _ (many_made _ _ _ c.loop-lower.invariant.grows) c.in_err-few.ensures.distinct)

@@ -39,8 +39,10 @@ pub returns-in-Err-Rows : goal.returns-in-Err-Rows
 returns-in-Err-Rows c =
     let above = rw c.in-Err-Rows.field-0-is at c.in-Err-Rows.ensures.many in
     let many = rw (c.in-Err-Rows.field-0-is, c.deref.ensures.value) at c.in-Err-Rows.ensures.counted in
+    let distinct = rw (c.in-Err-Rows.field-0-is, c.deref.ensures.value) at c.in-Err-Rows.ensures.distinct in
     rw c.in-Err-Rows.field-0-is (
       above,
       (λ octagons. tame_count c.in_ok-kept.kept.items c.args.place _ c.requires (tame_kept c.args.rows.now c.in_ok-kept.kept.items c.in_ok-kept.ensures.stands octagons) many),
       overflow_one c.args.rows.now c.in_ok-kept.kept.items c.args.place c.in_ok-kept.ensures.stands many,
+      record { kept = c.in_ok-kept.kept.items; tightest = c.in_ok-kept.ensures.tightest; many = distinct },
     )

@@ -1,6 +1,7 @@
-use Rattle.std.proofs.Common.{◌≡◌, ◌<◌, ◌≤◌, ℕ, List, arith, rules, length, ap}
+use Rattle.std.proofs.Common.{◌≡◌, ◌<◌, ℕ, List, arith, rules, length, ap}
 use Rattle.linear_cons.specs.declared.row.Row.{Row}
-use Rattle.linear_solve.specs.Elimination.{HasUnfitPair, NeverGrows, made_of}
+use Rattle.linear_solve.specs.Answers.{Outgrown, leaves_outgrown, makes_many}
+use Rattle.linear_solve.specs.Elimination.{AreMany, HasUnfitPair, IsMade, made_of}
 use Rattle.linear_solve.specs.Solving.{IfStopRows, IfStopWide, IsMemory, IsModest, IsTame}
 use Rattle.linear_solve.specs.Systems.{occurring, rows_after}
 use Rattle.linear_solve.specs.declared.answer.Stop.{Stop}
@@ -9,7 +10,7 @@ use Rattle.linear_solve.proofs.Extending.{no_store_of_left, no_store_of_never, o
 use Rattle.linear_solve.proofs.Modest.{modest_left, modest_next, modest_origin, modest_pairs, modest_put_back}
 use Rattle.linear_solve.proofs.Occurring.{no_rows, occurs_positive}
 use Rattle.linear_solve.proofs.Outcomes.{if_err_is, if_wide, stop_memory, stop_rows_map, stop_wide_map}
-use Rattle.linear_solve.proofs.Solved.{after_left, after_made, fewer_occur, never_left, never_made}
+use Rattle.linear_solve.proofs.Solved.{after_left, after_made, fewer_occur}
 use Rattle.linear_solve.proofs.Tame.{tame_count, tame_left, tame_next, tame_origin, tame_pairs, tame_put_back}
 use Rattle.linear_solve.proofs.solver.+solve.Goals as goal
 
@@ -118,16 +119,14 @@ returns-clause-found t c =
     let none = rw (c.in-None-3.is, c.deref.ensures.value) at c.in_ok-point.ensures.found in
     no_store_of_left c.args.rows.now c.in-Some.place c.in-Some-2.left.items eliminated none
 
-pub returns-in_err-left-clause-growing : goal.returns-in_err-left-clause-growing
-returns-in_err-left-clause-growing t c =
-    let none : 4096 < made_of c.in-Some.place c.args.rows.now → (n : ℕ) → occurring c.args.rows.now ≤ n → length c.args.rows.now ≤ 4096 → NeverGrows n c.args.rows.now → ⊥ =
-    λ many n places few never. never_made c.args.rows.now c.in-Some.place n c.in-Some.ensures places few never many in
-    if_err_is _ _ (λ (stop : Stop). IfStopRows stop (λ _. (n : ℕ) → occurring c.args.rows.now ≤ n → length c.args.rows.now ≤ 4096 → NeverGrows n c.args.rows.now → ⊥)) c.from_residual.ensures.1 (stop_rows_map _ _ _ none c.in_err-left.ensures.counted)
+pub returns-in_err-left-clause-outgrown : goal.returns-in_err-left-clause-outgrown
+returns-in_err-left-clause-outgrown t c =
+    let more : AreMany (IsMade c.args.rows.now c.in-Some.place) → Outgrown c.args.rows.now = λ many. makes_many c.args.rows.now c.in-Some.place c.in-Some.ensures many in
+    if_err_is _ _ (λ (stop : Stop). IfStopRows stop (λ _. Outgrown c.args.rows.now)) c.from_residual.ensures.1 (stop_rows_map _ _ _ more c.in_err-left.ensures.distinct)
 
-pub returns-in_err-point-clause-growing : goal.returns-in_err-point-clause-growing
-returns-in_err-point-clause-growing t c =
+pub returns-in_err-point-clause-outgrown : goal.returns-in_err-point-clause-outgrown
+returns-in_err-point-clause-outgrown t c =
     let eliminated = rw c.in-Some-2.is at c.in_ok-left.ensures.left in
-    let before = rw c.deref.ensures.value at c.in_err-point.ensures.growing in
-    let none : ((n : ℕ) → occurring c.in-Some-2.left.items ≤ n → length c.in-Some-2.left.items ≤ 4096 → NeverGrows n c.in-Some-2.left.items → ⊥) → (n : ℕ) → occurring c.args.rows.now ≤ n → length c.args.rows.now ≤ 4096 → NeverGrows n c.args.rows.now → ⊥ =
-    λ grows n places few never. never_left c.args.rows.now c.in-Some.place c.in-Some-2.left.items n c.in-Some.ensures eliminated places few never grows in
-    if_err_is _ _ (λ (stop : Stop). IfStopRows stop (λ _. (n : ℕ) → occurring c.args.rows.now ≤ n → length c.args.rows.now ≤ 4096 → NeverGrows n c.args.rows.now → ⊥)) c.from_residual-in_err-point.ensures.1 (stop_rows_map _ _ _ none before)
+    let before = rw c.deref.ensures.value at c.in_err-point.ensures.outgrown in
+    let more : Outgrown c.in-Some-2.left.items → Outgrown c.args.rows.now = λ outgrown. leaves_outgrown c.args.rows.now c.in-Some.place c.in-Some-2.left.items c.in-Some.ensures eliminated outgrown in
+    if_err_is _ _ (λ (stop : Stop). IfStopRows stop (λ _. Outgrown c.args.rows.now)) c.from_residual-in_err-point.ensures.1 (stop_rows_map _ _ _ more before)

@@ -4,7 +4,6 @@ use Rattle.linear_cons.specs.Numbers.{Fits128}
 use Rattle.std.proofs.lemmas.Bool.{false≢true}
 use Rattle.linear_solve.proofs.Deciding.{no_store_of_opposed, outgrow, overflow, tame_kept}
 use Rattle.linear_solve.proofs.Keeping.{stand_themselves, tightest_itself}
-use Rattle.linear_solve.proofs.Occurring.{occurring_most}
 use Rattle.linear_solve.proofs.solver.decide_tightest.Goals as goal
 
 pub returns-in-Some : goal.returns-in-Some
@@ -42,13 +41,17 @@ pub returns-in-Err-Rows : goal.returns-in-Err-Rows
 returns-in-Err-Rows c =
     let above = rw c.in-Err-Rows.field-0-is at c.in-Err-Rows.ensures.many in
     let many = rw c.in-Err-Rows.field-0-is at c.in-Err-Rows.ensures.counted in
-    let wild = rw c.in-Err-Rows.field-0-is at c.in-Err-Rows.ensures.wild in
-    let growing = rw c.in-Err-Rows.field-0-is at c.in-Err-Rows.ensures.growing in (
+    let outgrown = rw c.in-Err-Rows.field-0-is at c.in-Err-Rows.ensures.outgrown in
+    let wild = rw c.in-Err-Rows.field-0-is at c.in-Err-Rows.ensures.wild in (
       above,
       record {
         unopposed = λ opposed. false≢true (c.if-has_opposed.ensures.1 opposed);
         no_octagons = λ octagons. wild _ (tame_kept c.args.rows.now c.args.rows.now (stand_themselves c.args.rows.now c.requires.distinct) octagons);
         many = overflow c.args.rows.now c.args.rows.now (stand_themselves c.args.rows.now c.requires.distinct) many;
-        grows = λ never. growing 16 (occurring_most 16 c.args.rows.now) c.requires.few (never c.args.rows.now (tightest_itself c.args.rows.now c.requires.distinct));
+        outgrown = record {
+          kept = c.args.rows.now;
+          tightest = tightest_itself c.args.rows.now c.requires.distinct;
+          outgrown = outgrown;
+        };
       },
     )

@@ -1,4 +1,4 @@
-use Rattle.std.proofs.Common.{◌≡◌, ◌≤◌, Some, length, rules, true}
+use Rattle.std.proofs.Common.{◌≡◌, Some, rules, true}
 use Rattle.std.proofs.lemmas.Fn.{filter_same}
 use Rattle.linear_cons.specs.Settling.{settles}
 use Rattle.poly_dom.proofs.AddedRows.{added_row, added_told, untold}
@@ -12,5 +12,4 @@ returns-in-Some-true c =
 pub returns : goal.returns
 returns c =
     let kept = filter_same _ (untold c.args.row.now) _ (λ given b f call. search rules) _ _ c.retain.ensures.filtered in
-    let short : length c.retain.new.self.items ≤ length c.args.rows.now.items = search rules in
-    added_row _ _ c.retain.new.self.items c.make_room.new.rows.items _ kept short c.make_room.ensures c.in_ok-push.ensures.items
+    added_row _ _ c.retain.new.self.items c.make_room.new.rows.items _ c.requires kept c.make_room.ensures c.in_ok-push.ensures.items

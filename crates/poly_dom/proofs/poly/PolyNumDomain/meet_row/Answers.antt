@@ -1,7 +1,11 @@
-use Rattle.std.proofs.Common.{◌≡◌, Some, subst, true}
+use Rattle.std.proofs.Common.{◌≡◌, Some, drop, subst, true}
 use Rattle.linear_cons.proofs.Telling.{settled_row_holds}
-use Rattle.linear_cons.specs.Rows.{MeetsAll}
+use Rattle.linear_cons.specs.Rows.{Meets, MeetsAll}
 use Rattle.linear_cons.specs.Settling.{settles}
+use Rattle.linear_cons.specs.declared.row.Row.{Row}
+use Rattle.linear_solve.proofs.Lists.{all_of, member_of}
+use Rattle.num_domain.specs.Domain.{AllMeet}
+use Rattle.poly_dom.specs.Polyhedra.{Has}
 use Rattle.poly_dom.proofs.poly.PolyNumDomain.meet_row.Goals as goal
 
 pub returns-in-Some-true-clause-plain : goal.returns-in-Some-true-clause-plain
@@ -25,3 +29,10 @@ returns-clause-plain c place plain store is has =
 
 pub returns-clause-met : goal.returns-clause-met
 returns-clause-met c store is has = c.in_ok-rows.ensures.met store (subst (MeetsAll store) c.in_ok-self.ensures has.1)
+
+pub returns-clause-rest : goal.returns-clause-rest
+returns-clause-rest c full =
+    let added = rw c.deref-2.ensures.value at c.in_ok-rows.ensures in
+    all_of (λ (row : Row). AllMeet row (Has c.in_ok-self.field-0)) (drop 1 c.args.self.now.rows.items)
+    (λ row member store is has. member_of (λ r. Meets store r) (drop 1 c.args.self.now.rows.items) row
+    (added.rest full store (subst (MeetsAll store) c.in_ok-self.ensures has.1)) member)
