@@ -1,7 +1,6 @@
 -- What holds of each label: it has something to do, its edges lead to labels, and it mentions what its program declares.
-use Rattle.std.proofs.Common.{◌≡◌, ℕ, zero, suc, ◌+◌, ◌<◌, ◌≤◌, inl, inr, [], ◌∷◌, ◌++◌, length, refl, sym, subst, ◌∙◌, arith}
-use Rattle.step_meaning.specs.Step.{behind_body, Configuration, StepsFrom, Todo, front, items_of, one}
-use Rattle.step_meaning.specs.Run.{EndsWithin}
+use Rattle.std.proofs.Common.{◌≡◌, ℕ, zero, suc, ◌+◌, ◌<◌, ◌≤◌, [], ◌∷◌, ◌++◌, length, refl, arith}
+use Rattle.step_meaning.specs.Step.{behind_body, Todo, front, items_of, one}
 use Rattle.step_meaning.specs.Syntax.{Statement, Statements, assign, skip, return, break, continue, if_else, while_loop, do_while, empty, sequence, size_of, size_of_statement}
 use Rattle.step_meaning.specs.Valid.{IsBody, IsStatement}
 use Rattle.control_flow.specs.Actions.{IsSorted, LeadsBelow}
@@ -153,10 +152,3 @@ module _ (vars : ℕ) where
   pub labels_are_sorted : (body : Statements) → IsBody vars body → (l : ℕ) → l < length (all_labels body) → IsSorted vars (action_at body l)
   labels_are_sorted body valid zero low = tt
   labels_are_sorted body valid (suc k) low = each_at (λ l x. IsSorted vars x.action) 1 (labels_of 1 0 stray [] body) (sorted_list 1 0 stray [] body valid) k (suc k) (omega arith) (omega arith)
-
--- ---- a run depends on the front and the store alone
-
-pub front_decides : (n : ℕ) (c d : Configuration) → front c.todo ≡ front d.todo → c.store ≡ d.store → EndsWithin n c → EndsWithin n d
-front_decides zero c d fronts stores ends = sym fronts ∙ ends
-front_decides (suc n) c d fronts stores (inl final) = inl (sym fronts ∙ final)
-front_decides (suc n) c d fronts stores (inr each) = inr (λ e step. each e (subst (λ xs. StepsFrom xs c.store e) (sym fronts) (subst (λ s. StepsFrom (front d.todo) s e) (sym stores) step)))

@@ -87,6 +87,14 @@ pub(crate) fn expr(alloc: Global, from: &Expr) -> Result<Expr, AllocError>
         Expr::False => Expr::False,
         Expr::Neg(operand) => Expr::Neg(Box::new(alloc, expr(alloc, operand)?)?),
         Expr::Not(operand) => Expr::Not(Box::new(alloc, expr(alloc, operand)?)?),
+        Expr::Quot { of, by } => Expr::Quot {
+            of: Box::new(alloc, expr(alloc, of)?)?,
+            by: *by,
+        },
+        Expr::Rem { of, by } => Expr::Rem {
+            of: Box::new(alloc, expr(alloc, of)?)?,
+            by: *by,
+        },
         Expr::Pair { op, left, right } => {
             let left = expr(alloc, left)?;
             let right = expr(alloc, right)?;

@@ -3,7 +3,6 @@
 ghost use Rattle.std.specs.Prelude.{◌≡◌, ◌⊎◌, ℕ, ℤ, ◌<◌, ◌+◌, Bool, [], length, slice_set};
 ghost use Rattle.step_meaning.specs.Syntax.{Expression, Statements, free, size_of};
 ghost use Rattle.step_meaning.specs.Outcome.{Store, May};
-ghost use Rattle.step_meaning.specs.Run.{EndsWithin};
 ghost use Rattle.step_meaning.specs.Step.{Configuration, Next, Step, front, items_of};
 ghost use Rattle.step_meaning.specs.Valid.{IsBody};
 ghost use Rattle.control_flow.specs.Actions.{IsSorted, LeadsBelow, LeadsOn};
@@ -49,9 +48,4 @@ pub fn edges_lead_onward()
 /// What is done at a label of a valid program is over its variables.
 pub fn actions_are_over_the_variables()
     ensures { (vars : ℕ) (body : Statements) → IsBody vars body → (l : ℕ) → l < length (all_labels body) → IsSorted vars (action_at body l) }
-{}
-
-/// Configurations with the same front and the same store end within the same numbers of steps.
-pub fn the_front_decides()
-    ensures { (n : ℕ) (c d : Configuration) → front c.todo ≡ front d.todo → c.store ≡ d.store → EndsWithin n c → EndsWithin n d }
 {}

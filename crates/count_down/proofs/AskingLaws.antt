@@ -14,7 +14,7 @@ use Rattle.linear_forms.proofs.Exactness.{linear_exact}
 use Rattle.linear_forms.proofs.SpreadExactness.{claimed, exact_constraint}
 use Rattle.step_meaning.specs.declared.expression.Op2.{Op2}
 use Rattle.step_meaning.specs.declared.expression.Op2.TheVariants.{Add, Sub, Mul, Less, LessEqual, Greater, GreaterEqual, Equal, NotEqual, And, Or}
-use Rattle.step_meaning.specs.Syntax.{Expression, number, variable, free, range, truth, negative, negation, pair}
+use Rattle.step_meaning.specs.Syntax.{Expression, number, variable, free, range, truth, negative, negation, pair, divided}
 use Rattle.step_meaning.specs.AffineExpressions.{ComparisonFits, FunctionFits, IsAffine, less}
 use Rattle.count_down.specs.Asking.{EachHas, Has}
 
@@ -124,3 +124,4 @@ module _ (bounds : Bounds) (row : Row) where
   each_has (truth b) asks = absurd asks
   each_has (negative e) asks = absurd asks
   each_has (negation c) asks = absurd asks
+  each_has (divided division e b) asks = absurd asks

@@ -55,4 +55,4 @@ pub loopless_entry : (trees : List (Plan AffineRank)) (body : Statements) → Ha
     → rank_of (trees_in trees (entry_of body)) ≡ Some (ranked (constant_of (pos (last_steps body))))
 loopless_entry trees body free (Straight, counts, is) =
     subst (λ list. rank_of (trees_in list (entry_of body)) ≡ Some (ranked (constant_of (pos (last_steps body))))) (sym is) (entry_rank body free)
-loopless_entry trees body free (Loop row, counts, is) = absurd (no_loop_counted row 1 body free counts)
+loopless_entry trees body free (Loop row, counts, is) = absurd (no_loop_counted row 1 body free counts.0)

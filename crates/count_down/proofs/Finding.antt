@@ -7,4 +7,4 @@ use Rattle.step_meaning.specs.Countdown.{IsCountdown, IsCountdownBy}
 
 pub is_countdown : (countdown : Countdown) (body : Statements) → IsCountdownBy countdown body → IsCountdown body
 is_countdown Straight body h = inl h
-is_countdown (Loop row) body h = inr (row, h)
+is_countdown (Loop row) body h = inr (row, h.0)

@@ -88,7 +88,7 @@ length_counting row p empty counts = absurd counts
 -- as many trees as labels
 pub length_candidate : (countdown : Countdown) (body : Statements) → IsCountdownBy countdown body → length (candidate_by countdown body) ≡ 1 + size_of body
 length_candidate Straight body free = let later = length_behind body free in omega arith
-length_candidate (Loop row) body counts = let later = length_counting row 1 body counts in omega arith
+length_candidate (Loop row) body counts = let later = length_counting row 1 body counts.0 in omega arith
 
 -- ---- leaves
 

@@ -10,7 +10,7 @@ use Rattle.linear_cons.proofs.Places.{number_at-clear, number_at-set}
 use Rattle.linear_cons.proofs.Ring.{mul_sub, zero_mul}
 use Rattle.step_meaning.specs.declared.expression.Op2.{Op2}
 use Rattle.step_meaning.specs.declared.expression.Op2.TheVariants.{Add, Sub, Mul, Less, LessEqual, Greater, GreaterEqual, Equal, NotEqual, And, Or}
-use Rattle.step_meaning.specs.Syntax.{Expression, number, variable, free, range, truth, negative, negation, pair}
+use Rattle.step_meaning.specs.Syntax.{Expression, number, variable, free, range, truth, negative, negation, pair, divided}
 use Rattle.step_meaning.specs.Countdown.{IsShort, added, added_by, amount, change_by, form_of}
 use Rattle.step_meaning.specs.Turns.{MayAssign}
 use Rattle.step_meaning.proofs.FunctionLaws.{form_of_difference, form_of_sum}
@@ -73,6 +73,7 @@ short_form x (pair op (variable y) (truth b)) h = no_literal op x y h
 short_form x (pair op (variable y) (negative e)) h = no_literal op x y h
 short_form x (pair op (variable y) (negation c)) h = no_literal op x y h
 short_form x (pair op (variable y) (pair other l r)) h = no_literal op x y h
+short_form x (pair op (variable y) (divided division e z)) h = no_literal op x y h
 short_form x (pair op (number z) b) h = absurd h
 short_form x (pair op free b) h = absurd h
 short_form x (pair op (range lo hi) b) h = absurd h
@@ -80,6 +81,7 @@ short_form x (pair op (truth t) b) h = absurd h
 short_form x (pair op (negative e) b) h = absurd h
 short_form x (pair op (negation c) b) h = absurd h
 short_form x (pair op (pair other l r) b) h = absurd h
+short_form x (pair op (divided division e z) b) h = absurd h
 short_form x (number z) h = absurd h
 short_form x (variable y) h = absurd h
 short_form x free h = absurd h
@@ -87,6 +89,7 @@ short_form x (range lo hi) h = absurd h
 short_form x (truth t) h = absurd h
 short_form x (negative e) h = absurd h
 short_form x (negation c) h = absurd h
+short_form x (divided division e z) h = absurd h
 
 eqb_same : (x : ℕ) → eqb x x ≡ true
 eqb_same x = ⊎_elim

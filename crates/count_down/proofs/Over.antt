@@ -7,7 +7,7 @@ use Rattle.linear_cons.specs.declared.affine.Affine.{Affine}
 use Rattle.linear_cons.specs.declared.row.Row.{Row}
 use Rattle.linear_cons.specs.declared.row.RowKind.{RowKind}
 use Rattle.linear_cons.specs.declared.row.RowKind.TheVariants.{Always, Never, Row as Kept}
-use Rattle.linear_cons.specs.Functions.{NumbersFit, complement_of, constant_of, multiple_of, IsOver}
+use Rattle.linear_cons.specs.Functions.{NumbersFit, coefficient, complement_of, constant_of, multiple_of, IsOver}
 use Rattle.linear_cons.specs.Rows.{IsRowOf, row_kind_of}
 use Rattle.linear_cons.proofs.KindLaws.{row_kind_is}
 use Rattle.linear_cons.proofs.Sizes.{sizes_fit, sizes_quotient, sizes_complement, sizes_grown}
@@ -19,18 +19,21 @@ use Rattle.step_meaning.specs.declared.expression.Op2.TheVariants.{Add, Sub, Mul
 use Rattle.step_meaning.specs.AffineExpressions.{less, strictly_less}
 use Rattle.step_meaning.specs.Countdown.{Asks, AsksByComparing, CountsFrom, IsCountdownBy, form_of}
 use Rattle.linear_cons.specs.Sizes.{total_size}
-use Rattle.step_meaning.specs.Syntax.{Expression, Statements, number, variable, free, range, truth, negative, negation, pair, assign, skip, return, break, continue, if_else, while_loop, do_while, empty, sequence, size_of}
+use Rattle.step_meaning.specs.Syntax.{Expression, Statements, number, variable, free, range, truth, negative, negation, pair, divided, assign, skip, return, break, continue, if_else, while_loop, do_while, empty, sequence, size_of}
 use Rattle.step_meaning.specs.Valid.{IsBody, IsNumber, IsTest}
 use Rattle.decision_tree.specs.Paths.{PathFits, complements_on}
 use Rattle.decision_tree.specs.Plans.{Plan, bottom, top, leaf, branch, leaves_of}
 use Rattle.decision_tree.specs.declared.affine_rank.AffineRank.{AffineRank}
+use Rattle.decision_tree.specs.declared.reason.Pick.TheVariants.{All as EveryState, No, Value, Yes}
+use Rattle.decision_tree.specs.declared.reason.Why.{Why}
+use Rattle.decision_tree.specs.declared.reason.Why.TheVariants.{Atom, Both, Dead, End, Left, Now, Right, Step}
 use Rattle.tree_support.specs.Certificates.{SparesPlace}
 use Rattle.tree_support.specs.Setting.{trees_in}
 use Rattle.tree_support.proofs.Lists.{all_none}
 use Rattle.count_down.specs.Building.{IsFew, IsLed, IsModest}
 use Rattle.count_down.specs.Candidates.{IsCandidate, behind, candidate_by, carried, counting, inner, inside, last_of_loop, last_steps, most_within, steps_before, turn_counts, turn_of_loop, turn_steps}
 use Rattle.count_down.specs.Trees.{bound, count_tree, ended, shifted, split, within}
-use Rattle.decision_tree.specs.Extent.{ComplementsFit, IsTreeOver}
+use Rattle.decision_tree.specs.Extent.{ComplementsFit, IsTreeOver, PickIs}
 use Rattle.count_down.proofs.CountingLaws.{EachIs, few_turn_counts}
 use Rattle.count_down.proofs.Leading.{led_behind, led_modest}
 use Rattle.count_down.proofs.Modest.{ahead_modest, small_sizes}
@@ -86,6 +89,7 @@ module _ (vars : ℕ) where
   asked_over (truth b) row sorted asks = absurd asks
   asked_over (negative e) row sorted asks = absurd asks
   asked_over (negation c) row sorted asks = absurd asks
+  asked_over (divided division e b) row sorted asks = absurd asks
 
   over_carried : (row : Row) (p : ℕ) (s : Statements) → IsBody vars s → CountsFrom row p s
       → IsOver vars row.affine × IsOver vars (carried row.affine s)
@@ -108,10 +112,10 @@ module _ (vars : ℕ) where
 
   split_fine : (f a b : Affine) (kind : RowKind) → IsRowOf f kind → IsModest f → IsOver vars f → IsOver vars a → IsOver vars b
       → IsFine (split kind (within a) (within b))
-  split_fine f a b Always is modest own one two = (one, tt, omega arith)
-  split_fine f a b Never is modest own one two = (two, tt, omega arith)
+  split_fine f a b Always is modest own one two = ((one, tt), tt, omega arith)
+  split_fine f a b Never is modest own one two = ((two, tt), tt, omega arith)
   split_fine f a b (Kept row) is modest own one two = (
-    (over_quotient vars f row.affine is own, one, two),
+    (over_quotient vars f row.affine is own, (one, tt), (two, tt)),
     (
       sizes_fit (1 + 2 ^ 91) (complement_of row.affine) (omega arith)
           (sizes_complement (2 ^ 91) row.affine (sizes_quotient (2 ^ 91) f row.affine is modest)),
@@ -133,7 +137,8 @@ module _ (vars : ℕ) where
 
   last_fine : (counts : List Count) → All IsFine (map most_within counts)
   last_fine [] = all_none IsFine
-  last_fine (c ∷ counts) = All-cons IsFine (most_within c) (map most_within counts) (over_constant vars (pos c.most), tt, omega arith) (last_fine counts)
+  last_fine (c ∷ counts) = All-cons IsFine (most_within c) (map most_within counts)
+      ((over_constant vars (pos c.most), tt), tt, omega arith) (last_fine counts)
 
   module _ (few_vars : vars ≤ 15) where
     counting_fine : (row : Row) (s : Statements) → IsBody vars s → IsLed row s → size_of s < 1024 → All IsFine (counting row.affine s)
@@ -167,7 +172,7 @@ module _ (vars : ℕ) where
 
     candidate_fine : (countdown : Countdown) (body : Statements) → IsBody vars body → size_of body < 1024 → IsCountdownBy countdown body
         → All IsFine (candidate_by countdown body)
-    candidate_fine Straight body sorted few holds = All-cons IsFine ended (behind body) (over_constant vars (pos 0), tt, omega arith) (last_fine _)
+    candidate_fine Straight body sorted few holds = All-cons IsFine ended (behind body) ((over_constant vars (pos 0), tt), tt, omega arith) (last_fine _)
     candidate_fine (Loop row) body sorted few counts =
         let led : IsLed row body = record {
           vars = vars;
@@ -177,9 +182,9 @@ module _ (vars : ℕ) where
           some = omega arith;
           small =
               omega arith;
-          counts = counts;
+          counts = counts.0;
         } in
-        All-cons IsFine ended (counting row.affine body) (over_constant vars (pos 0), tt, omega arith) (counting_fine row body sorted led few)
+        All-cons IsFine ended (counting row.affine body) ((over_constant vars (pos 0), tt), tt, omega arith) (counting_fine row body sorted led few)
 
     tree_at : (trees : List (Plan AffineRank)) → All IsFine trees → (label : ℕ) → IsFine (trees_in trees label)
     tree_at trees all label = ⊎_elim
@@ -195,10 +200,24 @@ module _ (vars : ℕ) where
 
 -- ---- what follows for places and paths
 
+-- a place past the variables is one that a pick over them leaves alone
+pick_spares : (vars place : ℕ) → vars ≤ place → (why : Why) → PickIs (IsOver vars) why → PickIs (λ function. coefficient function place ≡ pos 0) why
+pick_spares vars place high (Step (Value by)) over = over.past place high
+pick_spares vars place high (Step EveryState) over = tt
+pick_spares vars place high (Step Yes) over = tt
+pick_spares vars place high (Step No) over = tt
+pick_spares vars place high End over = tt
+pick_spares vars place high Atom over = tt
+pick_spares vars place high Both over = tt
+pick_spares vars place high Left over = tt
+pick_spares vars place high Right over = tt
+pick_spares vars place high Now over = tt
+pick_spares vars place high Dead over = tt
+
 pub over_spares : (vars place : ℕ) → vars ≤ place → (tree : Plan AffineRank) → IsTreeOver vars tree → SparesPlace place tree
 over_spares vars place high bottom over = tt
 over_spares vars place high (top cause) over = tt
-over_spares vars place high (leaf why rank) over = over.past place high
+over_spares vars place high (leaf why rank) over = (over.0.past place high, pick_spares vars place high why over.1)
 over_spares vars place high (branch row this that) over = (over.0.past place high, over_spares vars place high this over.1, over_spares vars place high that over.2)
 
 path_by : {R : Type 0} (row : Row) (this that : Plan R) (place : ℕ) → NumbersFit (complement_of row.affine) → PathFits this place

@@ -370,7 +370,7 @@ blocked_by (Loop row) body told parts ground counts =
       product = 1;
       some = omega arith;
       small = omega arith;
-      counts = counts;
+      counts = counts.0;
     } in
     settled_blocked body told parts (trees_in (ended ∷ counting row.affine body)) ground refl
     (λ l high. get_or_past (ended ∷ counting row.affine body) l bottom (omega arith))

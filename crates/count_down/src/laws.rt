@@ -44,8 +44,8 @@ pub fn candidates_are_kept()
         → IsCandidate trees (statements block) → IsSupported affine_ranks (setting_of (statements block) told af_exit parts) (trees_in trees) }
 {}
 
-/// The rows and ranks of a candidate's trees are over the program's variables, and so leave alone the place where values are chosen; the
-/// complements of the rows fit 128 bits, and so do those on each path; and no tree has more than two leaves.
+/// The rows, ranks and picks of a candidate's trees are over the program's variables, and so leave alone the place where values are chosen;
+/// the complements of the rows fit 128 bits, and so do those on each path; and no tree has more than two leaves.
 pub fn candidates_are_over_the_variables()
     ensures over { (vars : ℕ) (body : Statements) (trees : List (Plan AffineRank)) → vars ≤ 15 → IsBody vars body → size_of body < 1024 → IsCandidate trees body
         → (label : ℕ) → IsTreeOver vars (trees_in trees label) }

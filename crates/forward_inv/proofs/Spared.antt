@@ -3,7 +3,7 @@ use Rattle.std.proofs.Common.{ℕ, ◌≤◌, ℤ, pos, inl, inr, Bool, slice_se
 use Rattle.std.proofs.lemmas.List.{set_comm}
 use Rattle.step_meaning.specs.Naming.{NamesBelow}
 use Rattle.step_meaning.specs.Outcome.{May, MayTest, Store}
-use Rattle.step_meaning.specs.Syntax.{Expression, free, negation, negative, number, pair, range, truth, variable}
+use Rattle.step_meaning.specs.Syntax.{Expression, free, negation, negative, number, pair, divided, range, truth, variable}
 use Rattle.linear_forms.proofs.Naming.{number_names, test_names}
 use Rattle.control_flow.specs.Actions.{IsSorted}
 use Rattle.control_flow.specs.declared.edge.EdgeKind.{EdgeKind}
@@ -21,6 +21,7 @@ module _ (store : Store) (z : ℤ) where
   may_spared (negative e) named v may = (may.0, may_spared e named may.0 may.1, may.2)
   may_spared (negation c) named v may = absurd may
   may_spared (pair op l r) named v may = (may.0, may.1, may_spared l named.0 may.0 may.2, may_spared r named.1 may.1 may.3, may.4)
+  may_spared (divided division e b) named v may = (may.0, may.1, may_spared e named may.0 may.2, may.3, may.4)
 
   pub test_spared : (c : Expression) → NamesBelow 15 c → (t : Bool) → MayTest c store t → MayTest c (slice_set store 15 z) t
   test_spared (number n) named t may = absurd may
@@ -30,6 +31,7 @@ module _ (store : Store) (z : ℤ) where
   test_spared (truth b) named t may = may
   test_spared (negative e) named t may = absurd may
   test_spared (negation c) named t may = (may.0, test_spared c named may.0 may.1, may.2)
+  test_spared (divided division e b) named t may = absurd may
   test_spared (pair op l r) named t (inl both) =
       inl (both.0, both.1, may_spared l named.0 both.0 both.2, may_spared r named.1 both.1 both.3, both.4)
   test_spared (pair op l r) named t (inr both) =

@@ -3,7 +3,7 @@ use Rattle.std.proofs.Common.{◌≡◌, ℕ, ◌<◌, ℤ, pos, negsuc, ◌+ℤ
 use Rattle.std.proofs.lemmas.Int.{ints}
 use Rattle.step_meaning.specs.declared.expression.Op2.{Op2}
 use Rattle.step_meaning.specs.declared.expression.Op2.TheVariants.{Add, Sub, Mul}
-use Rattle.step_meaning.specs.Syntax.{Expression, number, variable, free, range, truth, negative, negation, pair}
+use Rattle.step_meaning.specs.Syntax.{Expression, number, variable, free, range, truth, negative, negation, pair, divided}
 use Rattle.step_meaning.specs.Naming.{HasNoName}
 use Rattle.step_meaning.specs.AffineExpressions.{FunctionFits, KeepsAffine, coefficient_by, coefficient_in, constant_in, strictly_less}
 use Rattle.linear_cons.specs.declared.affine.Affine.{Affine}
@@ -73,6 +73,7 @@ coefficient_without_names (variable x) none i = absurd none
 coefficient_without_names free none i = refl
 coefficient_without_names (range lo hi) none i = refl
 coefficient_without_names (truth b) none i = refl
+coefficient_without_names (divided division e b) none i = refl
 coefficient_without_names (negative e) none i = rw (coefficient_without_names e none i) refl
 coefficient_without_names (negation c) none i = refl
 coefficient_without_names (pair op l r) none i =

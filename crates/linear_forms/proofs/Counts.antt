@@ -5,7 +5,7 @@ use Rattle.std.proofs.Math.Nat.{mul-le-mul, suc-mul}
 use Rattle.std.proofs.lemmas.List.{length-map}
 use Rattle.step_meaning.specs.declared.expression.Op2.{Op2}
 use Rattle.step_meaning.specs.declared.expression.Op2.TheVariants.{Add, Sub, Mul, Less, LessEqual, Greater, GreaterEqual, Equal, NotEqual, And, Or}
-use Rattle.step_meaning.specs.Syntax.{Expression, free, truth, negation, pair}
+use Rattle.step_meaning.specs.Syntax.{Expression, free, truth, negation, pair, divided}
 use Rattle.linear_cons.specs.declared.bounds.Bounds.{Bounds}
 use Rattle.linear_cons.specs.declared.bounds.Linear.{Linear}
 use Rattle.linear_cons.specs.declared.row.Row.{Row}
@@ -92,6 +92,7 @@ spread_length bounds (truth true) true = omega arith
 spread_length bounds (truth true) false = omega arith
 spread_length bounds (truth false) true = omega arith
 spread_length bounds (truth false) false = omega arith
+spread_length bounds (divided division e b) outcome = omega arith
 spread_length bounds (negation c) outcome = spread_length bounds c (not outcome)
 spread_length bounds (pair And l r) true = paired_length (spread_of bounds l true) (spread_of bounds r true) _ _ (spread_length bounds l true) (spread_length bounds r true)
 spread_length bounds (pair And l r) false = joined_length (spread_of bounds l false) (spread_of bounds r false) _ _ (spread_length bounds l false) (spread_length bounds r false)

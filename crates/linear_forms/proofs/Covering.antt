@@ -1,13 +1,13 @@
 -- The linear form of an expression covers what the expression may give.
-use Rattle.std.proofs.Common.{◌≡◌, ℤ, pos, negsuc, ◌+ℤ◌, ◌-ℤ◌, ◌*ℤ◌, Bool, true, false, cond, ◌&&◌, Option, Some, None, List, refl, sym, subst, ap, ◌∙◌, arith}
+use Rattle.std.proofs.Common.{◌≡◌, ◌≢◌, ℕ, zero, suc, ◌≤ℤ◌, int_div, int_eq, int_lt, unsigned_abs, ℤ, pos, negsuc, ◌+ℤ◌, ◌-ℤ◌, ◌*ℤ◌, Bool, true, false, cond, ◌&&◌, Option, Some, None, List, refl, sym, subst, ap, ◌∙◌, arith}
 use Rattle.std.proofs.lemmas.Int.{ints}
 use Rattle.std.specs.Int.{int_max}
 use Rattle.std.proofs.lemmas.Bool.Decides.{Decides-int_eq}
 use Rattle.step_meaning.specs.declared.expression.Op2.{Op2}
 use Rattle.step_meaning.specs.declared.expression.Op2.TheVariants.{Add, Sub, Mul}
-use Rattle.step_meaning.specs.Syntax.{Expression, number, variable, free, range, truth, negative, negation, pair}
+use Rattle.step_meaning.specs.Syntax.{Expression, number, variable, free, range, truth, negative, negation, pair, divided, quotient, remainder}
 use Rattle.step_meaning.specs.Naming.{NamesBelow}
-use Rattle.step_meaning.specs.Outcome.{Makes, May}
+use Rattle.step_meaning.specs.Outcome.{Makes, May, Truncates}
 use Rattle.linear_cons.specs.Bounds.{Covers, IsFrom, IsUpTo, LiesIn}
 use Rattle.linear_cons.specs.declared.affine.Affine.{Affine}
 use Rattle.linear_cons.specs.declared.bounds.Bounds.{Bounds}
@@ -15,12 +15,13 @@ use Rattle.linear_cons.specs.declared.bounds.Linear.{Linear}
 use Rattle.linear_cons.specs.Functions.{constant_of, difference_of, multiple_of, sum_of, value_at, variable_at}
 use Rattle.linear_cons.proofs.Forms.{value_constant, value_difference, value_multiple, value_sum, value_variable}
 use Rattle.linear_cons.proofs.Ring.{mul_commutes, sub_mul}
-use Rattle.linear_cons.specs.Ends.{ends_from}
-use Rattle.linear_forms.specs.Linearising.{are_equal, between, combined_by, corners, is_constant, is_exact, is_nought, is_number, is_same, lessened, linear_of, numbers_fit, product, scaled, square, total, unknown, with_ends}
+use Rattle.linear_cons.specs.Ends.{ends_from, greatest_value, least_value}
+use Rattle.linear_forms.specs.Linearising.{are_equal, between, least_left, most_left, quotient_end, quotient_form, remainder_form, combined_by, corners, is_constant, is_exact, is_nought, is_number, is_same, lessened, linear_of, numbers_fit, product, scaled, square, total, unknown, with_ends}
 use Rattle.linear_forms.proofs.AffineForms.{times_minus_one}
 use Rattle.linear_forms.proofs.Corners.{greatest_corner_above, least_corner_below, square_from_0, up_to_square}
 use Rattle.linear_cons.proofs.EndLaws.{exactly_covers, from_difference, from_end, from_least, from_multiple, from_same, from_sum, up_to_difference, up_to_end, up_to_greatest, up_to_multiple, up_to_same, up_to_sum}
 use Rattle.linear_forms.proofs.Known.{is_same_decides}
+use Rattle.step_meaning.proofs.Quotients.{falls, grows, left_above, left_between, only, truncates}
 
 -- ---- choices
 
@@ -126,6 +127,75 @@ product_covers bounds x y s v w inside left right =
     (λ equal. square_covers _ _ s v w (equal_values x y s v w equal left right) (from_least x bounds s v inside left) (up_to_greatest x bounds s v inside left))
     (λ differ. corners_cover _ _ _ _ s v w (from_least x bounds s v inside left) (up_to_greatest x bounds s v inside left) (from_least y bounds s w inside right) (up_to_greatest y bounds s w inside right))))
 
+-- ---- quotients and remainders
+
+-- what is divided by 0 has no quotient
+divisor_not_0 : (a b q : ℤ) → Truncates a b q → b ≢ pos 0
+divisor_not_0 a b q is zero_is = let small = is.small in let none : unsigned_abs b ≡ 0 = ap unsigned_abs zero_is in omega arith
+
+unless_from : (t : Bool) (end : Option ℤ) (q : ℤ) → IsFrom end q → IsFrom (cond t None end) q
+unless_from true end q from = tt
+unless_from false end q from = from
+
+unless_up_to : (t : Bool) (end : Option ℤ) (q : ℤ) → IsUpTo end q → IsUpTo (cond t None end) q
+unless_up_to true end q to = tt
+unless_up_to false end q to = to
+
+quotient_from : (end : Option ℤ) (k : ℕ) (a q : ℤ) → q ≡ int_div a (pos (suc k)) → IsFrom end a → IsFrom (quotient_end end (pos (suc k))) q
+quotient_from None k a q is from = tt
+quotient_from (Some z) k a q is from =
+    unless_from (int_eq (pos (suc k)) (pos 0)) _ q
+    (from_end (int_div z (pos (suc k))) q (subst (λ t. int_div z (pos (suc k)) ≤ℤ t) (sym is) (grows z a (suc k) (omega arith) from)))
+
+quotient_up_to : (end : Option ℤ) (k : ℕ) (a q : ℤ) → q ≡ int_div a (pos (suc k)) → IsUpTo end a → IsUpTo (quotient_end end (pos (suc k))) q
+quotient_up_to None k a q is to = tt
+quotient_up_to (Some z) k a q is to =
+    unless_up_to (int_eq (pos (suc k)) (pos 0)) _ q
+    (up_to_end (int_div z (pos (suc k))) q (subst (λ t. t ≤ℤ int_div z (pos (suc k))) (sym is) (grows a z (suc k) (omega arith) to)))
+
+fallen_from : (end : Option ℤ) (k : ℕ) (a q : ℤ) → q ≡ int_div a (negsuc k) → IsUpTo end a → IsFrom (quotient_end end (negsuc k)) q
+fallen_from None k a q is to = tt
+fallen_from (Some z) k a q is to = from_end (int_div z (negsuc k)) q (subst (λ t. int_div z (negsuc k) ≤ℤ t) (sym is) (falls a z k to))
+
+fallen_up_to : (end : Option ℤ) (k : ℕ) (a q : ℤ) → q ≡ int_div a (negsuc k) → IsFrom end a → IsUpTo (quotient_end end (negsuc k)) q
+fallen_up_to None k a q is from = tt
+fallen_up_to (Some z) k a q is from = up_to_end (int_div z (negsuc k)) q (subst (λ t. t ≤ℤ int_div z (negsuc k)) (sym is) (falls z a k from))
+
+quotient_covers : (lo hi : Option ℤ) (b : ℤ) (s : List ℤ) (a q : ℤ) → Truncates a b q → IsFrom lo a → IsUpTo hi a → Covers (quotient_form lo hi b) s q
+quotient_covers lo hi (pos zero) s a q is from to = absurd (divisor_not_0 a (pos 0) q is refl)
+quotient_covers lo hi (pos (suc k)) s a q is from to =
+    let one = only a (pos (suc k)) q (int_div a (pos (suc k))) is (truncates a (pos (suc k)) (divisor_not_0 a (pos (suc k)) q is)) in
+    covers_either (int_lt (pos (suc k)) (pos 0)) _ _ s q (λ (e : int_lt (pos (suc k)) (pos 0) ≡ true). absurd (omega (arith, ints)))
+    (λ e. ends_cover _ _ s q (quotient_from lo k a q one from) (quotient_up_to hi k a q one to))
+quotient_covers lo hi (negsuc k) s a q is from to =
+    let one = only a (negsuc k) q (int_div a (negsuc k)) is (truncates a (negsuc k) (divisor_not_0 a (negsuc k) q is)) in
+    ends_cover _ _ s q (fallen_from hi k a q one to) (fallen_up_to lo k a q one from)
+
+-- what is left is at least the one number, and at most the other
+upper_first : (t : Bool) (z : ℕ) (x r : ℤ) → int_lt (pos 0) (pos (suc z)) ≡ t → r ≤ℤ x → r ≤ℤ cond t x (pos 0)
+upper_first true z x r e h = h
+upper_first false z x r e h = absurd (omega (arith, ints))
+
+lower_either : (t : Bool) (x y r : ℤ) → x ≤ℤ r → y ≤ℤ r → cond t x y ≤ℤ r
+lower_either true x y r h k = h
+lower_either false x y r h k = k
+
+left_from : (end : Option ℤ) (b a q : ℤ) → Truncates a b q → IsFrom end a → least_left end b ≤ℤ (a -ℤ q *ℤ b)
+left_from None b a q is from = (left_between a b q is).0
+left_from (Some (pos z)) b a q is from = lower_either (int_lt (pos z) (pos 0)) _ _ _ (left_between a b q is).0 (left_above a b q is (omega (arith, ints))).0
+left_from (Some (negsuc z)) b a q is from = (left_between a b q is).0
+
+left_up_to : (end : Option ℤ) (b a q : ℤ) → Truncates a b q → IsUpTo end a → (a -ℤ q *ℤ b) ≤ℤ most_left end b
+left_up_to None b a q is to = (left_between a b q is).1
+left_up_to (Some (pos zero)) b a q is to = is.sign.1 to
+left_up_to (Some (pos (suc z))) b a q is to = upper_first (int_lt (pos 0) (pos (suc z))) z _ _ refl (left_between a b q is).1
+left_up_to (Some (negsuc z)) b a q is to = is.sign.1 (omega (arith, ints))
+
+remainder_covers : (lo hi : Option ℤ) (b : ℤ) (s : List ℤ) (a q : ℤ) → Truncates a b q → IsFrom lo a → IsUpTo hi a
+    → Covers (remainder_form lo hi b) s (a -ℤ q *ℤ b)
+remainder_covers lo hi b s a q is from to =
+    ends_cover (Some (least_left lo b)) (Some (most_left hi b)) s (a -ℤ q *ℤ b) (left_from lo b a q is from) (left_up_to hi b a q is to)
+
 -- ---- expressions
 
 combined_covers : (op : Op2) (bounds : Bounds) (x y : Linear) (s : List ℤ) (a b v : ℤ) → LiesIn bounds s → Covers x s a → Covers y s b → Makes op a b v → Covers (combined_by op bounds x y) s v
@@ -144,6 +214,16 @@ linear_covers bounds s inside (negative e) named v may =
     let inner : Covers (linear_of bounds e) s may.0 = linear_covers bounds s inside e named may.0 may.1 in
     subst (Covers (scaled (linear_of bounds e) (negsuc 0)) s) (times_minus_one may.0 ∙ sym may.2) (scaled_covers (linear_of bounds e) (negsuc 0) s may.0 inner)
 linear_covers bounds s inside (negation c) named v may = absurd may
+linear_covers bounds s inside (divided quotient e b) named v may =
+    let inner : Covers (linear_of bounds e) s may.0 = linear_covers bounds s inside e named may.0 may.2 in
+    subst (Covers (linear_of bounds (divided quotient e b)) s) (sym may.4)
+    (quotient_covers (least_value (linear_of bounds e) bounds) (greatest_value (linear_of bounds e) bounds) b s may.0 may.1 may.3
+    (from_least (linear_of bounds e) bounds s may.0 inside inner) (up_to_greatest (linear_of bounds e) bounds s may.0 inside inner))
+linear_covers bounds s inside (divided remainder e b) named v may =
+    let inner : Covers (linear_of bounds e) s may.0 = linear_covers bounds s inside e named may.0 may.2 in
+    subst (Covers (linear_of bounds (divided remainder e b)) s) (sym may.4)
+    (remainder_covers (least_value (linear_of bounds e) bounds) (greatest_value (linear_of bounds e) bounds) b s may.0 may.1 may.3
+    (from_least (linear_of bounds e) bounds s may.0 inside inner) (up_to_greatest (linear_of bounds e) bounds s may.0 inside inner))
 linear_covers bounds s inside (pair op l r) named v may =
     combined_covers op bounds (linear_of bounds l) (linear_of bounds r) s may.0 may.1 v inside
     (linear_covers bounds s inside l named.0 may.0 may.2) (linear_covers bounds s inside r named.1 may.1 may.3) may.4

@@ -3,7 +3,7 @@ use Rattle.std.proofs.Common.{◌≡◌, ℕ, pos, negsuc, ◌-ℤ◌, Bool, tru
 use Rattle.std.proofs.lemmas.Int.{ints}
 use Rattle.step_meaning.specs.declared.expression.Op2.{Op2}
 use Rattle.step_meaning.specs.declared.expression.Op2.TheVariants.{Less, LessEqual, Greater, GreaterEqual, Equal, NotEqual, And, Or}
-use Rattle.step_meaning.specs.Syntax.{Expression, number, variable, free, range, truth, negative, negation, pair}
+use Rattle.step_meaning.specs.Syntax.{Expression, number, variable, free, range, truth, negative, negation, pair, divided}
 use Rattle.step_meaning.specs.AffineExpressions.{ComparisonFits, FunctionFits, IsAffine, IsAffineTest, TestFits, constant_in, less, strictly_less}
 use Rattle.step_meaning.specs.Valid.{IsTest}
 use Rattle.linear_cons.specs.declared.bounds.Bounds.{Bounds}
@@ -124,6 +124,7 @@ spread_dual vars bounds (truth true) sort affine fit false = failing_dual
 spread_dual vars bounds (truth false) sort affine fit true = failing_dual
 spread_dual vars bounds (truth false) sort affine fit false = holding_dual
 spread_dual vars bounds (negative e) sort affine fit t = absurd sort
+spread_dual vars bounds (divided division e b) sort affine fit t = absurd sort
 spread_dual vars bounds (negation c) sort affine fit t = spread_dual vars bounds c sort affine fit (not t)
 spread_dual vars bounds (pair And l r) sort affine fit true =
     pairs_dual (spread_of bounds l true) (spread_of bounds r true) (spread_of bounds l false) (spread_of bounds r false) (spread_dual vars bounds l sort.0 affine.0 fit.0 true) (spread_dual vars bounds r sort.1 affine.1 fit.1 true)

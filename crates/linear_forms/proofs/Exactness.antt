@@ -1,9 +1,9 @@
 -- The linear form of an affine expression whose numbers fit is exactly its function, and the expression gives this function's value.
-use Rattle.std.proofs.Common.{◌≡◌, ℕ, ◌<◌, ℤ, pos, negsuc, neg_ℤ, ◌+ℤ◌, ◌-ℤ◌, ◌*ℤ◌, Bool, true, false, cond, eqb, ◌⊎◌, inl, inr, ⊎_elim, Option, Some, None, List, refl, sym, subst, ap, ◌∙◌, arith}
+use Rattle.std.proofs.Common.{int_lt, ◌≡◌, ℕ, ◌<◌, ℤ, pos, negsuc, neg_ℤ, ◌+ℤ◌, ◌-ℤ◌, ◌*ℤ◌, Bool, true, false, cond, eqb, ◌⊎◌, inl, inr, ⊎_elim, Option, Some, None, List, refl, sym, subst, ap, ◌∙◌, arith}
 use Rattle.std.proofs.lemmas.Int.{ints}
 use Rattle.step_meaning.specs.declared.expression.Op2.{Op2}
 use Rattle.step_meaning.specs.declared.expression.Op2.TheVariants.{Add, Sub, Mul}
-use Rattle.step_meaning.specs.Syntax.{Expression, number, variable, free, range, truth, negative, negation, pair}
+use Rattle.step_meaning.specs.Syntax.{Expression, number, variable, free, range, truth, negative, negation, pair, divided, quotient, remainder}
 use Rattle.step_meaning.specs.Naming.{IsUnnamed, NamesBelow}
 use Rattle.step_meaning.specs.AffineExpressions.{ExpressionFits, FunctionFits, IsAffine, KeepsAffine, constant_in}
 use Rattle.step_meaning.specs.Outcome.{Makes, May}
@@ -15,7 +15,7 @@ use Rattle.linear_cons.proofs.Forms.{value_constant, value_difference, value_mul
 use Rattle.linear_cons.proofs.Places.{eqb_apart, number_at_places}
 use Rattle.linear_cons.proofs.Ring.{mul_commutes, zero_mul}
 use Rattle.linear_cons.specs.Ends.{exact_end, exactly, fits, greatest_value, least_value, scaled_end}
-use Rattle.linear_forms.specs.Linearising.{are_equal, combined_by, corners, is_constant, is_number, linear_of, numbers_fit, product, scaled, unknown, with_ends}
+use Rattle.linear_forms.specs.Linearising.{are_equal, combined_by, corners, is_constant, is_number, linear_of, numbers_fit, product, scaled, unknown, with_ends, between}
 use Rattle.step_meaning.specs.Countdown.{form_of}
 use Rattle.linear_forms.proofs.AffineForms.{form_fits, form_of_difference, form_of_negative, form_of_sum, form_without_names, product_with_left, product_with_right, scaled_left, scaled_right}
 use Rattle.linear_forms.proofs.Known.{constant_form_is, is_same_decides, with_ends_fit}
@@ -71,6 +71,7 @@ linear_exact bounds free affine fit = absurd affine
 linear_exact bounds (range lo hi) affine fit = absurd affine
 linear_exact bounds (truth b) affine fit = absurd affine
 linear_exact bounds (negation c) affine fit = absurd affine
+linear_exact bounds (divided division e b) affine fit = absurd affine
 linear_exact bounds (negative e) affine fit = ap (λ t. scaled t (negsuc 0)) (linear_exact bounds e affine fit.0) ∙ scaled_exact (form_of e) (negsuc 0) (negative e) (form_of_negative e) fit.1
 linear_exact bounds (pair op l r) affine fit =
     ap (λ t. combined_by op bounds t (linear_of bounds r)) (linear_exact bounds l affine.0 fit.0)
@@ -112,6 +113,7 @@ may_have_value s free named affine = absurd affine
 may_have_value s (range lo hi) named affine = absurd affine
 may_have_value s (truth b) named affine = absurd affine
 may_have_value s (negation c) named affine = absurd affine
+may_have_value s (divided division e b) named affine = absurd affine
 may_have_value s (negative e) named affine = (value_at (form_of e) s, may_have_value s e named affine, value_of_negative e s)
 may_have_value s (pair op l r) named affine =
     (value_at (form_of l) s, value_at (form_of r) s, may_have_value s l named.0 affine.0, may_have_value s r named.1 affine.1, value_of_two op l r s affine.2)
@@ -130,6 +132,7 @@ only_value s free named affine v may = absurd affine
 only_value s (range lo hi) named affine v may = absurd affine
 only_value s (truth b) named affine v may = absurd affine
 only_value s (negation c) named affine v may = absurd affine
+only_value s (divided division e b) named affine v may = absurd affine
 only_value s (negative e) named affine v may =
     may.2 ∙ ap neg_ℤ (only_value s e named affine may.0 may.1) ∙ sym (value_of_negative e s)
 only_value s (pair op l r) named affine v may =
@@ -182,5 +185,7 @@ module _ (i : ℕ) (low : i < 16) where
   only_named bounds (range lo hi) none = nought_at
   only_named bounds (truth b) none = nought_at
   only_named bounds (negation c) none = nought_at
+  only_named bounds (divided quotient e b) none = either_unnamed (int_lt b (pos 0)) (between _ _) (between _ _) nought_at nought_at
+  only_named bounds (divided remainder e b) none = nought_at
   only_named bounds (negative e) none = scaled_unnamed (linear_of bounds e) (negsuc 0) (only_named bounds e none)
   only_named bounds (pair op l r) none = combined_unnamed op bounds (linear_of bounds l) (linear_of bounds r) (only_named bounds l none.0) (only_named bounds r none.1)

@@ -1,6 +1,7 @@
 -- What checked operations answer is what the definitions name.
-use Rattle.std.proofs.Common.{◌≡◌, ℕ, ◌<◌, ◌⊎◌, inl, inr, ℤ, pos, Option, Some, None, refl, sym, ap, ◌∙◌, Result, Ok, Err, OkIff}
+use Rattle.std.proofs.Common.{◌≡◌, ℕ, ◌<◌, ◌⊎◌, inl, inr, ℤ, pos, Option, Some, None, refl, sym, ap, ◌∙◌, Result, Ok, Err, OkIff, SomeIff, int_div, subst}
 use Rattle.std.specs.Bool.{Decides}
+use Rattle.std.specs.Int.{CanDivide, IsNonZero, w128}
 use Rattle.linear_forms.specs.declared.product.Reach.{Reach}
 use Rattle.linear_forms.specs.declared.product.Reach.TheVariants.{Below, Above}
 use Rattle.linear_forms.specs.Sides.{Reaches}
@@ -77,3 +78,13 @@ pub unfitted : (r : Result Affine Wide) (x : Wide) (a : Affine) → r ≡ Err x 
 unfitted r x a is h =
     let k = rw is at h in
     sym (when_not (numbers_fit a) (Some a) None (is_false (numbers_fit a) (NumbersFit a) (numbers_fit_decides a) k))
+
+-- ---- quotients
+
+pub divided_end : (r : Option ℤ) (z b : ℤ) → IsNonZero w128 b → SomeIff r (CanDivide w128 z b) (int_div z b) → r ≡ exact_end (int_div z b)
+divided_end (Some x) z b some h = ap Some h.1 ∙ sym (known_end (int_div z b) h.0.1)
+divided_end None z b some h = sym (unknown_end (int_div z b) (λ fit. h (some, fit)))
+
+pub divided_as : (r : Option ℤ) (z b y d : ℤ) → y ≡ z → d ≡ b → IsNonZero w128 b → SomeIff r (CanDivide w128 y d) (int_div y d) → r ≡ exact_end (int_div z b)
+divided_as r z b y d one two some h =
+    divided_end r z b some (subst (λ t. SomeIff r (CanDivide w128 z t) (int_div z t)) two (subst (λ t. SomeIff r (CanDivide w128 t d) (int_div t d)) one h))

@@ -2,7 +2,7 @@
 use Rattle.std.proofs.Common.{ℕ, ◌≤◌, arith}
 use Rattle.step_meaning.specs.declared.expression.Op2.{Op2}
 use Rattle.step_meaning.specs.declared.expression.Op2.TheVariants.{Add, Sub, Mul, Less, LessEqual, Greater, GreaterEqual, Equal, NotEqual, And, Or}
-use Rattle.step_meaning.specs.Syntax.{Expression, number, variable, free, range, truth, negative, negation, pair}
+use Rattle.step_meaning.specs.Syntax.{Expression, number, variable, free, range, truth, negative, negation, pair, divided}
 use Rattle.step_meaning.specs.Naming.{NamesBelow}
 use Rattle.step_meaning.specs.Valid.{IsNumber, IsTest, MakesNumber, MakesTest}
 
@@ -33,6 +33,7 @@ number_names vars places few (range lo hi) sort = tt
 number_names vars places few (truth b) sort = absurd sort
 number_names vars places few (negative e) sort = number_names vars places few e sort
 number_names vars places few (negation c) sort = absurd sort
+number_names vars places few (divided division e b) sort = number_names vars places few e sort.0
 number_names vars places few (pair op l r) sort =
     let both = numbers_of op (IsNumber vars l × IsNumber vars r) sort in
     (number_names vars places few l both.0, number_names vars places few r both.1)
@@ -44,6 +45,7 @@ test_names vars places few free sort = tt
 test_names vars places few (range lo hi) sort = absurd sort
 test_names vars places few (truth b) sort = tt
 test_names vars places few (negative e) sort = absurd sort
+test_names vars places few (divided division e b) sort = absurd sort
 test_names vars places few (negation c) sort = test_names vars places few c sort
 test_names vars places few (pair op l r) sort =
     tests_of op (IsNumber vars l × IsNumber vars r) (IsTest vars l × IsTest vars r) (NamesBelow places l × NamesBelow places r)

@@ -2,7 +2,7 @@
 use Rattle.std.proofs.Common.{◌≡◌, ℤ, inl, inr, Bool, true, false, not, List, [], ◌∷◌, if◌then◌else◌, refl, sym, subst, ap}
 use Rattle.step_meaning.specs.declared.expression.Op2.{Op2}
 use Rattle.step_meaning.specs.declared.expression.Op2.TheVariants.{Less, LessEqual, Greater, GreaterEqual, Equal, NotEqual, And, Or}
-use Rattle.step_meaning.specs.Syntax.{Expression, number, variable, free, range, truth, negative, negation, pair}
+use Rattle.step_meaning.specs.Syntax.{Expression, number, variable, free, range, truth, negative, negation, pair, divided}
 use Rattle.step_meaning.specs.Naming.{NamesBelow}
 use Rattle.step_meaning.specs.Outcome.{Compares, Connects, MayTest}
 use Rattle.linear_cons.specs.declared.bounds.Bounds.{Bounds}
@@ -46,6 +46,7 @@ spread_covers bounds s inside (range lo hi) named t may = absurd may
 spread_covers bounds s inside (truth true) named t may = subst (λ o. MeetsOne s (if o then [] ∷ [] else [])) (sym may) (inl tt)
 spread_covers bounds s inside (truth false) named t may = subst (λ o. MeetsOne s (if o then [] else [] ∷ [])) (sym may) (inl tt)
 spread_covers bounds s inside (negative e) named t may = absurd may
+spread_covers bounds s inside (divided division e b) named t may = absurd may
 spread_covers bounds s inside (negation c) named t may =
     subst (λ o. MeetsOne s (spread_of bounds c o)) (not_not may.0 t may.2) (spread_covers bounds s inside c named may.0 may.1)
 spread_covers bounds s inside (pair op l r) named t (inl may) =

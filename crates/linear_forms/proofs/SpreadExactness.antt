@@ -3,7 +3,7 @@ use Rattle.std.proofs.Common.{◌≡◌, ◌≢◌, ℕ, ◌≤◌, ℤ, pos, �
 use Rattle.std.proofs.lemmas.Int.{ints, by_lt_z}
 use Rattle.step_meaning.specs.declared.expression.Op2.{Op2}
 use Rattle.step_meaning.specs.declared.expression.Op2.TheVariants.{Less, LessEqual, Greater, GreaterEqual, Equal, NotEqual, And, Or}
-use Rattle.step_meaning.specs.Syntax.{Expression, number, variable, free, range, truth, negative, negation, pair}
+use Rattle.step_meaning.specs.Syntax.{Expression, number, variable, free, range, truth, negative, negation, pair, divided}
 use Rattle.step_meaning.specs.Naming.{NamesBelow}
 use Rattle.step_meaning.specs.AffineExpressions.{ComparisonFits, FunctionFits, IsAffine, IsAffineTest, TestFits, coefficient_in, constant_in, less, strictly_less}
 use Rattle.step_meaning.specs.Outcome.{Compares, MayTest}
@@ -156,6 +156,7 @@ module _ (s : List ℤ) where
   some_outcome vars few (range lo hi) sort affine = absurd sort
   some_outcome vars few (truth b) sort affine = (b, refl)
   some_outcome vars few (negative e) sort affine = absurd sort
+  some_outcome vars few (divided division e b) sort affine = absurd sort
   some_outcome vars few (negation c) sort affine = let inner = some_outcome vars few c sort affine in (not inner.0, (inner.0, inner.1, refl))
   some_outcome vars few (pair And l r) sort affine =
       let left = some_outcome vars few l sort.0 affine.0 in
@@ -199,6 +200,7 @@ module _ (s : List ℤ) where
   spread_exact vars few bounds (truth false) sort affine fit true met = absurd met
   spread_exact vars few bounds (truth false) sort affine fit false met = refl
   spread_exact vars few bounds (negative e) sort affine fit t met = absurd sort
+  spread_exact vars few bounds (divided division e b) sort affine fit t met = absurd sort
   spread_exact vars few bounds (negation c) sort affine fit t met = (not t, spread_exact vars few bounds c sort affine fit (not t) met, twice t)
   spread_exact vars few bounds (pair And l r) sort affine fit true met =
       let both = met_pairs s (spread_of bounds l true) (spread_of bounds r true) met in

@@ -3,7 +3,7 @@ use Rattle.std.specs.Prelude.{ℕ, ◌+◌, ◌*◌, not, Bool, true, false}
 use Rattle.step_meaning.specs.declared.expression.Op2.{Op2}
 use Rattle.step_meaning.specs.declared.expression.Op2.TheVariants.{Add, Sub, Mul, Less, LessEqual, Greater, GreaterEqual, Equal, NotEqual}
 use Rattle.step_meaning.specs.declared.expression.Op2.TheVariants.{And, Or}
-use Rattle.step_meaning.specs.Syntax.{Expression, number, variable, free, range, truth, negative, negation, pair}
+use Rattle.step_meaning.specs.Syntax.{Expression, number, variable, free, range, truth, negative, negation, pair, divided}
 
 -- of two operands with these counts for the outcome; an `==` fails, and a `!=` holds, in two ways
 abbrev pub count_by : Op2 → Bool → ℕ → ℕ → ℕ
@@ -32,3 +32,4 @@ conjunctions free outcome = 1
 conjunctions (range lo hi) outcome = 1
 conjunctions (truth b) outcome = 1
 conjunctions (negative e) outcome = 1
+conjunctions (divided division e b) outcome = 1

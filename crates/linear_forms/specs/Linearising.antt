@@ -1,12 +1,12 @@
 -- The linear form of an expression: an affine function, and two ends of what it leaves out.
-use Rattle.std.specs.Prelude.{ℕ, zero, suc, ◌&&◌, ℤ, pos, negsuc, ◌+ℤ◌, ◌-ℤ◌, ◌*ℤ◌, Bool, true, false, Option, None, Some, if◌then◌else◌}
+use Rattle.std.specs.Prelude.{ℕ, zero, suc, ◌&&◌, ℤ, pos, negsuc, ◌+ℤ◌, ◌-ℤ◌, ◌*ℤ◌, Bool, true, false, Option, None, Some, if◌then◌else◌, int_div, int_lt, unsigned_abs}
 use Rattle.std.specs.Int.{int_min, int_max}
 use Rattle.std.specs.Ordering.{int_eq}
 use Rattle.std.specs.Cmp.Lexicographic.{pointwise}
 use Rattle.step_meaning.specs.declared.expression.Op2.{Op2}
 use Rattle.step_meaning.specs.declared.expression.Op2.TheVariants.{Add, Sub, Mul, Less, LessEqual, Greater, GreaterEqual, Equal, NotEqual}
 use Rattle.step_meaning.specs.declared.expression.Op2.TheVariants.{And, Or}
-use Rattle.step_meaning.specs.Syntax.{Expression, number, variable, range, negative, pair, free, truth, negation}
+use Rattle.step_meaning.specs.Syntax.{Expression, number, variable, range, negative, pair, free, truth, negation, divided, quotient, remainder}
 use Rattle.linear_cons.specs.declared.affine.Affine.{Affine}
 use Rattle.linear_cons.specs.declared.bounds.Bounds.{Bounds}
 use Rattle.linear_cons.specs.declared.bounds.Linear.{Linear}
@@ -107,6 +107,27 @@ combined_by NotEqual bounds x y = unknown
 combined_by And bounds x y = unknown
 combined_by Or bounds x y = unknown
 
+-- a quotient of a number between two ends: it lies between the quotients of the ends, which a negative divisor exchanges; by 0 there is none
+abbrev pub quotient_end : Option ℤ → ℤ → Option ℤ
+quotient_end None b = None
+quotient_end (Some z) b = if int_eq b (pos 0) then None else exact_end (int_div z b)
+
+abbrev pub quotient_form : Option ℤ → Option ℤ → ℤ → Linear
+quotient_form lo hi b =
+    if int_lt b (pos 0) then between (quotient_end hi b) (quotient_end lo b) else between (quotient_end lo b) (quotient_end hi b)
+
+-- what is left of it is smaller in size than the divisor, at least 0 where no number is negative, and at most 0 where none is positive
+abbrev pub least_left : Option ℤ → ℤ → ℤ
+least_left None b = pos 1 -ℤ pos (unsigned_abs b)
+least_left (Some z) b = if int_lt z (pos 0) then pos 1 -ℤ pos (unsigned_abs b) else pos 0
+
+abbrev pub most_left : Option ℤ → ℤ → ℤ
+most_left None b = pos (unsigned_abs b) -ℤ pos 1
+most_left (Some z) b = if int_lt (pos 0) z then pos (unsigned_abs b) -ℤ pos 1 else pos 0
+
+abbrev pub remainder_form : Option ℤ → Option ℤ → ℤ → Linear
+remainder_form lo hi b = between (Some (least_left lo b)) (Some (most_left hi b))
+
 -- the linear form of a number expression
 abbrev pub linear_of : Bounds → Expression → Linear
 linear_of bounds (number z) = exactly (constant_of z)
@@ -114,6 +135,8 @@ linear_of bounds (variable x) = exactly (variable_at x)
 linear_of bounds (range lo hi) = between lo hi
 linear_of bounds (negative e) = scaled (linear_of bounds e) (negsuc 0)
 linear_of bounds (pair op l r) = combined_by op bounds (linear_of bounds l) (linear_of bounds r)
+linear_of bounds (divided quotient e b) = quotient_form (least_value (linear_of bounds e) bounds) (greatest_value (linear_of bounds e) bounds) b
+linear_of bounds (divided remainder e b) = remainder_form (least_value (linear_of bounds e) bounds) (greatest_value (linear_of bounds e) bounds) b
 linear_of bounds free = unknown
 linear_of bounds (truth b) = unknown
 linear_of bounds (negation c) = unknown

@@ -3,7 +3,7 @@ use Rattle.std.specs.Prelude.{not, ℤ, pos, ◌-ℤ◌, Bool, true, false, Opti
 use Rattle.step_meaning.specs.declared.expression.Op2.{Op2}
 use Rattle.step_meaning.specs.declared.expression.Op2.TheVariants.{Add, Sub, Mul, Less, LessEqual, Greater, GreaterEqual, Equal, NotEqual}
 use Rattle.step_meaning.specs.declared.expression.Op2.TheVariants.{And, Or}
-use Rattle.step_meaning.specs.Syntax.{Expression, free, truth, negation, pair, number, variable, range, negative}
+use Rattle.step_meaning.specs.Syntax.{Expression, free, truth, negation, pair, number, variable, range, negative, divided}
 use Rattle.linear_cons.specs.declared.affine.Affine.{Affine}
 use Rattle.linear_cons.specs.declared.bounds.Bounds.{Bounds}
 use Rattle.linear_cons.specs.declared.bounds.Linear.{Linear}
@@ -139,3 +139,4 @@ spread_of bounds (number z) outcome = []
 spread_of bounds (variable x) outcome = []
 spread_of bounds (range lo hi) outcome = []
 spread_of bounds (negative e) outcome = []
+spread_of bounds (divided division e b) outcome = []

@@ -1,6 +1,8 @@
 //! Linear forms of number expressions.
 
-ghost use Rattle.std.specs.Prelude.{◌≡◌, OkIff, IfErr, ◌&&◌};
+ghost use Rattle.std.specs.Prelude.{◌≡◌, OkIff, IfErr, ◌&&◌, int_div};
+ghost use Rattle.std.specs.Int.{IsNonZero, w128};
+ghost use Rattle.linear_cons.specs.Ends.{exact_end};
 ghost use Rattle.step_meaning.specs.Syntax.{expression};
 ghost use Rattle.step_meaning.specs.Naming.{NamesBelow};
 ghost use Rattle.step_meaning.specs.AffineExpressions.{IsAffine, ExpressionFits};
@@ -59,6 +61,14 @@ pub fn linearise(expr: &Expr, bounds: &Bounds) -> Linear
         Expr::Name(place) => Linear::exactly(Affine::var(*place)),
         Expr::Range { lo, hi } => between(wide_end(*lo), wide_end(*hi)),
         Expr::Neg(operand) => scaled(&linearise(operand, bounds), -1),
+        Expr::Quot { of, by } => {
+            let of = linearise(of, bounds);
+            quotient(of.least(bounds), of.greatest(bounds), *by)
+        }
+        Expr::Rem { of, by } => {
+            let of = linearise(of, bounds);
+            remainder(of.least(bounds), of.greatest(bounds), *by)
+        }
         Expr::Pair { op, left, right } => {
             let left = linearise(left, bounds);
             let right = linearise(right, bounds);
@@ -70,6 +80,70 @@ pub fn linearise(expr: &Expr, bounds: &Bounds) -> Linear
             }
         }
         _ => between(None, None),
+    }
+}
+
+// A quotient of a number between two ends.
+fn quotient(lo: Option<i128>, hi: Option<i128>, by: i64) -> Linear
+    ensures { result ≡ forms.quotient_form lo hi by }
+{
+    if by < 0 {
+        between(quotient_end(hi, by), quotient_end(lo, by))
+    } else {
+        between(quotient_end(lo, by), quotient_end(hi, by))
+    }
+}
+
+// The quotient of an end, where it is known and fits.
+fn quotient_end(end: Option<i128>, by: i64) -> Option<i128>
+    ensures { result ≡ forms.quotient_end end by }
+{
+    match end {
+        Some(end) => {
+            if by == 0 {
+                None
+            } else {
+                divided(end, by as i128)
+            }
+        }
+        None => None,
+    }
+}
+
+// The quotient, where it fits.
+fn divided(end: i128, by: i128) -> Option<i128>
+    requires { IsNonZero w128 by }
+    ensures { result ≡ exact_end (int_div end by) }
+{
+    end.checked_div(by)
+}
+
+// What a division of a number between two ends leaves.
+fn remainder(lo: Option<i128>, hi: Option<i128>, by: i64) -> Linear
+    ensures { result ≡ forms.remainder_form lo hi by }
+{
+    between(Some(least_left(lo, by)), Some(most_left(hi, by)))
+}
+
+// The least that is left.
+fn least_left(lo: Option<i128>, by: i64) -> i128
+    ensures { result ≡ forms.least_left lo by }
+{
+    let size = by.unsigned_abs() as i128;
+    match lo {
+        Some(lo) => { if lo < 0 { 1 - size } else { 0 } }
+        None => 1 - size,
+    }
+}
+
+// The most that is left.
+fn most_left(hi: Option<i128>, by: i64) -> i128
+    ensures { result ≡ forms.most_left hi by }
+{
+    let size = by.unsigned_abs() as i128;
+    match hi {
+        Some(hi) => { if 0 < hi { size - 1 } else { 0 } }
+        None => size - 1,
     }
 }
 

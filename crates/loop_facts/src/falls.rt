@@ -1,7 +1,8 @@
 //! Where functions fall in a turn of a loop.
 use control_flow::Graph;
 use linear_cons::{Affine, Row, RowKind};
-use linear_forms::{affine_of, is_affine};
+use linear_forms::affine_of;
+use step_meaning::is_affine;
 
 /// The rows where the function falls by at least 1 on each of the ways, if at most 3 say it: a row for each way on which it doesn't fall
 /// in any case. Nothing where it never falls on one, where what it becomes isn't affine, or where a number passes 128 bits.

@@ -18,7 +18,7 @@ module _ (c d : Configuration) (ahead : front c.todo ≡ front d.todo) (store : 
   pub same_steps : (e : Configuration) → Step c e → Step d e
   same_steps e step = subst (λ todo. StepsFrom todo d.store e) ahead (subst (λ s. StepsFrom (front c.todo) s e) store step)
 
-  back : (e : Configuration) → Step d e → Step c e
+  pub back : (e : Configuration) → Step d e → Step c e
   back e step =
       subst (λ s. StepsFrom (front c.todo) s e) (sym store) (subst (λ todo. StepsFrom todo d.store e) (sym ahead) step)
 

@@ -9,7 +9,7 @@ use Rattle.linear_cons.proofs.Places.{eqb_apart, fit_places, length-at_places, n
 use Rattle.linear_cons.proofs.Ring.{add_zero, mul_commutes, zero_add, zero_mul}
 use Rattle.step_meaning.specs.declared.expression.Op2.{Op2}
 use Rattle.step_meaning.specs.declared.expression.Op2.TheVariants.{Add, Sub, Mul}
-use Rattle.step_meaning.specs.Syntax.{Expression, number, variable, free, range, truth, negative, negation, pair}
+use Rattle.step_meaning.specs.Syntax.{Expression, number, variable, free, range, divided, truth, negative, negation, pair}
 use Rattle.step_meaning.specs.Naming.{HasNoName}
 use Rattle.step_meaning.specs.AffineExpressions.{ExpressionFits, FunctionFits, IsAffine, KeepsAffine, coefficient_by, coefficient_in, constant_in}
 use Rattle.step_meaning.specs.Countdown.{form_of}
@@ -71,6 +71,7 @@ coefficient_without_names (number z) none i = refl
 coefficient_without_names (variable x) none i = absurd none
 coefficient_without_names free none i = refl
 coefficient_without_names (range lo hi) none i = refl
+coefficient_without_names (divided division e b) none i = refl
 coefficient_without_names (truth b) none i = refl
 coefficient_without_names (negative e) none i = rw (coefficient_without_names e none i) refl
 coefficient_without_names (negation c) none i = refl

@@ -1,3 +1,4 @@
+pub mod Quotients
 pub mod Progress
 pub mod JumpsOnTheWay
 pub mod Stores

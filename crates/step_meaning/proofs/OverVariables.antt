@@ -7,7 +7,7 @@ use Rattle.linear_cons.proofs.Ring.{zero_mul}
 use Rattle.step_meaning.specs.declared.expression.Op2.TheVariants.{Add, Sub, Mul, Less, LessEqual, Greater, GreaterEqual, Equal, NotEqual, And, Or}
 use Rattle.step_meaning.specs.AffineExpressions.{coefficient_in, constant_in}
 use Rattle.step_meaning.specs.Countdown.{form_of}
-use Rattle.step_meaning.specs.Syntax.{Expression, number, variable, free, range, truth, negative, negation, pair}
+use Rattle.step_meaning.specs.Syntax.{Expression, number, variable, free, range, divided, truth, negative, negation, pair}
 use Rattle.step_meaning.specs.Valid.{IsNumber}
 
 module _ (vars : ℕ) where
@@ -16,6 +16,7 @@ module _ (vars : ℕ) where
   number_spares (variable x) sorted place high = rw (eqb_apart place x (omega arith)) refl
   number_spares free sorted place high = refl
   number_spares (range lo hi) sorted place high = refl
+  number_spares (divided division e b) sorted place high = refl
   number_spares (truth b) sorted place high = refl
   number_spares (negative e) sorted place high = rw (number_spares e sorted place high) refl
   number_spares (negation c) sorted place high = refl

@@ -1,5 +1,5 @@
 -- Why no run of a valid program is stuck: each expression has an outcome, and each step keeps what is left to do valid.
-use Rattle.std.proofs.Common.{◌≡◌, ℕ, ℤ, pos, ◌+ℤ◌, ◌-ℤ◌, ◌*ℤ◌, neg_ℤ, ◌≤ℤ◌, ◌<ℤ◌, ◌≢◌, slice_set, Bool, true, false, not, ◌&&◌, ◌||◌, ◌↔◌, ◌⊎◌, inl, inr, IsTrue, [], ◌∷◌, ◌++◌, Option, None, Some, refl, sym, subst, append-nil, arith}
+use Rattle.std.proofs.Common.{◌≡◌, ℕ, ℤ, pos, ◌+ℤ◌, ◌-ℤ◌, ◌*ℤ◌, neg_ℤ, ◌≤ℤ◌, ◌<ℤ◌, ◌≢◌, slice_set, int_div, Bool, true, false, not, ◌&&◌, ◌||◌, ◌↔◌, ◌⊎◌, inl, inr, IsTrue, [], ◌∷◌, ◌++◌, Option, None, Some, refl, sym, subst, append-nil, arith}
 use Rattle.std.specs.Int.Signed.{≤ℤ_refl}
 use Rattle.std.specs.Bool.{⊤}
 use Rattle.std.specs.Cmp.{int_ranks}
@@ -9,10 +9,11 @@ use Rattle.std.specs.declared.cmp.Ordering.{Ordering}
 use Rattle.std.specs.declared.cmp.Ordering.TheVariants.{Less as Below, Equal as Same, Greater as Above}
 use Rattle.step_meaning.specs.declared.expression.Op2.{Op2}
 use Rattle.step_meaning.specs.declared.expression.Op2.TheVariants.{Add, Sub, Mul, Less, LessEqual, Greater, GreaterEqual, Equal, NotEqual, And, Or}
-use Rattle.step_meaning.specs.Syntax.{Expression, number, variable, free, range, truth, negative, negation, pair, Statement, Statements, assign, skip, return, break, continue, if_else, while_loop, do_while, empty, sequence}
+use Rattle.step_meaning.specs.Syntax.{Expression, number, variable, free, range, divided, truth, negative, negation, pair, Statement, Statements, assign, skip, return, break, continue, if_else, while_loop, do_while, empty, sequence}
+use Rattle.step_meaning.proofs.Quotients.{truncates}
 use Rattle.linear_cons.specs.Bounds.{IsFrom, IsUpTo}
 use Rattle.linear_cons.specs.Numbers.{number_at}
-use Rattle.step_meaning.specs.Outcome.{Store, May, MayTest, Compares}
+use Rattle.step_meaning.specs.Outcome.{Store, May, MayTest, Compares, Truncates, made_by}
 use Rattle.step_meaning.specs.Step.{Configuration, Todo, one, turn, items_of, behind_mark, from_mark, Step, StepsFrom, IsFinal, behind_body, front, front_of_statement, front_of_list}
 use Rattle.step_meaning.specs.Valid.{IsInOrder, IsNumber, IsTest, IsStatement, IsBody, AreStatements}
 
@@ -68,12 +69,20 @@ range_has_number (Some lo) None h = (lo, (≤ℤ_refl lo, tt))
 range_has_number None (Some hi) h = (hi, (tt, ≤ℤ_refl hi))
 range_has_number None None h = (pos 0, (tt, tt))
 
+-- each number has a quotient by each other than 0
+quotient_is : (a b : ℤ) → (b ≢ pos 0) → (q : ℤ) × Truncates a b q
+quotient_is a b some = (int_div a b, truncates a b some)
+
 -- each number expression has an outcome
 pub number_has_outcome : (vars : ℕ) (s : Store) (e : Expression) → IsNumber vars e → (v : ℤ) × May e s v
 number_has_outcome vars s (number z) h = (z, refl)
 number_has_outcome vars s (variable x) h = (number_at s x, refl)
 number_has_outcome vars s free h = (pos 0, tt)
 number_has_outcome vars s (range lo hi) h = range_has_number lo hi h
+number_has_outcome vars s (divided division e b) h =
+    let a = number_has_outcome vars s e h.0 in
+    let q = quotient_is a.0 b h.1 in
+    (made_by division a.0 b q.0, (a.0, q.0, a.1, q.1, refl))
 number_has_outcome vars s (negative e) h =
     let a = number_has_outcome vars s e h in
     (neg_ℤ a.0, (a.0, a.1, refl))

@@ -3,7 +3,7 @@ use Rattle.std.specs.Prelude.{ℕ, ◌<◌, ◌==◌, ℤ, pos, ◌+ℤ◌, ◌-
 use Rattle.std.specs.Int.{w128}
 use Rattle.step_meaning.specs.declared.expression.Op2.{Op2}
 use Rattle.step_meaning.specs.declared.expression.Op2.TheVariants.{Add, Sub, Mul, Less, LessEqual, Greater, GreaterEqual, Equal, NotEqual, And, Or}
-use Rattle.step_meaning.specs.Syntax.{Expression, number, variable, truth, negative, negation, pair, free, range}
+use Rattle.step_meaning.specs.Syntax.{Expression, number, variable, truth, negative, negation, pair, free, range, divided}
 use Rattle.step_meaning.specs.Naming.{HasNoName}
 
 -- what an operator makes of two affine operands is affine: a sum or a difference always, a product where one factor has no name
@@ -28,6 +28,7 @@ IsAffine (negative e) = IsAffine e
 IsAffine (pair op l r) = IsAffine l × IsAffine r × KeepsAffine op l r
 IsAffine free = ⊥
 IsAffine (range lo hi) = ⊥
+IsAffine (divided division e b) = ⊥
 IsAffine (truth b) = ⊥
 IsAffine (negation c) = ⊥
 
@@ -52,6 +53,7 @@ constant_in (pair op l r) = constant_by op (constant_in l) (constant_in r)
 constant_in (variable x) = pos 0
 constant_in free = pos 0
 constant_in (range lo hi) = pos 0
+constant_in (divided division e b) = pos 0
 constant_in (truth b) = pos 0
 constant_in (negation c) = pos 0
 
@@ -78,6 +80,7 @@ coefficient_in (pair op l r) place =
 coefficient_in (number z) place = pos 0
 coefficient_in free place = pos 0
 coefficient_in (range lo hi) place = pos 0
+coefficient_in (divided division e b) place = pos 0
 coefficient_in (truth b) place = pos 0
 coefficient_in (negation c) place = pos 0
 
@@ -94,6 +97,7 @@ ExpressionFits (number z) = ⊤
 ExpressionFits (variable x) = ⊤
 ExpressionFits free = ⊤
 ExpressionFits (range lo hi) = ⊤
+ExpressionFits (divided division e b) = ⊤
 ExpressionFits (truth b) = ⊤
 ExpressionFits (negation c) = ⊤
 
@@ -135,6 +139,7 @@ TestFits (number z) = ⊤
 TestFits (variable x) = ⊤
 TestFits free = ⊤
 TestFits (range lo hi) = ⊤
+TestFits (divided division e b) = ⊤
 TestFits (truth b) = ⊤
 TestFits (negative e) = ⊤
 
@@ -147,4 +152,5 @@ IsAffineTest (number z) = ⊥
 IsAffineTest (variable x) = ⊥
 IsAffineTest free = ⊥
 IsAffineTest (range lo hi) = ⊥
+IsAffineTest (divided division e b) = ⊥
 IsAffineTest (negative e) = ⊥

@@ -11,7 +11,7 @@ use Rattle.step_meaning.specs.declared.countdown.Countdown.{Countdown}
 use Rattle.step_meaning.specs.declared.countdown.Countdown.TheVariants.{Straight, Loop}
 use Rattle.step_meaning.specs.declared.expression.Op2.{Op2}
 use Rattle.step_meaning.specs.declared.expression.Op2.TheVariants.{Add, Sub, Mul, Less, LessEqual, Greater, GreaterEqual, Equal, NotEqual, And, Or}
-use Rattle.step_meaning.specs.Syntax.{Expression, number, variable, free, range, truth, negative, negation, pair, Statement, Statements, assign, skip, return, break, continue, if_else, while_loop, do_while, empty, sequence}
+use Rattle.step_meaning.specs.Syntax.{Expression, number, variable, free, range, divided, truth, negative, negation, pair, Statement, Statements, assign, skip, return, break, continue, if_else, while_loop, do_while, empty, sequence}
 use Rattle.step_meaning.specs.AffineExpressions.{IsAffine, ExpressionFits, ComparisonFits, coefficient_in, constant_in, less, strictly_less}
 use Rattle.step_meaning.specs.Counts.{HasNoLoop, before, none}
 
@@ -69,6 +69,7 @@ Asks (number z) row = ⊥
 Asks (variable x) row = ⊥
 Asks free row = ⊥
 Asks (range lo hi) row = ⊥
+Asks (divided division e b) row = ⊥
 Asks (truth b) row = ⊥
 Asks (negative e) row = ⊥
 Asks (negation c) row = ⊥
@@ -81,6 +82,7 @@ literal_in (number z) = Some z
 literal_in (variable x) = None
 literal_in free = None
 literal_in (range lo hi) = None
+literal_in (divided division e b) = None
 literal_in (truth b) = None
 literal_in (negative e) = None
 literal_in (negation c) = None
@@ -91,6 +93,7 @@ is_variable x (variable y) = x == y
 is_variable x (number z) = false
 is_variable x free = false
 is_variable x (range lo hi) = false
+is_variable x (divided division e b) = false
 is_variable x (truth b) = false
 is_variable x (negative e) = false
 is_variable x (negation c) = false
@@ -118,6 +121,7 @@ added x (number z) = None
 added x (variable y) = None
 added x free = None
 added x (range lo hi) = None
+added x (divided division e b) = None
 added x (truth b) = None
 added x (negative e) = None
 added x (negation c) = None
@@ -165,6 +169,41 @@ abbrev pub Finds : Option Row → (Row → Type 0) → Type 0
 Finds (Some row) P = P row
 Finds None P = (row : Row) → ¬ P row
 
+-- ---- the first row in the text of a test that has a property
+
+module _ (P : Row → Type 0) where
+  -- no row that the test asks for has it
+  abbrev pub Lacks : Expression → Type 0
+  Lacks test = (row : Row) → Asks test row → ¬ P row
+
+  -- of a comparison the row is the first with it: `==` asks for that of `a >= b` and then for that of `a <= b`
+  abbrev pub IsFirstCompared : Op2 → Expression → Expression → Row → Type 0
+  IsFirstCompared GreaterEqual a b row = IsRow (less a b) row × P row
+  IsFirstCompared Greater a b row = IsRow (strictly_less a b) row × P row
+  IsFirstCompared LessEqual a b row = IsRow (less b a) row × P row
+  IsFirstCompared Less a b row = IsRow (strictly_less b a) row × P row
+  IsFirstCompared Equal a b row =
+      (IsRow (less a b) row × P row) ⊎ (((other : Row) → IsRow (less a b) other → ¬ P other) × IsRow (less b a) row × P row)
+  IsFirstCompared NotEqual a b row = ⊥
+  IsFirstCompared Add a b row = ⊥
+  IsFirstCompared Sub a b row = ⊥
+  IsFirstCompared Mul a b row = ⊥
+  IsFirstCompared And a b row = ⊥
+  IsFirstCompared Or a b row = ⊥
+
+  -- of a test: the rows of the left operand of `&&` stand before those of the right one
+  abbrev pub IsFirst : Expression → Row → Type 0
+  IsFirst (pair op a b) row =
+      OfConjunction op (IsFirst a row ⊎ (Lacks a × IsFirst b row)) (IsAffine a × IsAffine b × ComparisonFits a b × IsFirstCompared op a b row)
+  IsFirst (number z) row = ⊥
+  IsFirst (variable x) row = ⊥
+  IsFirst free row = ⊥
+  IsFirst (range lo hi) row = ⊥
+  IsFirst (divided division e b) row = ⊥
+  IsFirst (truth b) row = ⊥
+  IsFirst (negative e) row = ⊥
+  IsFirst (negation c) row = ⊥
+
 -- ---- programs
 
 -- Statements behind assignments whose factors, each 1 more than the total size of what is assigned, have the product `p`: more such
@@ -182,11 +221,23 @@ CountsFrom row p (sequence (if_else test first second) more) = ⊥
 CountsFrom row p (sequence (do_while body test) more) = ⊥
 CountsFrom row p empty = ⊥
 
+-- the loop behind assignments counts down the first row in the text of its test that its body and step count down
+abbrev pub CountsFirst : Row → Statements → Type 0
+CountsFirst row (sequence (assign x v) more) = CountsFirst row more
+CountsFirst row (sequence (while_loop test body step) more) = IsFirst (λ other. CountsDown body step other.affine) test row
+CountsFirst row (sequence skip more) = ⊥
+CountsFirst row (sequence return more) = ⊥
+CountsFirst row (sequence break more) = ⊥
+CountsFirst row (sequence continue more) = ⊥
+CountsFirst row (sequence (if_else test first second) more) = ⊥
+CountsFirst row (sequence (do_while body test) more) = ⊥
+CountsFirst row empty = ⊥
+
 -- the body of a countdown program
 abbrev pub IsCountdown : Statements → Type 0
 IsCountdown body = HasNoLoop body ⊎ ((row : Row) × CountsFrom row 1 body)
 
--- why it is one
+-- why it is one; of several rows that are counted down the first counts
 abbrev pub IsCountdownBy : Countdown → Statements → Type 0
 IsCountdownBy Straight body = HasNoLoop body
-IsCountdownBy (Loop row) body = CountsFrom row 1 body
+IsCountdownBy (Loop row) body = CountsFrom row 1 body × CountsFirst row body

@@ -8,6 +8,7 @@ pub mod ValidOnce
 pub mod Offsets
 pub mod Naming
 pub mod AffineExpressions
+pub mod Plain
 pub mod Counts
 pub mod Countdown
 pub mod Turns

@@ -1,6 +1,6 @@
 -- Which variables an expression names.
 use Rattle.std.specs.Prelude.{◌≢◌, ℕ, ◌<◌, ⊤}
-use Rattle.step_meaning.specs.Syntax.{Expression, variable, negative, negation, pair, number, free, range, truth}
+use Rattle.step_meaning.specs.Syntax.{Expression, variable, negative, negation, pair, number, free, range, divided, truth}
 
 -- no variable is named
 abbrev pub HasNoName : Expression → Type 0
@@ -11,6 +11,7 @@ HasNoName (pair op l r) = HasNoName l × HasNoName r
 HasNoName (number z) = ⊤
 HasNoName free = ⊤
 HasNoName (range lo hi) = ⊤
+HasNoName (divided division e b) = HasNoName e
 HasNoName (truth b) = ⊤
 
 -- the variable at the place isn't named
@@ -22,6 +23,7 @@ IsUnnamed place (pair op l r) = IsUnnamed place l × IsUnnamed place r
 IsUnnamed place (number z) = ⊤
 IsUnnamed place free = ⊤
 IsUnnamed place (range lo hi) = ⊤
+IsUnnamed place (divided division e b) = IsUnnamed place e
 IsUnnamed place (truth b) = ⊤
 
 -- each variable that is named has a place below the number
@@ -33,4 +35,5 @@ NamesBelow places (pair op l r) = NamesBelow places l × NamesBelow places r
 NamesBelow places (number z) = ⊤
 NamesBelow places free = ⊤
 NamesBelow places (range lo hi) = ⊤
+NamesBelow places (divided division e b) = NamesBelow places e
 NamesBelow places (truth b) = ⊤

@@ -1,11 +1,11 @@
 -- What an expression may give in a store: the collecting meaning of nondeterministic expressions. Numbers are unbounded, and each
 -- operand is met independently of the others.
-use Rattle.std.specs.Prelude.{◌≡◌, ◌≢◌, ℤ, ◌+ℤ◌, ◌-ℤ◌, ◌*ℤ◌, neg_ℤ, ◌≤ℤ◌, ◌<ℤ◌, Bool, not, ◌&&◌, ◌||◌, ◌↔◌, ◌⊎◌, IsTrue, List, ⊤}
+use Rattle.std.specs.Prelude.{◌≡◌, ◌≢◌, pos, ◌<◌, unsigned_abs, ℤ, ◌+ℤ◌, ◌-ℤ◌, ◌*ℤ◌, neg_ℤ, ◌≤ℤ◌, ◌<ℤ◌, Bool, not, ◌&&◌, ◌||◌, ◌↔◌, ◌⊎◌, IsTrue, List, ⊤}
 use Rattle.linear_cons.specs.Bounds.{IsFrom, IsUpTo}
 use Rattle.linear_cons.specs.Numbers.{number_at}
 use Rattle.step_meaning.specs.declared.expression.Op2.{Op2}
 use Rattle.step_meaning.specs.declared.expression.Op2.TheVariants.{Add, Sub, Mul, Less, LessEqual, Greater, GreaterEqual, Equal, NotEqual, And, Or}
-use Rattle.step_meaning.specs.Syntax.{Expression, number, variable, free, range, truth, negative, negation, pair}
+use Rattle.step_meaning.specs.Syntax.{Expression, Division, quotient, remainder, number, variable, free, range, divided, truth, negative, negation, pair}
 
 -- A store gives each place a whole number. In an input, and so along its runs, a store has sixteen places.
 abbrev pub Store : Type 0
@@ -53,12 +53,23 @@ Connects GreaterEqual a b t = ⊥
 Connects Equal a b t = ⊥
 Connects NotEqual a b t = ⊥
 
+-- the quotient of a by b, rounded towards 0: what it leaves is smaller in size than b and is 0 or has the sign of a
+pub record Truncates (a b q : ℤ) : Type 0 where
+  pub small : unsigned_abs (a -ℤ q *ℤ b) < unsigned_abs b
+  pub sign : (pos 0 ≤ℤ a → pos 0 ≤ℤ (a -ℤ q *ℤ b)) × (a ≤ℤ pos 0 → (a -ℤ q *ℤ b) ≤ℤ pos 0)
+
+-- what a division of a by b makes, where q is their quotient
+abbrev pub made_by : Division → ℤ → ℤ → ℤ → ℤ
+made_by quotient a b q = q
+made_by remainder a b q = a -ℤ q *ℤ b
+
 -- the number expression `e` may have the number `v` in the store `s`
 abbrev pub May : Expression → Store → ℤ → Type 0
 May (number z) s v = v ≡ z
 May (variable x) s v = v ≡ number_at s x
 May free s v = ⊤
 May (range lo hi) s v = IsFrom lo v × IsUpTo hi v
+May (divided division e b) s v = (a : ℤ) × (q : ℤ) × May e s a × Truncates a b q × (v ≡ made_by division a b q)
 May (truth b) s v = ⊥
 May (negative e) s v = (a : ℤ) × May e s a × (v ≡ neg_ℤ a)
 May (negation c) s v = ⊥
@@ -70,6 +81,7 @@ MayTest (number z) s t = ⊥
 MayTest (variable x) s t = ⊥
 MayTest free s t = ⊤
 MayTest (range lo hi) s t = ⊥
+MayTest (divided division e b) s t = ⊥
 MayTest (truth b) s t = t ≡ b
 MayTest (negative e) s t = ⊥
 MayTest (negation c) s t = (b : Bool) × MayTest c s b × (t ≡ not b)

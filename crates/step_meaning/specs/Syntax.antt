@@ -2,7 +2,7 @@
 -- places. So two trees are equal here exactly where they are the same program.
 use Rattle.std.specs.Prelude.{ℕ, ◌+◌, ℤ, Bool, true, false, Option, List, [], ◌∷◌, map}
 use Rattle.step_meaning.specs.declared.expression.Op2.{Op2}
-use Rattle.step_meaning.specs.declared.expression.Expr.{Expr, Neg', Not', Pair'}
+use Rattle.step_meaning.specs.declared.expression.Expr.{Expr, Neg', Not', Pair', Quot', Rem'}
 use Rattle.step_meaning.specs.declared.expression.Expr.TheVariants.{Number, Name, Free, Range, True, False}
 use Rattle.step_meaning.specs.declared.statement.Block.{Block, Then'}
 use Rattle.step_meaning.specs.declared.statement.Block.TheVariants.{End}
@@ -10,8 +10,13 @@ use Rattle.step_meaning.specs.declared.statement.Stmt.{Stmt}
 use Rattle.step_meaning.specs.declared.statement.StmtKind.{StmtKind}
 use Rattle.step_meaning.specs.declared.statement.StmtKind.TheVariants.{Assign, Skip, Return, Break, Continue, If, While, Do}
 
+-- what a division asks for: the quotient, or what it leaves
+pub data Division : Type 0 where
+  quotient : Division
+  remainder : Division
+
 -- an expression: a number, a variable by its place, `?`, a range whose missing ends are infinite, a truth value, a sign before an
--- operand, a binary operator between two
+-- operand, a binary operator between two, a division by a number
 pub data Expression : Type 0 where
   number : ℤ → Expression
   variable : ℕ → Expression
@@ -21,6 +26,7 @@ pub data Expression : Type 0 where
   negative : Expression → Expression
   negation : Expression → Expression
   pair : Op2 → Expression → Expression → Expression
+  divided : Division → Expression → ℤ → Expression
 
 -- what an `Expr` is
 abbrev pub expression : Expr → Expression
@@ -30,6 +36,8 @@ expression Free = free
 expression (Range lo hi) = range lo hi
 expression True = truth true
 expression False = truth false
+expression (Quot' p e by) = divided quotient (expression e) by
+expression (Rem' p e by) = divided remainder (expression e) by
 expression (Neg' p e) = negative (expression e)
 expression (Not' p c) = negation (expression c)
 expression (Pair' op p l q r) = pair op (expression l) (expression r)

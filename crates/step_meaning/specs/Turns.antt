@@ -1,5 +1,5 @@
 -- What is known while it is tested whether a program is a countdown program.
-use Rattle.std.specs.Prelude.{◌≡◌, ℕ, ◌+◌, ◌*◌, ◌^◌, ◌<◌, ◌≤◌, pos, ◌+ℤ◌, ◌⊎◌, unsigned_abs}
+use Rattle.std.specs.Prelude.{◌≡◌, ℕ, ◌+◌, ◌*◌, ◌^◌, ◌<◌, ◌≤◌, pos, ◌+ℤ◌, ◌⊎◌, Option, None, Some, unsigned_abs}
 use Rattle.linear_cons.specs.declared.affine.Affine.{Affine}
 use Rattle.linear_cons.specs.declared.row.Row.{Row}
 use Rattle.linear_cons.specs.Functions.{NumbersFit, coefficient, constant_of, difference_of}
@@ -9,7 +9,7 @@ use Rattle.step_meaning.specs.Counts.{before, before_statement, none}
 use Rattle.step_meaning.specs.declared.countdown.Differences.{Differences}
 use Rattle.step_meaning.specs.declared.expression.Op2.{Op2}
 use Rattle.step_meaning.specs.AffineExpressions.{ComparisonFits, ExpressionFits, IsAffine, less, strictly_less}
-use Rattle.step_meaning.specs.Countdown.{AsksByComparing, form_of, IsShort, IsCounting, AreCounting, added, change_by}
+use Rattle.step_meaning.specs.Countdown.{AsksByComparing, IsFirst, IsFirstCompared, Lacks, form_of, IsShort, IsCounting, AreCounting, added, change_by}
 use Rattle.linear_cons.specs.Sizes.{total_size}
 
 -- each step changes by at most 2^62
@@ -54,6 +54,15 @@ FitsAsComparison a b = IsAffine a × IsAffine b × ComparisonFits a b
 
 abbrev pub AsksAsComparison : Op2 → Expression → Expression → Row → Type 0
 AsksAsComparison op a b row = IsAffine a × IsAffine b × ComparisonFits a b × AsksByComparing op a b row
+
+-- the first row of a comparison with the property, or of a test; or none where it asks for none with it
+abbrev pub FindsCompared : Option Row → (Row → Type 0) → Op2 → Expression → Expression → Type 0
+FindsCompared (Some row) P op a b = IsAffine a × IsAffine b × ComparisonFits a b × IsFirstCompared P op a b row
+FindsCompared None P op a b = (row : Row) → AsksAsComparison op a b row → ¬ P row
+
+abbrev pub FindsFirst : Option Row → (Row → Type 0) → Expression → Type 0
+FindsFirst (Some row) P test = IsFirst P test row
+FindsFirst None P test = Lacks P test
 
 -- the numbers of the difference, and of it less 1, fit
 abbrev pub DifferencesFit : Affine → Affine → Type 0

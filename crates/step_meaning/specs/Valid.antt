@@ -1,9 +1,9 @@
 -- Valid programs: what the type `Program` promises of its names and its body.
-use Rattle.std.specs.Prelude.{◌≢◌, Bool, true, false, IsTrue, ℕ, ◌<◌, ◌≤◌, ℤ, ◌≤ℤ◌, List, length, Option, None, Some, AllPairs, [], ◌∷◌, ⊤}
+use Rattle.std.specs.Prelude.{◌≢◌, pos, Bool, true, false, IsTrue, ℕ, ◌<◌, ◌≤◌, ℤ, ◌≤ℤ◌, List, length, Option, None, Some, AllPairs, [], ◌∷◌, ⊤}
 use Rattle.step_meaning.specs.declared.expression.Op2.{Op2}
 use Rattle.step_meaning.specs.declared.expression.Op2.TheVariants.{Add, Sub, Mul, Less, LessEqual, Greater, GreaterEqual, Equal, NotEqual, And, Or}
 use Rattle.step_meaning.specs.declared.statement.Block.{Block}
-use Rattle.step_meaning.specs.Syntax.{Expression, number, variable, free, range, truth, negative, negation, pair, Statement, Statements, assign, skip, return, break, continue, if_else, while_loop, do_while, empty, sequence, statements}
+use Rattle.step_meaning.specs.Syntax.{Expression, number, variable, free, range, divided, truth, negative, negation, pair, Statement, Statements, assign, skip, return, break, continue, if_else, while_loop, do_while, empty, sequence, statements}
 use Rattle.step_meaning.specs.Step.{Todo, one, turn}
 
 -- the lower end of a range isn't above its upper end
@@ -46,6 +46,7 @@ IsNumber vars (number z) = ⊤
 IsNumber vars (variable x) = x < vars
 IsNumber vars free = ⊤
 IsNumber vars (range lo hi) = IsInOrder lo hi
+IsNumber vars (divided division e b) = IsNumber vars e × (b ≢ pos 0)
 IsNumber vars (truth b) = ⊥
 IsNumber vars (negative e) = IsNumber vars e
 IsNumber vars (negation c) = ⊥
@@ -57,6 +58,7 @@ IsTest vars (number z) = ⊥
 IsTest vars (variable x) = ⊥
 IsTest vars free = ⊤
 IsTest vars (range lo hi) = ⊥
+IsTest vars (divided division e b) = ⊥
 IsTest vars (truth b) = ⊤
 IsTest vars (negative e) = ⊥
 IsTest vars (negation c) = IsTest vars c

@@ -4,7 +4,7 @@ use denote.Struct.Props as logic
 use Rattle.step_meaning.specs.declared.expression.Op2.{Op2}
 use Rattle.step_meaning.specs.declared.expression.Op2.TheVariants.{Add, Sub, Mul, And, Or}
 use Rattle.step_meaning.specs.declared.statement.Block.{Block}
-use Rattle.step_meaning.specs.Syntax.{Expression, range, negative, negation, pair, Statement, Statements, assign, skip, return, break, continue, if_else, while_loop, do_while, empty, sequence, statements}
+use Rattle.step_meaning.specs.Syntax.{Expression, range, divided, negative, negation, pair, Statement, Statements, assign, skip, return, break, continue, if_else, while_loop, do_while, empty, sequence, statements}
 use Rattle.step_meaning.specs.Valid.{IsInOrder, MakesNumber, MakesTest, IsNumber, IsTest, IsStatement, IsBody, IsInsideStatement, IsInside, IsValid}
 
 IsInOrder-prop : (lo hi : Option ℤ) → IsProp (IsInOrder lo hi)
@@ -28,6 +28,7 @@ MakesTest-prop _ h k = h
 
 IsNumber-prop : (vars : ℕ) (e : Expression) → IsProp (IsNumber vars e)
 IsNumber-prop vars (range lo hi) = IsInOrder-prop lo hi
+IsNumber-prop vars (divided division e b) = Prim.hlevel (IsNumber-prop vars e, logic.props)
 IsNumber-prop vars (negative e) = IsNumber-prop vars e
 IsNumber-prop vars (pair op l r) =
     let left = IsNumber-prop vars l in

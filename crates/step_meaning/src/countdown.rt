@@ -92,7 +92,8 @@ fn is_loop_free(kind: &StmtKind) -> bool
 
 // The row that is counted down by the loop of the statements, behind which no loop stands and before which stand affine assignments.
 fn loop_row(block: &Block) -> Option<Row>
-    ensures { definition.Finds result (λ row. definition.CountsFrom row 1 (statements block.now)) }
+    ensures finds { definition.Finds result (λ row. definition.CountsFrom row 1 (statements block.now)) }
+    ensures first { IfSome result (λ row. definition.CountsFirst row (statements block.now)) }
 {
     let mut product = 1;
     let mut left = block;
@@ -134,7 +135,7 @@ fn with_factor(product: u128, value: &Expr) -> Option<u128>
 
 // The first row in the text of the test that body and step count down.
 fn counted_row(test: &Expr, body: &Block, step: &Block) -> Option<Row>
-    ensures { definition.Finds result (λ row. definition.Asks (expression test.now) row × definition.CountsDown (statements body.now) (statements step.now) row.affine) }
+    ensures { turns.FindsFirst result (λ row. definition.CountsDown (statements body.now) (statements step.now) row.affine) (expression test.now) }
 {
     match test {
         Expr::Pair { op, left, right } => match op {
@@ -150,7 +151,7 @@ fn counted_row(test: &Expr, body: &Block, step: &Block) -> Option<Row>
 
 // The first row of a comparison that body and step count down.
 fn compared_row(op: Op2, left: &Expr, right: &Expr, body: &Block, step: &Block) -> Option<Row>
-    ensures { definition.Finds result (λ row. turns.AsksAsComparison op (expression left.now) (expression right.now) row × definition.CountsDown (statements body.now) (statements step.now) row.affine) }
+    ensures { turns.FindsCompared result (λ row. definition.CountsDown (statements body.now) (statements step.now) row.affine) op (expression left.now) (expression right.now) }
 {
     let differences = compare(left, right)?;
     match op {

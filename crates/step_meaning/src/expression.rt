@@ -32,6 +32,16 @@ pub enum Expr {
     },
     True,
     False,
+    /// The quotient by `by`, which isn't 0 in a `Program`, rounded towards 0.
+    Quot {
+        of: Box<Expr>,
+        by: i64,
+    },
+    /// What that quotient leaves: 0, or a number with the sign of the operand.
+    Rem {
+        of: Box<Expr>,
+        by: i64,
+    },
     Neg(Box<Expr>),
     Not(Box<Expr>),
     Pair {

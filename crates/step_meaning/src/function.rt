@@ -62,12 +62,13 @@ pub(crate) fn exact(function: Result<Affine, Wide>) -> Option<Affine>
 }
 
 // True exactly where no variable is named.
-fn has_no_name(expr: &Expr) -> bool
+pub(crate) fn has_no_name(expr: &Expr) -> bool
     ensures { IsTrue result ↔ HasNoName (expression expr.now) }
 {
     match expr {
         Expr::Name(_) => false,
         Expr::Neg(operand) | Expr::Not(operand) => has_no_name(operand),
+        Expr::Quot { of, by: _ } | Expr::Rem { of, by: _ } => has_no_name(of),
         Expr::Pair { op: _, left, right } => has_no_name(left) && has_no_name(right),
         _ => true,
     }

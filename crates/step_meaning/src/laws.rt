@@ -1,10 +1,10 @@
 //! Laws of the definitions, each the contract of a function that does nothing.
 
-ghost use Rattle.std.specs.Prelude.{◌⊎◌, ℕ, length};
+ghost use Rattle.std.specs.Prelude.{◌≡◌, ◌⊎◌, ◌↔◌, ℕ, length};
 ghost use Rattle.step_meaning.specs.Syntax.{statements};
 ghost use Rattle.step_meaning.specs.Outcome.{Store};
-ghost use Rattle.step_meaning.specs.Step.{Configuration, Step, IsFinal};
-ghost use Rattle.step_meaning.specs.Run.{IsInput, start};
+ghost use Rattle.step_meaning.specs.Step.{Configuration, Step, IsFinal, front};
+ghost use Rattle.step_meaning.specs.Run.{EndsWithin, IsInput, start};
 ghost use Rattle.step_meaning.specs.Valid.{AreStatements};
 ghost use Rattle.step_meaning.specs.Inside.{AreInside};
 
@@ -19,6 +19,14 @@ pub fn no_configuration_is_stuck()
 pub fn steps_keep_configurations_valid()
     ensures statements { (vars : ℕ) (c d : Configuration) → AreStatements vars c.todo → Step c d → AreStatements vars d.todo }
     ensures stores { (vars : ℕ) (c d : Configuration) → AreStatements vars c.todo → IsInput vars c.store → Step c d → IsInput vars d.store }
+{}
+
+/// A law: the front of what is left to do and the store decide. Configurations that agree in both have the same successors, are final
+/// alike, and end within the same numbers of steps.
+pub fn front_and_store_decide()
+    ensures steps { (c d : Configuration) → front c.todo ≡ front d.todo → c.store ≡ d.store → (e : Configuration) → Step c e ↔ Step d e }
+    ensures ends { (c d : Configuration) → front c.todo ≡ front d.todo → c.store ≡ d.store → IsFinal c ↔ IsFinal d }
+    ensures within { (c d : Configuration) → front c.todo ≡ front d.todo → c.store ≡ d.store → (n : ℕ) → EndsWithin n c → EndsWithin n d }
 {}
 
 /// A law: the runs of a program begin at valid statements. So no run of a program is stuck.

@@ -110,25 +110,25 @@ excess_kind rank next one two =
     ap (λ (r : AffineRank). excess_of r.value rank.value) two.1 ∙ ap (λ (r : AffineRank). excess_of (constant_of (pos two.0)) r.value) one.1 in
     constant_kind (excess_of next.value rank.value) (subst IsConstant (sym is) (constant_excess two.0 one.0))
 
-chosen_each : (P : Row → Type 0) (Q : AffineRank → Type 0) (kind : RowKind) (greater other : Plan AffineRank) → (kind ≡ Always) ⊎ (kind ≡ Never)
+chosen_each : (P : Row → Type 0) (Q : Why → AffineRank → Type 0) (kind : RowKind) (greater other : Plan AffineRank) → (kind ≡ Always) ⊎ (kind ≡ Never)
     → EachIs P Q greater → EachIs P Q other → EachIs P Q (chosen same_rank ((kind ∷ []) ∷ []) greater other)
 chosen_each P Q Always greater other known first second = first
 chosen_each P Q Never greater other known first second = second
 chosen_each P Q (Kept row) greater other known first second = ⊎_elim (λ is. absurd (cc)) (λ is. absurd (cc)) known
 
 -- the later of two leaves is one of them
-met_each : (P : Row → Type 0) (Q : AffineRank → Type 0) (why other : Why) (rank next : AffineRank) → Counts rank → Counts next → Q rank → Q next
+pub met_each : (P : Row → Type 0) (Q : Why → AffineRank → Type 0) (why other : Why) (rank next : AffineRank) → Counts rank → Counts next → Q why rank → Q other next
     → EachIs P Q (leaf_met same_rank affine_ranks.where_greater affine_ranks.greater_fits Later (leaf why rank) (leaf other next))
 met_each P Q why other rank next one two first second =
     chosen_each P Q (row_kind_of (excess_of next.value rank.value)) (leaf other next) (leaf why rank) (excess_kind rank next one two) second first
 
 pub met_counts : (P : Row → Type 0) (why other : Why) (rank next : AffineRank) → Counts rank → Counts next
-    → EachIs P Counts (leaf_met same_rank affine_ranks.where_greater affine_ranks.greater_fits Later (leaf why rank) (leaf other next))
-met_counts P why other rank next one two = met_each P Counts why other rank next one two one two
+    → EachIs P (λ reason. Counts) (leaf_met same_rank affine_ranks.where_greater affine_ranks.greater_fits Later (leaf why rank) (leaf other next))
+met_counts P why other rank next one two = met_each P (λ reason. Counts) why other rank next one two one two
 
 pub met_steps : (P : Row → Type 0) (most : ℕ) (why other : Why) (rank next : AffineRank) → IsSteps most rank → IsSteps most next
-    → EachIs P (IsSteps most) (leaf_met same_rank affine_ranks.where_greater affine_ranks.greater_fits Later (leaf why rank) (leaf other next))
-met_steps P most why other rank next one two = met_each P (IsSteps most) why other rank next (one.steps, one.is) (two.steps, two.is) one two
+    → EachIs P (λ reason. IsSteps most) (leaf_met same_rank affine_ranks.where_greater affine_ranks.greater_fits Later (leaf why rank) (leaf other next))
+met_steps P most why other rank next one two = met_each P (λ reason. IsSteps most) why other rank next (one.steps, one.is) (two.steps, two.is) one two
 
 chosen_fits : (kind : RowKind) → (kind ≡ Always) ⊎ (kind ≡ Never) → ChosenFits ((kind ∷ []) ∷ [])
 chosen_fits Always known = tt

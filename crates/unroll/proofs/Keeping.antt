@@ -1,4 +1,4 @@
--- What holds of each row, and what of each rank, of the trees behind a step, and of those of the tree before it.
+-- What holds of each row, and what of each claim, of the trees behind a step, and of those of the tree before it.
 use Rattle.std.proofs.Common.{ℕ, Bool, true, false, cond, List, [], ◌∷◌, ◌++◌, Option, None, Some}
 use Rattle.std.specs.Prelude.{⊤}
 use Rattle.linear_cons.specs.Functions.{substituted}
@@ -13,7 +13,9 @@ use Rattle.decision_tree.specs.Nodes.{node}
 use Rattle.decision_tree.specs.Plans.{IsEnd, Plan, bottom, branch, leaf, top}
 use Rattle.decision_tree.specs.declared.affine_rank.AffineRank.{AffineRank}
 use Rattle.decision_tree.specs.declared.rank.Alternatives.{Alternatives}
+use Rattle.decision_tree.specs.declared.reason.Pick.TheVariants.{All as EveryState}
 use Rattle.decision_tree.specs.declared.reason.Why.{Why}
+use Rattle.decision_tree.specs.declared.reason.Why.TheVariants.{Step as Onward}
 use Rattle.tree_unify.specs.Shapes.{OnSide, grafted, joined_at, leaf_met, on_side, trimmed, trimmed_with}
 use Rattle.tree_unify.specs.declared.join.Join.TheVariants.{Later}
 use Rattle.backward_transfer.specs.Ranges.{later_of}
@@ -22,11 +24,12 @@ use Rattle.backward_transfer.specs.Tests.{FailureAsks, RowsAsk, Side, TestAsks, 
 use Rattle.unroll.specs.Within.{EachIs}
 
 -- what holds of the one holds of the other
-pub each_more : (P Next : Row → Type 0) (Q Step : AffineRank → Type 0) → ((row : Row) → P row → Next row) → ((rank : AffineRank) → Q rank → Step rank)
+pub each_more : (P Next : Row → Type 0) (Q Step : Why → AffineRank → Type 0) → ((row : Row) → P row → Next row)
+    → ((why : Why) (rank : AffineRank) → Q why rank → Step why rank)
     → (plan : Plan AffineRank) → EachIs P Q plan → EachIs Next Step plan
 each_more P Next Q Step rows ranks bottom each = tt
 each_more P Next Q Step rows ranks (top cause) each = tt
-each_more P Next Q Step rows ranks (leaf why rank) each = ranks rank each
+each_more P Next Q Step rows ranks (leaf why rank) each = ranks why rank each
 each_more P Next Q Step rows ranks (branch row this that) each =
     (rows row each.0, each_more P Next Q Step rows ranks this each.1, each_more P Next Q Step rows ranks that each.2)
 
@@ -37,7 +40,7 @@ KindIs P Never = ⊤
 KindIs P (Kept row) = P row
 
 module _ (same : AffineRank → AffineRank → Bool) where
-  module _ (P : Row → Type 0) (Q : AffineRank → Type 0) where
+  module _ (P : Row → Type 0) (Q : Why → AffineRank → Type 0) where
     abbrev Is : Plan AffineRank → Type 0
     Is = EachIs P Q
 
@@ -119,8 +122,8 @@ module _ (same : AffineRank → AffineRank → Bool) where
 
     -- of the later of two trees, where it is so of the later of two leaves
     module _ (where_greater : AffineRank → AffineRank → Alternatives) (greater_fits : AffineRank → AffineRank → Type 0)
-        (met : (why other : Why) (rank next : AffineRank) → Q rank → Q next → Is (leaf_met same where_greater greater_fits Later (leaf why rank) (leaf other next))) where
-      met_each : (why : Why) (rank : AffineRank) → Q rank → (end : Plan AffineRank) → IsEnd end → Is end
+        (met : (why other : Why) (rank next : AffineRank) → Q why rank → Q other next → Is (leaf_met same where_greater greater_fits Later (leaf why rank) (leaf other next))) where
+      met_each : (why : Why) (rank : AffineRank) → Q why rank → (end : Plan AffineRank) → IsEnd end → Is end
           → Is (leaf_met same where_greater greater_fits Later (leaf why rank) end)
       met_each why rank one bottom ends two = tt
       met_each why rank one (top cause) ends two = tt
@@ -142,17 +145,18 @@ module _ (same : AffineRank → AffineRank → Bool) where
 
   -- ---- a step more, after which something else holds
 
-  module _ (P : Row → Type 0) (Q Step : AffineRank → Type 0) (one_more : AffineRank → AffineRank) (more : (rank : AffineRank) → Q rank → Step (one_more rank)) where
+  module _ (P : Row → Type 0) (Q Step : Why → AffineRank → Type 0) (one_more : AffineRank → AffineRank)
+      (more : (why : Why) (rank : AffineRank) → Q why rank → Step (Onward EveryState) (one_more rank)) where
     pub stepped_each : (plan : Plan AffineRank) → EachIs P Q plan → EachIs P Step (stepped same one_more plan)
     stepped_each bottom each = tt
     stepped_each (top cause) each = tt
-    stepped_each (leaf why rank) each = more rank each
+    stepped_each (leaf why rank) each = more why rank each
     stepped_each (branch row this that) each =
         node_each P Step row (stepped same one_more this) (stepped same one_more that) each.0 (stepped_each this each.1) (stepped_each that each.2)
 
     -- of what stands at the ends of a test
     module _ (where_greater : AffineRank → AffineRank → Alternatives) (greater_fits : AffineRank → AffineRank → Type 0)
-        (met : (why other : Why) (rank next : AffineRank) → Q rank → Q next → EachIs P Q (leaf_met same where_greater greater_fits Later (leaf why rank) (leaf other next)))
+        (met : (why other : Why) (rank next : AffineRank) → Q why rank → Q other next → EachIs P Q (leaf_met same where_greater greater_fits Later (leaf why rank) (leaf other next)))
         (this that : Plan AffineRank) (first : EachIs P Q this) (second : EachIs P Q that) where
       pub enabled_each : (t u : Bool) → EachIs P Step (enabled same where_greater greater_fits one_more this that t u)
       enabled_each true true =
@@ -161,13 +165,13 @@ module _ (same : AffineRank → AffineRank → Bool) where
       enabled_each false true = stepped_each that second
       enabled_each false false = tt
 
-  module _ (P Next : Row → Type 0) (Q Step : AffineRank → Type 0) (put : AffineRank → ℕ → Affine → AffineRank) (one_more : AffineRank → AffineRank) (place : ℕ) (by : Affine)
+  module _ (P Next : Row → Type 0) (Q Step : Why → AffineRank → Type 0) (put : AffineRank → ℕ → Affine → AffineRank) (one_more : AffineRank → AffineRank) (place : ℕ) (by : Affine)
       (row_in : (row : Row) → P row → KindIs Next (row_kind_of (substituted row.affine place by)))
-      (rank_in : (rank : AffineRank) → Q rank → Step (one_more (put rank place by))) where
+      (rank_in : (why : Why) (rank : AffineRank) → Q why rank → Step (Onward EveryState) (one_more (put rank place by))) where
     pub assigned_each : (plan : Plan AffineRank) → EachIs P Q plan → EachIs Next Step (assigned same put one_more place by plan)
     assigned_each bottom each = tt
     assigned_each (top cause) each = tt
-    assigned_each (leaf why rank) each = rank_in rank each
+    assigned_each (leaf why rank) each = rank_in why rank each
     assigned_each (branch row this that) each =
         asked_each Next Step (row_kind_of (substituted row.affine place by)) (assigned same put one_more place by this) (assigned same put one_more place by that)
         (row_in row each.0) (assigned_each this each.1) (assigned_each that each.2)

@@ -29,20 +29,21 @@ asked_fits Always This That first second = first
 asked_fits Never This That first second = second
 asked_fits (Kept row) This That first second = (first, second)
 
-module _ (P : Row → Type 0) (Q : AffineRank → Type 0) where
-  pub step_fits : (more_fits : AffineRank → Type 0) → ((rank : AffineRank) → Q rank → more_fits rank) → (plan : Plan AffineRank) → EachIs P Q plan → StepFits more_fits plan
+module _ (P : Row → Type 0) (Q : Why → AffineRank → Type 0) where
+  pub step_fits : (more_fits : AffineRank → Type 0) → ((why : Why) (rank : AffineRank) → Q why rank → more_fits rank) → (plan : Plan AffineRank)
+      → EachIs P Q plan → StepFits more_fits plan
   step_fits more_fits fits bottom each = tt
   step_fits more_fits fits (top cause) each = tt
-  step_fits more_fits fits (leaf why rank) each = fits rank each
+  step_fits more_fits fits (leaf why rank) each = fits why rank each
   step_fits more_fits fits (branch row this that) each = (step_fits more_fits fits this each.1, step_fits more_fits fits that each.2)
 
   module _ (put : AffineRank → ℕ → Affine → AffineRank) (put_fits : AffineRank → ℕ → Affine → Type 0) (more_fits : AffineRank → Type 0) (place : ℕ) (by : Affine)
       (row_in : (row : Row) → P row → SubstitutionFits row.affine place by)
-      (rank_in : (rank : AffineRank) → Q rank → put_fits rank place by × more_fits (put rank place by)) where
+      (rank_in : (why : Why) (rank : AffineRank) → Q why rank → put_fits rank place by × more_fits (put rank place by)) where
     pub assign_fits : (plan : Plan AffineRank) → EachIs P Q plan → AssignFits put put_fits more_fits place by plan
     assign_fits bottom each = tt
     assign_fits (top cause) each = tt
-    assign_fits (leaf why rank) each = rank_in rank each
+    assign_fits (leaf why rank) each = rank_in why rank each
     assign_fits (branch row this that) each = (
       row_in row each.0,
       asked_fits (row_kind_of (substituted row.affine place by)) (AssignFits put put_fits more_fits place by this) (AssignFits put put_fits more_fits place by that)
@@ -65,8 +66,8 @@ module _ (P : Row → Type 0) (Q : AffineRank → Type 0) where
     trim_fits path plan each = cut_fits (λ end. ⊤) (λ end ends own. tt) path plan each
 
     module _ (where_greater : AffineRank → AffineRank → Alternatives) (greater_fits : AffineRank → AffineRank → Type 0)
-        (met : (why other : Why) (rank next : AffineRank) → Q rank → Q next → MetFits same where_greater greater_fits Later (leaf why rank) (leaf other next)) where
-      met_fits : (why : Why) (rank : AffineRank) → Q rank → (end : Plan AffineRank) → IsEnd end → EachIs P Q end
+        (met : (why other : Why) (rank next : AffineRank) → Q why rank → Q other next → MetFits same where_greater greater_fits Later (leaf why rank) (leaf other next)) where
+      met_fits : (why : Why) (rank : AffineRank) → Q why rank → (end : Plan AffineRank) → IsEnd end → EachIs P Q end
           → MetFits same where_greater greater_fits Later (leaf why rank) end
       met_fits why rank one bottom ends two = tt
       met_fits why rank one (top cause) ends two = tt
@@ -86,7 +87,7 @@ module _ (P : Row → Type 0) (Q : AffineRank → Type 0) where
       joined_fits this that one two = graft_fits that two [] this one
 
       -- at the ends of a test, where the later of both is such too
-      module _ (one_more : AffineRank → AffineRank) (more_fits : AffineRank → Type 0) (fits : (rank : AffineRank) → Q rank → more_fits rank)
+      module _ (one_more : AffineRank → AffineRank) (more_fits : AffineRank → Type 0) (fits : (why : Why) (rank : AffineRank) → Q why rank → more_fits rank)
           (this that : Plan AffineRank) (first : EachIs P Q this) (second : EachIs P Q that) (both : EachIs P Q (later_of same where_greater greater_fits this that)) where
         pub enabled_fits : (t u : Bool) → EnabledFits same where_greater greater_fits one_more more_fits this that t u
         enabled_fits true true = (joined_fits this that first second, step_fits more_fits fits (later_of same where_greater greater_fits this that) both)

@@ -21,7 +21,7 @@ use Rattle.backward_transfer.proofs.Making.{node_most}
 use Rattle.unroll.specs.Levels.{RanksCount, counted}
 use Rattle.backward_transfer.specs.Tests.{IsLaterSmall, TestAsks}
 use Rattle.step_meaning.specs.AffineExpressions.{IsAffineTest}
-use Rattle.step_meaning.specs.Syntax.{Expression, number, variable, free, range, truth, negative, negation, pair}
+use Rattle.step_meaning.specs.Syntax.{Expression, number, variable, free, range, truth, negative, negation, pair, divided}
 use Rattle.linear_forms.specs.Duality.{AreDual}
 use Rattle.linear_forms.specs.Spreading.{spread_of}
 use Rattle.linear_forms.proofs.Dual.{spread_dual}
@@ -119,6 +119,7 @@ affine_size (truth t) affine a b = refl
 affine_size (negative e) affine a b = refl
 affine_size (negation e) affine a b = refl
 affine_size (pair op l r) affine a b = refl
+affine_size (divided division e z) affine a b = refl
 
 not_most : (n m : ℕ) → (n ≤ m → ⊥) → m < n
 not_most zero m never = absurd (never (omega arith))

@@ -2,7 +2,8 @@
 use Rattle.std.proofs.Common.{◌≡◌, ◌↔◌, ◌⊎◌, inl, inr, ℕ, zero, suc, ◌≤◌, max, Bool, true, false, [], ◌∷◌, None, Some, refl, sym, subst, ◌∙◌, arith, ⊎_elim}
 use Rattle.unroll.specs.Building.{Tells, left_by}
 use Rattle.step_meaning.specs.Run.{EndsInTests, EndsWithin, Longest, TestsAllow}
-use Rattle.step_meaning.specs.Step.{Configuration, IsFinal, Step, StepsFrom, Todo, front, one, turn}
+use Rattle.step_meaning.specs.Step.{Configuration, IsFinal, Step, Todo, front, one, turn}
+use Rattle.step_meaning.proofs.Front.{back, same_bound}
 use Rattle.step_meaning.specs.Syntax.{assign, skip, return, break, continue, if_else, while_loop, do_while}
 
 -- the first statement is a loop
@@ -115,14 +116,8 @@ pub record Alike (c d : Configuration) : Type 0 where
 pub alike_back : (c d : Configuration) → Alike c d → Alike d c
 alike_back c d same = record { fronts = sym same.fronts; stores = sym same.stores }
 
-alike_step : (c d e : Configuration) → Alike c d → Step d e → Step c e
-alike_step c d e same step =
-    subst (λ xs. StepsFrom xs c.store e) (sym same.fronts) (subst (λ s. StepsFrom (front d.todo) s e) (sym same.stores) step)
-
 pub within_alike : (n : ℕ) (c d : Configuration) → Alike c d → EndsWithin n c → EndsWithin n d
-within_alike zero c d same ends = sym same.fronts ∙ ends
-within_alike (suc n) c d same (inl final) = inl (sym same.fronts ∙ final)
-within_alike (suc n) c d same (inr each) = inr (λ e step. each e (alike_step c d e same step))
+within_alike n c d same = same_bound c d same.fronts same.stores n
 
 pub tests_alike : (tests n : ℕ) (c d : Configuration) → Alike c d → EndsInTests tests n c → EndsInTests tests n d
 tests_alike tests zero c d same ends = sym same.fronts ∙ ends
@@ -130,7 +125,7 @@ tests_alike tests (suc n) c d same (inl final) = inl (sym same.fronts ∙ final)
 tests_alike tests (suc n) c d same (inr each) =
     inr (subst (λ xs. TestsAllow xs tests (λ left. (e : Configuration) → Step d e → EndsInTests left n e)) same.fronts
     (weaker (front c.todo) tests (λ left. (e : Configuration) → Step c e → EndsInTests left n e)
-    (λ left. (e : Configuration) → Step d e → EndsInTests left n e) (λ left all e step. all e (alike_step c d e same step)) each))
+    (λ left. (e : Configuration) → Step d e → EndsInTests left n e) (λ left all e step. all e (back c d same.fronts same.stores e step)) each))
 
 pub longest_alike : (n : ℕ) (c d : Configuration) → Alike c d → Longest n c → Longest n d
 longest_alike zero c d same ends = within_alike zero c d same ends

@@ -1,7 +1,7 @@
 -- The size at a label by those behind it, and levels of a weight above 65,536.
 use Rattle.std.proofs.Common.{◌≡◌, ◌⊎◌, inl, inr, ⊎_elim, ℕ, zero, suc, ◌+◌, ◌*◌, ◌<◌, ◌≤◌, Bool, true, false, cond, Some, length, refl, sym, ap, subst, ◌∙◌, arith}
 use Rattle.std.proofs.Math.Nat.{le_refl, mul-le-mul}
-use Rattle.step_meaning.specs.Syntax.{Expression, Statements, number, variable, free, range, truth, negative, negation, pair}
+use Rattle.step_meaning.specs.Syntax.{Expression, Statements, number, variable, free, range, truth, negative, negation, pair, divided}
 use Rattle.control_flow.specs.Edges.{is_head_by}
 use Rattle.control_flow.specs.Labels.{Action, action_at, all_labels}
 use Rattle.unroll.specs.Building.{left_by}
@@ -36,6 +36,7 @@ module _ (a b x y : ℕ) (first : a ≤ x) (second : b ≤ y) where
   test_more (negative e) = rows_more (leaves_of_test (negative e))
   test_more (negation e) = rows_more (leaves_of_test (negation e))
   test_more (pair op l r) = rows_more (leaves_of_test (pair op l r))
+  test_more (divided division e z) = rows_more (leaves_of_test (divided division e z))
 
 before_or : (l n : ℕ) → l < suc n → (l < n) ⊎ (l ≡ n)
 before_or zero zero low = inr refl

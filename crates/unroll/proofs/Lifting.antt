@@ -21,7 +21,7 @@ use Rattle.decision_tree.specs.declared.reason.Why.TheVariants.{End}
 use Rattle.step_meaning.specs.AffineExpressions.{IsAffine, IsAffineTest, TestFits}
 use Rattle.step_meaning.specs.Outcome.{MayTest, Store}
 use Rattle.step_meaning.specs.Step.{front}
-use Rattle.step_meaning.specs.Syntax.{Expression, Statements, number, variable, free, range, truth, negative, negation, pair}
+use Rattle.step_meaning.specs.Syntax.{Expression, Statements, number, variable, free, range, truth, negative, negation, pair, divided}
 use Rattle.step_meaning.specs.Valid.{IsBody, IsNumber, IsTest}
 use Rattle.decision_tree.specs.Extent.{IsTreeOver, ComplementsFit}
 use Rattle.linear_cons.proofs.Over.{over_constant}
@@ -32,7 +32,7 @@ use Rattle.unroll.specs.Building.{ClaimsAt, IsBefore, IsBeforeBoth, Tells, Tells
 use Rattle.unroll.specs.Levels.{RanksCount, counted}
 use Rattle.unroll.specs.Measures.{AreSizes, anywhere}
 use Rattle.unroll.specs.Within.{TellsNumbers}
-use Rattle.unroll.specs.Plain.{IsPlainTest}
+use Rattle.step_meaning.specs.Plain.{IsPlainTest}
 use Rattle.unroll.proofs.Counting.{claims_one, counts_at, made_tells, twice}
 use Rattle.unroll.proofs.LevelLaws.{TwoNext, end_tells, head_tells, is_loop}
 use Rattle.unroll.proofs.Nexts.{assign_next, both_next, false_next, pass_next, true_next}
@@ -69,6 +69,7 @@ plain_test (truth b) plain = inr plain
 plain_test (negative e) plain = inr plain
 plain_test (negation c) plain = inr plain
 plain_test (pair op l r) plain = inr plain
+plain_test (divided division e b) plain = inr plain
 
 free_exact : (s : Store) (t : Bool) → MeetsOne s (spread_of anywhere free t) ↔ MayTest free s t
 free_exact s t = (λ met. tt, λ may. inl tt)
@@ -101,7 +102,7 @@ end_tree limit body = record {
       (λ n claim. claims_one (leaf End (counted 0)) n 0 claim (End, refl));
   ranks = (0, refl);
   complements = tt;
-  variables = λ vars valid. over_constant vars (pos 0);
+  variables = λ vars valid. (over_constant vars (pos 0), tt);
   numbers = end_numbers limit body;
   small = λ sizes are. at limit sizes are;
 }

@@ -4,7 +4,8 @@ use Rattle.step_meaning.specs.Step.{Todo, behind_body, items_of, one}
 use Rattle.step_meaning.specs.Syntax.{Statement, Statements, assign, skip, return, break, continue, if_else, while_loop, do_while, empty, sequence, size_of, size_of_statement}
 use Rattle.control_flow.specs.Labels.{Jumps, Label, action_at, all_labels, entry_label, inside, labels_of, labels_of_statement, stray}
 use Rattle.control_flow.proofs.Standing.{EachFrom, each_at, each_both, length-labels_of, length-labels_of_statement}
-use Rattle.unroll.specs.Plain.{IsPlain, IsPlainAction, IsPlainStatement}
+use Rattle.step_meaning.specs.Plain.{IsPlain, IsPlainStatement}
+use Rattle.unroll.specs.Plain.{IsPlainAction}
 
 abbrev DoesPlain : ℕ → Label → Type 0
 DoesPlain l x = IsPlainAction x.action

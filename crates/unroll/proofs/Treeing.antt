@@ -23,7 +23,8 @@ use Rattle.unroll.specs.Building.{AtNext, IsBefore, IsBeforeBoth, TellsAt, Tells
 use Rattle.backward_transfer.specs.AffineShapes.{tree_at}
 use Rattle.unroll.specs.Levels.{RanksCount}
 use Rattle.unroll.specs.Measures.{AreSizes, anywhere, size_before, size_of_test}
-use Rattle.unroll.specs.Plain.{ActionFits, IsFittingTest, IsPlain, IsPlainAction, IsPlainTest}
+use Rattle.step_meaning.specs.Plain.{IsPlain, IsPlainTest}
+use Rattle.unroll.specs.Plain.{ActionFits, IsFittingTest, IsPlainAction}
 use Rattle.unroll.specs.Within.{TellsNumbers}
 use Rattle.unroll.proofs.GrownLabels.{at_more}
 use Rattle.unroll.proofs.LevelSizes.{label_size, test_more}

@@ -1,5 +1,5 @@
 -- The trees before a step speak of the program's variables alone, where those behind it do.
-use Rattle.std.proofs.Common.{ℕ, ◌==◌, if◌then◌else◌, ◌<◌, Bool, true, false, cond, not, ℤ, pos, negsuc, ◌-ℤ◌, List, [], ◌∷◌, ◌++◌, map, Option, None, Some, All, refl, arith, subst, sym}
+use Rattle.std.proofs.Common.{ℕ, ◌==◌, if◌then◌else◌, ◌<◌, Bool, true, false, cond, not, ℤ, pos, negsuc, ◌-ℤ◌, int_lt, List, [], ◌∷◌, ◌++◌, map, Option, None, Some, All, refl, arith, subst, sym}
 use Rattle.std.specs.Prelude.{⊤}
 use Rattle.std.proofs.lemmas.List.Elements.{All-append, All-cons, All-head, All-nil, All-tail}
 use Rattle.linear_cons.specs.declared.affine.Affine.{Affine}
@@ -15,21 +15,24 @@ use Rattle.linear_cons.proofs.KindLaws.{row_kind_is}
 use Rattle.linear_cons.proofs.Places.{eqb_apart}
 use Rattle.step_meaning.specs.declared.expression.Op2.{Op2}
 use Rattle.step_meaning.specs.declared.expression.Op2.TheVariants.{Add, And, Equal, Greater, GreaterEqual, Less, LessEqual, Mul, NotEqual, Or, Sub}
-use Rattle.step_meaning.specs.Syntax.{Expression, free, negation, negative, number, pair, range, truth, variable}
+use Rattle.step_meaning.specs.Syntax.{Expression, free, negation, negative, number, pair, divided, quotient, remainder, range, truth, variable}
 use Rattle.step_meaning.specs.Valid.{IsNumber, IsTest}
-use Rattle.linear_forms.specs.Linearising.{are_equal, between, corners, is_number, linear_of, numbers_fit, product, scaled, square, unknown, with_ends}
+use Rattle.linear_forms.specs.Linearising.{are_equal, between, corners, is_number, least_left, linear_of, most_left, numbers_fit, product, quotient_end, scaled, square, unknown, with_ends}
 use Rattle.linear_forms.specs.Spreading.{Claim, above, all_rows_of, at_least, before, claims, comparison_for, constraint, favoured, fitting, kept_before, less_one, pairs, rows_of, spread_of, with_constraint}
 use Rattle.decision_tree.specs.Plans.{Plan, bottom, branch, leaf, top}
 use Rattle.decision_tree.specs.declared.affine_rank.AffineRank.{AffineRank}
-use Rattle.decision_tree.specs.Extent.{IsTreeOver}
+use Rattle.decision_tree.specs.declared.reason.Why.{Why}
+use Rattle.decision_tree.specs.Extent.{IsTreeOver, PickIs}
 use Rattle.linear_cons.proofs.Over.{over_constant, over_difference, over_multiple, over_places, over_put, over_quotient, over_sum}
+use Rattle.tree_unify.specs.Shapes.{leaf_met}
+use Rattle.tree_unify.specs.declared.join.Join.TheVariants.{Later}
 use Rattle.unroll.specs.Measures.{anywhere}
 use Rattle.backward_transfer.specs.AffineShapes.{affine_ranks, assigned_shape, cut, same_rank, stepped_shape, tested_shape}
 use Rattle.linear_forms.specs.Duality.{EachOf}
 use Rattle.backward_transfer.specs.Tests.{enabled}
 use Rattle.unroll.specs.Levels.{RanksCount}
 use Rattle.unroll.specs.Within.{EachIs}
-use Rattle.unroll.proofs.CountedRanks.{Counts, met_counts, more_counts, put_counts}
+use Rattle.unroll.proofs.CountedRanks.{Counts, met_each, more_counts, put_counts}
 use Rattle.unroll.proofs.Every.{every_ask}
 use Rattle.unroll.proofs.Keeping.{KindIs, assigned_each, enabled_each, stepped_each, tested_each, trimmed_each}
 
@@ -99,6 +102,14 @@ module _ (vars : ℕ) where
   linear_over bounds free sorted = between_over None None
   linear_over bounds (truth b) sorted = between_over None None
   linear_over bounds (negation c) sorted = between_over None None
+  linear_over bounds (divided quotient e b) sorted =
+      let lo = least_value (linear_of bounds e) bounds in
+      let hi = greatest_value (linear_of bounds e) bounds in
+      either_over (int_lt b (pos 0)) _ _ (between_over (quotient_end hi b) (quotient_end lo b)) (between_over (quotient_end lo b) (quotient_end hi b))
+  linear_over bounds (divided remainder e b) sorted =
+      let lo = least_value (linear_of bounds e) bounds in
+      let hi = greatest_value (linear_of bounds e) bounds in
+      between_over (Some (least_left lo b)) (Some (most_left hi b))
   linear_over bounds (pair Add l r) sorted =
       let x = linear_of bounds l in
       let y = linear_of bounds r in
@@ -262,6 +273,7 @@ module _ (vars : ℕ) where
   spread_over bounds (variable x) outcome sorted = absurd sorted
   spread_over bounds (range lo hi) outcome sorted = absurd sorted
   spread_over bounds (negative e) outcome sorted = absurd sorted
+  spread_over bounds (divided division e b) outcome sorted = absurd sorted
 
   -- ---- trees
 
@@ -274,40 +286,53 @@ module _ (vars : ℕ) where
   conjunctions_each (rows ∷ rest) own = (rows_each rows (All-head Rows rows rest own), conjunctions_each rest (All-tail Rows rows rest own))
 
   -- with ranks that are numbers of steps, which speak of no variable
-  to_each : (plan : Plan AffineRank) → RanksCount plan → IsTreeOver vars plan → EachIs RowIs Counts plan
+  abbrev ClaimIs : Why → AffineRank → Type 0
+  ClaimIs why rank = Counts rank × PickIs (IsOver vars) why
+
+  to_each : (plan : Plan AffineRank) → RanksCount plan → IsTreeOver vars plan → EachIs RowIs ClaimIs plan
   to_each bottom ranks over = tt
   to_each (top cause) ranks over = tt
-  to_each (leaf why rank) ranks over = ranks
+  to_each (leaf why rank) ranks over = (ranks, over.1)
   to_each (branch row this that) ranks over = (over.0, to_each this ranks.0 over.1, to_each that ranks.1 over.2)
 
-  of_each : (plan : Plan AffineRank) → EachIs RowIs Counts plan → IsTreeOver vars plan
+  of_each : (plan : Plan AffineRank) → EachIs RowIs ClaimIs plan → IsTreeOver vars plan
   of_each bottom each = tt
   of_each (top cause) each = tt
-  of_each (leaf why rank) each = subst (λ (r : AffineRank). IsOver vars r.value) (sym each.1) (over_constant vars (pos each.0))
+  of_each (leaf why rank) each =
+      let counts = each.0 in
+      (subst (λ (r : AffineRank). IsOver vars r.value) (sym counts.1) (over_constant vars (pos counts.0)), each.1)
   of_each (branch row this that) each = (each.0, of_each this each.1, of_each that each.2)
 
-  trimmed_over : (plan : Plan AffineRank) → EachIs RowIs Counts plan → IsTreeOver vars (cut plan)
-  trimmed_over plan each = of_each (cut plan) (trimmed_each same_rank RowIs Counts [] plan each)
+  trimmed_over : (plan : Plan AffineRank) → EachIs RowIs ClaimIs plan → IsTreeOver vars (cut plan)
+  trimmed_over plan each = of_each (cut plan) (trimmed_each same_rank RowIs ClaimIs [] plan each)
+
+  -- a step speaks of every next state, and so of no function
+  more_is : (why : Why) (rank : AffineRank) → ClaimIs why rank → Counts (affine_ranks.one_more rank) × ⊤
+  more_is why rank own = (more_counts rank own.0, tt)
+
+  met_is : (why other : Why) (rank next : AffineRank) → ClaimIs why rank → ClaimIs other next
+      → EachIs RowIs ClaimIs (leaf_met same_rank affine_ranks.where_greater affine_ranks.greater_fits Later (leaf why rank) (leaf other next))
+  met_is why other rank next one two = met_each RowIs ClaimIs why other rank next one.0 two.0 one two
 
   pub assigned_over : (place : ℕ) (by : Affine) (plan : Plan AffineRank) → place < 16 → IsOver vars by → RanksCount plan → IsTreeOver vars plan
       → IsTreeOver vars (cut (assigned_shape place by plan))
   assigned_over place by plan low own ranks over =
       trimmed_over (assigned_shape place by plan)
-      (assigned_each same_rank RowIs RowIs Counts Counts affine_ranks.substituted affine_ranks.one_more place by (λ row mine. put_over row.affine place by mine own)
-      (λ rank one. more_counts (affine_ranks.substituted rank place by) (put_counts place by low rank one)) plan (to_each plan ranks over))
+      (assigned_each same_rank RowIs RowIs ClaimIs ClaimIs affine_ranks.substituted affine_ranks.one_more place by (λ row mine. put_over row.affine place by mine own)
+      (λ why rank one. (more_counts (affine_ranks.substituted rank place by) (put_counts place by low rank one.0), tt)) plan (to_each plan ranks over))
 
   pub stepped_over : (plan : Plan AffineRank) → RanksCount plan → IsTreeOver vars plan → IsTreeOver vars (cut (stepped_shape plan))
   stepped_over plan ranks over =
-      trimmed_over (stepped_shape plan) (stepped_each same_rank RowIs Counts Counts affine_ranks.one_more more_counts plan (to_each plan ranks over))
+      trimmed_over (stepped_shape plan) (stepped_each same_rank RowIs ClaimIs ClaimIs affine_ranks.one_more more_is plan (to_each plan ranks over))
 
   pub tested_over : (this that : Plan AffineRank) (c : Expression) → IsTest vars c → RanksCount this → RanksCount that → IsTreeOver vars this → IsTreeOver vars that
       → IsTreeOver vars (cut (tested_shape this that (spread_of anywhere c true) (spread_of anywhere c false)))
   tested_over this that c sorted one two first second =
       let holds = spread_of anywhere c true in
       let fails = spread_of anywhere c false in
-      let ends = enabled_each same_rank RowIs Counts Counts affine_ranks.one_more more_counts affine_ranks.where_greater affine_ranks.greater_fits (met_counts RowIs) this that
+      let ends = enabled_each same_rank RowIs ClaimIs ClaimIs affine_ranks.one_more more_is affine_ranks.where_greater affine_ranks.greater_fits met_is this that
       (to_each this one first) (to_each that two second) in
       trimmed_over (tested_shape this that holds fails)
-      (tested_each same_rank RowIs Counts affine_ranks.where_greater affine_ranks.greater_fits affine_ranks.one_more this that fails holds
-      (every_ask RowIs (λ t u. EachIs RowIs Counts (enabled same_rank affine_ranks.where_greater affine_ranks.greater_fits affine_ranks.one_more this that t u)) ends fails
+      (tested_each same_rank RowIs ClaimIs affine_ranks.where_greater affine_ranks.greater_fits affine_ranks.one_more this that fails holds
+      (every_ask RowIs (λ t u. EachIs RowIs ClaimIs (enabled same_rank affine_ranks.where_greater affine_ranks.greater_fits affine_ranks.one_more this that t u)) ends fails
       (conjunctions_each fails (spread_over anywhere c false sorted)) holds (conjunctions_each holds (spread_over anywhere c true sorted))))

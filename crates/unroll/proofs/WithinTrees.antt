@@ -4,6 +4,7 @@ use Rattle.linear_cons.specs.declared.affine.Affine.{Affine}
 use Rattle.linear_cons.specs.declared.row.Row.{Row}
 use Rattle.decision_tree.specs.Plans.{Plan, bottom, leaf}
 use Rattle.decision_tree.specs.declared.affine_rank.AffineRank.{AffineRank}
+use Rattle.decision_tree.specs.declared.reason.Why.{Why}
 use Rattle.decision_tree.specs.declared.reason.Why.TheVariants.{End}
 use Rattle.linear_cons.specs.Sizes.{total_size}
 use Rattle.step_meaning.specs.Syntax.{Statements}
@@ -22,42 +23,45 @@ module _ (k most steps : ℕ) where
   abbrev Rows : Row → Type 0
   Rows = IsWithin k most
 
-  abbrev Ranks : AffineRank → Type 0
-  Ranks = IsSteps steps
+  abbrev Ranks : Why → AffineRank → Type 0
+  Ranks why = IsSteps steps
+
+  abbrev Next : Why → AffineRank → Type 0
+  Next why = IsSteps (suc steps)
 
   -- ---- an assignment
 
   module _ (x : ℕ) (low : x < 16) (by : Affine) where
     moved_within : (plan : Plan AffineRank) → AreWithin ((1 + total_size by) * k) most steps plan → AreWithin k most (suc steps) (assigned_shape x by plan)
     moved_within plan within =
-        assigned_each same_rank (IsWithin ((1 + total_size by) * k) most) Rows Ranks (IsSteps (suc steps)) affine_ranks.substituted affine_ranks.one_more x by
-        (put_within x low by k most) (λ rank own. more_steps steps (affine_ranks.substituted rank x by) (put_steps x by low steps rank own)) plan within
+        assigned_each same_rank (IsWithin ((1 + total_size by) * k) most) Rows Ranks Next affine_ranks.substituted affine_ranks.one_more x by
+        (put_within x low by k most) (λ why rank own. more_steps steps (affine_ranks.substituted rank x by) (put_steps x by low steps rank own)) plan within
 
     pub assigned_within : (plan : Plan AffineRank) → AreWithin ((1 + total_size by) * k) most steps plan → AreWithin k most (suc steps) (cut (assigned_shape x by plan))
-    assigned_within plan within = trimmed_each same_rank Rows (IsSteps (suc steps)) [] (assigned_shape x by plan) (moved_within plan within)
+    assigned_within plan within = trimmed_each same_rank Rows Next [] (assigned_shape x by plan) (moved_within plan within)
 
     pub assigned_fits : IsNarrow k most steps → (plan : Plan AffineRank) → AreWithin ((1 + total_size by) * k) most steps plan
         → AssignFits affine_ranks.substituted affine_ranks.subst_fits affine_ranks.add_one_fits x by plan × CutFits (assigned_shape x by plan)
     assigned_fits narrow plan within = (
       assign_fits (IsWithin ((1 + total_size by) * k) most) Ranks affine_ranks.substituted affine_ranks.subst_fits affine_ranks.add_one_fits x by
           (put_row_fits x low by k most narrow.some narrow.small)
-          (λ rank own. (put_fits x by low steps narrow.few rank own, more_fits steps narrow.few (affine_ranks.substituted rank x by) (put_steps x by low steps rank own))) plan within,
-      trim_fits Rows (IsSteps (suc steps)) same_rank (turned_fits k most narrow.some narrow.small) [] (assigned_shape x by plan) (moved_within plan within),
+          (λ why rank own. (put_fits x by low steps narrow.few rank own, more_fits steps narrow.few (affine_ranks.substituted rank x by) (put_steps x by low steps rank own))) plan within,
+      trim_fits Rows Next same_rank (turned_fits k most narrow.some narrow.small) [] (assigned_shape x by plan) (moved_within plan within),
     )
 
   -- ---- a step that changes nothing
 
   moved_on : (plan : Plan AffineRank) → AreWithin k most steps plan → AreWithin k most (suc steps) (stepped_shape plan)
-  moved_on plan within = stepped_each same_rank Rows Ranks (IsSteps (suc steps)) affine_ranks.one_more (more_steps steps) plan within
+  moved_on plan within = stepped_each same_rank Rows Ranks Next affine_ranks.one_more (λ why. more_steps steps) plan within
 
   pub stepped_within : (plan : Plan AffineRank) → AreWithin k most steps plan → AreWithin k most (suc steps) (cut (stepped_shape plan))
-  stepped_within plan within = trimmed_each same_rank Rows (IsSteps (suc steps)) [] (stepped_shape plan) (moved_on plan within)
+  stepped_within plan within = trimmed_each same_rank Rows Next [] (stepped_shape plan) (moved_on plan within)
 
   pub stepped_fits : IsNarrow k most steps → (plan : Plan AffineRank) → AreWithin k most steps plan
       → StepFits affine_ranks.add_one_fits plan × CutFits (stepped_shape plan)
   stepped_fits narrow plan within = (
-    step_fits Rows Ranks affine_ranks.add_one_fits (more_fits steps narrow.few) plan within,
-    trim_fits Rows (IsSteps (suc steps)) same_rank (turned_fits k most narrow.some narrow.small) [] (stepped_shape plan) (moved_on plan within),
+    step_fits Rows Ranks affine_ranks.add_one_fits (λ why. more_fits steps narrow.few) plan within,
+    trim_fits Rows Next same_rank (turned_fits k most narrow.some narrow.small) [] (stepped_shape plan) (moved_on plan within),
   )
 
   -- ---- a test
@@ -66,14 +70,14 @@ module _ (k most steps : ℕ) where
       (asked : IsAsked Rows holds fails) where
     moved_back : AreWithin k most (suc steps) (tested_shape this that holds fails)
     moved_back =
-        tested_each same_rank Rows (IsSteps (suc steps)) affine_ranks.where_greater affine_ranks.greater_fits affine_ranks.one_more this that fails holds
+        tested_each same_rank Rows Next affine_ranks.where_greater affine_ranks.greater_fits affine_ranks.one_more this that fails holds
         (ask_each Rows Rows (λ row own. own)
-        (λ t u. EachIs Rows (IsSteps (suc steps)) (enabled same_rank affine_ranks.where_greater affine_ranks.greater_fits affine_ranks.one_more this that t u))
-        (enabled_each same_rank Rows Ranks (IsSteps (suc steps)) affine_ranks.one_more (more_steps steps) affine_ranks.where_greater affine_ranks.greater_fits (met_steps Rows steps)
+        (λ t u. EachIs Rows Next (enabled same_rank affine_ranks.where_greater affine_ranks.greater_fits affine_ranks.one_more this that t u))
+        (enabled_each same_rank Rows Ranks Next affine_ranks.one_more (λ why. more_steps steps) affine_ranks.where_greater affine_ranks.greater_fits (met_steps Rows steps)
         this that first second) holds fails asked)
 
     pub tested_within : AreWithin k most (suc steps) (cut (tested_shape this that holds fails))
-    tested_within = trimmed_each same_rank Rows (IsSteps (suc steps)) [] (tested_shape this that holds fails) moved_back
+    tested_within = trimmed_each same_rank Rows Next [] (tested_shape this that holds fails) moved_back
 
     pub tested_fits : IsNarrow k most steps
         → TestAsks ComplementFits (EnabledFits same_rank affine_ranks.where_greater affine_ranks.greater_fits affine_ranks.one_more affine_ranks.add_one_fits this that) fails holds
@@ -83,8 +87,8 @@ module _ (k most steps : ℕ) where
           ask_each Rows ComplementFits (turned_fits k most narrow.some narrow.small)
               (EnabledFits same_rank affine_ranks.where_greater affine_ranks.greater_fits affine_ranks.one_more affine_ranks.add_one_fits this that)
               (enabled_fits Rows Ranks same_rank (turned_fits k most narrow.some narrow.small) affine_ranks.where_greater affine_ranks.greater_fits (met_fits steps narrow.few)
-              affine_ranks.one_more affine_ranks.add_one_fits (more_fits steps narrow.few) this that first second both) holds fails asked,
-          trim_fits Rows (IsSteps (suc steps)) same_rank (turned_fits k most narrow.some narrow.small) [] (tested_shape this that holds fails) moved_back,
+              affine_ranks.one_more affine_ranks.add_one_fits (λ why. more_fits steps narrow.few) this that first second both) holds fails asked,
+          trim_fits Rows Next same_rank (turned_fits k most narrow.some narrow.small) [] (tested_shape this that holds fails) moved_back,
         )
 
 -- ---- trees within larger numbers, and those made without any
@@ -92,9 +96,9 @@ module _ (k most steps : ℕ) where
 pub within_more : (k next most more steps further : ℕ) → ((size : ℕ) → size * k ≤ most → size * next ≤ more) → steps ≤ further → (plan : Plan AffineRank)
     → AreWithin k most steps plan → AreWithin next more further plan
 within_more k next most more steps further rows ranks plan within =
-    each_more (IsWithin k most) (IsWithin next more) (IsSteps steps) (IsSteps further)
+    each_more (IsWithin k most) (IsWithin next more) (λ why. IsSteps steps) (λ why. IsSteps further)
     (λ row own. record { size = own.size; sizes = own.sizes; small = rows own.size own.small })
-    (λ rank own. record { steps = own.steps; few = let few = own.few in omega (arith, few, ranks); is = own.is }) plan within
+    (λ why rank own. record { steps = own.steps; few = let few = own.few in omega (arith, few, ranks); is = own.is }) plan within
 
 pub end_numbers : (level : ℕ) (body : Statements) → TellsNumbers level body 0 (leaf End (counted 0))
 end_numbers level body = record { within = record { steps = 0; few = omega arith; is = refl } }

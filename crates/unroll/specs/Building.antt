@@ -16,7 +16,8 @@ use Rattle.decision_tree.specs.Extent.{IsTreeOver, ComplementsFit}
 use Rattle.backward_transfer.specs.AffineShapes.{tree_at}
 use Rattle.unroll.specs.Levels.{RanksCount, counted}
 use Rattle.unroll.specs.Measures.{AreSizes}
-use Rattle.unroll.specs.Plain.{ActionFits, IsPlain}
+use Rattle.step_meaning.specs.Plain.{IsPlain}
+use Rattle.unroll.specs.Plain.{ActionFits}
 use Rattle.unroll.specs.Within.{TellsNumbers}
 
 -- The numbers that stand are those of the longest run, where all runs end with at most so many tests of a loop.

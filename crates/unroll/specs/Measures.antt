@@ -3,7 +3,7 @@ use Rattle.std.specs.Prelude.{◌≡◌, ℕ, zero, suc, ◌+◌, ◌*◌, ◌<�
 use Rattle.linear_cons.specs.declared.bounds.Bounds.{Bounds}
 use Rattle.linear_cons.specs.declared.row.Row.{Row}
 use Rattle.linear_forms.specs.Spreading.{spread_of}
-use Rattle.step_meaning.specs.Syntax.{Expression, Statements, number, variable, free, range, truth, negative, negation, pair}
+use Rattle.step_meaning.specs.Syntax.{Expression, Statements, number, variable, free, range, truth, negative, negation, pair, divided}
 use Rattle.control_flow.specs.Edges.{is_head_by}
 use Rattle.control_flow.specs.Labels.{Action, ends, assigns, passes, tests, action_at, all_labels}
 
@@ -31,6 +31,7 @@ size_of_test (truth b) first second = 2 * (leaves_of_test (truth b) * (first + s
 size_of_test (negative e) first second = 2 * (leaves_of_test (negative e) * (first + second + 1))
 size_of_test (negation c) first second = 2 * (leaves_of_test (negation c) * (first + second + 1))
 size_of_test (pair op l r) first second = 2 * (leaves_of_test (pair op l r) * (first + second + 1))
+size_of_test (divided division e b) first second = 2 * (leaves_of_test (divided division e b) * (first + second + 1))
 
 -- the size where this is done, by the sizes at the labels that follow: a step adds 1
 abbrev pub size_before : (ℕ → ℕ) → Action → ℕ

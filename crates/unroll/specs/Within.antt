@@ -4,18 +4,19 @@ use Rattle.linear_cons.specs.declared.row.Row.{Row}
 use Rattle.linear_cons.specs.Sizes.{SizesAtMost}
 use Rattle.decision_tree.specs.Plans.{Plan, bottom, branch, leaf, top}
 use Rattle.decision_tree.specs.declared.affine_rank.AffineRank.{AffineRank}
+use Rattle.decision_tree.specs.declared.reason.Why.{Why}
 use Rattle.step_meaning.specs.Syntax.{Statements}
 use Rattle.control_flow.specs.Edges.{is_head_by}
 use Rattle.control_flow.specs.Labels.{action_at, all_labels}
 use Rattle.unroll.specs.Growth.{factor_at, growth_of, product_below}
 use Rattle.unroll.specs.Levels.{counted}
 
--- each row and each rank of the tree is such
-abbrev pub EachIs : (Row → Type 0) → (AffineRank → Type 0) → Plan AffineRank → Type 0
-EachIs IsRow IsRank (branch row this that) = IsRow row × EachIs IsRow IsRank this × EachIs IsRow IsRank that
-EachIs IsRow IsRank (leaf why rank) = IsRank rank
-EachIs IsRow IsRank bottom = ⊤
-EachIs IsRow IsRank (top cause) = ⊤
+-- each row of the tree is such, and each reason with its rank
+abbrev pub EachIs : (Row → Type 0) → (Why → AffineRank → Type 0) → Plan AffineRank → Type 0
+EachIs IsRow IsClaim (branch row this that) = IsRow row × EachIs IsRow IsClaim this × EachIs IsRow IsClaim that
+EachIs IsRow IsClaim (leaf why rank) = IsClaim why rank
+EachIs IsRow IsClaim bottom = ⊤
+EachIs IsRow IsClaim (top cause) = ⊤
 
 -- no number of the row is above a size that, times k, is at most `most`
 pub record IsWithin (k most : ℕ) (row : Row) : Type 0 where
@@ -31,7 +32,7 @@ pub record IsSteps (most : ℕ) (rank : AffineRank) : Type 0 where
 
 -- so are all rows and ranks of a tree
 abbrev pub AreWithin : ℕ → ℕ → ℕ → Plan AffineRank → Type 0
-AreWithin k most steps plan = EachIs (IsWithin k most) (IsSteps steps) plan
+AreWithin k most steps plan = EachIs (IsWithin k most) (λ why. IsSteps steps) plan
 
 -- numbers of trees within such bounds fit 128 bits, and those of the tree before a step
 pub record IsNarrow (k most steps : ℕ) : Type 0 where

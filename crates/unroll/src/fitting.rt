@@ -6,7 +6,8 @@ ghost use Rattle.step_meaning.specs.AffineExpressions.{ComparisonFits, IsAffine,
 ghost use Rattle.step_meaning.specs.Naming.{NamesBelow};
 ghost use Rattle.step_meaning.specs.Syntax.{expression, statements};
 ghost use Rattle.control_flow.specs.Labels.{action_at, all_labels};
-ghost use Rattle.unroll.specs.Plain.{ActionFits, IsPlain, IsPlainTest};
+ghost use Rattle.step_meaning.specs.Plain.{IsPlain, IsPlainTest};
+ghost use Rattle.unroll.specs.Plain.{ActionFits};
 
 use crate::action::{Action, done_at};
 use control_flow::Graph;

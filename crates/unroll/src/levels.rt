@@ -5,7 +5,7 @@ ghost use Rattle.control_flow.specs.Labels.{all_labels};
 ghost use Rattle.backward_transfer.specs.AffineShapes.{plans};
 ghost use Rattle.unroll.specs.Building.{AtAll, IsFitting, TellsAt};
 ghost use Rattle.unroll.specs.Levels.{IsLevel};
-ghost use Rattle.unroll.specs.Plain.{IsPlain};
+ghost use Rattle.step_meaning.specs.Plain.{IsPlain};
 ghost use Rattle.unroll.specs.Measures.{IsLight, greatest_below};
 ghost use Rattle.unroll.specs.Refusals.{IsNodes, IsRefusalAt};
 ghost use Rattle.unroll.specs.Sizing.{AreLeaves, HasSizes, held_at};

@@ -4,7 +4,8 @@ ghost use Rattle.step_meaning.specs.Syntax.{statements};
 ghost use Rattle.control_flow.specs.Labels.{action_at, all_labels};
 ghost use Rattle.unroll.specs.Building.{IsFitting};
 ghost use Rattle.unroll.specs.Growth.{factor, greatest_of_conjunctions, greatest_of_rows, greatest_size, growth_of, row_size};
-ghost use Rattle.unroll.specs.Plain.{ActionFits, IsPlain};
+ghost use Rattle.step_meaning.specs.Plain.{IsPlain};
+ghost use Rattle.unroll.specs.Plain.{ActionFits};
 ghost use Rattle.unroll.specs.Sizing.{held};
 
 use crate::action::{Action, done_at};

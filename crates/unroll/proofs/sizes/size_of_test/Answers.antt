@@ -1,6 +1,6 @@
 use Rattle.std.proofs.Common.{◌≡◌, ℕ, ◌+◌, ◌*◌, ◌-◌, ◌^◌, min, refl, sym, ap, ◌∙◌, arith}
 use Rattle.step_meaning.specs.Syntax.{expression}
-use Rattle.step_meaning.specs.declared.expression.Expr.{Expr, Neg', Not', Pair'}
+use Rattle.step_meaning.specs.declared.expression.Expr.{Expr, Neg', Not', Pair', Quot', Rem'}
 use Rattle.step_meaning.specs.declared.expression.Expr.TheVariants.{Number, Name, Free, Range, True, False}
 use Rattle.unroll.specs.Measures.{leaves_of_test, size_of_test}
 use Rattle.unroll.specs.Sizing.{held}
@@ -18,6 +18,8 @@ by_rows False a b other = refl
 by_rows (Neg' p e) a b other = refl
 by_rows (Not' p e) a b other = refl
 by_rows (Pair' op p l q r) a b other = refl
+by_rows (Quot' p e z) a b other = refl
+by_rows (Rem' p e z) a b other = refl
 
 pub returns-in_default : goal.returns-in_default
 returns-in_default c a b leaves first second =

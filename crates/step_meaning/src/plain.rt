@@ -2,20 +2,24 @@
 ghost use Rattle.std.specs.Prelude.{◌↔◌, IsTrue};
 ghost use Rattle.step_meaning.specs.AffineExpressions.{IsAffineTest};
 ghost use Rattle.step_meaning.specs.Syntax.{expression, statement, statements};
-ghost use Rattle.unroll.specs.Plain.{IsPlain, IsPlainStatement, IsPlainTest};
+ghost use Rattle.step_meaning.specs.Plain.{IsPlain, IsPlainStatement, IsPlainTest};
 
-use linear_forms::is_affine;
-use step_meaning::{Block, Expr, Op2, Program, StmtKind};
+use crate::affine::is_affine;
+use crate::expression::{Expr, Op2};
+use crate::program::Program;
+use crate::statement::{Block, StmtKind};
 
-/// True exactly where the program is plain: every number expression is affine, no range occurs, and `?` occurs only as the whole test of a
-/// statement.
-pub fn is_plain(program: &Program) -> bool
-    ensures { IsTrue result ↔ IsPlain (statements program.now.body) }
-{
-    are_plain(&program.body)
+impl Program {
+    /// True exactly where the program is plain: every number expression is affine, so that no range, quotient or remainder occurs, and `?`
+    /// occurs only as the whole test of a statement.
+    pub fn is_plain(&self) -> bool
+        ensures { IsTrue result ↔ IsPlain (statements self.now.body) }
+    {
+        are_plain(&self.body)
+    }
 }
 
-/// True exactly where each of the statements is plain.
+// True exactly where each of the statements is plain.
 #[cycle(plain)]
 fn are_plain(block: &Block) -> bool
     ensures { IsTrue result ↔ IsPlain (statements block.now) }
@@ -30,7 +34,7 @@ fn are_plain(block: &Block) -> bool
     true
 }
 
-/// True exactly where the statement is plain.
+// True exactly where the statement is plain.
 #[cycle(plain)]
 fn is_plain_statement(kind: &StmtKind) -> bool
     ensures { IsTrue result ↔ IsPlainStatement (statement kind.now) }
@@ -46,7 +50,7 @@ fn is_plain_statement(kind: &StmtKind) -> bool
     }
 }
 
-/// True exactly where the test is a whole `?`, or has none and compares affine expressions.
+// True exactly where the test is a whole `?`, or has none and compares affine expressions.
 fn is_plain_test(test: &Expr) -> bool
     ensures { IsTrue result ↔ IsPlainTest (expression test.now) }
 {
@@ -56,7 +60,7 @@ fn is_plain_test(test: &Expr) -> bool
     }
 }
 
-/// True exactly where the test has no `?` and compares affine expressions.
+// True exactly where the test has no `?` and compares affine expressions.
 fn is_affine_test(test: &Expr) -> bool
     ensures { IsTrue result ↔ IsAffineTest (expression test.now) }
 {

@@ -1,7 +1,7 @@
 use Rattle.std.proofs.Common.{◌+◌, ◌*◌, ◌≤◌, ◌↔◌}
 use Rattle.step_meaning.specs.Syntax.{statements, statement, size_of, size_of_statement}
-use Rattle.unroll.specs.Plain.{IsPlain}
-use Rattle.unroll.proofs.plain.+plain.Given as goal
+use Rattle.step_meaning.specs.Plain.{IsPlain}
+use Rattle.step_meaning.proofs.plain.+plain.Given as goal
 
 abbrev pub decreases-are_plain : goal.decreases-are_plain
 decreases-are_plain l = 2 * size_of (statements l.block.now) + 1

@@ -1,12 +1,12 @@
 //! Affine expressions.
 ghost use Rattle.std.specs.Prelude.{◌↔◌, IsTrue};
 ghost use Rattle.step_meaning.specs.AffineExpressions.{IsAffine, KeepsAffine};
-ghost use Rattle.step_meaning.specs.Naming.{HasNoName};
 ghost use Rattle.step_meaning.specs.Syntax.{expression};
 
-use step_meaning::{Expr, Op2};
+use crate::expression::{Expr, Op2};
+use crate::function::has_no_name;
 
-/// True exactly where the expression is affine: it has no `?` and no range, and each product has a factor without names.
+/// True exactly where the expression is affine: it has no `?`, range, quotient or remainder, and each product has a factor without names.
 pub fn is_affine(expr: &Expr) -> bool
     ensures { IsTrue result ↔ IsAffine (expression expr.now) }
 {
@@ -20,7 +20,7 @@ pub fn is_affine(expr: &Expr) -> bool
     }
 }
 
-/// True exactly where the operator makes an affine expression of two.
+// True exactly where the operator makes an affine expression of two.
 fn keeps_affine(op: Op2, left: &Expr, right: &Expr) -> bool
     ensures { IsTrue result ↔ KeepsAffine op (expression left.now) (expression right.now) }
 {
@@ -28,17 +28,5 @@ fn keeps_affine(op: Op2, left: &Expr, right: &Expr) -> bool
         Op2::Add | Op2::Sub => true,
         Op2::Mul => has_no_name(left) || has_no_name(right),
         _ => false,
-    }
-}
-
-/// True exactly where no variable is named.
-fn has_no_name(expr: &Expr) -> bool
-    ensures { IsTrue result ↔ HasNoName (expression expr.now) }
-{
-    match expr {
-        Expr::Name(_) => false,
-        Expr::Neg(operand) | Expr::Not(operand) => has_no_name(operand),
-        Expr::Pair { op: _, left, right } => has_no_name(left) && has_no_name(right),
-        _ => true,
     }
 }
