@@ -80,13 +80,13 @@ module _ (body : Statements) (told : Told) (inner : ℕ → Trees AffineRank) wh
   truth_shown : (labels : ℕ) → IsShown body told truth inner (trees_in (truth_trees labels))
   truth_shown labels = record {
     supported = truth_supported labels;
-    spares = truth_has (SparesPlace chosen_place) labels nothing_chosen tt;
+    spares = truth_has (SparesPlace chosen_place) labels (nothing_chosen, tt) tt;
   }
 
   end_shown : (labels : ℕ) → IsShown body told exit inner (trees_in (end_trees labels))
   end_shown labels = record {
     supported = end_supported labels;
-    spares = end_has (SparesPlace chosen_place) labels nothing_chosen tt;
+    spares = end_has (SparesPlace chosen_place) labels (nothing_chosen, tt) tt;
   }
 
 -- ---- variables
@@ -96,7 +96,7 @@ module _ (vars : ℕ) (body : Statements) (labels : ℕ) (own : labels ≡ lengt
   for_truth family is = record {
     labels = ap length is ∙ length-replicate labels (at_once Atom) ∙ own;
     over = λ label. subst (λ trees. IsTreeOver vars (trees_in trees label)) (sym is)
-        (truth_has (IsTreeOver vars) labels (over_constant vars (pos 0)) tt label);
+        (truth_has (IsTreeOver vars) labels (over_constant vars (pos 0), tt) tt label);
     complements = λ label. subst (λ trees. ComplementsFit (trees_in trees label)) (sym is) (truth_has ComplementsFit labels tt tt label);
   }
 
@@ -108,7 +108,7 @@ module _ (vars : ℕ) (body : Statements) (labels : ℕ) (own : labels ≡ lengt
       let all : length family.trees ≡ labels = omega (arith, long, rest, some) in record {
         labels = all ∙ own;
         over = λ label. subst (λ trees. IsTreeOver vars (trees_in trees label)) (sym is)
-            (end_has (IsTreeOver vars) labels (over_constant vars (pos 0)) tt label);
+            (end_has (IsTreeOver vars) labels (over_constant vars (pos 0), tt) tt label);
         complements = λ label. subst (λ trees. ComplementsFit (trees_in trees label)) (sym is) (end_has ComplementsFit labels tt tt label);
       }
 

@@ -21,8 +21,8 @@ abbrev pub AreNumberedFrom : ℕ → List (Family AffineRank) → Type 0
 AreNumberedFrom k [] = ⊤
 AreNumberedFrom k (family ∷ more) = (family.part ≡ k) × AreNumberedFrom (suc k) more
 
--- The family has a tree for each label of a program of `vars` variables with this body; its rows and ranks speak of the variables alone, and
--- the complements of the rows fit 128 bits.
+-- The family has a tree for each label of a program of `vars` variables with this body; its rows, ranks and picks speak of the variables
+-- alone, and the complements of the rows fit 128 bits.
 pub record IsFamilyFor (vars : ℕ) (body : Statements) (family : Family AffineRank) : Type 0 where
   pub labels : length family.trees ≡ length (all_labels body)
   pub over : (label : ℕ) → IsTreeOver vars (trees_of family label)

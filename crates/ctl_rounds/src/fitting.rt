@@ -1,10 +1,11 @@
 //! Families that may be checked and printed.
 ghost use Rattle.std.specs.Prelude.{◌≡◌, All, IfOk, IsTrue, length};
-ghost use Rattle.decision_tree.specs.Extent.{ComplementsFit, IsTreeOver};
+ghost use Rattle.linear_cons.specs.Functions.{IsOver};
+ghost use Rattle.decision_tree.specs.Extent.{ComplementsFit, IsTreeOver, PickIs};
 ghost use Rattle.decision_tree.specs.Plans.{plan_of};
 ghost use Rattle.ctl_rounds.specs.Fitting.{IsFit};
 
-use decision_tree::{AffineRank, Tree, TreeList};
+use decision_tree::{AffineRank, Pick, Tree, TreeList, Why};
 use line_text::is_over;
 use std::alloc::{AllocError, Global};
 use std::mem;
@@ -33,19 +34,29 @@ pub(crate) fn fitted(
     Ok(TreeList::of(kept))
 }
 
-/// True only where the rows and ranks of the tree are over the names, and the complements of the rows fit 128 bits.
+/// True only where the rows, ranks and picks of the tree are over the names, and the complements of the rows fit 128 bits.
 pub(crate) fn is_fit(tree: &Tree<AffineRank>, names: &Names) -> bool
     ensures over { IsTrue result → IsTreeOver (length names.now) (plan_of tree.now) }
     ensures complements { IsTrue result → ComplementsFit (plan_of tree.now) }
 {
     match tree {
         Tree::Bottom | Tree::Top(_) => true,
-        Tree::Leaf { why: _, rank } => is_over(&rank.value, names),
+        Tree::Leaf { why, rank } => is_over(&rank.value, names) && is_pick_over(why, names),
         Tree::Node { row, yes, no } => {
             is_over(&row.affine, names)
                 && row.not().is_ok()
                 && is_fit(yes, names)
                 && is_fit(no, names)
         }
+    }
+}
+
+/// True only where the function whose value the leaf picks, if it picks one, is over the names.
+fn is_pick_over(why: &Why, names: &Names) -> bool
+    ensures { IsTrue result → PickIs (IsOver (length names.now)) why.now }
+{
+    match why {
+        Why::Step(Pick::Value(value)) => is_over(value, names),
+        _ => true,
     }
 }

@@ -95,7 +95,7 @@ constant_spares z = number_at_places (λ i. pos 0) 15 (omega arith)
 truth_shown : IsShown body told truth (over truth) (families 0)
 truth_shown = record {
   supported = λ label place low. all_none (HasNoStore affine_ranks);
-  spares = λ label. constant_spares (pos 0);
+  spares = λ label. (constant_spares (pos 0), tt);
 }
 
 end_supported : (parts : ℕ → Trees AffineRank) → IsSupported affine_ranks (setting_of body told exit parts) (families 1)
@@ -103,7 +103,7 @@ end_supported parts zero place low = all_none (HasNoStore affine_ranks)
 end_supported parts (suc label) place low = all_none (HasNoStore affine_ranks)
 
 end_spares : (label : ℕ) → SparesPlace 15 (families 1 label)
-end_spares zero = constant_spares (pos 0)
+end_spares zero = (constant_spares (pos 0), tt)
 end_spares (suc label) = tt
 
 supported : IsSupported affine_ranks (setting_of body told af_exit (over af_exit)) family
@@ -115,8 +115,8 @@ supported (suc zero) place low =
 supported (suc (suc n)) place low = all_none (HasNoStore affine_ranks)
 
 spares : (label : ℕ) → SparesPlace 15 (family label)
-spares zero = constant_spares (pos 0)
-spares (suc zero) = constant_spares (pos 1)
+spares zero = (constant_spares (pos 0), tt)
+spares (suc zero) = (constant_spares (pos 1), tt)
 spares (suc (suc n)) = tt
 
 shown : IsShown body told af_exit (over af_exit) family

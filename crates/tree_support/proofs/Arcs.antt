@@ -3,7 +3,7 @@ use Rattle.std.proofs.Common.{◌≡◌, ℕ, zero, suc, ◌<◌, ◌≤◌, ℤ
 use Rattle.std.proofs.lemmas.Int.{ints}
 use Rattle.std.proofs.lemmas.List.{get_or-set_same, set-get_or, set-set, set_comm}
 use Rattle.std.proofs.lemmas.List.Elements.{All-append, All-cons, Contains-append_left, Contains-append_right}
-use Rattle.step_meaning.specs.Syntax.{Expression, Statements, free, negation, negative, number, pair, range, truth, variable}
+use Rattle.step_meaning.specs.Syntax.{Expression, Statements, free, negation, negative, number, pair, divided, range, truth, variable}
 use Rattle.step_meaning.specs.Outcome.{Store, May}
 use Rattle.step_meaning.specs.Step.{Configuration, IsFinal, Next, front}
 use Rattle.step_meaning.specs.Naming.{IsUnnamed, NamesBelow}
@@ -96,6 +96,7 @@ names_free (truth b) named = tt
 names_free (negative e) named = names_free e named
 names_free (negation c) named = names_free c named
 names_free (pair op l r) named = (names_free l named.0, names_free r named.1)
+names_free (divided division e b) named = names_free e named
 
 -- ---- a label at which this is done
 

@@ -48,4 +48,6 @@ spares_leaf place (branch row this that) store spares =
 
 pub spared_rank : (place : ℕ) (plan : Plan AffineRank) (store : List ℤ) (why : Why) (rank : AffineRank) → SparesPlace place plan
     → eval plan store ≡ leaf why rank → coefficient rank.value place ≡ pos 0
-spared_rank place plan store why rank spares is = subst (SparesPlace place) is (spares_leaf place plan store spares)
+spared_rank place plan store why rank spares is =
+    let own = subst (SparesPlace place) is (spares_leaf place plan store spares) in
+    own.0

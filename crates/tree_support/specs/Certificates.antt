@@ -5,6 +5,7 @@ use Rattle.linear_cons.specs.Functions.{coefficient}
 use Rattle.decision_tree.specs.contracts.affine_rank.AffineRankRank.TheImpl as affine
 use Rattle.decision_tree.specs.declared.affine_rank.AffineRank.{AffineRank}
 use Rattle.decision_tree.specs.declared.rank.Rank.{Ghosts as Ranks}
+use Rattle.decision_tree.specs.Extent.{PickIs}
 use Rattle.decision_tree.specs.Plans.{Plan, bottom, top, leaf, branch}
 use Rattle.ctl_formula.specs.Formulas.{Ctl, truth, falsity, exit, not_exit, always, never, least, negation, both, either, next, until, weak}
 use Rattle.ctl_formula.specs.Parts.{number_from, operand_from}
@@ -17,10 +18,10 @@ use Rattle.tree_support.specs.Told.{Told, setting_of}
 abbrev pub affine_ranks : Ranks AffineRank
 affine_ranks = affine.ghosts
 
--- the variable at the place occurs in no row of the tree, and in no rank
+-- the variable at the place occurs in no row of the tree, in no rank and in no pick
 abbrev pub SparesPlace : ℕ → Plan AffineRank → Type 0
 SparesPlace place (branch row this that) = (coefficient row.affine place ≡ pos 0) × SparesPlace place this × SparesPlace place that
-SparesPlace place (leaf why rank) = coefficient rank.value place ≡ pos 0
+SparesPlace place (leaf why rank) = (coefficient rank.value place ≡ pos 0) × PickIs (λ function. coefficient function place ≡ pos 0) why
 SparesPlace place bottom = ⊤
 SparesPlace place (top cause) = ⊤
 
