@@ -1,10 +1,12 @@
 -- Which tree of `Trees` each tree of this crate is: the same without its pointers.
 use Rattle.std.specs.Prelude.{Option, Some, None, List, map}
+use Rattle.concrete_syntax.specs.declared.expression.Divisor.{Divisor}
 use Rattle.concrete_syntax.specs.declared.expression.End.{End}
 use Rattle.concrete_syntax.specs.declared.expression.Operand.{Operand}
 use Rattle.concrete_syntax.specs.declared.expression.OperandKind.{OperandKind, Signed', Parentheses'}
 use Rattle.concrete_syntax.specs.declared.expression.OperandKind.TheVariants.{Number, Name, Truth, Unknown, Call, Range}
 use Rattle.concrete_syntax.specs.declared.expression.Link.{Link, Operation'}
+use Rattle.concrete_syntax.specs.declared.expression.Link.TheVariants as L
 use Rattle.concrete_syntax.specs.declared.expression.Tail.{Tail, Further'}
 use Rattle.concrete_syntax.specs.declared.expression.Tail.TheVariants as T
 use Rattle.concrete_syntax.specs.declared.expression.Expression.{Expression}
@@ -37,6 +39,9 @@ use Rattle.concrete_syntax.specs.Chains as chain
 abbrev pub range_end : End → tree.End
 range_end end = record { negative = end.negative; size = end.size }
 
+abbrev pub divisor : Divisor → tree.Divisor
+divisor d = record { negative = d.negative; at = d.at; size = d.size }
+
 -- operands, links and tails
 abbrev mutual
   pub operand_kind : OperandKind → tree.OperandKind
@@ -51,6 +56,7 @@ abbrev mutual
 
   pub link : Link → tree.Link
   link (Operation' op at e) = tree.operation op (tree.operand_at at (operand_kind e))
+  link (L.Division sign d) = tree.division sign (divisor d)
 
   pub tail : Tail → tree.Tail
   tail T.Ended = tree.ended

@@ -14,16 +14,19 @@
 --                 | "return" [expression] ";" | "break" ";" | "continue" ";"
 --     simple      = NAME ("=" | "+=" | "-=" | "*=") expression | NAME ("++" | "--") | ("++" | "--") NAME
 --     expression  = operand link*
---     link        = operator operand
+--     link        = operator operand | ("/" | "%") divisor
 --     operand     = ("-" | "+" | "!") operand | NUMBER | NAME | "true" | "false" | "?" | "__VERIFIER_nondet_int" "(" ")"
 --                 | "(" expression ")" | "[" end "," end "]"
 --     operator    = "||" | "&&" | "==" | "!=" | "<" | "<=" | ">" | ">=" | "+" | "-" | "*"
+--     divisor     = ["-"] NUMBER
 --     end         = ["-"] (NUMBER | "inf")
 --
--- An expression is written here as its operands with the operators between them. How they group is said elsewhere: it has no part in
+-- An expression is written here as its operands and divisors with the signs between them. How they group is said elsewhere: it has no part in
 -- which tokens are an expression. What may have to be found again in the text holds the number of a token of its, counted from 0:
--- operands, statements, names and signs before a name that of their first token, and a `do` that of the `while` that ends it.
+-- operands, statements, names and signs before a name that of their first token, a divisor that of its NUMBER, and a `do` that of the
+-- `while` that ends it.
 use Rattle.std.specs.Prelude.{ℕ, ℤ, Bool, Option, List}
+use Rattle.concrete_syntax.specs.declared.sign.Division.{Division}
 use Rattle.concrete_syntax.specs.declared.sign.Operator.{Operator}
 use Rattle.concrete_syntax.specs.declared.sign.Prefix.{Prefix}
 use Rattle.concrete_syntax.specs.declared.sign.Assignment.{Assignment}
@@ -33,6 +36,12 @@ use Rattle.concrete_syntax.specs.declared.sign.Step.{Step}
 pub record End : Type 0 where
   pub negative : Bool
   pub size : Option ℤ
+
+-- what divides: whether a `-` stands before its number, the number of this one's token, and the number
+pub record Divisor : Type 0 where
+  pub negative : Bool
+  pub at : ℕ
+  pub size : ℤ
 
 -- an operand, and the links behind the first one of an expression
 mutual
@@ -49,9 +58,10 @@ mutual
     parentheses : Operand → Tail → OperandKind
     range : End → End → OperandKind
 
-  -- an operator and what stands at its right
+  -- an operator or a sign of a division, and what stands at its right
   pub data Link : Type 0 where
     operation : Operator → Operand → Link
+    division : Division → Divisor → Link
 
   pub data Tail : Type 0 where
     ended : Tail

@@ -1,6 +1,6 @@
 //! Expressions, as they are written: operands with the operators between them. How they group has no part in the tree.
 
-use crate::sign::{Operator, Prefix};
+use crate::sign::{Division, Operator, Prefix};
 use std::alloc::{AllocError, Global};
 
 /// The end of a range.
@@ -10,6 +10,16 @@ pub struct End {
     pub negative: bool,
     /// Its number, or `None` for `inf`.
     pub size: Option<i64>,
+}
+
+/// What divides.
+#[derive(Clone, Copy)]
+pub struct Divisor {
+    /// Whether a `-` stands before its number.
+    pub negative: bool,
+    /// The number of its number's token.
+    pub at: usize,
+    pub size: i64,
 }
 
 /// An operand, and the number of its first token.
@@ -48,11 +58,18 @@ pub enum OperandKind {
     },
 }
 
-/// An operator, and what stands at its right.
+/// An operator or a sign of a division, and what stands at its right.
 #[cycle(operands)]
 #[derive(Drop)]
 pub enum Link {
-    Operation { op: Operator, operand: Operand },
+    Operation {
+        op: Operator,
+        operand: Operand,
+    },
+    Division {
+        division: Division,
+        divisor: Divisor,
+    },
 }
 
 /// What stands behind the first operand of an expression, in the order of the text.

@@ -9,8 +9,8 @@ mod sign;
 mod simple;
 mod statement;
 
-pub use expression::{End, Expression, Link, Operand, OperandKind, Tail};
+pub use expression::{Divisor, End, Expression, Link, Operand, OperandKind, Tail};
 pub use program::{Prelude, Program};
-pub use sign::{Assignment, Operator, Prefix, Step};
+pub use sign::{Assignment, Division, Operator, Prefix, Step};
 pub use simple::{Action, Declaration, Name, Part, Simple, Start};
 pub use statement::{ForLoop, Item, Items, Otherwise, Statement, StatementKind};

@@ -16,6 +16,15 @@ pub enum Operator {
     Multiply,
 }
 
+/// A sign between what is divided and its divisor.
+#[derive(Clone, Copy)]
+pub enum Division {
+    /// `/`
+    Quotient,
+    /// `%`
+    Remainder,
+}
+
 /// A sign before an operand.
 #[derive(Clone, Copy)]
 pub enum Prefix {

@@ -2,7 +2,7 @@
 use Rattle.std.specs.Prelude.{ℕ, List, [], ◌∷◌, Option, None, Some, codes, if◌then◌else◌}
 use Rattle.std.specs.Str.{bytes_eq}
 use Rattle.derivation.specs.declared.symbol.Symbol.{Symbol}
-use Rattle.derivation.specs.declared.symbol.Symbol.TheVariants.{Int, If, Else, While, Do, For, Return, Break, Continue, Extern, Void, Typedef, Enum, Bool, True, False, Infinite, Main, Nondeterministic, Increment, Decrement, AddAssign, SubtractAssign, MultiplyAssign, Equal, NotEqual, LessEqual, GreaterEqual, And, Or, Less, Greater, Assign, Plus, Minus, Times, Not, OpenParenthesis, CloseParenthesis, OpenBrace, CloseBrace, OpenBracket, CloseBracket, Semicolon, Comma, Question}
+use Rattle.derivation.specs.declared.symbol.Symbol.TheVariants.{Int, If, Else, While, Do, For, Return, Break, Continue, Extern, Void, Typedef, Enum, Bool, True, False, Infinite, Main, Nondeterministic, Increment, Decrement, AddAssign, SubtractAssign, MultiplyAssign, Equal, NotEqual, LessEqual, GreaterEqual, And, Or, Less, Greater, Assign, Plus, Minus, Times, Divide, Remainder, Not, OpenParenthesis, CloseParenthesis, OpenBrace, CloseBrace, OpenBracket, CloseBracket, Semicolon, Comma, Question}
 
 -- a spelling and what it is
 abbrev pub Entry : Type 0
@@ -26,7 +26,8 @@ signs =
     (codes "++", Increment) ∷ (codes "--", Decrement) ∷ (codes "+=", AddAssign) ∷ (codes "-=", SubtractAssign)
     ∷ (codes "*=", MultiplyAssign) ∷ (codes "==", Equal) ∷ (codes "!=", NotEqual) ∷ (codes "<=", LessEqual)
     ∷ (codes ">=", GreaterEqual) ∷ (codes "&&", And) ∷ (codes "||", Or) ∷ (codes "<", Less) ∷ (codes ">", Greater)
-    ∷ (codes "=", Assign) ∷ (codes "+", Plus) ∷ (codes "-", Minus) ∷ (codes "*", Times) ∷ (codes "!", Not)
+    ∷ (codes "=", Assign) ∷ (codes "+", Plus) ∷ (codes "-", Minus) ∷ (codes "*", Times) ∷ (codes "/", Divide)
+    ∷ (codes "%", Remainder) ∷ (codes "!", Not)
     ∷ (codes "(", OpenParenthesis) ∷ (codes ")", CloseParenthesis) ∷ (codes "{", OpenBrace) ∷ (codes "}", CloseBrace)
     ∷ (codes "[", OpenBracket) ∷ (codes "]", CloseBracket) ∷ (codes ";", Semicolon) ∷ (codes ",", Comma)
     ∷ (codes "?", Question) ∷ []

@@ -1,6 +1,6 @@
 //! Reserved words and signs.
 
-ghost use Rattle.std.specs.Prelude.{◌≡◌, map};
+ghost use Rattle.std.specs.Prelude.{◌≡◌, ◌↔◌, IsTrue, map};
 ghost use Rattle.derivation.specs.Symbols.{reserved_words, signs, found};
 
 /// A reserved word or a sign.
@@ -42,6 +42,8 @@ pub enum Symbol {
     Plus,
     Minus,
     Times,
+    Divide,
+    Remainder,
     Not,
     OpenParenthesis,
     CloseParenthesis,
@@ -52,6 +54,15 @@ pub enum Symbol {
     Semicolon,
     Comma,
     Question,
+}
+
+impl Symbol {
+    /// Whether it is the other one.
+    pub fn is(self, other: Symbol) -> bool
+        ensures { IsTrue result ↔ (self ≡ other) }
+    {
+        self == other
+    }
 }
 
 type Entry = (&'static [u8], Symbol);
@@ -78,7 +89,7 @@ const RESERVED_WORDS: [Entry; 19] = [
     (b"__VERIFIER_nondet_int", Symbol::Nondeterministic),
 ];
 
-const SIGNS: [Entry; 27] = [
+const SIGNS: [Entry; 29] = [
     (b"++", Symbol::Increment),
     (b"--", Symbol::Decrement),
     (b"+=", Symbol::AddAssign),
@@ -96,6 +107,8 @@ const SIGNS: [Entry; 27] = [
     (b"+", Symbol::Plus),
     (b"-", Symbol::Minus),
     (b"*", Symbol::Times),
+    (b"/", Symbol::Divide),
+    (b"%", Symbol::Remainder),
     (b"!", Symbol::Not),
     (b"(", Symbol::OpenParenthesis),
     (b")", Symbol::CloseParenthesis),

@@ -15,7 +15,7 @@ pub fn after(words: &[Lexeme<'_>], at: usize, wanted: Symbol) -> Option<usize>
     ensures forward { IfSome result (IsBehind words.now at) }
 {
     match *words.get(at)? {
-        Lexeme::Symbol(found) if found == wanted => Some(at + 1),
+        Lexeme::Symbol(found) if found.is(wanted) => Some(at + 1),
         _ => None,
     }
 }

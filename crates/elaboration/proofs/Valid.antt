@@ -1,19 +1,20 @@
 -- Without faults, expressions have the sorts that their places need.
-use Rattle.std.proofs.Common.{◌≡◌, ℕ, ℤ, ◌<◌, ◌≤◌, Bool, true, false, nat_lt, ◌&&◌, List, [], ◌∷◌, ◌++◌, Option, None, Some, length, refl, sym, subst, arith, if◌then◌else◌}
+use Rattle.std.proofs.Common.{◌≡◌, ◌≢◌, ℕ, ℤ, pos, neg_ℤ, int_eq, int_lt, ◌<◌, ◌≤◌, Bool, true, false, nat_lt, ◌&&◌, List, [], ◌∷◌, ◌++◌, Option, None, Some, length, refl, sym, subst, arith, if◌then◌else◌, ◌∙◌}
 use Rattle.std.proofs.lemmas.Bool.{false≢true}
+use Rattle.std.proofs.lemmas.Bool.Decides.{Decides-int_eq}
 use Rattle.std.proofs.lemmas.Int.{ints}
 use Rattle.step_meaning.specs.declared.expression.Op2.{Op2}
 use Rattle.step_meaning.specs.declared.expression.Op2.TheVariants.{Add, Sub, Mul, And, Or}
 use Rattle.step_meaning.specs.Syntax as syntax
 use Rattle.step_meaning.specs.Valid.{IsInOrder, IsNumber, IsTest}
 use Rattle.concrete_syntax.specs.declared.sign.Prefix.{Prefix}
-use Rattle.concrete_syntax.specs.Trees.{End, Operand, operand_at, number, name, truth, unknown, call, signed, parentheses, range, operation, Tail, ended, further, Expression}
-use Rattle.elaboration.specs.declared.fault.Rule.TheVariants.{Unknown, BadRange}
+use Rattle.concrete_syntax.specs.Trees.{Divisor, End, Operand, operand_at, number, name, truth, unknown, call, signed, parentheses, range, Link, operation, division, Tail, ended, further, Expression}
+use Rattle.elaboration.specs.declared.fault.Rule.TheVariants.{Unknown, BadRange, ZeroDivisor}
 use Rattle.elaboration.specs.Faults.{fault}
 use Rattle.elaboration.specs.declared.typed.Sort.{Sort}
-use Rattle.elaboration.specs.Grouping.{Grouped, leaf, node, attach, tightness}
+use Rattle.elaboration.specs.Grouping.{Grouped, leaf, node, divided, Joint, operator, divisor, joined, attach, tightness, joint_tightness}
 use Rattle.elaboration.specs.Scopes.{Scope, Name, is_among, place_of}
-use Rattle.elaboration.specs.Expressions.{Typed, op_of, as_test, test_of_sort, mixed_sort, mixed, pair_of, mixed_operands, value, mixed_in, end_value, is_range, is_infinite_as, in_order, range_faults, signed_typed, signed_faults, operand_typed, tail_grouped, grouped, unknown_name, operand_faults, tail_faults, expression_typed, expression_faults, number_faults}
+use Rattle.elaboration.specs.Expressions.{Typed, as_test, test_of_sort, mixed_sort, mixed, pair_of, mixed_operands, value, mixed_in, end_value, is_range, is_infinite_as, in_order, range_faults, signed_typed, signed_faults, operand_typed, link_joint, tail_grouped, grouped, unknown_name, operand_faults, link_faults, tail_faults, signed_number, divisor_value, zero_faults, expression_typed, expression_faults, number_faults}
 use Rattle.elaboration.proofs.Names.{place_below}
 
 -- two lists that make none are none
@@ -43,6 +44,11 @@ IsTyped vars t = HasSort vars t.sort t.meaning
 abbrev pub AllTyped : ℕ → Grouped Typed → Type 0
 AllTyped vars (leaf t) = IsTyped vars t
 AllTyped vars (node op l r) = AllTyped vars l × AllTyped vars r
+AllTyped vars (divided sign l by) = AllTyped vars l × (by ≢ pos 0)
+
+abbrev pub IsJointTyped : ℕ → Joint Typed → Type 0
+IsJointTyped vars (operator op t) = IsTyped vars t
+IsJointTyped vars (divisor sign by) = by ≢ pos 0
 
 sort_number : (vars first : ℕ) (sort : Sort) (e : syntax.Expression) → HasSort vars sort e → mixed_sort sort first ≡ [] → IsNumber vars e
 sort_number vars first Sort.Number e is none = is
@@ -60,15 +66,20 @@ sort_test vars Sort.Either e is = subst (IsTest vars) (sym is) tt
 pub test_typed : (vars : ℕ) (t : Typed) → IsTyped vars t → IsTest vars (as_test t)
 test_typed vars t is = sort_test vars t.sort t.meaning is
 
-attach_typed : (vars : ℕ) (group : Grouped Typed) (op : Op2) (t : Typed) → AllTyped vars group → IsTyped vars t → AllTyped vars (attach group op t)
-attach_typed vars (leaf a) op t all is = (all, is)
-attach_typed vars (node top l r) op t all is =
-    let inner = attach_typed vars r op t all.1 is in
-    by_order inner (nat_lt (tightness top) (tightness op))
+joined_typed : (vars : ℕ) (group : Grouped Typed) (joint : Joint Typed) → AllTyped vars group → IsJointTyped vars joint → AllTyped vars (joined group joint)
+joined_typed vars group (operator op t) all is = (all, is)
+joined_typed vars group (divisor sign by) all is = (all, is)
+
+attach_typed : (vars : ℕ) (group : Grouped Typed) (joint : Joint Typed) → AllTyped vars group → IsJointTyped vars joint → AllTyped vars (attach group joint)
+attach_typed vars (leaf a) joint all is = joined_typed vars (leaf a) joint all is
+attach_typed vars (node top l r) joint all is =
+    let inner = attach_typed vars r joint all.1 is in
+    by_order inner (nat_lt (tightness top) (joint_tightness joint))
   where
-    by_order : AllTyped vars (attach r op t) → (less : Bool) → AllTyped vars (if less then node top l (attach r op t) else node op (node top l r) (leaf t))
+    by_order : AllTyped vars (attach r joint) → (less : Bool) → AllTyped vars (if less then node top l (attach r joint) else joined (node top l r) joint)
     by_order inner true = (all.0, inner)
-    by_order inner false = (all, is)
+    by_order inner false = joined_typed vars (node top l r) joint all is
+attach_typed vars (divided sign l by) joint all is = joined_typed vars (divided sign l by) joint all is
 
 numbers : (vars : ℕ) (l r : Typed) → IsTyped vars l → IsTyped vars r → mixed l ++ mixed r ≡ [] → IsNumber vars l.meaning × IsNumber vars r.meaning
 numbers vars l r left right none =
@@ -89,6 +100,9 @@ value_typed vars (node op l r) all none =
     let outer = both_none (mixed_in l) (mixed_in r ++ mixed_operands op (value l) (value r)) none in
     let inner = both_none (mixed_in r) (mixed_operands op (value l) (value r)) outer.1 in
     pair_typed vars op (value l) (value r) (value_typed vars l all.0 outer.0) (value_typed vars r all.1 inner.0) inner.1
+value_typed vars (divided sign l by) all none =
+    let parts = both_none (mixed_in l) (mixed (value l)) none in
+    (number_typed vars (value l) (value_typed vars l all.0 parts.0) parts.1, all.1)
 
 -- a range without a fault is in order
 ordered : (lo hi : Option ℤ) → in_order lo hi ≡ true → IsInOrder lo hi
@@ -127,6 +141,21 @@ signed_is_typed vars at Prefix.Plus t is none = number_typed vars t is none
 signed_is_typed vars at Prefix.Minus t is none = number_typed vars t is none
 signed_is_typed vars at Prefix.Not t is none = test_typed vars t is
 
+-- a divisor without a fault isn't 0
+signed_not_zero : (negative : Bool) (z : ℤ) → z ≢ pos 0 → signed_number negative z ≢ pos 0
+signed_not_zero negative z some = by_case (negative && int_lt (pos 0) z)
+  where
+    by_case : (turned : Bool) → (if turned then neg_ℤ z else z) ≢ pos 0
+    by_case true zero_is = some (omega (arith, ints))
+    by_case false zero_is = some zero_is
+
+divisor_not_zero : (d : Divisor) → zero_faults d ≡ [] → divisor_value d ≢ pos 0
+divisor_not_zero d none = by_size (int_eq d.size (pos 0)) refl none
+  where
+    by_size : (zero_is : Bool) → int_eq d.size (pos 0) ≡ zero_is → (if zero_is then fault ZeroDivisor d.at ∷ [] else []) ≡ [] → divisor_value d ≢ pos 0
+    by_size true e h = absurd (some_is_not_none _ [] h)
+    by_size false e h = signed_not_zero d.negative d.size (λ same. false≢true (sym e ∙ (Decides-int_eq d.size (pos 0)).1 same))
+
 mutual
   pub operand_is_typed : (vars : ℕ) (scope : Scope) → IsSound scope → length scope.declared ≤ vars → (e : Operand)
       → operand_faults scope e ≡ [] → IsTyped vars (operand_typed scope e)
@@ -149,11 +178,16 @@ mutual
   pub tail_is_typed : (vars : ℕ) (scope : Scope) → IsSound scope → length scope.declared ≤ vars → (so_far : Grouped Typed) (more : Tail)
       → AllTyped vars so_far → tail_faults scope more ≡ [] → AllTyped vars (tail_grouped scope so_far more)
   tail_is_typed vars scope sound room so_far ended all none = all
-  tail_is_typed vars scope sound room so_far (further (operation op e) more) all none =
-      let parts = both_none (operand_faults scope e) (tail_faults scope more) none in
-      tail_is_typed vars scope sound room (attach so_far (op_of op) (operand_typed scope e)) more
-      (attach_typed vars so_far (op_of op) (operand_typed scope e) all (operand_is_typed vars scope sound room e parts.0))
+  tail_is_typed vars scope sound room so_far (further link more) all none =
+      let parts = both_none (link_faults scope link) (tail_faults scope more) none in
+      tail_is_typed vars scope sound room (attach so_far (link_joint scope link)) more
+      (attach_typed vars so_far (link_joint scope link) all (joint_is_typed vars scope sound room link parts.0))
       parts.1
+
+  joint_is_typed : (vars : ℕ) (scope : Scope) → IsSound scope → length scope.declared ≤ vars → (link : Link)
+      → link_faults scope link ≡ [] → IsJointTyped vars (link_joint scope link)
+  joint_is_typed vars scope sound room (operation op e) none = operand_is_typed vars scope sound room e none
+  joint_is_typed vars scope sound room (division sign d) none = divisor_not_zero d none
 
 -- an expression is typed as it is in parentheses
 expression_is_typed : (vars : ℕ) (scope : Scope) → IsSound scope → length scope.declared ≤ vars → (e : Expression)

@@ -1,4 +1,4 @@
--- Which program a concrete tree stands for, or its first fault of names, sorts and jumps.
+-- Which program a concrete tree stands for, or its first fault of names, sorts, jumps and divisors.
 use Rattle.std.specs.Prelude.{◌≡◌, ℕ, false, List, [], ⊤}
 use Rattle.step_meaning.specs.Syntax.{Statements, of_list}
 use Rattle.source_lex.specs.declared.token.Token.{Token}
@@ -19,7 +19,7 @@ no_names = record { declared = []; visible = [] }
 abbrev pub walked : Program → Walked
 walked p = items_walked false no_names p.items
 
--- all its faults of names, sorts and jumps
+-- all its faults of names, sorts, jumps and divisors
 abbrev pub faults_of : Program → List faults.Fault
 faults_of p = (walked p).faults
 
@@ -40,7 +40,7 @@ pub record StandsFor (p : Program) (names : List Name) (body : Statements) : Typ
   pub declares : names ≡ names_of p
   pub means : body ≡ body_of p
 
--- the tree's first fault of names, sorts and jumps
+-- the tree's first fault of names, sorts, jumps and divisors
 abbrev pub HasFirstFault : Program → faults.Fault → Type 0
 HasFirstFault p f = IsFirstOf (faults_of p) f
 

@@ -1,19 +1,21 @@
 -- The sort and the meaning of expressions, and their faults.
 --
 -- Comparisons, `&&`, `||`, `!`, `true` and `false` are truth values. The operands of `&&`, `||` and `!` are tests, those of comparisons
--- and of arithmetic are numbers, a sign `+` among it. A number as a test means that it isn't 0. `?` takes the sort of its place, and
--- `__VERIFIER_nondet_int()` is the same.
-use Rattle.std.specs.Prelude.{ℕ, ℤ, neg_ℤ, int_le, pos, Bool, true, false, ◌&&◌, not, if◌then◌else◌, List, [], ◌∷◌, ◌++◌, Option, None, Some}
+-- and of arithmetic are numbers, a sign `+` and a division among it. A number as a test means that it isn't 0. `?` takes the sort of its
+-- place, and `__VERIFIER_nondet_int()` is the same. A divisor isn't 0.
+use Rattle.std.specs.Prelude.{ℕ, ℤ, neg_ℤ, int_le, int_lt, pos, Bool, true, false, ◌&&◌, not, if◌then◌else◌, List, [], ◌∷◌, ◌++◌, Option, None, Some}
+use Rattle.std.specs.Ordering.{int_eq}
 use Rattle.step_meaning.specs.declared.expression.Op2.{Op2}
 use Rattle.step_meaning.specs.declared.expression.Op2.TheVariants.{Add, Sub, Mul, Less, LessEqual, Greater, GreaterEqual, Equal, NotEqual, And, Or}
 use Rattle.step_meaning.specs.Syntax as syntax
+use Rattle.concrete_syntax.specs.declared.sign.Division.{Division}
 use Rattle.concrete_syntax.specs.declared.sign.Operator.{Operator}
 use Rattle.concrete_syntax.specs.declared.sign.Prefix.{Prefix}
-use Rattle.concrete_syntax.specs.Trees.{End, Operand, operand_at, OperandKind, number, name, truth, unknown, call, signed, parentheses, range, operation, Tail, ended, further, Expression}
+use Rattle.concrete_syntax.specs.Trees.{Divisor, End, Operand, operand_at, OperandKind, number, name, truth, unknown, call, signed, parentheses, range, Link, operation, division, Tail, ended, further, Expression}
 use Rattle.elaboration.specs.declared.fault.Fault.{Fault}
-use Rattle.elaboration.specs.declared.fault.Rule.TheVariants.{Unknown, Mixed, BadRange}
+use Rattle.elaboration.specs.declared.fault.Rule.TheVariants.{Unknown, Mixed, BadRange, ZeroDivisor}
 use Rattle.elaboration.specs.declared.typed.Sort.{Sort}
-use Rattle.elaboration.specs.Grouping.{Grouped, leaf, node, attach}
+use Rattle.elaboration.specs.Grouping.{Grouped, leaf, node, divided, Joint, operator, divisor, attach}
 use Rattle.elaboration.specs.Scopes.{Scope, is_among, place_of}
 use Rattle.elaboration.specs.Faults.{fault}
 
@@ -56,14 +58,24 @@ mixed_operands And l r = []
 mixed_operands Or l r = []
 mixed_operands op l r = mixed l ++ mixed r
 
+-- what a division makes of what is divided
+abbrev pub division_of : Division → syntax.Division
+division_of Division.Quotient = syntax.quotient
+division_of Division.Remainder = syntax.remainder
+
+abbrev pub divided_by : Division → Typed → ℤ → Typed
+divided_by sign t by = typed t.first Sort.Number (syntax.divided (division_of sign) t.meaning by)
+
 -- what grouped operands are together
 abbrev pub value : Grouped Typed → Typed
 value (leaf t) = t
 value (node op l r) = pair_of op (value l) (value r)
+value (divided sign l by) = divided_by sign (value l) by
 
 abbrev pub mixed_in : Grouped Typed → List Fault
 mixed_in (leaf t) = []
 mixed_in (node op l r) = mixed_in l ++ (mixed_in r ++ mixed_operands op (value l) (value r))
+mixed_in (divided sign l by) = mixed_in l ++ mixed (value l)
 
 -- the ends of a range: a number with its sign, or none for an infinite end; the number itself is written without a sign
 abbrev pub signed_size : Bool → Option ℤ → Option ℤ
@@ -85,6 +97,16 @@ in_order _ _ = true
 
 abbrev pub is_range : End → End → Bool
 is_range lo hi = is_infinite_as true lo.negative lo.size && is_infinite_as false hi.negative hi.size && in_order (end_value lo) (end_value hi)
+
+-- a divisor with its sign; its number is written without one, and isn't 0
+abbrev pub signed_number : Bool → ℤ → ℤ
+signed_number negative z = if negative && int_lt (pos 0) z then neg_ℤ z else z
+
+abbrev pub divisor_value : Divisor → ℤ
+divisor_value d = signed_number d.negative d.size
+
+abbrev pub zero_faults : Divisor → List Fault
+zero_faults d = if int_eq d.size (pos 0) then fault ZeroDivisor d.at ∷ [] else []
 
 -- a sign and the operand behind it, and the operand's faults in its place
 abbrev pub signed_typed : Prefix → ℕ → Typed → Typed
@@ -117,7 +139,7 @@ op_of Operator.Multiply = Mul
 abbrev pub from_token : ℕ → Typed → Typed
 from_token at t = typed at t.sort t.meaning
 
--- operands, and tails behind what is grouped already
+-- operands, what stands behind them, and tails behind what is grouped already
 abbrev mutual
   pub operand_typed : Scope → Operand → Typed
   operand_typed scope (operand_at at kind) = kind_typed scope at kind
@@ -132,10 +154,13 @@ abbrev mutual
   kind_typed scope at (parentheses e more) = from_token at (value (tail_grouped scope (leaf (operand_typed scope e)) more))
   kind_typed scope at (range lo hi) = typed at Sort.Number (syntax.range (end_value lo) (end_value hi))
 
+  pub link_joint : Scope → Link → Joint Typed
+  link_joint scope (operation op e) = operator (op_of op) (operand_typed scope e)
+  link_joint scope (division sign d) = divisor sign (divisor_value d)
+
   pub tail_grouped : Scope → Grouped Typed → Tail → Grouped Typed
   tail_grouped scope so_far ended = so_far
-  tail_grouped scope so_far (further (operation op e) more) =
-      tail_grouped scope (attach so_far (op_of op) (operand_typed scope e)) more
+  tail_grouped scope so_far (further link more) = tail_grouped scope (attach so_far (link_joint scope link)) more
 
 -- an expression is what its grouped operands are together
 abbrev pub grouped : Scope → Operand → Tail → Grouped Typed
@@ -159,9 +184,13 @@ abbrev mutual
   kind_faults scope at (range lo hi) = range_faults at lo hi
   kind_faults scope at _ = []
 
+  pub link_faults : Scope → Link → List Fault
+  link_faults scope (operation op e) = operand_faults scope e
+  link_faults scope (division sign d) = zero_faults d
+
   pub tail_faults : Scope → Tail → List Fault
   tail_faults scope ended = []
-  tail_faults scope (further (operation op e) more) = operand_faults scope e ++ tail_faults scope more
+  tail_faults scope (further link more) = link_faults scope link ++ tail_faults scope more
 
 -- the faults of an expression, and of one in the place of a number
 abbrev pub expression_faults : Scope → Expression → List Fault

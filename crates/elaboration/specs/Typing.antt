@@ -1,10 +1,12 @@
 -- What the trees of the elaborator are.
 use Rattle.step_meaning.specs.Syntax.{expression}
 use Rattle.elaboration.specs.declared.typed.Typed.{Typed}
-use Rattle.elaboration.specs.declared.grouping.Grouping.{Grouping, Pair'}
+use Rattle.elaboration.specs.declared.grouping.Grouping.{Grouping, Pair', Divided'}
 use Rattle.elaboration.specs.declared.grouping.Grouping.TheVariants.{Operand}
+use Rattle.elaboration.specs.declared.grouping.Joint.{Joint}
+use Rattle.elaboration.specs.declared.grouping.Joint.TheVariants.{Operator, Divisor}
 use Rattle.elaboration.specs.Expressions.{Typed as TypedTree}
-use Rattle.elaboration.specs.Grouping.{Grouped, leaf, node}
+use Rattle.elaboration.specs.Grouping.{Grouped, leaf, node, divided, Joint as JointTree, operator, divisor}
 
 abbrev pub typed_of : Typed → TypedTree
 typed_of t = record { first = t.first; sort = t.sort; meaning = expression t.expr }
@@ -12,3 +14,8 @@ typed_of t = record { first = t.first; sort = t.sort; meaning = expression t.exp
 abbrev pub grouping_of : Grouping → Grouped TypedTree
 grouping_of (Operand t) = leaf (typed_of t)
 grouping_of (Pair' op p l q r) = node op (grouping_of l) (grouping_of r)
+grouping_of (Divided' sign p l by) = divided sign (grouping_of l) by
+
+abbrev pub joint_of : Joint → JointTree TypedTree
+joint_of (Operator op operand) = operator op (typed_of operand)
+joint_of (Divisor sign by) = divisor sign by

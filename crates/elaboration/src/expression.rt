@@ -1,18 +1,20 @@
 //! Expressions. Only nesting recurses: the operators and operands of one expression are walked by a loop.
 
 ghost use Rattle.std.specs.Prelude.{◌≡◌, ◌++◌, IfOk, OnOk};
-ghost use Rattle.concrete_syntax.specs.Mirror.{operand as operand_of, tail as tail_of, expression as expression_of, range_end};
+ghost use Rattle.concrete_syntax.specs.Mirror.{operand as operand_of, link as link_of, tail as tail_of, divisor as divisor_of, expression as expression_of, range_end};
 ghost use Rattle.step_meaning.specs.Syntax as syntax;
-ghost use Rattle.elaboration.specs.Expressions.{value, mixed_in, op_of, operand_typed, operand_faults, tail_grouped, tail_faults, expression_typed, expression_faults, number_faults, as_test, end_value, range_faults, is_infinite_as, in_order, signed_typed, signed_faults};
+ghost use Rattle.elaboration.specs.Expressions.{value, mixed_in, op_of, operand_typed, operand_faults, link_joint, link_faults, tail_grouped, tail_faults, divisor_value, zero_faults, expression_typed, expression_faults, number_faults, as_test, end_value, range_faults, is_infinite_as, in_order, signed_typed, signed_faults};
 ghost use Rattle.elaboration.specs.Grouping.{leaf};
-ghost use Rattle.elaboration.specs.Typing.{typed_of};
+ghost use Rattle.elaboration.specs.Typing.{typed_of, joint_of};
 ghost use Rattle.elaboration.specs.Walking.{HasFound};
 
 use crate::fault::Rule;
-use crate::grouping::Grouping;
+use crate::grouping::{Grouping, Joint};
 use crate::typed::{Sort, Typed};
 use crate::walk::Walk;
-use concrete_syntax::{End, Expression, Link, Operand, OperandKind, Operator, Prefix, Tail};
+use concrete_syntax::{
+    Divisor, End, Expression, Link, Operand, OperandKind, Operator, Prefix, Tail,
+};
 use std::alloc::{AllocError, Global};
 use step_meaning::{Expr, Op2};
 
@@ -55,16 +57,48 @@ impl<'a> Walk<'a> {
     {
         let mut group = Grouping::Operand(first);
         let mut left = tail;
-        while let Tail::Further {
-            link: Link::Operation { op, operand },
-            rest,
-        } = left
-        {
-            let right = self.operand(operand)?;
-            group = group.attach(self.alloc, op_of(*op), right)?;
+        while let Tail::Further { link, rest } = left {
+            let joint = self.joint(link)?;
+            group = group.attach(self.alloc, joint)?;
             left = rest;
         }
         group.value(self)
+    }
+
+    // What stands behind an operand.
+    #[cycle(expressions)]
+    fn joint(&mut self, link: &Link) -> Result<Joint, AllocError>
+        ensures joint { IfOk result (λ found. joint_of found ≡ link_joint self.old.scope (link_of link.now)) }
+        ensures found { OnOk result (HasFound self.old self.new (link_faults self.old.scope (link_of link.now))) }
+    {
+        match link {
+            Link::Operation { op, operand } => {
+                let operand = self.operand(operand)?;
+                Ok(Joint::Operator {
+                    op: op_of(*op),
+                    operand,
+                })
+            }
+            Link::Division { division, divisor } => Ok(Joint::Divisor {
+                division: *division,
+                by: self.divisor(*divisor),
+            }),
+        }
+    }
+
+    // A divisor with its sign. A divisor 0 is reported.
+    fn divisor(&mut self, divisor: Divisor) -> i64
+        ensures value { result ≡ divisor_value (divisor_of divisor) }
+        ensures found { HasFound self.old self.new (zero_faults (divisor_of divisor)) }
+    {
+        if divisor.size == 0 {
+            self.report(Rule::ZeroDivisor, divisor.at);
+        }
+        if divisor.negative && divisor.size > 0 {
+            -divisor.size
+        } else {
+            divisor.size
+        }
     }
 
     // An operand.

@@ -1,9 +1,9 @@
-//! Faults of names, sorts and jumps.
+//! Faults of names, sorts, jumps and divisors.
 
 ghost use Rattle.std.specs.Prelude.{◌≡◌};
 ghost use Rattle.elaboration.specs.Faults.{order_of, is_before};
 
-/// The rules on names, sorts and jumps, each by what breaks it.
+/// The rules on names, sorts, jumps and divisors, each by what breaks it.
 #[derive(Clone, Copy, PartialEq, Eq, Debug)]
 pub enum Rule {
     /// A name is used where it isn't in scope.
@@ -18,6 +18,8 @@ pub enum Rule {
     Variables,
     /// A `break` or `continue` stands inside no body of a loop.
     Outside,
+    /// A divisor is 0.
+    ZeroDivisor,
 }
 
 /// A broken rule, and the number of the token where it is broken, counted from 0.
@@ -39,6 +41,7 @@ impl Rule {
             Rule::BadRange => 3,
             Rule::Variables => 4,
             Rule::Outside => 5,
+            Rule::ZeroDivisor => 6,
         }
     }
 }

@@ -16,7 +16,7 @@ use step_meaning::{Block, Program};
 /// Why a tree stands for no program.
 #[derive(Debug, Drop)]
 pub enum Refusal {
-    /// The first fault of names, sorts and jumps: of the faults with the least token that of the earliest rule.
+    /// The first fault of names, sorts, jumps and divisors: of the faults with the least token that of the earliest rule.
     Fault(Fault),
     /// Memory ran out. It says nothing of the tree.
     Memory(AllocError),

@@ -1,4 +1,4 @@
-//! Elaboration: names, sorts and jumps of a concrete tree, and the program that it stands for.
+//! Elaboration: names, sorts, jumps and divisors of a concrete tree, and the program that it stands for.
 //! Front door: `elaborate`. Stands on the concrete trees of `concrete_syntax` and the programs of `step_meaning`. In `specs/`: how
 //! operators group (Grouping), which names may be used where (Scopes), what expressions stand for (Expressions), what a walk over
 //! statements finds: names, faults, meaning and tokens (Statements, Faults), where tokens stand in the text (Offsets), and all of it at a

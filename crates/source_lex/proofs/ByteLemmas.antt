@@ -43,9 +43,13 @@ pub letter-digit : (byte : ℕ) → is_digit byte ≡ true → is_letter byte �
 unfolding is_digit is_letter
 letter-digit byte h = grind (arith, nat_tests)
 
--- no blank, letter, digit or `/`
+-- no blank, letter or digit
 unfoldable pub is_plain : ℕ → Bool
-is_plain byte = not (is_blank byte) && (not (is_letter byte) && (not (is_digit byte) && not (byte == 47)))
+is_plain byte = not (is_blank byte) && (not (is_letter byte) && not (is_digit byte))
+
+not_true : (b : Bool) → not b ≡ true → b ≡ false
+not_true true h = absurd (false≢true h)
+not_true false h = refl
 
 -- what holds of each of some bytes holds of one of them
 pub one_of_all : (test : ℕ → Bool) (bytes : List ℕ) (byte : ℕ) → is_one_of bytes byte ≡ true → list_all test bytes ≡ true → test byte ≡ true
@@ -60,16 +64,25 @@ one_of_all test (x ∷ xs) byte among each =
 -- a byte that is a sign is plain
 pub plain-single : (byte : ℕ) → is_single_sign byte ≡ true → is_plain byte ≡ true
 unfolding is_single_sign is_plain is_blank is_letter is_digit
-plain-single byte h = one_of_all is_plain (codes "<>=+-*!(){}[];,?") byte h refl
+plain-single byte h = one_of_all is_plain (codes "<>=+-*/%!(){}[];,?") byte h refl
 
--- a byte that begins a sign of two is plain
-pub plain-double : (byte next : ℕ) → is_double_sign byte next ≡ true → is_plain byte ≡ true
-unfolding is_double_sign is_plain is_blank is_letter is_digit
-plain-double byte next h =
+-- what holds of each byte that begins a sign of two
+begins-double : (test : ℕ → Bool) (byte next : ℕ) → list_all test (codes "+-&|") ≡ true → list_all test (codes "+-*=!<>") ≡ true → is_double_sign byte next ≡ true → test byte ≡ true
+unfolding is_double_sign
+begins-double test byte next of_doubled of_equals h =
     ⊎_elim
-    (λ doubled. one_of_all is_plain (codes "+-&|") byte (and_parts (next == byte) (is_one_of (codes "+-&|") byte) doubled).1 refl)
-    (λ equals. one_of_all is_plain (codes "+-*=!<>") byte (and_parts (next == 61) (is_one_of (codes "+-*=!<>") byte) equals).1 refl)
+    (λ doubled. one_of_all test (codes "+-&|") byte (and_parts (next == byte) (is_one_of (codes "+-&|") byte) doubled).1 of_doubled)
+    (λ equals. one_of_all test (codes "+-*=!<>") byte (and_parts (next == 61) (is_one_of (codes "+-*=!<>") byte) equals).1 of_equals)
     (or_cases (next == byte && is_one_of (codes "+-&|") byte) (next == 61 && is_one_of (codes "+-*=!<>") byte) h)
+
+-- it is plain
+pub plain-double : (byte next : ℕ) → is_double_sign byte next ≡ true → is_plain byte ≡ true
+unfolding is_plain is_blank is_letter is_digit
+plain-double byte next h = begins-double is_plain byte next refl refl h
+
+-- it is no `/`
+pub no_slash-double : (byte next : ℕ) → is_double_sign byte next ≡ true → (byte == 47) ≡ false
+no_slash-double byte next h = not_true (byte == 47) (begins-double (λ b. not (b == 47)) byte next refl refl h)
 
 -- a sign of two bytes has no byte 0 behind its first
 pub next-double : (byte next : ℕ) → is_double_sign byte next ≡ true → 0 < next
@@ -88,19 +101,13 @@ pub record PlainParts (byte : ℕ) : Type 0 where
   pub no_blank : is_blank byte ≡ false
   pub no_letter : is_letter byte ≡ false
   pub no_digit : is_digit byte ≡ false
-  pub no_slash : (byte == 47) ≡ false
-
-not_true : (b : Bool) → not b ≡ true → b ≡ false
-not_true true h = absurd (false≢true h)
-not_true false h = refl
 
 pub plain_parts : (byte : ℕ) → is_plain byte ≡ true → PlainParts byte
 unfolding is_plain
 plain_parts byte h =
-    let p = and_parts (not (is_blank byte)) (not (is_letter byte) && (not (is_digit byte) && not (byte == 47))) h in
-    let q = and_parts (not (is_letter byte)) (not (is_digit byte) && not (byte == 47)) p.1 in
-    let r = and_parts (not (is_digit byte)) (not (byte == 47)) q.1 in
-    record { no_blank = not_true _ p.0; no_letter = not_true _ q.0; no_digit = not_true _ r.0; no_slash = not_true _ r.1 }
+    let p = and_parts (not (is_blank byte)) (not (is_letter byte) && not (is_digit byte)) h in
+    let q = and_parts (not (is_letter byte)) (not (is_digit byte)) p.1 in
+    record { no_blank = not_true _ p.0; no_letter = not_true _ q.0; no_digit = not_true _ q.1 }
 
 -- a test that can't be true is false
 pub false_when : (b : Bool) → (b ≡ true → ⊥) → b ≡ false

@@ -13,7 +13,7 @@ use Rattle.source_lex.specs.declared.fault.LexFault.{LexFault}
 use Rattle.source_lex.specs.declared.fault.LexFault.TheVariants.{BadByte, BigNumber, OpenComment, Memory}
 use Rattle.source_lex.specs.declared.token.Kind.{Kind}
 use Rattle.source_lex.specs.declared.token.Kind.TheVariants.{Number, Name, Sign}
-use Rattle.source_lex.proofs.ByteLemmas.{blank-letter, blank-digit, letter-digit, plain-single, plain-double, plain_parts, not_both, within_when}
+use Rattle.source_lex.proofs.ByteLemmas.{blank-letter, blank-digit, letter-digit, plain-single, plain-double, no_slash-double, plain_parts, not_both, within_when}
 
 -- what is met at an offset: the text's end, a gap up to an offset, a token up to an offset, a fault
 pub data Outcome : Type 0 where
@@ -148,11 +148,11 @@ head-block byte next e f = rw (e, f)
 
 head-double : (byte next : ℕ) → is_double_sign byte next ≡ true → head_of byte next ≡ double
 unfolding head_of
-head-double byte next h = let p = plain_parts byte (plain-double byte next h) in rw (p.no_blank, p.no_letter, p.no_digit, p.no_slash, h)
+head-double byte next h = let p = plain_parts byte (plain-double byte next h) in rw (p.no_blank, p.no_letter, p.no_digit, no_slash-double byte next h, h)
 
-head-single : (byte next : ℕ) → is_double_sign byte next ≡ false → is_single_sign byte ≡ true → head_of byte next ≡ single
+head-single : (byte next : ℕ) → (byte == 47 && next == 47) ≡ false → (byte == 47 && next == 42) ≡ false → is_double_sign byte next ≡ false → is_single_sign byte ≡ true → head_of byte next ≡ single
 unfolding head_of
-head-single byte next f h = let p = plain_parts byte (plain-single byte h) in rw (p.no_blank, p.no_letter, p.no_digit, p.no_slash, f, h)
+head-single byte next d e f h = let p = plain_parts byte (plain-single byte h) in rw (p.no_blank, p.no_letter, p.no_digit, d, e, f, h)
 
 head-nothing : (byte next : ℕ) → is_blank byte ≡ false → is_letter byte ≡ false → is_digit byte ≡ false → (byte == 47 && next == 47) ≡ false → (byte == 47 && next == 42) ≡ false → is_double_sign byte next ≡ false → is_single_sign byte ≡ false → head_of byte next ≡ nothing
 unfolding head_of
@@ -207,7 +207,7 @@ meets-token text i j Sign (inl t) =
     (meets-head text i double (read (i + 2) Sign) (head_inside text i inside ∙ head-double _ _ t.spelled) at_double)
 meets-token text i j Sign (inr t) =
     subst (λ k. Meets text i (read k Sign)) (sym t.ends)
-    (meets-head text i single (read (i + 1) Sign) (head_inside text i t.inside ∙ head-single _ _ t.longest t.spelled) at_single)
+    (meets-head text i single (read (i + 1) Sign) (head_inside text i t.inside ∙ head-single _ _ (not_both _ _ 47 47 t.no_line_comment) (not_both _ _ 47 42 t.no_block_comment) t.longest t.spelled) at_single)
 
 pub meets-fault : (text : List ℕ) (i : ℕ) (fault : LexFault) → FaultAt text i fault → Meets text i (faulty fault)
 meets-fault text i (BadByte at) (inl (n, e)) =

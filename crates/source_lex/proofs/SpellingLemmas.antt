@@ -74,7 +74,7 @@ Contains-in_table bytes h =
 
 single_in_table : (byte : ℕ) → is_single_sign byte ≡ true → in_table (byte ∷ []) ≡ true
 unfolding is_single_sign signs
-single_in_table byte h = one_of_all (λ b. in_table (b ∷ [])) (codes "<>=+-*!(){}[];,?") byte h refl
+single_in_table byte h = one_of_all (λ b. in_table (b ∷ [])) (codes "<>=+-*/%!(){}[];,?") byte h refl
 
 double_in_table : (byte next : ℕ) → is_double_sign byte next ≡ true → in_table (byte ∷ next ∷ []) ≡ true
 unfolding is_double_sign signs

@@ -19,7 +19,7 @@ use Rattle.source_lex.specs.declared.token.Kind.TheVariants.{Number, Name, Sign}
 use Rattle.source_lex.specs.declared.token.Token.{Token}
 use Rattle.source_lex.proofs.ByteLemmas.{within_when, next-double}
 use Rattle.source_lex.proofs.Moves.{moves-gap, moves-token}
-use Rattle.source_lex.proofs.Slash.{slash_begins_nothing}
+use Rattle.source_lex.proofs.Slash.{slash_is_a_sign}
 
 -- one more byte in front of a run
 run_longer : (test : ℕ → Bool) (text : List ℕ) (i j : ℕ) → test (slice_index text i) ≡ true → Run test text (i + 1) j → Run test text i j
@@ -82,8 +82,8 @@ close_from (suc n) text i room =
 abbrev Step : List ℕ → ℕ → Type 0
 Step text i = ((j : ℕ) × GapAt text i j) ⊎ (((j : ℕ) × (kind : Kind) × TokenAt text i j kind) ⊎ ((fault : LexFault) × FaultAt text i fault))
 
-step-comment : (text : List ℕ) (i : ℕ) → i < length text → slice_index text i ≡ 47 → Step text i
-step-comment text i inside slash =
+step-slash : (text : List ℕ) (i : ℕ) → i < length text → slice_index text i ≡ 47 → Step text i
+step-slash text i inside slash =
     ⊎_elim
     (λ line.
     let next = within_when text (i + 1) 47 line (omega arith) in
@@ -94,7 +94,7 @@ step-comment text i inside slash =
     (λ found. inl (found.0 + 2, inr (inr (record { opens = (slash, block); close = found.0; behind = found.1.behind; closes = found.1.closes; first = found.1.first; ends = refl }))))
     (λ never. inr (inr (OpenComment i, (record { opens = (slash, block); never_closes = never }, refl))))
     (close_from (length text) text (i + 2) (omega arith)))
-    (λ no_block. inr (inr (BadByte i, inl (slash_begins_nothing text i inside slash no_line no_block, refl))))
+    (λ no_block. inr (inl (i + 1, Sign, slash_is_a_sign text i inside slash no_line no_block)))
     (cases_eq (slice_index text (i + 1)) 42))
     (cases_eq (slice_index text (i + 1)) 47)
 
@@ -125,7 +125,7 @@ step-sign text i inside no_blank no_letter no_digit no_slash =
     let next = within_when text (i + 1) _ refl (next-double _ _ double) in
     inr (inl (i + 2, Sign, inl (record { inside = next; spelled = double; ends = refl }))))
     (λ no_double. ⊎_elim
-    (λ single. inr (inl (i + 1, Sign, inr (record { inside = inside; longest = no_double; spelled = single; ends = refl }))))
+    (λ single. inr (inl (i + 1, Sign, inr (record { inside = inside; longest = no_double; no_line_comment = λ opens. no_slash opens.0; no_block_comment = λ opens. no_slash opens.0; spelled = single; ends = refl }))))
     (λ no_single. inr (inr (
       BadByte i,
       inl (
@@ -157,7 +157,7 @@ step text i inside =
     (λ no_letter. ⊎_elim
     (λ digit. step-number text i inside digit)
     (λ no_digit. ⊎_elim
-    (λ slash. step-comment text i inside slash)
+    (λ slash. step-slash text i inside slash)
     (λ no_slash. step-sign text i inside no_blank no_letter no_digit no_slash)
     (cases_eq (slice_index text i) 47))
     (cases_Bool (is_digit (slice_index text i))))

@@ -24,7 +24,7 @@ pub record SpellsNumber (bytes : List ℕ) (value : ℤ) : Type 0 where
 unfoldable pub signs : List (List ℕ)
 signs =
     codes "++" ∷ codes "--" ∷ codes "+=" ∷ codes "-=" ∷ codes "*=" ∷ codes "==" ∷ codes "!=" ∷ codes "<=" ∷ codes ">="
-    ∷ codes "&&" ∷ codes "||" ∷ codes "<" ∷ codes ">" ∷ codes "=" ∷ codes "+" ∷ codes "-" ∷ codes "*" ∷ codes "!"
+    ∷ codes "&&" ∷ codes "||" ∷ codes "<" ∷ codes ">" ∷ codes "=" ∷ codes "+" ∷ codes "-" ∷ codes "*" ∷ codes "/" ∷ codes "%" ∷ codes "!"
     ∷ codes "(" ∷ codes ")" ∷ codes "{" ∷ codes "}" ∷ codes "[" ∷ codes "]" ∷ codes ";" ∷ codes "," ∷ codes "?" ∷ []
 
 -- the bytes spell a token of this kind

@@ -4,6 +4,7 @@ use Rattle.std.specs.Bool.{IsFalse}
 use Rattle.source_lex.specs.Bytes.{is_letter, is_digit, is_name_byte}
 use Rattle.source_lex.specs.Signs.{is_single_sign, is_double_sign}
 use Rattle.source_lex.specs.Runs.{Run}
+use Rattle.source_lex.specs.Gaps.{OpensLine, OpensBlock}
 use Rattle.source_lex.specs.declared.token.Kind.{Kind}
 use Rattle.source_lex.specs.declared.token.Kind.TheVariants.{Number, Name, Sign}
 
@@ -47,10 +48,12 @@ pub record DoubleSignAt (text : List ℕ) (i j : ℕ) : Type 0 where
   pub spelled : IsTrue (is_double_sign (slice_index text i) (slice_index text (i + 1)))
   pub ends : j ≡ i + 2
 
--- a sign of one byte from i to j, where no sign of two bytes begins
+-- a sign of one byte from i to j, where no sign of two bytes and no comment begins
 pub record SingleSignAt (text : List ℕ) (i j : ℕ) : Type 0 where
   pub inside : i < length text
   pub longest : IsFalse (is_double_sign (slice_index text i) (slice_index text (i + 1)))
+  pub no_line_comment : OpensLine text i → ⊥
+  pub no_block_comment : OpensBlock text i → ⊥
   pub spelled : IsTrue (is_single_sign (slice_index text i))
   pub ends : j ≡ i + 1
 

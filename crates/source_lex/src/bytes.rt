@@ -41,7 +41,7 @@ pub fn is_name_byte(byte: u8) -> bool
 pub fn is_single_sign(byte: u8) -> bool
     ensures { result ≡ Signs.is_single_sign byte }
 {
-    b"<>=+-*!(){}[];,?".contains(&byte)
+    b"<>=+-*/%!(){}[];,?".contains(&byte)
 }
 
 /// Whether the two bytes are a sign together.

@@ -33,7 +33,7 @@ pub fn next_piece(text: &[u8], at: usize) -> Result<Piece, LexFault>
     } else if is_digit(byte) {
         number(text, at)
     } else if byte == b'/' {
-        comment(text, at)
+        slash(text, at)
     } else {
         match sign_end(text, at) {
             Some(end) => Ok(Piece::Token(Kind::Sign, end)),
@@ -42,8 +42,8 @@ pub fn next_piece(text: &[u8], at: usize) -> Result<Piece, LexFault>
     }
 }
 
-// The comment that begins with the `/` at an offset.
-fn comment(text: &[u8], at: usize) -> Result<Piece, LexFault>
+// The comment that begins with the `/` at an offset, or the sign that it is.
+fn slash(text: &[u8], at: usize) -> Result<Piece, LexFault>
     requires slash { slice_index text.now at ≡ 47 }
     requires inside { at < length text.now }
     requires small { length text.now < 2 ^ 32 }
@@ -55,7 +55,7 @@ fn comment(text: &[u8], at: usize) -> Result<Piece, LexFault>
             Some(close) => Ok(Piece::Gap(close + 2)),
             None => Err(LexFault::OpenComment { at: at as u32 }),
         },
-        _ => Err(LexFault::BadByte { at: at as u32 }),
+        _ => Ok(Piece::Token(Kind::Sign, at + 1)),
     }
 }
 

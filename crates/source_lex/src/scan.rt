@@ -1,6 +1,6 @@
 //! Where the parts of a text end.
 
-ghost use Rattle.std.specs.Prelude.{◌≡◌, ◌+◌, ◌^◌, ◌<◌, ◌≤◌, length, min, IsTrue, All, MatchOption, slice_index};
+ghost use Rattle.std.specs.Prelude.{◌≡◌, ◌≢◌, ◌+◌, ◌^◌, ◌<◌, ◌≤◌, length, min, IsTrue, All, MatchOption, slice_index};
 ghost use Rattle.source_lex.specs.Runs.{Run};
 ghost use Rattle.source_lex.specs.ByteClass.{has};
 ghost use Rattle.source_lex.specs.Bytes.{is_digit};
@@ -98,8 +98,9 @@ pub fn decimal_value(digits: &[u8]) -> u64
     value
 }
 
-/// Where the sign ends that begins at an offset, the longest if there are two.
+/// Where the sign ends that begins at an offset, the longest if there are two. A `/` may begin a comment, and isn't asked for.
 pub fn sign_end(text: &[u8], at: usize) -> Option<usize>
+    requires no_slash { slice_index text.now at ≢ 47 }
     requires inside { at < length text.now }
     requires small { length text.now < 2 ^ 32 }
     ensures { MatchOption result (NoSignAt text.now at) (λ end. TokenAt text.now at end Kind.Sign) }

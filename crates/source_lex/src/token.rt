@@ -11,7 +11,7 @@ pub enum Kind {
     Number(i64),
     /// A letter or `_`, and the letters, digits and `_` behind it.
     Name,
-    /// One of `++ -- += -= *= == != <= >= && || < > = + - * ! ( ) { } [ ] ; , ?`.
+    /// One of `++ -- += -= *= == != <= >= && || < > = + - * / % ! ( ) { } [ ] ; , ?`.
     Sign,
 }
 

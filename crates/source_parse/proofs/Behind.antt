@@ -1,10 +1,11 @@
 -- The pieces of a tree end with those that stand behind it.
 use Rattle.std.proofs.Common.{◌≡◌, ℕ, ℤ, ◌+◌, Bool, true, false, Option, None, Some, List, [], ◌∷◌, ◌++◌, refl, ap, ◌∙◌, sym, append_assoc}
 use Rattle.derivation.specs.declared.symbol.Symbol.TheVariants as S
-use Rattle.derivation.specs.Pieces.{token}
-use Rattle.source_syntax.specs.Language.{Piece}
-use Rattle.concrete_syntax.specs.Trees.{End, Operand, operand_at, OperandKind, number, name, truth, unknown, call, signed, parentheses, range, operation, Tail, ended, further, Expression, Action, assigns, steps, Simple, acts, steps_before, Prelude, extern_call, typedef_bool}
-use Rattle.source_syntax.specs.Spelling.{sign, size_pieces, minus_pieces, end_pieces, operand_pieces, operand_kind_pieces, tail_pieces, expression_pieces, optional_pieces, action_pieces, simple_pieces, initialiser_pieces, finish_pieces, test_pieces, void_pieces, prelude_pieces, preludes_pieces}
+use Rattle.derivation.specs.Word.{number as numbered}
+use Rattle.derivation.specs.Pieces.{token, look}
+use Rattle.source_syntax.specs.Language.{Piece, is_at}
+use Rattle.concrete_syntax.specs.Trees.{Divisor, End, Operand, operand_at, OperandKind, number, name, truth, unknown, call, signed, parentheses, range, Link, operation, division, Tail, ended, further, Expression, Action, assigns, steps, Simple, acts, steps_before, Prelude, extern_call, typedef_bool}
+use Rattle.source_syntax.specs.Spelling.{plain, sign, size_pieces, minus_pieces, end_pieces, divisor_pieces, link_pieces, operand_pieces, operand_kind_pieces, tail_pieces, expression_pieces, optional_pieces, action_pieces, simple_pieces, initialiser_pieces, finish_pieces, test_pieces, void_pieces, prelude_pieces, preludes_pieces}
 
 -- the first pieces end with the others
 pub record EndsWith (pieces behind : List Piece) : Type 0 where
@@ -34,6 +35,9 @@ behind_minus false behind = itself
 behind_end : (end : End) (behind : List Piece) → EndsWith (end_pieces end behind) behind
 behind_end end behind = through (behind_minus end.negative (size_pieces end.size behind)) (behind_size end.size behind)
 
+behind_divisor : (d : Divisor) (behind : List Piece) → EndsWith (divisor_pieces d behind) behind
+behind_divisor d behind = through (behind_minus d.negative (look (is_at d.at) ∷ token (plain (numbered d.size)) ∷ behind)) (one_more (one_more itself))
+
 mutual
   behind_operand : (levels : ℕ) (e : Operand) (behind : List Piece) → EndsWith (operand_pieces levels e behind) behind
   behind_operand levels (operand_at at kind) behind = one_more (behind_kind levels kind behind)
@@ -54,8 +58,12 @@ mutual
 
   behind_tail : (levels : ℕ) (more : Tail) (behind : List Piece) → EndsWith (tail_pieces levels more behind) behind
   behind_tail levels ended behind = one_more itself
-  behind_tail levels (further (operation op e) more) behind =
-      one_more (through (behind_operand levels e (tail_pieces levels more behind)) (behind_tail levels more behind))
+  behind_tail levels (further link more) behind =
+      through (behind_link levels link (tail_pieces levels more behind)) (behind_tail levels more behind)
+
+  behind_link : (levels : ℕ) (link : Link) (behind : List Piece) → EndsWith (link_pieces levels link behind) behind
+  behind_link levels (operation op e) behind = one_more (behind_operand levels e behind)
+  behind_link levels (division sign d) behind = one_more (behind_divisor d behind)
 
 pub behind_expression : (levels : ℕ) (e : Expression) (behind : List Piece) → EndsWith (expression_pieces levels e behind) behind
 behind_expression levels e behind = through (behind_operand levels e.operand (tail_pieces levels e.tail behind)) (behind_tail levels e.tail behind)

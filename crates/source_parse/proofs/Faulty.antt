@@ -15,7 +15,7 @@ use Rattle.elaboration.specs.Faults.{fault as fault_at, IsFirstOf}
 use Rattle.elaboration.specs.Elaborates.{faults_of}
 use Rattle.elaboration.proofs.Firsts.{one_first}
 use Rattle.source_parse.specs.declared.fault.ParseFault.{ParseFault}
-use Rattle.source_parse.specs.declared.fault.ParseFault.TheVariants.{Lex, Expected, Unknown, Twice, Mixed, BadRange, Outside, Limit, Memory}
+use Rattle.source_parse.specs.declared.fault.ParseFault.TheVariants.{Lex, Expected, Unknown, Twice, Mixed, BadRange, Outside, ZeroDivisor, Limit, Memory}
 use Rattle.source_parse.specs.declared.fault.Which.TheVariants as Which
 use Rattle.source_parse.specs.Faults.{HasNamesFault, IsFaultOf, numbered, number_of}
 use Rattle.source_parse.specs.Laws.{FaultsAgree}
@@ -34,7 +34,7 @@ syntax_numbered (S.Lex (LexMemory error)) = None
 syntax_numbered (S.Broken rule at) = Some (rule_number rule, at)
 syntax_numbered (S.Memory error) = None
 
--- a fault of a text is one of its syntax, or one of names, sorts and jumps, or none
+-- a fault of a text is one of its syntax, or one of names, sorts, jumps and divisors, or none
 data Kind (text : List ℕ) (fault : ParseFault) : Type 0 where
   of_syntax : (s : SyntaxFault) → IsSyntaxFaultOf text s → numbered fault ≡ syntax_numbered s → Kind text fault
   of_names : (rule : Rule) (at : ℕ) → HasNamesFault text rule at → numbered fault ≡ Some (number_of rule, at) → Kind text fault
@@ -54,6 +54,7 @@ kind text (Twice at) is = of_names Rule.Twice at is refl
 kind text (Mixed at) is = of_names Rule.Mixed at is refl
 kind text (BadRange at) is = of_names Rule.BadRange at is refl
 kind text (Outside at) is = of_names Rule.Outside at is refl
+kind text (ZeroDivisor at) is = of_names Rule.ZeroDivisor at is refl
 kind text (Limit Which.Variables at count) is = of_names Rule.Variables at is.0 refl
 kind text (Limit Which.Nesting at count) is = of_syntax (S.Broken SyntaxRule.Nesting at) is.0 refl
 kind text (Limit Which.Operators at count) is = of_syntax (S.Broken SyntaxRule.Operators at) is.0 refl
@@ -77,7 +78,7 @@ memory_number (S.Memory error) x is told = none-some x told
 memory_number (S.Lex f) x is told = is
 memory_number (S.Broken rule at) x is told = is
 
--- two first faults of names, sorts and jumps of one text are at one offset and of one rule
+-- two first faults of names, sorts, jumps and divisors of one text are at one offset and of one rule
 same_names : TreesAreUnique → TokensAreUnique → (text : List ℕ) (rule other : Rule) (at offset : ℕ)
     → HasNamesFault text rule at → HasNamesFault text other offset → (rule ≡ other) × (at ≡ offset)
 same_names unique tokens text rule other at offset h k =

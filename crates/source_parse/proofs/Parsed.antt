@@ -7,7 +7,7 @@ use Rattle.source_syntax.specs.Laws.{ProgramsHaveNoFault as SyntaxHasNoFault, Tr
 use Rattle.elaboration.specs.declared.fault.Rule.{Rule}
 use Rattle.elaboration.specs.Faults.{fault as fault_at}
 use Rattle.elaboration.specs.Elaborates.{StandsFor, faults_of}
-use Rattle.source_parse.specs.declared.fault.ParseFault.TheVariants.{Lex, Expected, Unknown, Twice, Mixed, BadRange, Outside, Limit, Memory}
+use Rattle.source_parse.specs.declared.fault.ParseFault.TheVariants.{Lex, Expected, Unknown, Twice, Mixed, BadRange, Outside, ZeroDivisor, Limit, Memory}
 use Rattle.source_parse.specs.declared.fault.Which.TheVariants as Which
 use Rattle.source_parse.specs.Derives.{IsTextOf}
 use Rattle.source_parse.specs.Faults.{HasNamesFault}
@@ -19,7 +19,7 @@ one_program unique text names others body other h k =
     let there : StandsFor h.tree others other = subst (λ t. StandsFor t others other) (sym (unique text h.tree k.tree h.spelled k.spelled)) k.stands in
     (h.stands.declares ∙ sym there.declares, h.stands.means ∙ sym there.means)
 
--- a program's tree has no fault of names, sorts and jumps
+-- a program's tree has no fault of names, sorts, jumps and divisors
 named : TreesAreUnique → (text : List ℕ) (names : List (List ℕ)) (body : Statements) (rule : Rule) (at : ℕ) → IsTextOf text names body
     → HasNamesFault text rule at → ⊥
 named unique text names body rule at h k =
@@ -35,6 +35,7 @@ no_fault unique clean text names body (Twice at) h is = named unique text names 
 no_fault unique clean text names body (Mixed at) h is = named unique text names body _ at h is
 no_fault unique clean text names body (BadRange at) h is = named unique text names body _ at h is
 no_fault unique clean text names body (Outside at) h is = named unique text names body _ at h is
+no_fault unique clean text names body (ZeroDivisor at) h is = named unique text names body _ at h is
 no_fault unique clean text names body (Limit Which.Variables at count) h is = named unique text names body _ at h is.0
 no_fault unique clean text names body (Limit Which.Nesting at count) h is = clean text h.tree (S.Broken SyntaxRule.Nesting at) h.spelled is.0
 no_fault unique clean text names body (Limit Which.Operators at count) h is = clean text h.tree (S.Broken SyntaxRule.Operators at) h.spelled is.0

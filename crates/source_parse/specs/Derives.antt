@@ -9,7 +9,7 @@ use Rattle.source_syntax.specs.Texts.{IsTextOf as IsSyntaxOf}
 use Rattle.elaboration.specs.Elaborates.{StandsFor, program_offsets}
 
 -- the text is the program of these names and this body: its tokens are what some concrete tree spells, within the limits, and that tree has
--- no fault of names, sorts and jumps and stands for them
+-- no fault of names, sorts, jumps and divisors and stands for them
 pub record IsTextOf (text : List ℕ) (names : List (List ℕ)) (body : Statements) : Type 0 where
   pub tree : Tree
   pub spelled : IsSyntaxOf text tree

@@ -11,10 +11,10 @@ use Rattle.elaboration.specs.declared.fault.Rule.{Rule}
 use Rattle.elaboration.specs.Elaborates.{HasFirstFault}
 use Rattle.elaboration.specs.Faults.{fault}
 use Rattle.source_parse.specs.declared.fault.ParseFault.{ParseFault}
-use Rattle.source_parse.specs.declared.fault.ParseFault.TheVariants.{Lex, Expected, Unknown, Twice, Mixed, BadRange, Outside, Limit, Memory}
+use Rattle.source_parse.specs.declared.fault.ParseFault.TheVariants.{Lex, Expected, Unknown, Twice, Mixed, BadRange, Outside, ZeroDivisor, Limit, Memory}
 use Rattle.source_parse.specs.declared.fault.Which.{Which}
 
--- the text is a program by its syntax, and of the faults of names, sorts and jumps of its tree the first one breaks this rule at this offset
+-- the text is a program by its syntax, and of the faults of names, sorts, jumps and divisors of its tree the first one breaks this rule at this offset
 pub record HasNamesFault (text : List ℕ) (rule : Rule) (at : ℕ) : Type 0 where
   pub tree : Program
   pub spelled : IsSyntaxOf text tree
@@ -25,7 +25,7 @@ pub record HasNamesFault (text : List ℕ) (rule : Rule) (at : ℕ) : Type 0 whe
   pub offset : at ≡ offset_in text tokens token
 
 -- What may be answered in place of a program: the first fault of the text's tokens; where it has tokens, the first fault of its syntax;
--- where it has a tree, the tree's first fault of names, sorts and jumps; or that memory ran out. Of a count nothing is said but that it is above
+-- where it has a tree, the tree's first fault of names, sorts, jumps and divisors; or that memory ran out. Of a count nothing is said but that it is above
 -- its limit.
 abbrev pub IsFaultOf : List ℕ → ParseFault → Type 0
 IsFaultOf text (Lex fault) = FirstLexFault text fault
@@ -35,6 +35,7 @@ IsFaultOf text (Twice at) = HasNamesFault text Rule.Twice at
 IsFaultOf text (Mixed at) = HasNamesFault text Rule.Mixed at
 IsFaultOf text (BadRange at) = HasNamesFault text Rule.BadRange at
 IsFaultOf text (Outside at) = HasNamesFault text Rule.Outside at
+IsFaultOf text (ZeroDivisor at) = HasNamesFault text Rule.ZeroDivisor at
 IsFaultOf text (Limit Which.Variables at count) = HasNamesFault text Rule.Variables at × (15 < count)
 IsFaultOf text (Limit Which.Nesting at count) = HasSyntaxFault text Syntax.Nesting at × (64 < count)
 IsFaultOf text (Limit Which.Operators at count) = HasSyntaxFault text Syntax.Operators at × (256 < count)
@@ -45,7 +46,7 @@ abbrev pub IsMemory : ParseFault → Type 0
 IsMemory (Memory error) = ⊤
 IsMemory _ = ⊥
 
--- the number of a rule on names, sorts and jumps among the faults
+-- the number of a rule on names, sorts, jumps and divisors among the faults
 abbrev pub number_of : Rule → ℕ
 number_of Rule.Unknown = 5
 number_of Rule.Twice = 6
@@ -53,6 +54,7 @@ number_of Rule.Mixed = 7
 number_of Rule.BadRange = 8
 number_of Rule.Variables = 9
 number_of Rule.Outside = 17
+number_of Rule.ZeroDivisor = 18
 
 -- the number of a fault, as its line says it, and its offset; want of memory is no fault of a text
 abbrev pub numbered : ParseFault → Option (ℕ × ℕ)
@@ -66,6 +68,7 @@ numbered (Twice at) = Some (6, at)
 numbered (Mixed at) = Some (7, at)
 numbered (BadRange at) = Some (8, at)
 numbered (Outside at) = Some (17, at)
+numbered (ZeroDivisor at) = Some (18, at)
 numbered (Limit Which.Variables at count) = Some (9, at)
 numbered (Limit Which.Nesting at count) = Some (10, at)
 numbered (Limit Which.Operators at count) = Some (11, at)

@@ -41,6 +41,9 @@ pub enum ParseFault {
     /// A `break` or `continue` stands inside no body of a loop.
     #[error("a jump out of no loop at {at}")]
     Outside { at: u32 },
+    /// A divisor is 0.
+    #[error("a divisor 0 at {at}")]
+    ZeroDivisor { at: u32 },
     /// The token that breaks a limit. `count` is a number above the limit.
     #[error("past a limit at {at}")]
     Limit { which: Which, at: u32, count: u32 },
@@ -52,7 +55,7 @@ pub enum ParseFault {
 impl ParseFault {
     ghost use Rattle.std.specs.Prelude.{◌≡◌};
 
-    /// The fault's number, from 1 to 11 or 17, and its offset; `None` where memory ran out.
+    /// The fault's number, from 1 to 11, 17 or 18, and its offset; `None` where memory ran out.
     pub fn numbered(&self) -> Option<(u8, u32)>
         ensures { result ≡ numbered self.now }
     {
@@ -66,6 +69,7 @@ impl ParseFault {
             ParseFault::Mixed { at } => Some((7, *at)),
             ParseFault::BadRange { at } => Some((8, *at)),
             ParseFault::Outside { at } => Some((17, *at)),
+            ParseFault::ZeroDivisor { at } => Some((18, *at)),
             ParseFault::Limit { which, at, .. } => match which {
                 Which::Variables => Some((9, *at)),
                 Which::Nesting => Some((10, *at)),

@@ -25,8 +25,8 @@ use step_meaning::Program;
 /// looked up among those in scope, which are at most 15 where there is no fault.
 ///
 /// Faults, in their order: `Lex`, the first of its kinds by its offset; `Expected` and `Limit` of `Nesting` and `Operators`, the first by its
-/// offset, and `Expected` where a token is both; `Unknown`, `Twice`, `Mixed`, `BadRange`, `Limit` of `Variables` and `Outside`, the first by
-/// its offset, and at one offset the first in this order. `Memory` where memory runs out.
+/// offset, and `Expected` where a token is both; `Unknown`, `Twice`, `Mixed`, `BadRange`, `Limit` of `Variables`, `Outside` and
+/// `ZeroDivisor`, the first by its offset, and at one offset the first in this order. `Memory` where memory runs out.
 pub fn parse(alloc: Global, text: &[u8]) -> Result<Program, ParseFault>
     requires { length text.now ≤ 65536 }
     ensures program { IfOk result (Derives text.now) }
@@ -82,7 +82,7 @@ fn of_syntax(fault: SyntaxFault) -> ParseFault
     }
 }
 
-// The fault of a text whose tree has one of names, sorts and jumps.
+// The fault of a text whose tree has one of names, sorts, jumps and divisors.
 fn of_names(text: &[u8], tokens: &[Token], fault: Fault) -> ParseFault
     requires { length text.now ≤ 65536 }
     ensures { (tree : Concrete) → TokensOf text.now tokens.now → IsSyntaxOf text.now tree → HasFirstFault tree fault → IsFaultOf text.now result }
@@ -99,5 +99,6 @@ fn of_names(text: &[u8], tokens: &[Token], fault: Fault) -> ParseFault
             count: 16,
         },
         Rule::Outside => ParseFault::Outside { at },
+        Rule::ZeroDivisor => ParseFault::ZeroDivisor { at },
     }
 }

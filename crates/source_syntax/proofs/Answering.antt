@@ -12,12 +12,12 @@ use Rattle.source_syntax.specs.declared.fault.Fault.{Fault}
 use Rattle.source_syntax.specs.declared.fault.Failure.{Failure}
 use Rattle.source_syntax.specs.Failures.{OnFault, IfFault}
 use Rattle.source_syntax.specs.Spelling.{plain, sign, leading, opening, leading_opening}
-use Rattle.source_syntax.specs.Pending.{Pending, exactly, exactly_at, a_name, bytes_of_a_name, Trees}
+use Rattle.source_syntax.specs.Pending.{Pending, exactly, exactly_at, a_name, bytes_of_a_name, a_number, a_number_at, Trees}
 use Rattle.source_syntax.specs.Leads.{Leads, Stops}
-use Rattle.source_syntax.specs.Reads.{MissesSign, MissesOpening, MissesName, AreNext, MissesOne}
+use Rattle.source_syntax.specs.Reads.{MissesSign, MissesOpening, MissesName, MissesNumber, AreNext, MissesOne}
 use Rattle.source_syntax.proofs.Calculus.{over, fails, stay}
 use Rattle.source_syntax.proofs.Choices.{held}
-use Rattle.source_syntax.proofs.Expressions.{token_read, token_missed, token_too_deep, located_tokens, names, bytes_read, bytes_missed}
+use Rattle.source_syntax.proofs.Expressions.{token_read, token_missed, token_too_deep, located_tokens, names, bytes_read, bytes_missed, located_numbers, number_read, number_missed}
 
 -- a fault that is handed on
 pub handed_on : {X : Type 0} (r : Result X Fault) (f : Fault) (P : Fault → Type 0) → IsErr r × IsErrAnd r (λ e. e ≡ f) → P f → IfErr r P
@@ -66,6 +66,9 @@ module _ {c : ℕ} {S : List Pending} {from to : Rest} where
 
   pub name_reads : {x : List ℕ} → IsNext (named x) from to → Leads c (a_name ∷ S) from c S to (λ g. (record { at = from.number; bytes = x }, g))
   name_reads {x} e = over (held (names S) c from) (bytes_reads e)
+
+  pub number_at_reads : {z : ℤ} → IsNext (numbered z) from to → Leads c (a_number_at ∷ S) from c S to (λ g. ((from.number, z), g))
+  number_at_reads {z} e = over (held (located_numbers S) c from) (number_read c S from z to e)
 
 -- the same for faults
 missed : (c : ℕ) (t : Token) (quiet : IsQuiet (Some t.word)) (S : List Pending) (from : Rest) (s : Symbol) (rule : Rule) → t.word ≡ symbol s
@@ -120,6 +123,15 @@ module _ {c : ℕ} {S : List Pending} (lexemes : List Lexeme) (at : ℕ) (fault 
   pub name_refused : MissesName (rest_from lexemes at) fault.rule × (fault.at ≡ at)
       → Stops c ((a_name ∷ S)) (rest_from lexemes at) fault.rule (rest_from lexemes fault.at)
   name_refused h = fails (held (names S) c (rest_from lexemes at)) (bytes_refused h)
+
+  pub number_at_refused : MissesNumber (rest_from lexemes at) fault.rule × (fault.at ≡ at)
+      → Stops c ((a_number_at ∷ S)) (rest_from lexemes at) fault.rule (rest_from lexemes fault.at)
+  number_at_refused h = fails (held (located_numbers S) c (rest_from lexemes at)) (there c lexemes at fault (a_number ∷ S) h.1 (by_rule fault.rule h.0))
+    where
+      by_rule : (rule : Rule) → MissesNumber (rest_from lexemes at) rule → Stops c ((a_number ∷ S)) (rest_from lexemes at) rule (rest_from lexemes at)
+      by_rule Expected h = number_missed c S (rest_from lexemes at) h
+      by_rule Nesting h = absurd h
+      by_rule Operators h = absurd h
 
 -- signs one behind the other
 abbrev pub AreQuiet : List Symbol → Type 0

@@ -4,7 +4,7 @@ use Rattle.derivation.specs.Pieces.{first_before, number_behind, Fits}
 use Rattle.source_syntax.specs.Language.{IsQuiet}
 use Rattle.concrete_syntax.specs.declared.sign.Step.TheVariants as Step
 use Rattle.concrete_syntax.specs.Trees.{operand_at, number, ended, Expression, Name, steps, steps_before, starts_with_nothing, statement_at, skip, without, none}
-use Rattle.source_syntax.specs.Pending.{Pending, exactly, exactly_at, a_name, bytes_of_a_name, a_size, an_end, an_operand, an_operand_kind, a_tail, an_expression, an_optional, a_test, an_action, a_simple, a_part_end, parts, a_declaration, a_start, a_finish, a_statement, a_statement_kind, an_otherwise, items, a_void, a_program, TreeOf, pieces_of, Trees, pieces}
+use Rattle.source_syntax.specs.Pending.{Pending, exactly, exactly_at, a_name, bytes_of_a_name, a_size, an_end, a_number, a_number_at, a_divisor, an_operand, an_operand_kind, a_tail, an_expression, an_optional, a_test, an_action, a_simple, a_part_end, parts, a_declaration, a_start, a_finish, a_statement, a_statement_kind, an_otherwise, items, a_void, a_program, TreeOf, pieces_of, Trees, pieces}
 
 abbrev zero_at : ℕ → Expression
 zero_at at = record { operand = operand_at at (number (pos 0)); tail = ended }
@@ -20,6 +20,9 @@ short at a_name = empty_name at
 short at bytes_of_a_name = []
 short at a_size = Some (pos 0)
 short at an_end = record { negative = false; size = Some (pos 0) }
+short at a_number = pos 0
+short at a_number_at = (at, pos 0)
+short at a_divisor = record { negative = false; at = at; size = pos 0 }
 short at (an_operand n) = operand_at at (number (pos 0))
 short at (an_operand_kind n) = number (pos 0)
 short at (a_tail n) = ended
@@ -53,6 +56,9 @@ completes at (a_name ∷ more) = ((refl, (completes _ more).0), (refl, refl))
 completes at (bytes_of_a_name ∷ more) = ((completes _ more).0, (refl, refl))
 completes at (a_size ∷ more) = ((completes _ more).0, (refl, refl))
 completes at (an_end ∷ more) = ((completes _ more).0, (refl, refl))
+completes at (a_number ∷ more) = ((completes _ more).0, (refl, refl))
+completes at (a_number_at ∷ more) = ((refl, (completes _ more).0), (refl, refl))
+completes at (a_divisor ∷ more) = ((refl, (completes _ more).0), (refl, refl))
 completes at (an_operand n ∷ more) = ((refl, (completes _ more).0), (refl, refl))
 completes at (an_operand_kind n ∷ more) = ((completes _ more).0, (refl, refl))
 completes at (a_tail n ∷ more) = (((completes at more).1.0, (completes at more).0), (completes at more).1)

@@ -1,22 +1,27 @@
 -- How the reading of expressions goes on, by the next word.
-use Rattle.std.proofs.Common.{◌≡◌, ◌≢◌, inl, inr, ℕ, ◌+◌, ◌<◌, ◌≤◌, ℤ, List, [], ◌∷◌, Option, None, Some, Bool, true, false, refl, sym, ap, ◌∙◌, arith}
+use Rattle.std.proofs.Common.{◌≡◌, subst, ◌≢◌, inl, inr, ℕ, ◌+◌, ◌<◌, ◌≤◌, ℤ, List, [], ◌∷◌, Option, None, Some, Bool, true, false, refl, sym, ap, ◌∙◌, arith}
+use Rattle.concrete_syntax.specs.declared.sign.Division.{Division}
 use Rattle.concrete_syntax.specs.declared.sign.Operator.{Operator}
 use Rattle.derivation.specs.declared.rule.Rule.TheVariants.{Expected, Nesting, Operators}
 use Rattle.derivation.specs.declared.symbol.Symbol.TheVariants as Sym
 use Rattle.derivation.specs.Word.{Word, symbol, name as named, number as numbered}
-use Rattle.derivation.specs.Pieces.{look, first, first_before, Fits}
+use Rattle.derivation.specs.Pieces.{token, look, first, first_before, Fits}
 use Rattle.derivation.specs.Limits.{IsWithin}
 use Rattle.derivation.specs.Comes.{IsNext}
-use Rattle.source_syntax.specs.Language.{Token, Rest, binary_operator, no_operator, IsQuiet}
+use Rattle.source_syntax.specs.Language.{Token, Rest, link_opening, no_operator, IsQuiet}
+use Rattle.source_syntax.specs.declared.opening.LinkOpening.{LinkOpening}
+use Rattle.source_syntax.specs.declared.opening.LinkOpening.TheVariants as Link
+use Rattle.source_syntax.specs.Reads.{right_of, link_of}
+use Rattle.source_syntax.proofs.Words.{link_sign}
 use Rattle.source_syntax.specs.Leads.{Leads, Stops}
 use Rattle.source_syntax.proofs.Calculus.{opens, reads, sticks, exceeds}
 use Rattle.concrete_syntax.specs.declared.sign.Prefix.{Prefix}
 use Rattle.source_syntax.specs.declared.opening.OperandOpening.{OperandOpening}
 use Rattle.source_syntax.specs.declared.opening.SizeOpening.{SizeOpening}
 use Rattle.source_syntax.specs.Openings.{opening_of_operand, size_opening}
-use Rattle.concrete_syntax.specs.Trees.{Operand, operand_at, OperandKind, number, name, truth, unknown, call, signed, parentheses, range, operation, Tail, ended, further}
-use Rattle.source_syntax.specs.Spelling.{plain, sign, opening, operator, sign_of, prefix_sign, truth_word}
-use Rattle.source_syntax.specs.Pending.{Pending, exactly, exactly_at, a_name, bytes_of_a_name, a_size, an_end, an_operand, an_operand_kind, a_tail, an_expression, Trees, pieces}
+use Rattle.concrete_syntax.specs.Trees.{Operand, operand_at, OperandKind, number, name, truth, unknown, call, signed, parentheses, range, operation, division, Tail, ended, further}
+use Rattle.source_syntax.specs.Spelling.{plain, sign, opening, counted, prefix_sign, truth_word}
+use Rattle.source_syntax.specs.Pending.{Pending, exactly, exactly_at, a_name, bytes_of_a_name, a_size, an_end, a_number, a_number_at, a_divisor, an_operand, an_operand_kind, a_tail, an_expression, Trees, pieces}
 use Rattle.source_syntax.proofs.Completions.{complete, completes}
 use Rattle.source_syntax.proofs.Choices.{begins, Way, Choice, Sides, Fork, Held, not_next}
 
@@ -62,6 +67,35 @@ module _ (c : ℕ) (S : List Pending) (from : Rest) where
       sticks (bytes_of_a_name ∷ S) c from (λ next. (x : List ℕ) → next ≢ Some (named x)) (complete from.number (bytes_of_a_name ∷ S))
       (completes from.number (bytes_of_a_name ∷ S)).0 (completes from.number (bytes_of_a_name ∷ S)).1 (λ f fits other. other f.0 refl)
       (λ x. not_next (named x) from.words (h x))
+
+-- numbers
+pub located_numbers : (S : List Pending) → Held (a_number_at ∷ S) (a_number ∷ S) (λ m g. ((m, g.0), g.1))
+located_numbers S = record { spells = λ m g. refl; view = λ f. (f.0.0, (f.0.1, f.1), refl) }
+
+module _ (c : ℕ) (S : List Pending) (from : Rest) where
+  pub number_read : (z : ℤ) (to : Rest) → IsNext (numbered z) from to → Leads c ((a_number ∷ S)) from c S to (λ g. (z, g))
+  number_read z to e =
+      reads ((a_number ∷ S)) S c from to (plain (numbered z)) (λ g. (z, g)) e (omega arith, tt) (λ g. refl)
+      (λ f fits next. (f.1, let same : f.0 ≡ z = cc in ap (λ y. (y, f.1)) same))
+
+  pub number_missed : ((z : ℤ) (to : List Word) → from.words ≢ numbered z ∷ to) → Stops c ((a_number ∷ S)) from Expected from
+  number_missed h =
+      sticks (a_number ∷ S) c from (λ next. (z : ℤ) → next ≢ Some (numbered z)) (complete from.number (a_number ∷ S))
+      (completes from.number (a_number ∷ S)).0 (completes from.number (a_number ∷ S)).1 (λ f fits other. other f.0 refl)
+      (λ z. not_next (numbered z) from.words (h z))
+
+-- a divisor, with a `-` and without
+module _ (S : List Pending) where
+  abbrev pub divisor_of : Bool → Trees (a_number_at ∷ S) → Trees (a_divisor ∷ S)
+  divisor_of negative g = (record { negative = negative; at = g.0.0; size = g.0.1 }, g.1)
+
+  pub divisors : Fork (a_divisor ∷ S) (sign Sym.Minus) (a_number_at ∷ S) (divisor_of true) (a_number_at ∷ S) (divisor_of false)
+  divisors = record { spells = λ g. refl; spells_other = λ g. refl; view = λ f. view f.0.negative ((f.0.at, f.0.size), f.1) }
+    where
+      view : (negative : Bool) (g : Trees (a_number_at ∷ S))
+          → Sides (a_divisor ∷ S) (sign Sym.Minus) (a_number_at ∷ S) (divisor_of true) (a_number_at ∷ S) (divisor_of false) (divisor_of negative g)
+      view true g = inl (g, refl)
+      view false g = inr (g, refl, λ e. cc)
 
 -- the end of a range
 abbrev pub IsSize : SizeOpening → Type 0
@@ -216,59 +250,80 @@ module _ (n : ℕ) where
         (λ f fits next. let found = prefix_view prefix f.0 f.1 (ap opening_of_operand next ∙ opening_of_prefix prefix) in
         (pieces (an_operand (n + 1) ∷ S) found.0, ap (pieces (an_operand_kind n ∷ S)) found.1))
 
--- the operators and operands behind the first operand
-pub reads_back : (op : Operator) → binary_operator (Some (symbol (sign_of op))) ≡ Some op
-reads_back Operator.Add = refl
-reads_back Operator.Subtract = refl
-reads_back Operator.Multiply = refl
-reads_back Operator.Less = refl
-reads_back Operator.LessEqual = refl
-reads_back Operator.Greater = refl
-reads_back Operator.GreaterEqual = refl
-reads_back Operator.Equal = refl
-reads_back Operator.NotEqual = refl
-reads_back Operator.And = refl
-reads_back Operator.Or = refl
+-- the links behind the first operand
+pub reads_back : (o : LinkOpening) → link_opening (Some (symbol (link_sign o))) ≡ Some o
+reads_back (Link.Operation Operator.Add) = refl
+reads_back (Link.Operation Operator.Subtract) = refl
+reads_back (Link.Operation Operator.Multiply) = refl
+reads_back (Link.Operation Operator.Less) = refl
+reads_back (Link.Operation Operator.LessEqual) = refl
+reads_back (Link.Operation Operator.Greater) = refl
+reads_back (Link.Operation Operator.GreaterEqual) = refl
+reads_back (Link.Operation Operator.Equal) = refl
+reads_back (Link.Operation Operator.NotEqual) = refl
+reads_back (Link.Operation Operator.And) = refl
+reads_back (Link.Operation Operator.Or) = refl
+reads_back (Link.Division Division.Quotient) = refl
+reads_back (Link.Division Division.Remainder) = refl
 
 module _ (n c : ℕ) (S : List Pending) (from : Rest) where
   -- where no operator follows, the expression has ended
-  pub tail_ends : None ≡ binary_operator (first from.words)
+  pub tail_ends : None ≡ link_opening (first from.words)
       → Leads c ((a_tail n ∷ S)) from c S from (λ g. (ended, g))
   tail_ends e =
-      opens (a_tail n ∷ S) S c from (λ next. binary_operator next ≡ None) (look no_operator ∷ []) (λ g. (ended, g)) refl refl tt refl
+      opens (a_tail n ∷ S) S c from (λ next. link_opening next ≡ None) (look no_operator ∷ []) (λ g. (ended, g)) refl refl tt refl
       (sym e, tt) (λ g. refl) (λ f fits none. view f.0 f.1 none) (sym e)
     where
-      view : (t : Tail) (rest : Trees S) → binary_operator (first_before (pieces (a_tail n ∷ S) (t, rest)) None) ≡ None
+      view : (t : Tail) (rest : Trees S) → link_opening (first_before (pieces (a_tail n ∷ S) (t, rest)) None) ≡ None
           → (g : Trees S) × Same (a_tail n ∷ S) (t, rest) (ended, g)
       view ended rest none = (rest, refl)
-      view (further (operation op t) more) rest none = absurd (let both = sym (reads_back op) ∙ none in cc)
+      view (further (operation op t) more) rest none = absurd (let both = sym (reads_back (Link.Operation op)) ∙ none in cc)
+      view (further (division sign d) more) rest none = absurd (let both = sym (reads_back (Link.Division sign)) ∙ none in cc)
 
-  -- which tails begin with an operator
-  pub operator_view : (op : Operator) (t : Tail) (rest : Trees S) → Fits from.number (pieces (a_tail n ∷ S) (t, rest))
-      → binary_operator (first_before (pieces (a_tail n ∷ S) (t, rest)) None) ≡ Some op
-      → (g : Trees (an_operand n ∷ a_tail n ∷ S)) × Same (a_tail n ∷ S) (t, rest) (further (operation op g.0) g.1.0, g.1.1)
-  operator_view op ended rest fits found = absurd (let both = sym fits.0 ∙ found in cc)
-  operator_view op (further (operation other t) more) rest fits found = (
+  -- a tail that begins with a link, of which the sign is told
+  abbrev pub tail_with : (o : LinkOpening) → Trees (right_of n o ∷ a_tail n ∷ S) → Trees (a_tail n ∷ S)
+  tail_with o g = (further (link_of n o g.0) g.1.0, g.1.1)
+
+  pub link_spells : (o : LinkOpening) (g : Trees (right_of n o ∷ a_tail n ∷ S))
+      → pieces (a_tail n ∷ S) (tail_with o g) ≡ token (counted (link_sign o)) ∷ pieces (right_of n o ∷ a_tail n ∷ S) g
+  link_spells (Link.Operation op) g = refl
+  link_spells (Link.Division sign) g = refl
+
+  -- which tails begin so
+  pub link_view : (o : LinkOpening) (t : Tail) (rest : Trees S) → Fits from.number (pieces (a_tail n ∷ S) (t, rest))
+      → link_opening (first_before (pieces (a_tail n ∷ S) (t, rest)) None) ≡ Some o
+      → (g : Trees (right_of n o ∷ a_tail n ∷ S)) × Same (a_tail n ∷ S) (t, rest) (tail_with o g)
+  link_view o ended rest fits found = absurd (let both = sym fits.0 ∙ found in cc)
+  link_view (Link.Operation op) (further (operation other t) more) rest fits found = (
     (t, (more, rest)),
-    let both : Some other ≡ Some op = sym (reads_back other) ∙ found in
+    let both : Some (Link.Operation other) ≡ Some (Link.Operation op) = sym (reads_back (Link.Operation other)) ∙ found in
         let same : other ≡ op = cc in ap (λ o. (further (operation o t) more, rest)) same,
   )
+  link_view (Link.Operation op) (further (division other d) more) rest fits found =
+      absurd (let both : Some (Link.Division other) ≡ Some (Link.Operation op) = sym (reads_back (Link.Division other)) ∙ found in cc)
+  link_view (Link.Division sign) (further (operation other t) more) rest fits found =
+      absurd (let both : Some (Link.Operation other) ≡ Some (Link.Division sign) = sym (reads_back (Link.Operation other)) ∙ found in cc)
+  link_view (Link.Division sign) (further (division other d) more) rest fits found = (
+    (d, (more, rest)),
+    let both : Some (Link.Division other) ≡ Some (Link.Division sign) = sym (reads_back (Link.Division other)) ∙ found in
+        let same : other ≡ sign = cc in ap (λ o. (further (division o d) more, rest)) same,
+  )
 
-  pub operator_read : (op : Operator) (to : Rest) → IsNext (symbol (sign_of op)) from to → c + 1 ≤ 256
-      → Leads c ((a_tail n ∷ S)) from (c + 1) ((an_operand n ∷ a_tail n ∷ S)) to (λ g. (further (operation op g.0) g.1.0, g.1.1))
-  operator_read op to e few =
-      reads ((a_tail n ∷ S)) ((an_operand n ∷ a_tail n ∷ S)) c from to (operator op) (λ g. (further (operation op g.0) g.1.0, g.1.1)) e
-      (omega arith, few) (λ g. refl) (λ f fits next. operator_view op f.0 f.1 fits (ap binary_operator next ∙ reads_back op))
+  pub link_read : (o : LinkOpening) (to : Rest) → IsNext (symbol (link_sign o)) from to → c + 1 ≤ 256
+      → Leads c ((a_tail n ∷ S)) from (c + 1) ((right_of n o ∷ a_tail n ∷ S)) to (tail_with o)
+  link_read o to e few =
+      reads ((a_tail n ∷ S)) ((right_of n o ∷ a_tail n ∷ S)) c from to (counted (link_sign o)) (tail_with o) e
+      (omega arith, few) (link_spells o) (λ f fits next. link_view o f.0 f.1 fits (ap link_opening next ∙ reads_back o))
 
-  pub operator_too_many : (op : Operator) (to : Rest) → IsNext (symbol (sign_of op)) from to → 256 < c + 1
+  pub link_too_many : (o : LinkOpening) (to : Rest) → IsNext (symbol (link_sign o)) from to → 256 < c + 1
       → Stops c ((a_tail n ∷ S)) from Operators from
-  operator_too_many op to e many =
-      let inner = complete (from.number + 1) (an_operand n ∷ a_tail n ∷ S) in
-      exceeds ((a_tail n ∷ S)) c from (operator op) (pieces (an_operand n ∷ a_tail n ∷ S) inner) Operators
-      (further (operation op inner.0) inner.1.0, inner.1.1)
-      (completes (from.number + 1) (an_operand n ∷ a_tail n ∷ S)).0 refl (ap first e.0) (λ e. cc) (omega arith, many)
-      (λ f fits next. let found = operator_view op f.0 f.1 fits (ap binary_operator next ∙ reads_back op) in
-      (pieces (an_operand n ∷ a_tail n ∷ S) found.0, ap (pieces (a_tail n ∷ S)) found.1))
+  link_too_many o to e many =
+      let inner = complete (from.number + 1) (right_of n o ∷ a_tail n ∷ S) in
+      exceeds ((a_tail n ∷ S)) c from (counted (link_sign o)) (pieces (right_of n o ∷ a_tail n ∷ S) inner) Operators (tail_with o inner)
+      (subst (Fits from.number) (sym (link_spells o inner)) (completes (from.number + 1) (right_of n o ∷ a_tail n ∷ S)).0) (link_spells o inner)
+      (ap first e.0) (λ e. cc) (omega arith, many)
+      (λ f fits next. let found = link_view o f.0 f.1 fits (ap link_opening next ∙ reads_back o) in
+      (pieces (right_of n o ∷ a_tail n ∷ S) found.0, ap (pieces (a_tail n ∷ S)) found.1 ∙ link_spells o found.0))
 
   -- an expression is an operand and what stands behind it
   pub expression_goes : Leads c ((an_expression n ∷ S)) from c ((an_operand n ∷ a_tail n ∷ S)) from

@@ -2,10 +2,14 @@
 use Rattle.std.proofs.Common.{◌≡◌, ◌≢◌, ℕ, ◌+◌, ℤ, List, [], ◌∷◌, ◌++◌, Option, None, Some, Bool, true, false, refl, sym, ap, ◌∙◌, subst}
 use Rattle.derivation.specs.declared.symbol.Symbol.{Symbol}
 use Rattle.derivation.specs.declared.symbol.Symbol.TheVariants as Sym
-use Rattle.derivation.specs.Word.{Word, symbol, name as named}
+use Rattle.derivation.specs.Word.{Word, symbol, name as named, number as numbered}
 use Rattle.std.specs.Bool.{IsFalse}
 use Rattle.derivation.specs.Pieces.{token, look, number_behind, spelling, first, first_before, FitsBefore, Fits}
-use Rattle.source_syntax.specs.Language.{Token, Rest, is_at, binary_operator, is_else, IsQuiet}
+use Rattle.source_syntax.specs.Language.{Token, Rest, is_at, link_opening, is_else, IsQuiet}
+use Rattle.source_syntax.specs.declared.opening.LinkOpening.{LinkOpening}
+use Rattle.source_syntax.specs.declared.opening.LinkOpening.TheVariants as Link
+use Rattle.source_syntax.specs.Reads.{right_of}
+use Rattle.source_syntax.proofs.Words.{link_sign}
 use Rattle.derivation.proofs.Calculus.{cancel, spelling-append, fits-behind, first_spelling}
 use Rattle.concrete_syntax.specs.declared.sign.Assignment.{Assignment}
 use Rattle.concrete_syntax.specs.declared.sign.Step.{Step}
@@ -18,13 +22,13 @@ use Rattle.source_syntax.specs.declared.opening.StatementOpening.{StatementOpeni
 use Rattle.source_syntax.specs.declared.opening.ItemOpening.{ItemOpening}
 use Rattle.source_syntax.specs.declared.opening.StartOpening.{StartOpening}
 use Rattle.source_syntax.specs.Openings.{opening_of_operand, opening_of_simple, opening_of_action}
-use Rattle.concrete_syntax.specs.Trees.{End, Operand, operand_at, OperandKind, number, name, truth, unknown, call, signed, parentheses, range, Tail, ended, further, Expression, Name, Action, assigns, steps, Simple, acts, steps_before, Part, Declaration, Start, starts_with_nothing, starts_with, declares, Statement, statement_at, StatementKind, simple, skip, braces, conditional, while_loop, do_loop, for_loop, return, break, continue, Otherwise, without, otherwise, Items, none, declaration, statement, Prelude, extern_call, typedef_bool, Program, operation}
-use Rattle.source_syntax.specs.Spelling.{plain, sign, leading, opening, operator, prefix_sign, assignment_sign, step_sign}
-use Rattle.source_syntax.specs.Pending.{Pending, exactly, exactly_at, a_name, bytes_of_a_name, a_size, an_end, an_operand, an_operand_kind, a_tail, an_expression, an_optional, a_test, an_action, a_simple, a_part_end, parts, a_declaration, a_start, a_finish, a_statement, a_statement_kind, an_otherwise, items, a_void, a_program, Trees, pieces}
+use Rattle.concrete_syntax.specs.Trees.{Divisor, End, Operand, operand_at, OperandKind, number, name, truth, unknown, call, signed, parentheses, range, Tail, ended, further, Expression, Name, Action, assigns, steps, Simple, acts, steps_before, Part, Declaration, Start, starts_with_nothing, starts_with, declares, Statement, statement_at, StatementKind, simple, skip, braces, conditional, while_loop, do_loop, for_loop, return, break, continue, Otherwise, without, otherwise, Items, none, declaration, statement, Prelude, extern_call, typedef_bool, Program, operation, division}
+use Rattle.source_syntax.specs.Spelling.{plain, sign, leading, opening, counted, prefix_sign, assignment_sign, step_sign}
+use Rattle.source_syntax.specs.Pending.{Pending, exactly, exactly_at, a_name, bytes_of_a_name, a_size, an_end, a_number, a_number_at, a_divisor, an_operand, an_operand_kind, a_tail, an_expression, an_optional, a_test, an_action, a_simple, a_part_end, parts, a_declaration, a_start, a_finish, a_statement, a_statement_kind, an_otherwise, items, a_void, a_program, Trees, pieces}
 use Rattle.source_syntax.specs.Leads.{Leads}
 use Rattle.source_syntax.proofs.Answering.{AreQuiet, in_turn, units}
 use Rattle.source_syntax.proofs.Choices.{begins, Choice, Fork, Held, placed, goes, this_side, left_out}
-use Rattle.source_syntax.proofs.Expressions.{located_tokens, names, sizes, ends, operands, located_operands, opening_of_prefix, prefix_view, reads_back, tail_ends, operator_view, expression_goes}
+use Rattle.source_syntax.proofs.Expressions.{located_tokens, names, located_numbers, divisor_of, divisors, sizes, ends, operands, located_operands, opening_of_prefix, prefix_view, reads_back, tail_ends, tail_with, link_spells, link_view, expression_goes}
 use Rattle.source_syntax.proofs.Statements.{actions, simples, simple_begins, opens_simply, part_ends, further_parts, declaration_goes, test_goes, no_semicolon, optionals, starts, no_parenthesis, finishes, statements, located_statements, statement_among, all_items, voids, extern_signs, extern_quiet, typedef_signs, typedef_quiet, main_signs, main_quiet, beginnings, otherwise_ends, else_view}
 
 -- all trees that spell the words of these are these, whatever the number of their first token
@@ -136,7 +140,27 @@ end_of false None S rest d = not_begun (ends S) (None, rest) (λ e. cc) (size_on
 end_one : (e : End) (S : List Pending) (rest : Trees S) → IsOnly S rest → IsOnly (an_end ∷ S) (e, rest)
 end_one e S rest d = end_of e.negative e.size S rest d
 
+number_one : (z : ℤ) (S : List Pending) (rest : Trees S) → IsOnly S rest → IsOnly (a_number ∷ S) (z, rest)
+number_one z S rest d =
+    behind {fill = λ g. (z, g)} (plain (numbered z)) rest (λ h. refl) (λ n f fits next. (f.1, let same : f.0 ≡ z = cc in ap (λ y. (y, f.1)) same)) d
+
+number_at_one : (x : ℕ × ℤ) (S : List Pending) (rest : Trees S) → IsOnly S rest → IsOnly (a_number_at ∷ S) (x, rest)
+number_at_one x S rest d = numbered_one (located_numbers S) x.0 (x.1, rest) (number_one x.1 S rest d)
+
+divisor_of_sign : (negative : Bool) (x : ℕ × ℤ) (S : List Pending) (rest : Trees S) → IsOnly S rest → IsOnly (a_divisor ∷ S) (divisor_of S negative (x, rest))
+divisor_of_sign true x S rest d = begun (divisors S) (x, rest) (number_at_one x S rest d)
+divisor_of_sign false x S rest d = not_begun (divisors S) (x, rest) (λ e. cc) (number_at_one x S rest d)
+
+divisor_one : (x : Divisor) (S : List Pending) (rest : Trees S) → IsOnly S rest → IsOnly (a_divisor ∷ S) (x, rest)
+divisor_one x S rest d = divisor_of_sign x.negative (x.at, x.size) S rest d
+
 -- expressions
+link_one : (n : ℕ) (o : LinkOpening) (S : List Pending) (g : Trees (right_of n o ∷ a_tail n ∷ S)) → IsOnly (right_of n o ∷ a_tail n ∷ S) g
+    → IsOnly (a_tail n ∷ S) (tail_with n 0 S nowhere o g)
+link_one n o S g d =
+    behind {fill = tail_with n 0 S nowhere o} (counted (link_sign o)) g (link_spells n 0 S nowhere o)
+    (λ m f fits next. link_view n 0 S (record { number = m; words = [] }) o f.0 f.1 fits (ap link_opening next ∙ reads_back o)) d
+
 expression_step : (n : ℕ) (e : Expression) (S : List Pending) (rest : Trees S) → IsOnly (an_operand n ∷ a_tail n ∷ S) (e.operand, (e.tail, rest))
     → IsOnly (an_expression n ∷ S) (e, rest)
 expression_step n e S rest d = through (e.operand, (e.tail, rest)) (λ m. expression_goes n 0 S (own m (an_expression n ∷ S) (e, rest))) d
@@ -169,11 +193,9 @@ mutual
   tail_one : (n : ℕ) (t : Tail) (S : List Pending) (rest : Trees S) → IsOnly S rest → IsOnly (a_tail n ∷ S) (t, rest)
   tail_one n ended S rest d =
       fitting (λ at fits. through rest (λ m. tail_ends n 0 S (own m (a_tail n ∷ S) (ended, rest))
-      (sym (ap binary_operator (first_spelling (pieces S rest)) ∙ fits.0))) d)
-  tail_one n (further (operation op e) more) S rest d =
-      behind {fill = λ g. (further (operation op g.0) g.1.0, g.1.1)} (operator op) (e, (more, rest)) (λ h. refl)
-      (λ m f fits next. operator_view n 0 S (record { number = m; words = [] }) op f.0 f.1 fits (ap binary_operator next ∙ reads_back op))
-      (operand_one n e _ _ (tail_one n more S rest d))
+      (sym (ap link_opening (first_spelling (pieces S rest)) ∙ fits.0))) d)
+  tail_one n (further (operation op e) more) S rest d = link_one n (Link.Operation op) S (e, (more, rest)) (operand_one n e _ _ (tail_one n more S rest d))
+  tail_one n (further (division sign x) more) S rest d = link_one n (Link.Division sign) S (x, (more, rest)) (divisor_one x _ _ (tail_one n more S rest d))
 
 expression_one : (n : ℕ) (e : Expression) (S : List Pending) (rest : Trees S) → IsOnly S rest → IsOnly (an_expression n ∷ S) (e, rest)
 expression_one n e S rest d = expression_step n e S rest (operand_one n e.operand _ _ (tail_one n e.tail S rest d))

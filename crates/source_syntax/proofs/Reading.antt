@@ -1,6 +1,6 @@
 -- Readings of a single word that the next word opens.
 use Rattle.std.proofs.Common.{◌≡◌, ℕ, ◌+◌, ◌<◌, ◌≤◌, ℤ, List, [], ◌∷◌, ◌++◌, subst, Some, None, Bool, refl, sym, ap, ◌∙◌, arith}
-use Rattle.concrete_syntax.specs.declared.sign.Operator.{Operator}
+use Rattle.derivation.specs.declared.rule.Rule.{Rule}
 use Rattle.derivation.specs.declared.rule.Rule.TheVariants.{Nesting, Operators}
 use Rattle.derivation.specs.declared.symbol.Symbol.{Symbol}
 use Rattle.derivation.specs.declared.symbol.Symbol.TheVariants as Sym
@@ -9,7 +9,11 @@ use Rattle.derivation.specs.Word.{Word, symbol, number as numbered}
 use Rattle.derivation.specs.Spelled.{words_from, IsBehind}
 use Rattle.derivation.specs.Pieces.{first}
 use Rattle.derivation.specs.Comes.{IsNext}
-use Rattle.source_syntax.specs.Language.{Rest, rest_from, binary_operator}
+use Rattle.source_syntax.specs.Language.{Rest, rest_from, link_opening}
+use Rattle.source_syntax.specs.declared.opening.LinkOpening.{LinkOpening}
+use Rattle.source_syntax.specs.declared.opening.LinkOpening.TheVariants as Link
+use Rattle.concrete_syntax.specs.declared.sign.Division.{Division}
+use Rattle.concrete_syntax.specs.declared.sign.Operator.{Operator}
 use Rattle.concrete_syntax.specs.declared.sign.Prefix.{Prefix}
 use Rattle.source_syntax.specs.declared.opening.OperandOpening.{OperandOpening}
 use Rattle.source_syntax.specs.declared.opening.SizeOpening.{SizeOpening}
@@ -19,15 +23,15 @@ use Rattle.concrete_syntax.specs.declared.expression.Link.{Link as RustLink}
 use Rattle.concrete_syntax.specs.Chains.{tail_of}
 use Rattle.concrete_syntax.specs.Mirror.{link, links}
 use Rattle.concrete_syntax.proofs.Chains.{tail_of-append}
-use Rattle.concrete_syntax.specs.Trees.{Operand, Link, operation, Tail, number, truth, unknown, signed, further, ended}
-use Rattle.source_syntax.specs.Spelling.{truth_word, prefix_sign, sign_of}
-use Rattle.source_syntax.specs.Pending.{Pending, a_size, an_operand, an_operand_kind, a_tail, an_expression, TreeOf}
+use Rattle.concrete_syntax.specs.Trees.{Divisor, Operand, Link, operation, division, Tail, number, truth, unknown, signed, further, ended}
+use Rattle.source_syntax.specs.Spelling.{truth_word, prefix_sign}
+use Rattle.source_syntax.specs.Pending.{Pending, a_size, a_divisor, an_operand, an_operand_kind, a_tail, an_expression, TreeOf}
 use Rattle.source_syntax.specs.Leads.{Leads, Stops}
-use Rattle.source_syntax.specs.Reads.{ReadsCounting, ComesToTail}
+use Rattle.source_syntax.specs.Reads.{ReadsCounting, RefusesCounting, ReadsRight, RefusesRight, ComesToTail, right_of, link_of}
 use Rattle.source_syntax.proofs.Calculus.{over, refilled}
-use Rattle.source_syntax.proofs.Expressions.{sizes, operands, prefix_read, prefix_too_deep, operator_read, operator_too_many, tail_ends, expression_goes, truth_quiet}
+use Rattle.source_syntax.proofs.Expressions.{sizes, operands, prefix_read, prefix_too_deep, link_read, link_too_many, tail_ends, expression_goes, truth_quiet}
 use Rattle.source_syntax.proofs.Choices.{goes}
-use Rattle.source_syntax.proofs.Words.{stands_at, operand_word, size_word, operator_word}
+use Rattle.source_syntax.proofs.Words.{stands_at, operand_word, size_word, link_word, link_sign}
 use Rattle.source_syntax.proofs.Answering.{sign_reads, number_reads}
 
 -- behind one word
@@ -115,23 +119,43 @@ module _ (lexemes : List Lexeme) (at n : ℕ) where
       prefix_too_deep n count behind (rest_from lexemes at) prefix (rest_from lexemes (at + 1))
       (next_of lexemes at (symbol (prefix_sign prefix)) w.0 w.1) deep
 
-  -- an operator behind an operand
-  pub behind_operator : (op : Operator) → Some op ≡ binary_operator (first (words_from lexemes at)) → (count : ℕ) → count + 1 ≤ 256
-      → ((behind : List Pending) → Leads count (a_tail n ∷ behind) (rest_from lexemes at) (count + 1) (an_operand n ∷ a_tail n ∷ behind)
-      (rest_from lexemes (at + 1)) (λ g. (further (operation op g.0) g.1.0, g.1.1)))
+  -- a link behind an operand
+  pub behind_link : (o : LinkOpening) → Some o ≡ link_opening (first (words_from lexemes at)) → (count : ℕ) → count + 1 ≤ 256
+      → ((behind : List Pending) → Leads count (a_tail n ∷ behind) (rest_from lexemes at) (count + 1) (right_of n o ∷ a_tail n ∷ behind)
+      (rest_from lexemes (at + 1)) (λ g. (further (link_of n o g.0) g.1.0, g.1.1)))
       × IsBehind lexemes at (at + 1)
-  behind_operator op e count few =
-      let w = operator_word (words_from lexemes at) (Some op) e in (
-        λ behind. operator_read n count behind (rest_from lexemes at) op (rest_from lexemes (at + 1)) (next_of lexemes at (symbol (sign_of op)) w.0 w.1) few,
-        one_behind lexemes at (symbol (sign_of op)) w.0 w.1,
+  behind_link o e count few =
+      let w = link_word (words_from lexemes at) (Some o) e in (
+        λ behind. link_read n count behind (rest_from lexemes at) o (rest_from lexemes (at + 1)) (next_of lexemes at (symbol (link_sign o)) w.0 w.1) few,
+        one_behind lexemes at (symbol (link_sign o)) w.0 w.1,
       )
 
-  pub operator_stops : (op : Operator) → Some op ≡ binary_operator (first (words_from lexemes at)) → (count : ℕ) → 256 < count + 1
+  pub link_stops : (o : LinkOpening) → Some o ≡ link_opening (first (words_from lexemes at)) → (count : ℕ) → 256 < count + 1
       → (behind : List Pending) → Stops count (a_tail n ∷ behind) (rest_from lexemes at) Operators (rest_from lexemes at)
-  operator_stops op e count many behind =
-      let w = operator_word (words_from lexemes at) (Some op) e in
-      operator_too_many n count behind (rest_from lexemes at) op (rest_from lexemes (at + 1))
-      (next_of lexemes at (symbol (sign_of op)) w.0 w.1) many
+  link_stops o e count many behind =
+      let w = link_word (words_from lexemes at) (Some o) e in
+      link_too_many n count behind (rest_from lexemes at) o (rest_from lexemes (at + 1))
+      (next_of lexemes at (symbol (link_sign o)) w.0 w.1) many
+
+-- what stands behind the sign of a link that is told by an equation
+module _ {count levels : ℕ} {opening : LinkOpening} {from to : Rest} where
+  pub operation_reads : {now : ℕ} {op : Operator} {e : Operand} → opening ≡ Link.Operation op → ReadsCounting count (an_operand levels) e from now to
+      → ReadsRight count levels opening (operation op e) from now to
+  operation_reads {now} {op} {e} is r =
+      subst (λ o. ReadsRight count levels o (operation op e) from now to) (sym is) (record { tree = e; made = refl; reads = r })
+
+  pub operation_refused : {rule : Rule} {op : Operator} → opening ≡ Link.Operation op → RefusesCounting count (an_operand levels) from rule to
+      → RefusesRight count levels opening from rule to
+  operation_refused {rule} is h = subst (λ o. RefusesRight count levels o from rule to) (sym is) h
+
+  pub division_reads : {now : ℕ} {sign : Division} {d : Divisor} → opening ≡ Link.Division sign → ReadsCounting count a_divisor d from now to
+      → ReadsRight count levels opening (division sign d) from now to
+  division_reads {now} {sign} {d} is r =
+      subst (λ o. ReadsRight count levels o (division sign d) from now to) (sym is) (record { tree = d; made = refl; reads = r })
+
+pub division_refused : {count : ℕ} {opening : LinkOpening} {from to : Rest} {rule : Rule} {sign : Division} (levels : ℕ) → opening ≡ Link.Division sign
+    → RefusesCounting count a_divisor from rule to → RefusesRight count levels opening from rule to
+division_refused {count} {opening} {from} {to} {rule} levels is h = subst (λ o. RefusesRight count levels o from rule to) (sym is) h
 
 -- the loop of an expression
 module _ (count levels : ℕ) (start : Rest) where
@@ -141,19 +165,19 @@ module _ (count levels : ℕ) (start : Rest) where
     comes = λ behind. over (expression_goes levels count behind start) (r.comes (a_tail levels ∷ behind));
   })
 
-  pub tail_over : (now next : ℕ) (here inner to : Rest) (op : Operator) (e further_operand : Operand) (links more : List Link)
-      → more ≡ links ++ operation op further_operand ∷ [] → ComesToTail count levels e links start now here
-      → ((behind : List Pending) → Leads now (a_tail levels ∷ behind) here (now + 1) (an_operand levels ∷ a_tail levels ∷ behind) inner (λ g. (further (operation op g.0) g.1.0, g.1.1)))
-      → ReadsCounting (now + 1) (an_operand levels) further_operand inner next to → ComesToTail count levels e more start next to
-  tail_over now next here inner to op e further_operand links more pushed h step r = record {
+  pub tail_over : (now next : ℕ) (here inner to : Rest) (o : LinkOpening) (e : Operand) (one : Link) (links more : List Link)
+      → more ≡ links ++ one ∷ [] → ComesToTail count levels e links start now here
+      → ((behind : List Pending) → Leads now (a_tail levels ∷ behind) here (now + 1) (right_of levels o ∷ a_tail levels ∷ behind) inner (λ g. (further (link_of levels o g.0) g.1.0, g.1.1)))
+      → ReadsRight (now + 1) levels o one inner next to → ComesToTail count levels e more start next to
+  tail_over now next here inner to o e one links more pushed h step r = record {
     comes = λ behind.
         refilled (λ trees. ap (λ t. (record { operand = e; tail = t }, trees.1))
-        (sym (ap (λ l. tail_of l trees.0) pushed ∙ tail_of-append links (operation op further_operand ∷ []) trees.0)))
-        (over (h.comes behind) (over (step behind) (r.comes (a_tail levels ∷ behind))));
+        (sym (ap (λ l. tail_of l trees.0) pushed ∙ tail_of-append links (one ∷ []) trees.0 ∙ ap (λ l. tail_of links (further l trees.0)) r.made)))
+        (over (h.comes behind) (over (step behind) (r.reads.comes (a_tail levels ∷ behind))));
   }
 
   pub tail_done : (now : ℕ) (here : Rest) (e : Operand) (links : List Link) (tail : Tail) → ComesToTail count levels e links start now here
-      → None ≡ binary_operator (first here.words) → tail ≡ tail_of links ended
+      → None ≡ link_opening (first here.words) → tail ≡ tail_of links ended
       → ReadsCounting count (an_expression levels) (record { operand = e; tail = tail }) start now here
   tail_done now here e links tail h none made = record {
     comes = λ behind.

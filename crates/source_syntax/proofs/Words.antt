@@ -2,8 +2,8 @@
 use Rattle.std.proofs.Common.{◌≡◌, ℕ, suc, ◌+◌, ◌<◌, ◌≤◌, ◌⊎◌, inl, inr, List, [], ◌∷◌, Option, None, Some, length, drop, get_or, drop-cons, refl, sym, ap, ◌∙◌, subst, add-one}
 use Rattle.std.proofs.lemmas.Bool.{cases_lt}
 use Rattle.std.proofs.lemmas.List.{drop_all}
-use Rattle.concrete_syntax.specs.declared.sign.Operator.{Operator}
 use Rattle.derivation.specs.declared.lexeme.Lexeme.{Lexeme}
+use Rattle.derivation.specs.declared.symbol.Symbol.{Symbol}
 use Rattle.derivation.specs.declared.symbol.Symbol.TheVariants as Sym
 use Rattle.derivation.specs.Word.{Word, symbol, name as named, number as numbered, unknown as unreadable}
 use Rattle.derivation.specs.Spelled.{spelled, all_spelled, words_from}
@@ -11,8 +11,10 @@ use Rattle.derivation.specs.Pieces.{first}
 use Rattle.source_syntax.specs.declared.opening.OperandOpening.{OperandOpening}
 use Rattle.source_syntax.specs.declared.opening.SizeOpening.{SizeOpening}
 use Rattle.source_syntax.specs.Openings.{opening_of_operand, size_opening}
-use Rattle.source_syntax.specs.Language.{binary_operator}
-use Rattle.source_syntax.specs.Spelling.{sign_of, prefix_sign, truth_word}
+use Rattle.source_syntax.specs.declared.opening.LinkOpening.{LinkOpening}
+use Rattle.source_syntax.specs.declared.opening.LinkOpening.TheVariants as Link
+use Rattle.source_syntax.specs.Language.{link_opening}
+use Rattle.source_syntax.specs.Spelling.{sign_of, division_sign, prefix_sign, truth_word}
 
 -- where a word stands, there is room for it, and the others stand behind
 pub stands_at : (lexemes : List Lexeme) (at : ℕ) (w : Word) (rest : List Word) → words_from lexemes at ≡ w ∷ rest
@@ -69,24 +71,31 @@ size_word (unreadable ∷ ws) o e = subst (λ o. WordForSize o (unreadable ∷ w
 size_word (symbol Sym.Infinite ∷ ws) o e = subst (λ o. WordForSize o (symbol Sym.Infinite ∷ ws)) (sym e) (ws, refl)
 size_word (symbol s ∷ ws) o e = subst (λ o. WordForSize o (symbol s ∷ ws)) (sym e) tt
 
-abbrev pub WordForOperator : Option Operator → List Word → Type 0
-WordForOperator (Some op) ws = (rest : List Word) × (ws ≡ symbol (sign_of op) ∷ rest)
-WordForOperator None ws = Unit {0}
+-- the sign that a link opens with
+abbrev pub link_sign : LinkOpening → Symbol
+link_sign (Link.Operation op) = sign_of op
+link_sign (Link.Division sign) = division_sign sign
 
-pub operator_word : (ws : List Word) (o : Option Operator) → o ≡ binary_operator (first ws) → WordForOperator o ws
-operator_word [] o e = subst (λ o. WordForOperator o []) (sym e) tt
-operator_word (named x ∷ ws) o e = subst (λ o. WordForOperator o (named x ∷ ws)) (sym e) tt
-operator_word (numbered z ∷ ws) o e = subst (λ o. WordForOperator o (numbered z ∷ ws)) (sym e) tt
-operator_word (unreadable ∷ ws) o e = subst (λ o. WordForOperator o (unreadable ∷ ws)) (sym e) tt
-operator_word (symbol Sym.Plus ∷ ws) o e = subst (λ o. WordForOperator o (symbol Sym.Plus ∷ ws)) (sym e) (ws, refl)
-operator_word (symbol Sym.Minus ∷ ws) o e = subst (λ o. WordForOperator o (symbol Sym.Minus ∷ ws)) (sym e) (ws, refl)
-operator_word (symbol Sym.Times ∷ ws) o e = subst (λ o. WordForOperator o (symbol Sym.Times ∷ ws)) (sym e) (ws, refl)
-operator_word (symbol Sym.Less ∷ ws) o e = subst (λ o. WordForOperator o (symbol Sym.Less ∷ ws)) (sym e) (ws, refl)
-operator_word (symbol Sym.LessEqual ∷ ws) o e = subst (λ o. WordForOperator o (symbol Sym.LessEqual ∷ ws)) (sym e) (ws, refl)
-operator_word (symbol Sym.Greater ∷ ws) o e = subst (λ o. WordForOperator o (symbol Sym.Greater ∷ ws)) (sym e) (ws, refl)
-operator_word (symbol Sym.GreaterEqual ∷ ws) o e = subst (λ o. WordForOperator o (symbol Sym.GreaterEqual ∷ ws)) (sym e) (ws, refl)
-operator_word (symbol Sym.Equal ∷ ws) o e = subst (λ o. WordForOperator o (symbol Sym.Equal ∷ ws)) (sym e) (ws, refl)
-operator_word (symbol Sym.NotEqual ∷ ws) o e = subst (λ o. WordForOperator o (symbol Sym.NotEqual ∷ ws)) (sym e) (ws, refl)
-operator_word (symbol Sym.And ∷ ws) o e = subst (λ o. WordForOperator o (symbol Sym.And ∷ ws)) (sym e) (ws, refl)
-operator_word (symbol Sym.Or ∷ ws) o e = subst (λ o. WordForOperator o (symbol Sym.Or ∷ ws)) (sym e) (ws, refl)
-operator_word (symbol s ∷ ws) o e = subst (λ o. WordForOperator o (symbol s ∷ ws)) (sym e) tt
+abbrev pub WordForLink : Option LinkOpening → List Word → Type 0
+WordForLink (Some o) ws = (rest : List Word) × (ws ≡ symbol (link_sign o) ∷ rest)
+WordForLink None ws = Unit {0}
+
+pub link_word : (ws : List Word) (o : Option LinkOpening) → o ≡ link_opening (first ws) → WordForLink o ws
+link_word [] o e = subst (λ o. WordForLink o []) (sym e) tt
+link_word (named x ∷ ws) o e = subst (λ o. WordForLink o (named x ∷ ws)) (sym e) tt
+link_word (numbered z ∷ ws) o e = subst (λ o. WordForLink o (numbered z ∷ ws)) (sym e) tt
+link_word (unreadable ∷ ws) o e = subst (λ o. WordForLink o (unreadable ∷ ws)) (sym e) tt
+link_word (symbol Sym.Plus ∷ ws) o e = subst (λ o. WordForLink o (symbol Sym.Plus ∷ ws)) (sym e) (ws, refl)
+link_word (symbol Sym.Minus ∷ ws) o e = subst (λ o. WordForLink o (symbol Sym.Minus ∷ ws)) (sym e) (ws, refl)
+link_word (symbol Sym.Times ∷ ws) o e = subst (λ o. WordForLink o (symbol Sym.Times ∷ ws)) (sym e) (ws, refl)
+link_word (symbol Sym.Divide ∷ ws) o e = subst (λ o. WordForLink o (symbol Sym.Divide ∷ ws)) (sym e) (ws, refl)
+link_word (symbol Sym.Remainder ∷ ws) o e = subst (λ o. WordForLink o (symbol Sym.Remainder ∷ ws)) (sym e) (ws, refl)
+link_word (symbol Sym.Less ∷ ws) o e = subst (λ o. WordForLink o (symbol Sym.Less ∷ ws)) (sym e) (ws, refl)
+link_word (symbol Sym.LessEqual ∷ ws) o e = subst (λ o. WordForLink o (symbol Sym.LessEqual ∷ ws)) (sym e) (ws, refl)
+link_word (symbol Sym.Greater ∷ ws) o e = subst (λ o. WordForLink o (symbol Sym.Greater ∷ ws)) (sym e) (ws, refl)
+link_word (symbol Sym.GreaterEqual ∷ ws) o e = subst (λ o. WordForLink o (symbol Sym.GreaterEqual ∷ ws)) (sym e) (ws, refl)
+link_word (symbol Sym.Equal ∷ ws) o e = subst (λ o. WordForLink o (symbol Sym.Equal ∷ ws)) (sym e) (ws, refl)
+link_word (symbol Sym.NotEqual ∷ ws) o e = subst (λ o. WordForLink o (symbol Sym.NotEqual ∷ ws)) (sym e) (ws, refl)
+link_word (symbol Sym.And ∷ ws) o e = subst (λ o. WordForLink o (symbol Sym.And ∷ ws)) (sym e) (ws, refl)
+link_word (symbol Sym.Or ∷ ws) o e = subst (λ o. WordForLink o (symbol Sym.Or ∷ ws)) (sym e) (ws, refl)
+link_word (symbol s ∷ ws) o e = subst (λ o. WordForLink o (symbol s ∷ ws)) (sym e) tt

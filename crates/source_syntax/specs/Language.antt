@@ -8,22 +8,27 @@ use Rattle.derivation.specs.Spelled.{words_from}
 use Rattle.derivation.specs.Languages.{Language}
 use Rattle.derivation.specs.Pieces.{Token as TokenOf, Piece as PieceOf, Rest as RestOf}
 use Rattle.derivation.specs.Comes.{Phrase as PhraseOf}
+use Rattle.concrete_syntax.specs.declared.sign.Division.{Division}
 use Rattle.concrete_syntax.specs.declared.sign.Operator.{Operator}
+use Rattle.source_syntax.specs.declared.opening.LinkOpening.{LinkOpening}
+use Rattle.source_syntax.specs.declared.opening.LinkOpening.TheVariants as Link
 
--- the sign between two operands that a word is
-abbrev pub binary_operator : Option Word → Option Operator
-binary_operator (Some (symbol Symbol.Plus)) = Some Operator.Add
-binary_operator (Some (symbol Symbol.Minus)) = Some Operator.Subtract
-binary_operator (Some (symbol Symbol.Times)) = Some Operator.Multiply
-binary_operator (Some (symbol Symbol.Less)) = Some Operator.Less
-binary_operator (Some (symbol Symbol.LessEqual)) = Some Operator.LessEqual
-binary_operator (Some (symbol Symbol.Greater)) = Some Operator.Greater
-binary_operator (Some (symbol Symbol.GreaterEqual)) = Some Operator.GreaterEqual
-binary_operator (Some (symbol Symbol.Equal)) = Some Operator.Equal
-binary_operator (Some (symbol Symbol.NotEqual)) = Some Operator.NotEqual
-binary_operator (Some (symbol Symbol.And)) = Some Operator.And
-binary_operator (Some (symbol Symbol.Or)) = Some Operator.Or
-binary_operator _ = None
+-- the binary operator that a word is, and so how a link opens that begins with it
+abbrev pub link_opening : Option Word → Option LinkOpening
+link_opening (Some (symbol Symbol.Plus)) = Some (Link.Operation Operator.Add)
+link_opening (Some (symbol Symbol.Minus)) = Some (Link.Operation Operator.Subtract)
+link_opening (Some (symbol Symbol.Times)) = Some (Link.Operation Operator.Multiply)
+link_opening (Some (symbol Symbol.Divide)) = Some (Link.Division Division.Quotient)
+link_opening (Some (symbol Symbol.Remainder)) = Some (Link.Division Division.Remainder)
+link_opening (Some (symbol Symbol.Less)) = Some (Link.Operation Operator.Less)
+link_opening (Some (symbol Symbol.LessEqual)) = Some (Link.Operation Operator.LessEqual)
+link_opening (Some (symbol Symbol.Greater)) = Some (Link.Operation Operator.Greater)
+link_opening (Some (symbol Symbol.GreaterEqual)) = Some (Link.Operation Operator.GreaterEqual)
+link_opening (Some (symbol Symbol.Equal)) = Some (Link.Operation Operator.Equal)
+link_opening (Some (symbol Symbol.NotEqual)) = Some (Link.Operation Operator.NotEqual)
+link_opening (Some (symbol Symbol.And)) = Some (Link.Operation Operator.And)
+link_opening (Some (symbol Symbol.Or)) = Some (Link.Operation Operator.Or)
+link_opening _ = None
 
 abbrev pub is_else : Option Word → Bool
 is_else (Some (symbol Symbol.Else)) = true
@@ -38,7 +43,7 @@ pub data Look : Type 0 where
 
 abbrev pub Meets : Look → ℕ → Option Word → Type 0
 Meets (is_at number) n next = number ≡ n
-Meets no_operator n next = binary_operator next ≡ None
+Meets no_operator n next = link_opening next ≡ None
 Meets no_else n next = IsFalse (is_else next)
 
 abbrev pub language : Language
@@ -58,7 +63,7 @@ Phrase = PhraseOf language
 
 -- a word that no end forbids
 abbrev pub IsQuiet : Option Word → Type 0
-IsQuiet next = (binary_operator next ≡ None) × IsFalse (is_else next)
+IsQuiet next = (link_opening next ≡ None) × IsFalse (is_else next)
 
 -- what is left of a list of words from a number on
 abbrev pub rest_from : List Lexeme → ℕ → Rest

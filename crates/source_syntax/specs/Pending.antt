@@ -1,11 +1,11 @@
 -- What is still to be read: a list of things, each with its trees.
 use Rattle.std.specs.Prelude.{ℕ, ℤ, Bool, Option, Some, List, [], ◌∷◌}
 use Rattle.derivation.specs.declared.symbol.Symbol.TheVariants as S
-use Rattle.derivation.specs.Word.{name as named}
+use Rattle.derivation.specs.Word.{name as named, number as numbered}
 use Rattle.derivation.specs.Pieces.{token, look}
 use Rattle.source_syntax.specs.Language.{Token, Piece, Phrase, is_at, IsQuiet}
-use Rattle.concrete_syntax.specs.Trees.{End, Operand, OperandKind, Tail, Expression, Name, Action, Simple, Part, Declaration, Start, Statement, StatementKind, Otherwise, Items, Program}
-use Rattle.source_syntax.specs.Spelling.{plain, sign, size_pieces, end_pieces, operand_pieces, operand_kind_pieces, tail_pieces, expression_pieces, optional_pieces, name_pieces, action_pieces, simple_pieces, initialiser_pieces, parts_pieces, declaration_pieces, start_pieces, finish_pieces, test_pieces, statement_pieces, statement_kind_pieces, otherwise_pieces, items_pieces, void_pieces, program_pieces}
+use Rattle.concrete_syntax.specs.Trees.{Divisor, End, Operand, OperandKind, Tail, Expression, Name, Action, Simple, Part, Declaration, Start, Statement, StatementKind, Otherwise, Items, Program}
+use Rattle.source_syntax.specs.Spelling.{plain, sign, size_pieces, end_pieces, divisor_pieces, operand_pieces, operand_kind_pieces, tail_pieces, expression_pieces, optional_pieces, name_pieces, action_pieces, simple_pieces, initialiser_pieces, parts_pieces, declaration_pieces, start_pieces, finish_pieces, test_pieces, statement_pieces, statement_kind_pieces, otherwise_pieces, items_pieces, void_pieces, program_pieces}
 
 -- Something to be read, where so many levels are open. Some take the sign behind them along, by which the next word tells their end:
 -- an optional expression its `;`, the parts of a declaration their `;`, the start of a `for` its `;`, its last part the `)`, and items
@@ -17,6 +17,9 @@ pub data Pending : Type 0 where
   bytes_of_a_name : Pending
   a_size : Pending
   an_end : Pending
+  a_number : Pending
+  a_number_at : Pending
+  a_divisor : Pending
   an_operand : ℕ → Pending
   an_operand_kind : ℕ → Pending
   a_tail : ℕ → Pending
@@ -44,6 +47,9 @@ TreeOf a_name = Name
 TreeOf bytes_of_a_name = List ℕ
 TreeOf a_size = Option ℤ
 TreeOf an_end = End
+TreeOf a_number = ℤ
+TreeOf a_number_at = ℕ × ℤ
+TreeOf a_divisor = Divisor
 TreeOf (an_operand n) = Operand
 TreeOf (an_operand_kind n) = OperandKind
 TreeOf (a_tail n) = Tail
@@ -71,6 +77,9 @@ pieces_of a_name x behind = name_pieces x behind
 pieces_of bytes_of_a_name x behind = token (plain (named x)) ∷ behind
 pieces_of a_size size behind = size_pieces size behind
 pieces_of an_end end behind = end_pieces end behind
+pieces_of a_number z behind = token (plain (numbered z)) ∷ behind
+pieces_of a_number_at x behind = look (is_at x.0) ∷ token (plain (numbered x.1)) ∷ behind
+pieces_of a_divisor d behind = divisor_pieces d behind
 pieces_of (an_operand n) e behind = operand_pieces n e behind
 pieces_of (an_operand_kind n) kind behind = operand_kind_pieces n kind behind
 pieces_of (a_tail n) tail behind = tail_pieces n tail behind

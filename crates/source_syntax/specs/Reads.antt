@@ -1,17 +1,19 @@
 -- What the readers of the parser answer, for whatever is to be read behind.
-use Rattle.std.specs.Prelude.{◌≡◌, ◌≢◌, ◌⊎◌, refl, ℕ, ◌<◌, Option, List, [], ◌∷◌, ◌++◌}
+use Rattle.std.specs.Prelude.{◌≡◌, ◌≢◌, ◌⊎◌, refl, ℕ, ◌<◌, ℤ, Option, List, [], ◌∷◌, ◌++◌}
 use Rattle.derivation.specs.declared.rule.Rule.{Rule}
 use Rattle.derivation.specs.declared.rule.Rule.TheVariants.{Expected, Nesting, Operators}
 use Rattle.derivation.specs.declared.symbol.Symbol.{Symbol}
 use Rattle.derivation.specs.declared.symbol.Symbol.TheVariants as S
-use Rattle.derivation.specs.Word.{Word, symbol, name as named}
+use Rattle.derivation.specs.Word.{Word, symbol, name as named, number as numbered}
 use Rattle.derivation.specs.Comes.{IsNext}
 use Rattle.source_syntax.specs.Language.{Rest}
-use Rattle.concrete_syntax.specs.Trees.{Operand, Link, Expression, Simple, Part, Start, Prelude, Program}
+use Rattle.concrete_syntax.specs.Trees.{Operand, Link, operation, division, Expression, Simple, Part, Start, Prelude, Program}
 use Rattle.concrete_syntax.specs.Chains.{tail_of}
 use Rattle.source_syntax.specs.Spelling.{sign}
-use Rattle.source_syntax.specs.Pending.{Pending, exactly, exactly_at, an_expression, a_tail, an_optional, a_test, a_name, a_part_end, parts, a_declaration, a_start, a_finish, TreeOf}
+use Rattle.source_syntax.specs.Pending.{Pending, exactly, exactly_at, an_operand, a_divisor, an_expression, a_tail, an_optional, a_test, a_name, a_part_end, parts, a_declaration, a_start, a_finish, TreeOf}
 use Rattle.source_syntax.specs.Leads.{Leads, Stops}
+use Rattle.source_syntax.specs.declared.opening.LinkOpening.{LinkOpening}
+use Rattle.source_syntax.specs.declared.opening.LinkOpening.TheVariants.{Operation, Division}
 
 -- the words up to `to` are this tree of a `p`, and its operators raise the count of their expression from `count` to `now`
 pub record ReadsCounting (count : ℕ) (p : Pending) (tree : TreeOf p) (from : Rest) (now : ℕ) (to : Rest) : Type 0 where
@@ -60,6 +62,28 @@ MissesOpening from wanted level Operators = ⊥
 abbrev pub MissesName : Rest → Rule → Type 0
 MissesName from Expected = (x : List ℕ) (to : List Word) → from.words ≢ named x ∷ to
 MissesName from _ = ⊥
+
+abbrev pub MissesNumber : Rest → Rule → Type 0
+MissesNumber from Expected = (z : ℤ) (to : List Word) → from.words ≢ numbered z ∷ to
+MissesNumber from _ = ⊥
+
+-- what stands behind the sign of a link, and the link that it makes
+abbrev pub right_of : ℕ → LinkOpening → Pending
+right_of levels (Operation op) = an_operand levels
+right_of levels (Division sign) = a_divisor
+
+abbrev pub link_of : (levels : ℕ) (opening : LinkOpening) → TreeOf (right_of levels opening) → Link
+link_of levels (Operation op) e = operation op e
+link_of levels (Division sign) d = division sign d
+
+-- the words up to `to` are what stands behind the sign of this link
+pub record ReadsRight (count levels : ℕ) (opening : LinkOpening) (link : Link) (from : Rest) (now : ℕ) (to : Rest) : Type 0 where
+  pub tree : TreeOf (right_of levels opening)
+  pub made : link ≡ link_of levels opening tree
+  pub reads : ReadsCounting count (right_of levels opening) tree from now to
+
+abbrev pub RefusesRight : ℕ → ℕ → LinkOpening → Rest → Rule → Rest → Type 0
+RefusesRight count levels opening = RefusesCounting count (right_of levels opening)
 
 -- Reading an expression from `start` has read this operand and these links behind it, and has come to reading the tail that is left from
 -- `here`.

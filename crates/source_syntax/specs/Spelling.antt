@@ -1,5 +1,6 @@
 -- The pieces that a tree spells before others, where `levels` levels of nesting are open.
 use Rattle.std.specs.Prelude.{ℕ, ◌+◌, ℤ, Bool, true, false, Option, None, Some, List, [], ◌∷◌}
+use Rattle.concrete_syntax.specs.declared.sign.Division.{Division}
 use Rattle.concrete_syntax.specs.declared.sign.Operator.{Operator}
 use Rattle.derivation.specs.declared.symbol.Symbol.{Symbol}
 use Rattle.derivation.specs.declared.symbol.Symbol.TheVariants as S
@@ -9,7 +10,7 @@ use Rattle.source_syntax.specs.Language.{Token, Piece, is_at, no_operator, no_el
 use Rattle.concrete_syntax.specs.declared.sign.Prefix.{Prefix}
 use Rattle.concrete_syntax.specs.declared.sign.Assignment.{Assignment}
 use Rattle.concrete_syntax.specs.declared.sign.Step.{Step}
-use Rattle.concrete_syntax.specs.Trees.{End, Operand, operand_at, OperandKind, number, name, truth, unknown, call, signed, parentheses, range, Link, operation, Tail, ended, further, Expression, Name, Action, assigns, steps, Simple, acts, steps_before, Part, Declaration, Start, starts_with_nothing, starts_with, declares, Statement, statement_at, StatementKind, simple, skip, braces, conditional, while_loop, do_loop, for_loop, return, break, continue, Otherwise, without, otherwise, Items, none, declaration, statement, Prelude, extern_call, typedef_bool, Program}
+use Rattle.concrete_syntax.specs.Trees.{Divisor, End, Operand, operand_at, OperandKind, number, name, truth, unknown, call, signed, parentheses, range, Link, operation, division, Tail, ended, further, Expression, Name, Action, assigns, steps, Simple, acts, steps_before, Part, Declaration, Start, starts_with_nothing, starts_with, declares, Statement, statement_at, StatementKind, simple, skip, braces, conditional, while_loop, do_loop, for_loop, return, break, continue, Otherwise, without, otherwise, Items, none, declaration, statement, Prelude, extern_call, typedef_bool, Program}
 
 -- a token that opens no level
 abbrev pub plain : Word → Token
@@ -44,8 +45,14 @@ sign_of Operator.NotEqual = S.NotEqual
 sign_of Operator.And = S.And
 sign_of Operator.Or = S.Or
 
-abbrev pub operator : Operator → Token
-operator op = record { word = symbol (sign_of op); level = 0; counting = one_more }
+-- how a division is
+abbrev pub division_sign : Division → Symbol
+division_sign Division.Quotient = S.Divide
+division_sign Division.Remainder = S.Remainder
+
+-- a binary operator, as which a sign of a division counts too
+abbrev pub counted : Symbol → Token
+counted s = record { word = symbol s; level = 0; counting = one_more }
 
 abbrev pub prefix_sign : Prefix → Symbol
 prefix_sign Prefix.Plus = S.Plus
@@ -77,6 +84,10 @@ minus_pieces false behind = behind
 abbrev pub end_pieces : End → List Piece → List Piece
 end_pieces end behind = minus_pieces end.negative (size_pieces end.size behind)
 
+-- the number of a divisor stands where the next token is that of its number
+abbrev pub divisor_pieces : Divisor → List Piece → List Piece
+divisor_pieces d behind = minus_pieces d.negative (look (is_at d.at) ∷ token (plain (numbered d.size)) ∷ behind)
+
 -- What holds a number stands where the next token is that of this number.
 --
 -- A sign before an operand, a `(` and the `(` of a call each open a level. Behind the last operand of an expression no binary operator
@@ -101,7 +112,8 @@ abbrev mutual
       ∷ end_pieces lo (token (sign S.Comma) ∷ end_pieces hi (token (sign S.CloseBracket) ∷ behind))
 
   pub link_pieces : ℕ → Link → List Piece → List Piece
-  link_pieces levels (operation op e) behind = token (operator op) ∷ operand_pieces levels e behind
+  link_pieces levels (operation op e) behind = token (counted (sign_of op)) ∷ operand_pieces levels e behind
+  link_pieces levels (division sign d) behind = token (counted (division_sign sign)) ∷ divisor_pieces d behind
 
   pub tail_pieces : ℕ → Tail → List Piece → List Piece
   tail_pieces levels ended behind = look no_operator ∷ behind

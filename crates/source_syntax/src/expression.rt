@@ -4,20 +4,20 @@ ghost use Rattle.std.specs.Prelude.{◌≡◌, ◌≤◌, ℕ, IfOk, IfErr};
 ghost use Rattle.derivation.specs.Pieces.{first};
 ghost use Rattle.derivation.specs.Spelled.{words_from, IsBehind};
 ghost use Rattle.source_syntax.specs.Language.{rest_from};
-ghost use Rattle.concrete_syntax.specs.Mirror.{operand as operand_tree, operand_kind as kind_tree, expression as expression_tree, range_end as end_tree};
+ghost use Rattle.concrete_syntax.specs.Mirror.{operand as operand_tree, operand_kind as kind_tree, expression as expression_tree, link as link_tree, divisor as divisor_tree, range_end as end_tree};
 ghost use Rattle.concrete_syntax.specs.Trees.{call as call_tree, range as range_tree};
 ghost use Rattle.source_syntax.specs.Openings.{opening_of_operand};
 ghost use Rattle.source_syntax.specs.declared.opening.OperandOpening.TheVariants.{Call, Parenthesis, Bracket, Signed};
 ghost use Rattle.source_syntax.specs.Failures.{IfFault};
-ghost use Rattle.source_syntax.specs.Pending.{an_operand, an_operand_kind, an_expression, an_end, a_size};
-ghost use Rattle.source_syntax.specs.Reads.{ReadsCounting, RefusesCounting};
+ghost use Rattle.source_syntax.specs.Pending.{an_operand, an_operand_kind, an_expression, a_divisor, an_end, a_size};
+ghost use Rattle.source_syntax.specs.Reads.{ReadsCounting, RefusesCounting, ReadsRight, RefusesRight};
 
 use crate::fault::{Failure, Fault};
 use crate::opening::{
-    OperandOpening, SizeOpening, binary_operator, opening_of_operand, size_opening,
+    LinkOpening, OperandOpening, SizeOpening, link_opening, opening_of_operand, size_opening,
 };
-use crate::reader::{MOST_LEVELS, opening, owned_name, sign};
-use concrete_syntax::{End, Expression, Link, Operand, OperandKind, Prefix, Tail};
+use crate::reader::{MOST_LEVELS, number, opening, owned_name, sign};
+use concrete_syntax::{Divisor, End, Expression, Link, Operand, OperandKind, Prefix, Tail};
 use derivation::{Lexeme, Rule, Symbol, after};
 use std::alloc::Global;
 
@@ -44,19 +44,16 @@ pub fn expression(
     let (first, mut here, mut count) = operand(alloc, words, at, levels, operators)?;
     let mut links = Vec::new(alloc);
     'operators: loop {
-        match binary_operator(words, here) {
-            Some(op) => {
+        match link_opening(words, here) {
+            Some(link) => {
                 if count + 1 > MOST_OPERATORS {
                     return Err(Failure::Fault(Fault {
                         rule: Rule::Operators,
                         at: here,
                     }));
                 }
-                let (further, next, now) = operand(alloc, words, here + 1, levels, count + 1)?;
-                links.push(Link::Operation {
-                    op,
-                    operand: further,
-                })?;
+                let (further, next, now) = right(alloc, words, here + 1, levels, count + 1, link)?;
+                links.push(further)?;
                 here = next;
                 count = now;
             }
@@ -71,6 +68,35 @@ pub fn expression(
                     count,
                 ));
             }
+        }
+    }
+}
+
+// Reads what stands behind the sign of a link.
+#[cycle(expressions)]
+fn right(
+    alloc: Global,
+    words: &[Lexeme<'_>],
+    at: usize,
+    levels: u32,
+    operators: u32,
+    link: LinkOpening,
+) -> Result<(Link, usize, u32), Failure>
+    requires shallow { levels ≤ 64 }
+    requires few { operators ≤ 256 }
+    ensures read { IfOk result (λ found. ReadsRight operators levels link (link_tree found.0) (rest_from words.now at) found.2 (rest_from words.now found.1)) }
+    ensures counted { IfOk result (λ found. found.2 ≤ 256) }
+    ensures forward { IfOk result (λ found. IsBehind words.now at found.1) }
+    ensures refused { IfFault result (λ fault. RefusesRight operators levels link (rest_from words.now at) fault.rule (rest_from words.now fault.at)) }
+{
+    match link {
+        LinkOpening::Operation(op) => {
+            let (operand, next, count) = operand(alloc, words, at, levels, operators)?;
+            Ok((Link::Operation { op, operand }, next, count))
+        }
+        LinkOpening::Division(division) => {
+            let (divisor, next) = divisor(words, at)?;
+            Ok((Link::Division { division, divisor }, next, operators))
         }
     }
 }
@@ -190,6 +216,34 @@ fn parentheses(
     let operand = Box::new(alloc, value.operand)?;
     let tail = Box::new(alloc, value.tail)?;
     Ok((OperandKind::Parentheses { operand, tail }, next, count))
+}
+
+// Reads a divisor.
+fn divisor(words: &[Lexeme<'_>], at: usize) -> Result<(Divisor, usize), Fault>
+    ensures read { IfOk result (λ found. (count : ℕ) → ReadsCounting count a_divisor (divisor_tree found.0) (rest_from words.now at) count (rest_from words.now found.1)) }
+    ensures forward { IfOk result (λ found. IsBehind words.now at found.1) }
+    ensures refused { IfErr result (λ fault. (count : ℕ) → RefusesCounting count a_divisor (rest_from words.now at) fault.rule (rest_from words.now fault.at)) }
+{
+    if let Some(inner) = after(words, at, Symbol::Minus) {
+        let (size, next) = number(words, inner)?;
+        return Ok((
+            Divisor {
+                negative: true,
+                at: inner,
+                size,
+            },
+            next,
+        ));
+    }
+    let (size, next) = number(words, at)?;
+    Ok((
+        Divisor {
+            negative: false,
+            at,
+            size,
+        },
+        next,
+    ))
 }
 
 // Reads `__VERIFIER_nondet_int()`.

@@ -3,11 +3,11 @@
 ghost use Rattle.std.specs.Prelude.{◌≡◌, Some};
 ghost use Rattle.derivation.specs.Spelled.{words_from};
 ghost use Rattle.derivation.specs.Word.{symbol};
-ghost use Rattle.source_syntax.specs.Language.{binary_operator};
+ghost use Rattle.source_syntax.specs.Language.{link_opening};
 ghost use Rattle.derivation.specs.Pieces.{first};
 ghost use Rattle.source_syntax.specs.Openings.{opening_of_operand, opening_of_simple, opening_of_action, opening_of_statement, opening_of_item, opening_of_prelude, size_opening, opening_of_start};
 
-use concrete_syntax::{Assignment, Operator, Prefix, Step};
+use concrete_syntax::{Assignment, Division, Operator, Prefix, Step};
 use derivation::{Lexeme, Symbol};
 
 /// How an operand opens.
@@ -22,6 +22,13 @@ pub enum OperandOpening {
     Parenthesis,
     Bracket,
     Nothing,
+}
+
+/// How a link opens: by a sign between two operands, or by one before a divisor.
+#[derive(Clone, Copy)]
+pub enum LinkOpening {
+    Operation(Operator),
+    Division(Division),
 }
 
 /// How the end of a range goes on behind its sign.
@@ -121,35 +128,37 @@ fn operand_with(sign: Symbol) -> OperandOpening
     }
 }
 
-/// The binary operator at this word.
-pub fn binary_operator(words: &[Lexeme<'_>], at: usize) -> Option<Operator>
-    ensures { result ≡ binary_operator (first (words_from words.now at)) }
+/// How a link opens at this word, if it is a binary operator.
+pub fn link_opening(words: &[Lexeme<'_>], at: usize) -> Option<LinkOpening>
+    ensures { result ≡ link_opening (first (words_from words.now at)) }
 {
     let Some(word) = words.get(at) else {
         return None;
     };
     match *word {
-        Lexeme::Symbol(sign) => operator_of(sign),
+        Lexeme::Symbol(sign) => link_with(sign),
         _ => None,
     }
 }
 
-// The binary operator that a sign is.
-fn operator_of(sign: Symbol) -> Option<Operator>
-    ensures { result ≡ binary_operator (Some (symbol sign)) }
+// How a link opens that begins with this sign.
+fn link_with(sign: Symbol) -> Option<LinkOpening>
+    ensures { result ≡ link_opening (Some (symbol sign)) }
 {
     match sign {
-        Symbol::Plus => Some(Operator::Add),
-        Symbol::Minus => Some(Operator::Subtract),
-        Symbol::Times => Some(Operator::Multiply),
-        Symbol::Less => Some(Operator::Less),
-        Symbol::LessEqual => Some(Operator::LessEqual),
-        Symbol::Greater => Some(Operator::Greater),
-        Symbol::GreaterEqual => Some(Operator::GreaterEqual),
-        Symbol::Equal => Some(Operator::Equal),
-        Symbol::NotEqual => Some(Operator::NotEqual),
-        Symbol::And => Some(Operator::And),
-        Symbol::Or => Some(Operator::Or),
+        Symbol::Plus => Some(LinkOpening::Operation(Operator::Add)),
+        Symbol::Minus => Some(LinkOpening::Operation(Operator::Subtract)),
+        Symbol::Times => Some(LinkOpening::Operation(Operator::Multiply)),
+        Symbol::Divide => Some(LinkOpening::Division(Division::Quotient)),
+        Symbol::Remainder => Some(LinkOpening::Division(Division::Remainder)),
+        Symbol::Less => Some(LinkOpening::Operation(Operator::Less)),
+        Symbol::LessEqual => Some(LinkOpening::Operation(Operator::LessEqual)),
+        Symbol::Greater => Some(LinkOpening::Operation(Operator::Greater)),
+        Symbol::GreaterEqual => Some(LinkOpening::Operation(Operator::GreaterEqual)),
+        Symbol::Equal => Some(LinkOpening::Operation(Operator::Equal)),
+        Symbol::NotEqual => Some(LinkOpening::Operation(Operator::NotEqual)),
+        Symbol::And => Some(LinkOpening::Operation(Operator::And)),
+        Symbol::Or => Some(LinkOpening::Operation(Operator::Or)),
         _ => None,
     }
 }

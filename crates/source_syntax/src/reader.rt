@@ -1,12 +1,12 @@
 //! Readers of single words. Each reads from a word on, by its number, and answers the number of the word behind.
 
 ghost use Rattle.std.specs.Prelude.{◌≡◌, ◌+◌, ◌<◌, ◌≤◌, length, IfOk, IfErr};
-ghost use Rattle.derivation.specs.Word.{symbol, name as named};
+ghost use Rattle.derivation.specs.Word.{symbol, name as named, number as numbered};
 ghost use Rattle.source_syntax.specs.Language.{rest_from};
 ghost use Rattle.derivation.specs.Spelled.{IsBehind};
 ghost use Rattle.derivation.specs.Comes.{IsNext};
 ghost use Rattle.source_syntax.specs.Failures.{IfFault};
-ghost use Rattle.source_syntax.specs.Reads.{MissesSign, MissesOpening, MissesName, AreNext, MissesOne};
+ghost use Rattle.source_syntax.specs.Reads.{MissesSign, MissesOpening, MissesName, MissesNumber, AreNext, MissesOne};
 
 use crate::fault::{Failure, Fault};
 use derivation::{Lexeme, Rule, Symbol, after};
@@ -84,6 +84,25 @@ pub fn name<'t>(words: &[Lexeme<'t>], at: usize) -> Result<(&'t [u8], usize), Fa
     };
     match *word {
         Lexeme::Name(bytes) => Ok((bytes, at + 1)),
+        _ => Err(missing),
+    }
+}
+
+/// A number that has to stand here, and the number of the word behind it.
+pub fn number(words: &[Lexeme<'_>], at: usize) -> Result<(i64, usize), Fault>
+    ensures read { IfOk result (λ found. IsNext (numbered found.0) (rest_from words.now at) (rest_from words.now found.1)) }
+    ensures forward { IfOk result (λ found. IsBehind words.now at found.1) }
+    ensures missed { IfErr result (λ fault. MissesNumber (rest_from words.now at) fault.rule × (fault.at ≡ at)) }
+{
+    let missing = Fault {
+        rule: Rule::Expected,
+        at,
+    };
+    let Some(word) = words.get(at) else {
+        return Err(missing);
+    };
+    match *word {
+        Lexeme::Number(value) => Ok((value, at + 1)),
         _ => Err(missing),
     }
 }

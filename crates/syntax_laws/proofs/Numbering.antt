@@ -2,10 +2,11 @@
 use Rattle.std.proofs.Common.{◌≡◌, ℕ, ◌+◌, ℤ, Bool, true, false, List, [], ◌∷◌, Option, None, Some, refl, ap, sym, ◌∙◌, subst}
 use Rattle.std.specs.Bool.{IsFalse}
 use Rattle.derivation.specs.declared.symbol.Symbol.TheVariants as S
+use Rattle.derivation.specs.Word.{number as numbered}
 use Rattle.derivation.specs.Pieces.{token, look, first_before, Fits}
-use Rattle.concrete_syntax.specs.Trees.{End, Operand, operand_at, OperandKind, number, name, truth, unknown, call, signed, parentheses, range, operation, Tail, ended, further, Expression, Name, Action, assigns, steps, Simple, acts, steps_before, Part, Declaration, Start, starts_with_nothing, starts_with, declares, Statement, statement_at, StatementKind, simple, skip, braces, conditional, while_loop, do_loop, for_loop, return, break, continue, Otherwise, without, otherwise, Items, none, declaration, statement, Prelude, extern_call, typedef_bool, Program}
-use Rattle.source_syntax.specs.Language.{Piece, is_at, no_operator, no_else, binary_operator, is_else}
-use Rattle.source_syntax.specs.Spelling.{sign, leading, opening, leading_opening, operator, prefix_sign, assignment_sign, size_pieces, minus_pieces, end_pieces, operand_pieces, operand_kind_pieces, tail_pieces, expression_pieces, optional_pieces, action_pieces, name_pieces, simple_pieces, initialiser_pieces, part_pieces, parts_pieces, declaration_pieces, start_pieces, finish_pieces, test_pieces, statement_pieces, statement_kind_pieces, otherwise_pieces, items_pieces, void_pieces, prelude_pieces, preludes_pieces, program_pieces}
+use Rattle.concrete_syntax.specs.Trees.{Divisor, End, Operand, operand_at, OperandKind, number, name, truth, unknown, call, signed, parentheses, range, Link, operation, division, Tail, ended, further, Expression, Name, Action, assigns, steps, Simple, acts, steps_before, Part, Declaration, Start, starts_with_nothing, starts_with, declares, Statement, statement_at, StatementKind, simple, skip, braces, conditional, while_loop, do_loop, for_loop, return, break, continue, Otherwise, without, otherwise, Items, none, declaration, statement, Prelude, extern_call, typedef_bool, Program}
+use Rattle.source_syntax.specs.Language.{Piece, is_at, no_operator, no_else, link_opening, is_else}
+use Rattle.source_syntax.specs.Spelling.{plain, sign, leading, opening, leading_opening, counted, sign_of, division_sign, prefix_sign, assignment_sign, size_pieces, minus_pieces, end_pieces, divisor_pieces, link_pieces, operand_pieces, operand_kind_pieces, tail_pieces, expression_pieces, optional_pieces, action_pieces, name_pieces, simple_pieces, initialiser_pieces, part_pieces, parts_pieces, declaration_pieces, start_pieces, finish_pieces, test_pieces, statement_pieces, statement_kind_pieces, otherwise_pieces, items_pieces, void_pieces, prelude_pieces, preludes_pieces, program_pieces}
 use Rattle.syntax_laws.specs.Numbering.{FitsButForNumbers, tokens_in, TreesCanBeNumbered}
 
 -- the same pieces, where each number that is asked for is the right one
@@ -34,7 +35,7 @@ fits : (n : ℕ) (pieces : List Piece) → FitsButForNumbers pieces → Fits n (
 fits n [] h = tt
 fits n (token t ∷ more) h = fits (n + 1) more h
 fits n (look (is_at m) ∷ more) h = (refl, fits n more h)
-fits n (look no_operator ∷ more) h = (ap binary_operator (same_first n more) ∙ h.0, fits n more h.1)
+fits n (look no_operator ∷ more) h = (ap link_opening (same_first n more) ∙ h.0, fits n more h.1)
 fits n (look no_else ∷ more) h = (subst (λ next. IsFalse (is_else next)) (sym (same_first n more)) h.0, fits n more h.1)
 
 -- What a tree spells before others, with right numbers, is what another one spells before these, from a number on.
@@ -80,6 +81,11 @@ preludes_kept n (prelude ∷ more) behind =
 
 -- ── Expressions ──
 
+divisor_numbered : (n : ℕ) (d : Divisor) (behind : List Piece) → IsNumbered divisor_pieces n d behind
+divisor_numbered n d behind =
+    let minus = minus_kept n d.negative (look (is_at d.at) ∷ token (plain (numbered d.size)) ∷ behind) in
+    (record { negative = d.negative; at = minus.0; size = d.size }, minus.0 + 1, minus.1)
+
 mutual
   operand_numbered : (levels n : ℕ) (e : Operand) (behind : List Piece) → IsNumbered (operand_pieces levels) n e behind
   operand_numbered levels n (operand_at at kind) behind =
@@ -114,13 +120,18 @@ mutual
 
   tail_numbered : (levels n : ℕ) (more : Tail) (behind : List Piece) → IsNumbered (tail_pieces levels) n more behind
   tail_numbered levels n ended behind = (ended, n, refl)
-  tail_numbered levels n (further (operation op e) more) behind =
-      let this = operand_numbered levels (n + 1) e (tail_pieces levels more behind) in
-      let rest = tail_numbered levels this.1 more behind in (
-        further (operation op this.0) rest.0,
-        rest.1,
-        ap (λ ps. token (operator op) ∷ ps) (this.2 ∙ ap (operand_pieces levels this.0) rest.2),
-      )
+  tail_numbered levels n (further link more) behind =
+      let this = link_numbered levels n link (tail_pieces levels more behind) in
+      let rest = tail_numbered levels this.1 more behind in
+      (further this.0 rest.0, rest.1, this.2 ∙ ap (link_pieces levels this.0) rest.2)
+
+  link_numbered : (levels n : ℕ) (link : Link) (behind : List Piece) → IsNumbered (link_pieces levels) n link behind
+  link_numbered levels n (operation op e) behind =
+      let this = operand_numbered levels (n + 1) e behind in
+      (operation op this.0, this.1, ap (λ ps. token (counted (sign_of op)) ∷ ps) this.2)
+  link_numbered levels n (division sign d) behind =
+      let this = divisor_numbered (n + 1) d behind in
+      (division sign this.0, this.1, ap (λ ps. token (counted (division_sign sign)) ∷ ps) this.2)
 
 expression_numbered : (levels n : ℕ) (e : Expression) (behind : List Piece) → IsNumbered (expression_pieces levels) n e behind
 expression_numbered levels n e behind =

@@ -7,7 +7,7 @@ use step_meaning::{Block, Expr, Names, Op2, Stmt, StmtKind};
 
 // The items of `main`, what they stand for, and the offsets of the statements from behind the `{` of `main`, an outer one before those in
 // it. Operators have parentheses, the parts of a statement braces, and a missing end of a range is `*`.
-const PROGRAMS: [(&str, &str, &[u32]); 13] = [
+const PROGRAMS: [(&str, &str, &[u32]); 20] = [
     ("int a, b, c; a = a - b - c;", "a=((a-b)-c);", &[13]),
     ("int a, b; a = a - b * 2 + -b;", "a=((a-(b*2))+-b);", &[10]),
     (
@@ -53,10 +53,37 @@ const PROGRAMS: [(&str, &str, &[u32]); 13] = [
         "while(x!=0){if?{break;}{}continue;}{}",
         &[7, 19, 26, 33],
     ),
+    ("int a; a = a / 2 % -3;", "a=((a/2)%-3);", &[7]),
+    ("int a, b; a = b * a / 2 * -b;", "a=(((b*a)/2)*-b);", &[10]),
+    (
+        "int a, b; a = a - b % 2 + b / -1;",
+        "a=((a-(b%2))+(b/-1));",
+        &[10],
+    ),
+    (
+        "int a; a = -a / 2; a = +a % 2 - -a;",
+        "a=(-a/2);a=((a%2)--a);",
+        &[7, 19],
+    ),
+    (
+        "int a; if (a % 2 == 1 && a / 2) ;",
+        "if(((a%2)==1)&&((a/2)!=0)){;}{}",
+        &[7, 32],
+    ),
+    (
+        "int a; a = ? / 2; a = -(a + 1) / -2 / 2;",
+        "a=(?/2);a=((-(a+1)/-2)/2);",
+        &[7, 18],
+    ),
+    (
+        "int a; a = [-1, 2] / -2 /* 2 */ % 1;",
+        "a=(([-1,2]/-2)%1);",
+        &[7],
+    ),
 ];
 
 // Texts with the number of their fault and its offset.
-const FAULTS: [(&str, u8, u32); 61] = [
+const FAULTS: [(&str, u8, u32); 88] = [
     ("int main() { int x = x; }", 5, 21),
     ("int main() { { int x; } x = 1; }", 5, 24),
     ("int main() { for (int x = 1; ; ) ; x = 1; }", 5, 35),
@@ -82,7 +109,38 @@ const FAULTS: [(&str, u8, u32); 61] = [
     ("int main() { int else; }", 4, 17),
     ("int main()", 4, 10),
     ("int main() { } /*/", 3, 15),
-    ("int main() { a/b }", 1, 14),
+    ("int main() { a/b }", 4, 14),
+    ("int main() { int x; x = x / 0; }", 18, 28),
+    ("int main() { int x; x = x % -0; }", 18, 29),
+    ("int main() { int x; x = x / 2 % 0; }", 18, 32),
+    ("int main() { int x; x = x / 0 % 0; }", 18, 28),
+    ("int main() { int x; x = x / 0 + y; }", 18, 28),
+    ("int main() { int x; x = x % 0 + true; }", 18, 28),
+    ("int main() { int x; x = x / 0 + [2, 1]; }", 18, 28),
+    ("int main() { return 1 / 0; break; }", 18, 24),
+    (
+        "int main() { int a = 1 / 0,b,c,d,e,f,g,h,i,j,k,l,m,n,o,p; }",
+        18,
+        25,
+    ),
+    ("int main() { int x; x = y / 0; }", 5, 24),
+    ("int main() { int x; x = (x < 1) / 0; }", 7, 24),
+    ("int main() { int x; x = (x < 1) % 2; }", 7, 24),
+    ("int main() { int x; x = true / 2; }", 7, 24),
+    ("int main() { int x; if (x < 1 / 2 < 3) ; }", 7, 24),
+    ("int main() { int x; x = [2, 1] / 0; }", 8, 24),
+    ("int main() { break; return 1 / 0; }", 17, 13),
+    ("int main() { int x; x = x / 0 }", 4, 30),
+    ("int main() { int x; x = x / y; }", 4, 28),
+    ("int main() { int x; x = x / (2); }", 4, 28),
+    ("int main() { int x; x = x % +2; }", 4, 28),
+    ("int main() { int x; x = x / - -2; }", 4, 30),
+    ("int main() { int x; x = x / --2; }", 4, 28),
+    ("int main() { int x; x = x % ?; }", 4, 28),
+    ("int main() { int x; x = x /; }", 4, 27),
+    ("int main() { int x; x = / 2; }", 4, 24),
+    ("int main() { int x; x /= 2; }", 4, 22),
+    ("int main() { int x; x = [4 / 2, 3]; }", 4, 27),
     ("int main() { x == 1; }", 4, 15),
     ("int main() { x = a?; }", 4, 18),
     ("int main() { int x, ; }", 4, 20),
@@ -193,10 +251,12 @@ const FAULTS: [(&str, u8, u32); 61] = [
 ];
 
 // Texts that are programs, though they look as if they had a fault.
-const ACCEPTED: [&str; 9] = [
+const ACCEPTED: [&str; 11] = [
     "int main(void){return;}",
     "int main() { int x = [-0, 0]; }",
     "int main() { int E, A, AX, exit; E = A; }",
+    "int main() { int x; x = x / -9223372036854775807 % 9223372036854775807; }",
+    "int main() { int x; if (x / 2 % 3) ; x = x % 10 /* 3 */ / 4 // 5\n % 6; }",
     "int main() { int x; x *= 1 + 1; x += ?; ++x; }",
     "int main() { int x; if (x) for (;;) if (x) ; else do if (x) ; else ; while (x); else ; }",
     "int main() { for (;;) { if (?) break; else { continue; } } do break; while (?); while (?) while (?) ; }",
@@ -245,6 +305,8 @@ impl Shown<'_> {
     fn push_number(&mut self, value: Option<i64>) -> Result<(), AllocError> {
         self.push(match value {
             None => "*",
+            Some(-3) => "-3",
+            Some(-2) => "-2",
             Some(-1) => "-1",
             Some(0) => "0",
             Some(1) => "1",
@@ -253,6 +315,7 @@ impl Shown<'_> {
         })
     }
 
+    #[cycle(expressions)]
     fn show(&mut self, expr: &Expr) -> Result<(), AllocError> {
         match expr {
             Expr::Number(value) => self.push_number(Some(*value)),
@@ -267,6 +330,8 @@ impl Shown<'_> {
             }
             Expr::True => self.push(" true"),
             Expr::False => self.push(" false"),
+            Expr::Quot { of, by } => self.show_division(of, "/", *by),
+            Expr::Rem { of, by } => self.show_division(of, "%", *by),
             Expr::Neg(inner) => {
                 self.push("-")?;
                 self.show(inner)
@@ -283,6 +348,16 @@ impl Shown<'_> {
                 self.push(")")
             }
         }
+    }
+
+    // What is divided, the sign and the divisor.
+    #[cycle(expressions)]
+    fn show_division(&mut self, of: &Expr, sign: &str, by: i64) -> Result<(), AllocError> {
+        self.push("(")?;
+        self.show(of)?;
+        self.push(sign)?;
+        self.push_number(Some(by))?;
+        self.push(")")
     }
 
     #[cycle(showing)]

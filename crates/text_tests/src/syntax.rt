@@ -1,8 +1,8 @@
 //! The syntax of worked texts, with the offsets of faults counted by hand.
 
 use concrete_syntax::{
-    Action, Assignment, Expression, Items, Link, Operand, OperandKind, Operator, Otherwise, Prefix,
-    Prelude, Program, Simple, Statement, StatementKind, Step, Tail,
+    Action, Assignment, Division, Divisor, Expression, Items, Link, Operand, OperandKind, Operator,
+    Otherwise, Prefix, Prelude, Program, Simple, Statement, StatementKind, Step, Tail,
 };
 use derivation::Rule;
 use source_lex::LexFault;
@@ -66,10 +66,19 @@ const EXPECTED: [(&[u8], u32); 27] = [
 ];
 
 // A front, a part so many times, and a back: with the number of the text's fault, or 0, and its offset.
-const REPEATED: [(&[u8], &[u8], usize, &[u8], (u32, u32)); 12] = [
+const REPEATED: [(&[u8], &[u8], usize, &[u8], (u32, u32)); 15] = [
     (b"int main() { int x; x = 1", b"+1", 256, b"; }", (0, 0)),
     (b"int main() { int x; x = 1", b"+1", 257, b"; }", (11, 537)),
     (b"int main() { int x; x = 1", b"+1", 257, b" @", (1, 540)),
+    (b"int main() { int x; x = 1", b"/1", 256, b"; }", (0, 0)),
+    (b"int main() { int x; x = 1", b"%2", 257, b"; }", (11, 537)),
+    (
+        b"int main() { int x; x = 1",
+        b"+1/2",
+        128,
+        b" % 3; }",
+        (11, 538),
+    ),
     (
         b"int main() { for (x = 1",
         b"*(1)",
@@ -265,6 +274,41 @@ fn tree_of_an_expression(rt: HostRuntime) {
         (11, true, false)
     );
     assert_eq!(rt; (low.size, high.size), (None, Some(3)));
+}
+
+#[test]
+fn tree_of_divisions(rt: HostRuntime) {
+    let tree = tree_of(&rt, b"int main() { x = y / -3 % 0; }");
+    let value = value_of(&rt, &tree);
+    let Tail::Further {
+        link: Link::Division {
+            division: Division::Quotient,
+            divisor: Divisor {
+                negative: true,
+                at: 10,
+                size: 3,
+            },
+        },
+        rest,
+    } = &value.tail
+    else {
+        panic!(rt; "no quotient")
+    };
+    let Tail::Further {
+        link: Link::Division {
+            division: Division::Remainder,
+            divisor: Divisor {
+                negative: false,
+                at: 12,
+                size: 0,
+            },
+        },
+        rest,
+    } = &**rest
+    else {
+        panic!(rt; "no remainder")
+    };
+    assert!(rt; matches!(**rest, Tail::Ended));
 }
 
 #[test]

@@ -8,7 +8,7 @@ use std::test::Fail;
 /// Kind, start and end of a token.
 type Expected = (Kind, u32, u32);
 
-const TOKENS: [(&[u8], &[Expected]); 35] = [
+const TOKENS: [(&[u8], &[Expected]); 43] = [
     (b"", &[]),
     (b" \t\n\r\x0b\x0c", &[]),
     (b"a+1", &[(Name, 0, 1), (Sign, 1, 2), (Number(1), 2, 3)]),
@@ -72,6 +72,29 @@ const TOKENS: [(&[u8], &[Expected]); 35] = [
             (Sign, 4, 5),
         ],
     ),
+    (
+        b"a/b%c",
+        &[
+            (Name, 0, 1),
+            (Sign, 1, 2),
+            (Name, 2, 3),
+            (Sign, 3, 4),
+            (Name, 4, 5),
+        ],
+    ),
+    (b"a/", &[(Name, 0, 1), (Sign, 1, 2)]),
+    (b"*/", &[(Sign, 0, 1), (Sign, 1, 2)]),
+    (b"/ /%", &[(Sign, 0, 1), (Sign, 2, 3), (Sign, 3, 4)]),
+    (
+        b"/=%=",
+        &[(Sign, 0, 1), (Sign, 1, 2), (Sign, 2, 3), (Sign, 3, 4)],
+    ),
+    (
+        b"a%-2",
+        &[(Name, 0, 1), (Sign, 1, 2), (Sign, 2, 3), (Number(2), 3, 4)],
+    ),
+    (b"a/*b*//c", &[(Name, 0, 1), (Sign, 6, 7), (Name, 7, 8)]),
+    (b"a///b", &[(Name, 0, 1)]),
     (b"a/*b*/c", &[(Name, 0, 1), (Name, 6, 7)]),
     (b"/**/", &[]),
     (b"/***/;", &[(Sign, 5, 6)]),
@@ -103,7 +126,7 @@ const TOKENS: [(&[u8], &[Expected]); 35] = [
     ),
 ];
 
-const BAD_BYTES: [(&[u8], u32); 24] = [
+const BAD_BYTES: [(&[u8], u32); 20] = [
     (b"@", 0),
     (b"int main() { @ }", 13),
     (b"00", 1),
@@ -115,10 +138,6 @@ const BAD_BYTES: [(&[u8], u32); 24] = [
     (b"a & b", 2),
     (b"a | b", 2),
     (b"&&&", 2),
-    (b"a / b", 2),
-    (b"a/", 1),
-    (b"*/", 1),
-    (b"a%b", 1),
     (b"'a'", 0),
     (b"\"a\"", 0),
     (b"#if", 0),

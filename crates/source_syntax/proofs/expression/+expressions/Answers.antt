@@ -5,14 +5,13 @@ use borrow.Author.Rules.{sfits_of}
 use Rattle.std.proofs.lemmas.Int.{to_z-of_z}
 use Rattle.derivation.specs.declared.symbol.Symbol.TheVariants as Sym
 use Rattle.source_syntax.specs.declared.opening.OperandOpening.TheVariants as OperandOpening
-use Rattle.concrete_syntax.specs.declared.expression.Link.TheVariants.{Operation}
 use Rattle.concrete_syntax.specs.Mirror.{operand, tail, links}
 use Rattle.concrete_syntax.specs.Trees.{number, parentheses, signed}
 use Rattle.source_syntax.proofs.Calculus.{over, fails}
 use Rattle.source_syntax.proofs.Choices.{goes, stuck, held}
 use Rattle.source_syntax.proofs.Expressions.{operands, located_operands, expression_goes}
 use Rattle.source_syntax.proofs.Answering.{failed_on, passed_on, sign_reads, opening_reads, bytes_reads, sign_refused, opening_refused, bytes_refused}
-use Rattle.source_syntax.proofs.Reading.{operand_number, operand_truth, operand_unknown, behind_prefix, prefix_stops, behind_operator, operator_stops, tail_from, tail_over, tail_done, one_link_more, told}
+use Rattle.source_syntax.proofs.Reading.{operand_number, operand_truth, operand_unknown, behind_prefix, prefix_stops, behind_link, link_stops, operation_reads, operation_refused, division_reads, division_refused, tail_from, tail_over, tail_done, one_link_more, told}
 use Rattle.source_syntax.proofs.expression.+expressions.Goals as goal
 
 pub expression-returns-in_err-first-clause-refused : goal.expression-returns-in_err-first-clause-refused
@@ -31,29 +30,43 @@ expression-operators-init t c = record {
 pub expression-returns-then-count-gt-MOST_OPERATORS-clause-refused : goal.expression-returns-then-count-gt-MOST_OPERATORS-clause-refused
 expression-returns-then-count-gt-MOST_OPERATORS-clause-refused t c = λ behind.
     fails (c.operators.invariant.comes.comes behind)
-    (operator_stops c.args.words.now c.operators.here _ c.in-Some.op (sym c.in-Some.is ∙ c.binary_operator.ensures) _ c.if-count-gt-MOST_OPERATORS.true behind)
+    (link_stops c.args.words.now c.operators.here _ c.in-Some.link (sym c.in-Some.is ∙ c.link_opening.ensures) _ c.if-count-gt-MOST_OPERATORS.true behind)
 
 pub expression-returns-in_err-further-in-Some-clause-refused : goal.expression-returns-in_err-further-in-Some-clause-refused
 expression-returns-in_err-further-in-Some-clause-refused t c =
-    let step = behind_operator c.args.words.now c.operators.here c.args.levels c.in-Some.op (sym c.in-Some.is ∙ c.binary_operator.ensures) c.operators.count
+    let step = behind_link c.args.words.now c.operators.here c.args.levels c.in-Some.link (sym c.in-Some.is ∙ c.link_opening.ensures) c.operators.count
     c.if-count-gt-MOST_OPERATORS.false in
     passed_on _ _ _ _ c.from_residual-in_err-further-in-Some.ensures c.in_err-further-in-Some.ensures.refused
     (λ fault refused behind. fails (c.operators.invariant.comes.comes behind) (fails (step.0 behind) (refused _)))
 
 pub expression-operators-preserved : goal.expression-operators-preserved
 expression-operators-preserved t c =
-    let step = behind_operator c.args.words.now c.operators.here c.args.levels c.in-Some.op (sym c.in-Some.is ∙ c.binary_operator.ensures) c.operators.count
+    let step = behind_link c.args.words.now c.operators.here c.args.levels c.in-Some.link (sym c.in-Some.is ∙ c.link_opening.ensures) c.operators.count
     c.if-count-gt-MOST_OPERATORS.false in
     record {
       forward = omega (arith, c.operators.invariant.forward, c.in_ok-further-in-Some.ensures.forward.forward);
       inside = c.in_ok-further-in-Some.ensures.forward.inside;
       few = c.in_ok-further-in-Some.ensures.counted;
-      comes = tail_over _ _ _ _ _ _ _ _ c.in-Some.op _ _ _ _ (one_link_more _ _ (Operation c.in-Some.op c.in_ok-further-in-Some.further) (search rules)) c.operators.invariant.comes step.0 c.in_ok-further-in-Some.ensures.read;
+      comes = tail_over _ _ _ _ _ _ _ _ c.in-Some.link _ _ _ _ (one_link_more _ _ c.in_ok-further-in-Some.further (search rules)) c.operators.invariant.comes step.0 c.in_ok-further-in-Some.ensures.read;
     }
 
 pub expression-returns-in-None-clause-read : goal.expression-returns-in-None-clause-read
 expression-returns-in-None-clause-read t c =
-    tail_done _ _ _ _ _ _ _ _ c.operators.invariant.comes (sym c.in-None.is ∙ c.binary_operator.ensures) c.in_ok-tail-in-None.ensures
+    tail_done _ _ _ _ _ _ _ _ c.operators.invariant.comes (sym c.in-None.is ∙ c.link_opening.ensures) c.in_ok-tail-in-None.ensures
+
+pub right-returns-in_err-operand-in-Operation-clause-refused : goal.right-returns-in_err-operand-in-Operation-clause-refused
+right-returns-in_err-operand-in-Operation-clause-refused t c =
+    passed_on _ _ _ _ c.from_residual.ensures c.in_err-operand-in-Operation.ensures.refused (λ fault refused. operation_refused c.in-Operation.is refused)
+
+pub right-returns-in_ok-operand-in-Operation-clause-read : goal.right-returns-in_ok-operand-in-Operation-clause-read
+right-returns-in_ok-operand-in-Operation-clause-read t c = operation_reads c.in-Operation.is c.in_ok-operand-in-Operation.ensures.read
+
+pub right-returns-in_err-divisor-in-Division-clause-refused : goal.right-returns-in_err-divisor-in-Division-clause-refused
+right-returns-in_err-divisor-in-Division-clause-refused t c =
+    failed_on _ _ _ c.from_residual-in_err-divisor-in-Division.ensures (division_refused _ c.in-Division.is (c.in_err-divisor-in-Division.ensures.refused _))
+
+pub right-returns-in_ok-divisor-in-Division-clause-read : goal.right-returns-in_ok-divisor-in-Division-clause-read
+right-returns-in_ok-divisor-in-Division-clause-read t c = division_reads c.in-Division.is (c.in_ok-divisor-in-Division.ensures.read _)
 
 pub operand-returns-in_err-kind-clause-refused : goal.operand-returns-in_err-kind-clause-refused
 operand-returns-in_err-kind-clause-refused t c =

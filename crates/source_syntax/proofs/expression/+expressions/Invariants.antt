@@ -7,6 +7,9 @@ use Rattle.source_syntax.proofs.expression.+expressions.Given as goal
 abbrev pub decreases-expression : goal.decreases-expression
 decreases-expression l = 4 * (length l.words.now - l.at) + 3
 
+abbrev pub decreases-right : goal.decreases-right
+decreases-right l = 4 * (length l.words.now - l.at) + 3
+
 abbrev pub decreases-operand : goal.decreases-operand
 decreases-operand l = 4 * (length l.words.now - l.at) + 2
 

@@ -1,14 +1,17 @@
 use Rattle.std.proofs.Common.{◌≡◌, ◌≤◌}
-use Rattle.concrete_syntax.specs.Mirror.{operand as operand_of, tail as tail_of}
+use Rattle.concrete_syntax.specs.Mirror.{operand as operand_of, link as link_of, tail as tail_of}
 use Rattle.elaboration.specs.Expressions.{tail_grouped, tail_faults}
 use Rattle.elaboration.specs.Grouping.{leaf}
 use Rattle.elaboration.specs.Faults.{earliest}
 use Rattle.elaboration.specs.Typing.{typed_of, grouping_of}
-use Rattle.elaboration.proofs.Weights.{operand_weight, tail_weight}
+use Rattle.elaboration.proofs.Weights.{operand_weight, link_weight, tail_weight}
 use Rattle.elaboration.proofs.walk.Walk.+expressions.Given as goal
 
 abbrev pub decreases-grouped : goal.decreases-grouped
 decreases-grouped l = tail_weight (tail_of l.tail.now)
+
+abbrev pub decreases-joint : goal.decreases-joint
+decreases-joint l = link_weight (link_of l.link.now)
 
 abbrev pub decreases-operand : goal.decreases-operand
 decreases-operand l = operand_weight (operand_of l.tree.now)

@@ -1,9 +1,0 @@
-use Rattle.std.proofs.Common.{◌≢◌, ◌+◌, slice_index, inl, refl, arith}
-use Rattle.source_lex.proofs.Slash.{slash_begins_nothing}
-use Rattle.source_lex.proofs.piece.comment.Goals as goal
-
-pub returns-in_default : goal.returns-in_default
-returns-in_default c =
-    let no_slash : slice_index c.args.text.now (c.args.at + 1) ≢ 47 = grind arith in
-    let no_star : slice_index c.args.text.now (c.args.at + 1) ≢ 42 = grind arith in
-    inl (slash_begins_nothing _ _ c.requires.inside c.requires.slash no_slash no_star, refl)
