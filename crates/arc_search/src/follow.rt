@@ -1,5 +1,5 @@
 //! The targets of a label's arcs, and of parts at the same label.
-ghost use Rattle.std.specs.Prelude.{◌≡◌, ◌++◌, ◌<◌, List, true, false, IfOk, IfSome, Some, map};
+ghost use Rattle.std.specs.Prelude.{◌≡◌, ◌++◌, ◌<◌, List, true, false, IfOk, OnOk, IfSome, Some, map};
 ghost use Rattle.decision_tree.specs.Plans.{plan_of};
 ghost use Rattle.tree_support.specs.Flow.{above_end, below_end, rows_given, testing};
 ghost use Rattle.tree_support.specs.Forming.{Formed, given, minus, plus};
@@ -47,7 +47,7 @@ pub fn refute_at<R: Rank>(
     found: &mut Option<Finding>,
 ) -> Result<bool, AllocError>
     requires { IfSome way.now.sets (λ s. s.0 < 16) }
-    ensures same { IfOk result (λ refuted. refuted ≡ false → IsSame hand.old hand.new) }
+    ensures same { OnOk result (IsSame hand.old hand.new) }
     ensures searched { IfOk result (λ refuted. WhereAsked hand.old (λ asks.
         IsSearched R.Rank.own (systems_behind way.now.edge way.now.sets way.now.limit (trees_in (map plan_of trees.now) label) asks)
         refuted found.new)) }
@@ -74,7 +74,7 @@ fn refute_behind<R: Rank>(
     found: &mut Option<Finding>,
 ) -> Result<bool, AllocError>
     requires { IfSome way.now.sets (λ s. s.0 < 16) }
-    ensures same { IfOk result (λ refuted. refuted ≡ false → IsSame hand.old hand.new) }
+    ensures same { OnOk result (IsSame hand.old hand.new) }
     ensures searched { IfOk result (λ refuted. WhereAsked hand.old (λ asks.
         IsSearched R.Rank.own (systems_behind way.now.edge way.now.sets way.now.limit (trees_in (map plan_of trees.now) label)
         (asks ++ rows_given rows.now)) refuted found.new)) }
@@ -84,11 +84,9 @@ fn refute_behind<R: Rank>(
         hand.back(mark);
         return Ok(false);
     }
-    if refute_at(trees, way, label, hand, found)? {
-        return Ok(true);
-    }
+    let refuted = refute_at(trees, way, label, hand, found)?;
     hand.back(mark);
-    Ok(false)
+    Ok(refuted)
 }
 
 /// Looks for a reason against the systems of the arcs of an edge, one for each conjunction.
@@ -101,7 +99,7 @@ fn refute_each<R: Rank>(
     hand: &mut Hand,
     found: &mut Option<Finding>,
 ) -> Result<bool, AllocError>
-    ensures same { IfOk result (λ refuted. refuted ≡ false → IsSame hand.old hand.new) }
+    ensures same { OnOk result (IsSame hand.old hand.new) }
     ensures searched { IfOk result (λ refuted. WhereAsked hand.old (λ asks.
         IsSearched R.Rank.own (over_each (trees_in (map plan_of trees.now)) limit (testing edge label conjunctions.now) asks)
         refuted found.new)) }
@@ -130,7 +128,7 @@ fn refute_above<R: Rank>(
     found: &mut Option<Finding>,
 ) -> Result<bool, AllocError>
     requires { IfSome way.now.sets (λ s. s.0 < 16) }
-    ensures same { IfOk result (λ refuted. refuted ≡ false → IsSame hand.old hand.new) }
+    ensures same { OnOk result (IsSame hand.old hand.new) }
     ensures searched { IfOk result (λ refuted. WhereAsked hand.old (λ asks.
         IsSearched R.Rank.own (systems_behind way.now.edge way.now.sets way.now.limit (trees_in (map plan_of trees.now) label)
         ((asks ++ above_end value.now.affine value.now.lo) ++ below_end value.now.affine value.now.hi)) refuted found.new)) }
@@ -140,11 +138,9 @@ fn refute_above<R: Rank>(
     if !add_end(formed, hand)? {
         return Ok(false);
     }
-    if refute_below(value, trees, way, label, hand, found)? {
-        return Ok(true);
-    }
+    let refuted = refute_below(value, trees, way, label, hand, found)?;
     hand.back(mark);
-    Ok(false)
+    Ok(refuted)
 }
 
 /// The same, with the row of the lower end in hand.
@@ -157,7 +153,7 @@ fn refute_below<R: Rank>(
     found: &mut Option<Finding>,
 ) -> Result<bool, AllocError>
     requires { IfSome way.now.sets (λ s. s.0 < 16) }
-    ensures same { IfOk result (λ refuted. refuted ≡ false → IsSame hand.old hand.new) }
+    ensures same { OnOk result (IsSame hand.old hand.new) }
     ensures searched { IfOk result (λ refuted. WhereAsked hand.old (λ asks.
         IsSearched R.Rank.own (systems_behind way.now.edge way.now.sets way.now.limit (trees_in (map plan_of trees.now) label)
         (asks ++ below_end value.now.affine value.now.hi)) refuted found.new)) }
@@ -167,11 +163,9 @@ fn refute_below<R: Rank>(
     if !add_end(formed, hand)? {
         return Ok(false);
     }
-    if refute_at(trees, way, label, hand, found)? {
-        return Ok(true);
-    }
+    let refuted = refute_at(trees, way, label, hand, found)?;
     hand.back(mark);
-    Ok(false)
+    Ok(refuted)
 }
 
 /// Adds the row of an end, where there is one. False where no store meets the rows in hand with it.
@@ -239,7 +233,7 @@ impl Moves {
         found: &mut Option<Finding>,
     ) -> Result<bool, AllocError>
         requires { HasPlace self.now }
-        ensures same { IfOk result (λ refuted. refuted ≡ false → IsSame hand.old hand.new) }
+        ensures same { OnOk result (IsSame hand.old hand.new) }
         ensures searched { IfOk result (λ refuted. WhereAsked hand.old (λ asks.
             IsSearched R.Rank.own (over_each (trees_in (map plan_of trees.now)) limit (arcs_of self.now) asks)
             refuted found.new)) }
@@ -287,7 +281,7 @@ impl Moves {
         hand: &mut Hand,
         found: &mut Option<Finding>,
     ) -> Result<bool, AllocError>
-        ensures same { IfOk result (λ refuted. refuted ≡ false → IsSame hand.old hand.new) }
+        ensures same { OnOk result (IsSame hand.old hand.new) }
         ensures searched { IfOk result (λ refuted. WhereAsked hand.old (λ asks.
             IsSearched R.Rank.own (over_each (trees_in (map plan_of trees.now)) limit (outcome_arcs self.now outcome) asks)
             refuted found.new)) }
@@ -325,7 +319,7 @@ impl Moves {
         found: &mut Option<Finding>,
     ) -> Result<bool, AllocError>
         requires { HasPlace self.now }
-        ensures same { IfOk result (λ refuted. refuted ≡ false → IsSame hand.old hand.new) }
+        ensures same { OnOk result (IsSame hand.old hand.new) }
         ensures searched { IfOk result (λ refuted. WhereAsked hand.old (λ asks.
             IsSearched R.Rank.own (over_each (trees_in (map plan_of trees.now)) limit (value_arcs self.now value.now) asks)
             refuted found.new)) }
@@ -361,7 +355,7 @@ fn refute_assigned<R: Rank>(
     found: &mut Option<Finding>,
 ) -> Result<bool, AllocError>
     requires { IfSome sets (λ s. s.0 < 16) }
-    ensures same { IfOk result (λ refuted. refuted ≡ false → IsSame hand.old hand.new) }
+    ensures same { OnOk result (IsSame hand.old hand.new) }
     ensures searched { IfOk result (λ refuted. WhereAsked hand.old (λ asks.
         IsSearched R.Rank.own (systems_behind 0 sets limit (trees_in (map plan_of trees.now) label) asks) refuted found.new)) }
 {

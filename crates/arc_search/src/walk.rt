@@ -1,5 +1,5 @@
 //! The walk over the leaves of another tree.
-ghost use Rattle.std.specs.Prelude.{◌≡◌, ◌++◌, ◌∷◌, ◌<◌, [], true, false, IfOk, IfSome};
+ghost use Rattle.std.specs.Prelude.{◌≡◌, ◌++◌, ◌∷◌, ◌<◌, [], true, false, IfOk, OnOk, IfSome};
 ghost use Rattle.linear_cons.specs.Functions.{complement_of};
 ghost use Rattle.decision_tree.specs.Plans.{leaf, plan_of};
 ghost use Rattle.decision_tree.specs.declared.reason.Why.{Why};
@@ -32,7 +32,7 @@ impl<R: Rank> Way<R> {
         found: &mut Option<Finding>,
     ) -> Result<bool, AllocError>
         requires { IfSome self.now.sets (λ s. s.0 < 16) }
-        ensures same { IfOk result (λ refuted. refuted ≡ false → IsSame hand.old hand.new) }
+        ensures same { OnOk result (IsSame hand.old hand.new) }
         ensures searched { IfOk result (λ refuted. WhereAsked hand.old (λ asks.
             IsSearched R.Rank.own (systems_behind self.now.edge self.now.sets self.now.limit (plan_of tree.now) asks) refuted found.new)) }
     {
@@ -63,7 +63,7 @@ impl<R: Rank> Way<R> {
         found: &mut Option<Finding>,
     ) -> Result<bool, AllocError>
         requires { IfSome self.now.sets (λ s. s.0 < 16) }
-        ensures same { IfOk result (λ refuted. refuted ≡ false → IsSame hand.old hand.new) }
+        ensures same { OnOk result (IsSame hand.old hand.new) }
         ensures searched { IfOk result (λ refuted. WhereAsked hand.old (λ asks.
             IsSearched R.Rank.own (systems_behind self.now.edge self.now.sets self.now.limit (plan_of side.now)
             (asks ++ moved_by self.now.sets (side_of row.now.affine holds) ∷ [])) refuted found.new)) }
@@ -72,11 +72,9 @@ impl<R: Rank> Way<R> {
         if !self.enter(row, holds, hand)? {
             return Ok(false);
         }
-        if self.refute(side, hand, found)? {
-            return Ok(true);
-        }
+        let refuted = self.refute(side, hand, found)?;
         hand.back(mark);
-        Ok(false)
+        Ok(refuted)
     }
 
     /// Adds the row of a side, moved back. False where no store meets the rows in hand with it. The error is want of memory.
@@ -139,7 +137,7 @@ impl<R: Rank> Way<R> {
         found: &mut Option<Finding>,
     ) -> Result<bool, AllocError>
         requires { IfSome self.now.sets (λ s. s.0 < 16) }
-        ensures same { IfOk result (λ refuted. refuted ≡ false → IsSame hand.old hand.new) }
+        ensures same { OnOk result (IsSame hand.old hand.new) }
         ensures searched { IfOk result (λ refuted. (why : Why) → WhereAsked hand.old (λ asks.
             IsSearched R.Rank.own (ending self.now.edge self.now.sets self.now.limit (leaf why rank.now) asks) refuted found.new)) }
     {

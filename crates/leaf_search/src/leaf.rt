@@ -1,5 +1,5 @@
 //! One leaf of a family, by its why.
-ghost use Rattle.std.specs.Prelude.{◌≡◌, ◌∷◌, ◌++◌, [], false, IfOk, map};
+ghost use Rattle.std.specs.Prelude.{◌∷◌, ◌++◌, [], IfOk, OnOk, map};
 ghost use Rattle.linear_cons.specs.Functions.{complement_of};
 ghost use Rattle.decision_tree.specs.Plans.{leaf, plan_of};
 ghost use Rattle.tree_support.specs.Forming.{Formed, given};
@@ -46,7 +46,7 @@ impl<'a, R: Rank> Stand<'a, R> {
         found: &mut Option<Finding>,
     ) -> Result<bool, AllocError>
         requires { HasPlace self.now.moves.now }
-        ensures same { IfOk result (λ refuted. refuted ≡ false → IsSame hand.old hand.new) }
+        ensures same { OnOk result (IsSame hand.old hand.new) }
         ensures searched { IfOk result (λ refuted. WhereStood self.now (λ at. WhereAsked hand.old (λ asks.
             IsSearched R.Rank.own (of_leaf at (leaf why.now rank.now) (trees_in (map plan_of self.now.family.now)) self.now.label asks)
             refuted found.new))) }
@@ -65,7 +65,7 @@ impl<'a, R: Rank> Stand<'a, R> {
         hand: &mut Hand,
         found: &mut Option<Finding>,
     ) -> Result<bool, AllocError>
-        ensures same { IfOk result (λ refuted. refuted ≡ false → IsSame hand.old hand.new) }
+        ensures same { OnOk result (IsSame hand.old hand.new) }
         ensures searched { IfOk result (λ refuted. WhereStood self.now (λ at. WhereAsked hand.old (λ asks.
             IsSearched R.Rank.own (of_rank at at.formula rank.now asks) refuted found.new))) }
     {
@@ -85,7 +85,7 @@ impl<'a, R: Rank> Stand<'a, R> {
         found: &mut Option<Finding>,
     ) -> Result<bool, AllocError>
         requires { HasPlace self.now.moves.now }
-        ensures same { IfOk result (λ refuted. refuted ≡ false → IsSame hand.old hand.new) }
+        ensures same { OnOk result (IsSame hand.old hand.new) }
         ensures searched { IfOk result (λ refuted. WhereStood self.now (λ at. WhereAsked hand.old (λ asks.
             IsSearched R.Rank.own (of_why at why.now (trees_in (map plan_of self.now.family.now)) rank.now self.now.label asks)
             refuted found.new))) }
@@ -131,7 +131,7 @@ impl<'a, R: Rank> Stand<'a, R> {
 
     /// The end stands at label 0, where the part may say that it is there.
     fn refute_end(&self, hand: &mut Hand, found: &mut Option<Finding>) -> Result<bool, AllocError>
-        ensures same { IfOk result (λ refuted. refuted ≡ false → IsSame hand.old hand.new) }
+        ensures same { OnOk result (IsSame hand.old hand.new) }
         ensures searched { IfOk result (λ refuted. WhereStood self.now (λ at. WhereAsked hand.old (λ asks.
             IsSearched R.Rank.own (of_end at at.formula self.now.label asks) refuted found.new))) }
     {
@@ -148,7 +148,7 @@ impl<'a, R: Rank> Stand<'a, R> {
 
     /// An atom holds at the label, or where the complement of its row is met nowhere.
     fn refute_atom(&self, hand: &mut Hand, found: &mut Option<Finding>) -> Result<bool, AllocError>
-        ensures same { IfOk result (λ refuted. refuted ≡ false → IsSame hand.old hand.new) }
+        ensures same { OnOk result (IsSame hand.old hand.new) }
         ensures searched { IfOk result (λ refuted. WhereStood self.now (λ at. WhereAsked hand.old (λ asks.
             IsSearched R.Rank.own (of_atom at at.formula self.now.label asks) refuted found.new))) }
     {
@@ -165,7 +165,7 @@ impl<'a, R: Rank> Stand<'a, R> {
 
     /// Both sides of a conjunction are defined.
     fn refute_both(&self, hand: &mut Hand, found: &mut Option<Finding>) -> Result<bool, AllocError>
-        ensures same { IfOk result (λ refuted. refuted ≡ false → IsSame hand.old hand.new) }
+        ensures same { OnOk result (IsSame hand.old hand.new) }
         ensures searched { IfOk result (λ refuted. WhereStood self.now (λ at. WhereAsked hand.old (λ asks.
             IsSearched R.Rank.own (of_both at at.formula self.now.label asks) refuted found.new))) }
     {
@@ -187,7 +187,7 @@ impl<'a, R: Rank> Stand<'a, R> {
         hand: &mut Hand,
         found: &mut Option<Finding>,
     ) -> Result<bool, AllocError>
-        ensures same { IfOk result (λ refuted. refuted ≡ false → IsSame hand.old hand.new) }
+        ensures same { OnOk result (IsSame hand.old hand.new) }
         ensures searched { IfOk result (λ refuted. WhereStood self.now (λ at. WhereAsked hand.old (λ asks.
             IsSearched R.Rank.own (of_side at at.formula side self.now.label asks) refuted found.new))) }
     {
@@ -201,7 +201,7 @@ impl<'a, R: Rank> Stand<'a, R> {
 
     /// The goal of an until is met now, and at label 0 the operand of a next holds.
     fn refute_now(&self, hand: &mut Hand, found: &mut Option<Finding>) -> Result<bool, AllocError>
-        ensures same { IfOk result (λ refuted. refuted ≡ false → IsSame hand.old hand.new) }
+        ensures same { OnOk result (IsSame hand.old hand.new) }
         ensures searched { IfOk result (λ refuted. WhereStood self.now (λ at. WhereAsked hand.old (λ asks.
             IsSearched R.Rank.own (of_now at at.formula self.now.label asks) refuted found.new))) }
     {
@@ -219,7 +219,7 @@ impl<'a, R: Rank> Stand<'a, R> {
 
     /// What an until is to keep holds before a step.
     fn refute_kept(&self, hand: &mut Hand, found: &mut Option<Finding>) -> Result<bool, AllocError>
-        ensures same { IfOk result (λ refuted. refuted ≡ false → IsSame hand.old hand.new) }
+        ensures same { OnOk result (IsSame hand.old hand.new) }
         ensures searched { IfOk result (λ refuted. WhereStood self.now (λ at. WhereAsked hand.old (λ asks.
             IsSearched R.Rank.own (of_keep at at.formula self.now.label asks) refuted found.new))) }
     {
@@ -233,7 +233,7 @@ impl<'a, R: Rank> Stand<'a, R> {
 
 /// Looks for a reason against the one system of a why that stands elsewhere.
 pub(crate) fn refute_plain(hand: &mut Hand, found: &mut Option<Finding>) -> Result<bool, AllocError>
-    ensures same { IfOk result (λ refuted. refuted ≡ false → IsSame hand.old hand.new) }
+    ensures same { OnOk result (IsSame hand.old hand.new) }
     ensures tried { IfOk result (λ refuted. WhereAsked hand.old (λ asks. IsTried (all_asked asks) 2 refuted found.new)) }
 {
     let refuted = hand.settle(UNEDGED, found)?;
@@ -246,7 +246,7 @@ pub(crate) fn refute_with(
     hand: &mut Hand,
     found: &mut Option<Finding>,
 ) -> Result<bool, AllocError>
-    ensures same { IfOk result (λ refuted. refuted ≡ false → IsSame hand.old hand.new) }
+    ensures same { OnOk result (IsSame hand.old hand.new) }
     ensures tried { IfOk result (λ refuted. WhereAsked hand.old (λ asks. (a : Formed) → Forms (asked a) formed
         → IsTried (all_asked (asks ++ a ∷ [])) 2 refuted found.new)) }
 {
@@ -254,11 +254,9 @@ pub(crate) fn refute_with(
     if !hand.add(formed)? {
         return Ok(false);
     }
-    if hand.settle(UNEDGED, found)? {
-        return Ok(true);
-    }
+    let refuted = hand.settle(UNEDGED, found)?;
     hand.back(mark);
-    Ok(false)
+    Ok(refuted)
 }
 
 /// The function's value is below 0.
@@ -275,7 +273,7 @@ fn refute_rank<R: Rank>(
     hand: &mut Hand,
     found: &mut Option<Finding>,
 ) -> Result<bool, AllocError>
-    ensures same { IfOk result (λ refuted. refuted ≡ false → IsSame hand.old hand.new) }
+    ensures same { OnOk result (IsSame hand.old hand.new) }
     ensures searched { IfOk result (λ refuted. WhereAsked hand.old (λ asks.
         IsSearched R.Rank.own (record { edge = unedged; asks = asks; claim = unnatural rank.now } ∷ []) refuted found.new)) }
 {
@@ -300,7 +298,7 @@ fn refute_part<R: Rank>(
     hand: &mut Hand,
     found: &mut Option<Finding>,
 ) -> Result<bool, AllocError>
-    ensures same { IfOk result (λ refuted. refuted ≡ false → IsSame hand.old hand.new) }
+    ensures same { OnOk result (IsSame hand.old hand.new) }
     ensures searched { IfOk result (λ refuted. WhereAsked hand.old (λ asks.
         IsSearched R.Rank.own (undefined_at (families_of parts.now number label) asks) refuted found.new)) }
 {

@@ -1,5 +1,5 @@
 //! A step of a leaf, by its pick.
-ghost use Rattle.std.specs.Prelude.{◌≡◌, List, false, pos, IfOk, map};
+ghost use Rattle.std.specs.Prelude.{◌≡◌, List, pos, IfOk, OnOk, map};
 ghost use Rattle.linear_cons.specs.Functions.{constant_of};
 ghost use Rattle.decision_tree.specs.Plans.{plan_of};
 ghost use Rattle.tree_support.specs.Flow.{Arc};
@@ -70,7 +70,7 @@ impl<'a, R: Rank> Stand<'a, R> {
         found: &mut Option<Finding>,
     ) -> Result<bool, AllocError>
         requires { HasPlace self.now.moves.now }
-        ensures same { IfOk result (λ refuted. refuted ≡ false → IsSame hand.old hand.new) }
+        ensures same { OnOk result (IsSame hand.old hand.new) }
         ensures searched { IfOk result (λ refuted. WhereStood self.now (λ at. WhereAsked hand.old (λ asks.
             IsSearched R.Rank.own (of_pick at pick.now (trees_in (map plan_of self.now.family.now)) rank.now self.now.label asks)
             refuted found.new))) }
@@ -103,7 +103,7 @@ impl<'a, R: Rank> Stand<'a, R> {
         found: &mut Option<Finding>,
     ) -> Result<bool, AllocError>
         requires { HasPlace self.now.moves.now }
-        ensures same { IfOk result (λ refuted. refuted ≡ false → IsSame hand.old hand.new) }
+        ensures same { OnOk result (IsSame hand.old hand.new) }
         ensures searched { IfOk result (λ refuted. WhereStood self.now (λ at. WhereAsked hand.old (λ asks.
             IsSearched R.Rank.own (of_arcs at at.formula (trees_in (map plan_of self.now.family.now)) rank.now (at.flow.arcs self.now.label) asks)
             refuted found.new))) }
@@ -128,7 +128,7 @@ impl<'a, R: Rank> Stand<'a, R> {
         hand: &mut Hand,
         found: &mut Option<Finding>,
     ) -> Result<bool, AllocError>
-        ensures same { IfOk result (λ refuted. refuted ≡ false → IsSame hand.old hand.new) }
+        ensures same { OnOk result (IsSame hand.old hand.new) }
         ensures searched { IfOk result (λ refuted. WhereStood self.now (λ at. WhereAsked hand.old (λ asks.
             IsSearched R.Rank.own (where_some at
             (of_outcome at (at.flow.choice self.now.label) outcome (trees_in (map plan_of self.now.family.now)) rank.now self.now.label asks) asks)
@@ -158,7 +158,7 @@ impl<'a, R: Rank> Stand<'a, R> {
         hand: &mut Hand,
         found: &mut Option<Finding>,
     ) -> Result<bool, AllocError>
-        ensures same { IfOk result (λ refuted. refuted ≡ false → IsSame hand.old hand.new) }
+        ensures same { OnOk result (IsSame hand.old hand.new) }
         ensures searched { IfOk result (λ refuted. WhereStood self.now (λ at. WhereAsked hand.old (λ asks.
             IsSearched R.Rank.own (of_arcs at at.formula (trees_in (map plan_of self.now.family.now)) rank.now
             (at.flow.arcs_of self.now.label outcome) asks) refuted found.new))) }
@@ -186,7 +186,7 @@ impl<'a, R: Rank> Stand<'a, R> {
         found: &mut Option<Finding>,
     ) -> Result<bool, AllocError>
         requires { HasPlace self.now.moves.now }
-        ensures same { IfOk result (λ refuted. refuted ≡ false → IsSame hand.old hand.new) }
+        ensures same { OnOk result (IsSame hand.old hand.new) }
         ensures searched { IfOk result (λ refuted. WhereStood self.now (λ at. WhereAsked hand.old (λ asks.
             IsSearched R.Rank.own (where_some at
             (of_value at (at.flow.choice self.now.label) value.now (trees_in (map plan_of self.now.family.now)) rank.now self.now.label asks) asks)
@@ -223,7 +223,7 @@ impl<'a, R: Rank> Stand<'a, R> {
         found: &mut Option<Finding>,
     ) -> Result<bool, AllocError>
         requires { HasPlace self.now.moves.now }
-        ensures same { IfOk result (λ refuted. refuted ≡ false → IsSame hand.old hand.new) }
+        ensures same { OnOk result (IsSame hand.old hand.new) }
         ensures searched { IfOk result (λ refuted. WhereStood self.now (λ at. WhereAsked hand.old (λ asks.
             IsSearched R.Rank.own (of_arcs at at.formula (trees_in (map plan_of self.now.family.now)) rank.now
             (at.flow.arcs_with self.now.label value.now) asks) refuted found.new))) }
@@ -250,7 +250,7 @@ fn refute_below(
     hand: &mut Hand,
     found: &mut Option<Finding>,
 ) -> Result<bool, AllocError>
-    ensures same { IfOk result (λ refuted. refuted ≡ false → IsSame hand.old hand.new) }
+    ensures same { OnOk result (IsSame hand.old hand.new) }
     ensures tried { IfOk result (λ refuted. WhereAsked hand.old (λ asks.
         IsPastTried (below_ends lo value.now) asks refuted found.new)) }
 {
@@ -269,7 +269,7 @@ fn refute_above(
     hand: &mut Hand,
     found: &mut Option<Finding>,
 ) -> Result<bool, AllocError>
-    ensures same { IfOk result (λ refuted. refuted ≡ false → IsSame hand.old hand.new) }
+    ensures same { OnOk result (IsSame hand.old hand.new) }
     ensures tried { IfOk result (λ refuted. WhereAsked hand.old (λ asks.
         IsPastTried (above_ends hi value.now) asks refuted found.new)) }
 {

@@ -1,5 +1,5 @@
 //! The alternatives of a claim.
-ghost use Rattle.std.specs.Prelude.{◌≡◌, ◌∷◌, ◌++◌, [], true, false, IfOk, IfErr};
+ghost use Rattle.std.specs.Prelude.{◌≡◌, ◌∷◌, ◌++◌, [], true, false, IfOk, OnOk, IfErr};
 ghost use Rattle.linear_cons.specs.Exact.{IsOutside};
 ghost use Rattle.rows_in_hand.specs.Hands.{IsMetNowhere, IsTried, all_chosen, unformed};
 ghost use Rattle.rows_in_hand.specs.Searches.{Holds, IsClaimTried, IsLonger, IsSame, IsTriedWith, WhereHeld, lists_there, rows_there};
@@ -19,7 +19,7 @@ pub fn try_claim(
     found: &mut Option<Finding>,
 ) -> Result<bool, AllocError>
     requires { IfErr formed.now IsOutside }
-    ensures same { IfOk result (λ refuted. refuted ≡ false → IsSame hand.old hand.new) }
+    ensures same { OnOk result (IsSame hand.old hand.new) }
     ensures tried { IfOk result (λ refuted. WhereHeld hand.old (λ items. IsClaimTried items formed.now edge refuted found.new)) }
 {
     match formed {
@@ -35,7 +35,7 @@ fn try_each(
     hand: &mut Hand,
     found: &mut Option<Finding>,
 ) -> Result<bool, AllocError>
-    ensures same { IfOk result (λ refuted. refuted ≡ false → IsSame hand.old hand.new) }
+    ensures same { OnOk result (IsSame hand.old hand.new) }
     ensures tried { IfOk result (λ refuted. WhereHeld hand.old (λ items. IsTriedWith items (lists_there list.now) edge refuted found.new)) }
 {
     for alternative in list {
@@ -55,7 +55,7 @@ fn try_one(
     hand: &mut Hand,
     found: &mut Option<Finding>,
 ) -> Result<bool, AllocError>
-    ensures same { IfOk result (λ refuted. refuted ≡ false → IsSame hand.old hand.new) }
+    ensures same { OnOk result (IsSame hand.old hand.new) }
     ensures tried { IfOk result (λ refuted. WhereHeld hand.old (λ items.
         IsTried (items ++ all_chosen (rows_there kinds.now)) edge refuted found.new)) }
 {
@@ -64,11 +64,9 @@ fn try_one(
         hand.back(mark);
         return Ok(false);
     }
-    if hand.settle(edge, found)? {
-        return Ok(true);
-    }
+    let refuted = hand.settle(edge, found)?;
     hand.back(mark);
-    Ok(false)
+    Ok(refuted)
 }
 
 /// Adds each row that is there. False where no store meets the rows with them.
@@ -97,14 +95,12 @@ fn try_unformed(
     found: &mut Option<Finding>,
 ) -> Result<bool, AllocError>
     requires { IsOutside wide }
-    ensures same { IfOk result (λ refuted. refuted ≡ false → IsSame hand.old hand.new) }
+    ensures same { OnOk result (IsSame hand.old hand.new) }
     ensures tried { IfOk result (λ refuted. WhereHeld hand.old (λ items. IsTried (items ++ unformed ∷ []) edge refuted found.new)) }
 {
     let mark = hand.mark();
     let _ = hand.add(Err(wide))?;
-    if hand.settle(edge, found)? {
-        return Ok(true);
-    }
+    let refuted = hand.settle(edge, found)?;
     hand.back(mark);
-    Ok(false)
+    Ok(refuted)
 }

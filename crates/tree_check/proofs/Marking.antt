@@ -53,9 +53,9 @@ module _ {R : Type 0} where
         let apart = before.1 in
         still_supported ranks at (trees_in old) (trees_in new) other (elsewhere other apart.own)
         (record {
-          every = λ arc member. elsewhere arc.target (apart.every arc member);
-          outcomes = λ outcome arc member. elsewhere arc.target (apart.outcomes outcome arc member);
-          values = λ a arc member. elsewhere arc.target (apart.values a arc member);
+          every = λ arc member. elsewhere arc.target (apart.ahead.every arc member);
+          outcomes = λ outcome arc member. elsewhere arc.target (apart.ahead.outcomes outcome arc member);
+          values = λ a arc member. elsewhere arc.target (apart.ahead.values a arc member);
         })
         (clean other before.0)
 

@@ -23,7 +23,7 @@ use Rattle.tree_check.specs.Checking.{WasCutShort}
 use Rattle.tree_check.specs.declared.survey.Refuted.{Refuted}
 use Rattle.tree_check.specs.Rounds.{Advances, IsSupportedAt, defined_in, defined_of, dropped_by, without_refuted}
 use Rattle.rows_in_hand.specs.Searches.{Finds}
-use Rattle.tree_check.specs.Surveys.{IsReviewed}
+use Rattle.tree_check.specs.Surveys.{IsAside, IsFirst, IsFound, IsReviewed}
 
 module _ {R : Type 0} where
   -- ---- one defined leaf fewer
@@ -61,7 +61,7 @@ module _ {R : Type 0} where
       ∙ ap (λ plan. with_leaf plan refuted.leaf (top (cause_of refuted.finding.reason))) (plan_at trees label was low))
 
   -- the trees without the leaf are the family without the drop
-  dropped_tree : (plans : List (Plan R)) (label : ℕ) (refuted : Refuted) → label < length plans → (l : ℕ)
+  pub dropped_tree : (plans : List (Plan R)) (label : ℕ) (refuted : Refuted) → label < length plans → (l : ℕ)
       → trees_in (without_refuted plans label refuted) l ≡ without_dropped (trees_in plans) (dropped_by label refuted) l
   dropped_tree plans label refuted low l = elim (changes (trees_in plans) (dropped_by label refuted) l) [
     | inl same ↦
@@ -168,22 +168,22 @@ module _ {R : Type 0} (ranks : Ranks R) (at : Setting R) where
 
   -- ---- the leaves at a label
 
-  pub advances_more : (old now new : List (Plan R)) (drops listed longer : List Dropped) (label first : ℕ) (refuted : Refuted)
-      → Advances ranks at old drops now listed → label < length old → IsReviewed ranks at (trees_in now) label first (Some refuted)
+  pub advances_more : (old now new : List (Plan R)) (drops listed longer : List Dropped) (label : ℕ) (refuted : Refuted)
+      → Advances ranks at old drops now listed → label < length old → IsFound ranks at (trees_in now) label refuted
       → longer ≡ listed ++ dropped_by label refuted ∷ [] → new ≡ without_refuted now label refuted → Advances ranks at old drops new longer
-  advances_more old now new drops listed longer label first refuted advances low reviewed is given =
+  advances_more old now new drops listed longer label refuted advances low found is given =
       let labels = advances.labels in
       subst (λ all. Advances ranks at old drops new all) (sym is)
       (subst (λ plans. Advances ranks at old drops plans (listed ++ dropped_by label refuted ∷ [])) (sym given)
       (advances_then old now (without_refuted now label refuted) drops listed (listed ++ dropped_by label refuted ∷ []) advances
-      (advances_one now listed label refuted (omega (arith, labels, low)) reviewed.0 reviewed.1)))
+      (advances_one now listed label refuted (omega (arith, labels, low)) found.0 found.1)))
 
-  pub fewer_defined : (old now new : List (Plan R)) (drops listed : List Dropped) (label first : ℕ) (refuted : Refuted)
-      → Advances ranks at old drops now listed → label < length old → IsReviewed ranks at (trees_in now) label first (Some refuted)
+  pub fewer_defined : (old now new : List (Plan R)) (drops listed : List Dropped) (label : ℕ) (refuted : Refuted)
+      → Advances ranks at old drops now listed → label < length old → IsFound ranks at (trees_in now) label refuted
       → new ≡ without_refuted now label refuted → defined_in new < defined_in now
-  fewer_defined old now new drops listed label first refuted advances low reviewed given =
+  fewer_defined old now new drops listed label refuted advances low found given =
       let labels = advances.labels in
-      let fewer = one_less now label refuted (omega (arith, labels, low)) reviewed.0 reviewed.1 in
+      let fewer = one_less now label refuted (omega (arith, labels, low)) found.0 found.1 in
       subst (λ plans. defined_in plans < defined_in now) (sym given) (omega (arith, fewer))
 
   pub not_same : (drops more listed longer : List Dropped) (d : Dropped) → listed ≡ drops ++ more → longer ≡ listed ++ d ∷ [] → longer ≢ drops
@@ -193,8 +193,18 @@ module _ {R : Type 0} (ranks : Ranks R) (at : Setting R) where
       let count = ap length same in
       omega (arith, here, there, count)
 
-  pub supported_from_start : (family : Trees R) (label first : ℕ) → first ≡ 0 → IsReviewed ranks at family label first None → IsSupportedAt ranks at family label
+  pub supported_from_start : (family : Trees R) (label first : ℕ) → first ≡ 0 → IsFirst ranks at family label first None → IsSupportedAt ranks at family label
   supported_from_start family label first start reviewed = λ place low. reviewed place low (omega (arith, start))
+
+  -- the first of the leaves that a survey found, which stopped there
+  pub first_some : (family : Trees R) (label first : ℕ) (collects : Bool) (found : List Refuted) (refuted : Refuted) → 0 < length found
+      → refuted ≡ get_or found 0 refuted → IsReviewed ranks at family label first collects found → IsFirst ranks at family label first (Some refuted)
+  first_some family label first collects found refuted low is reviewed = subst (IsFound ranks at family label) (sym is) (reviewed.each 0 refuted low)
+
+  pub first_none : (family : Trees R) (label first : ℕ) (collects : Bool) (found : List Refuted) → found ≡ []
+      → IsReviewed ranks at family label first collects found → IsFirst ranks at family label first None
+  first_none family label first collects found none reviewed = λ place low from.
+      reviewed.others (inr none) place low from (subst (All (IsAside place)) (sym none) (All-nil (IsAside place)))
 
   -- ---- the labels
 

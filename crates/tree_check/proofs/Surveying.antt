@@ -1,7 +1,9 @@
 -- The leaves of a label's tree, one after the other.
-use Rattle.std.proofs.Common.{◌≡◌, ℕ, zero, suc, ◌+◌, ◌-◌, ◌<◌, inl, inr, Bool, true, false, nat_lt, List, [], ◌∷◌, ◌++◌, length, map, get_or, All, Option, None, Some, refl, sym, ap, subst, arith}
+use Rattle.std.proofs.Common.{◌≡◌, ◌≢◌, ℕ, zero, suc, ◌+◌, ◌-◌, ◌<◌, ◌≤◌, inl, inr, Bool, true, false, nat_lt, List, [], ◌∷◌, ◌++◌, length, map, get_or, All, AllPairs, Option, None, refl, sym, ap, subst, ◌∙◌, arith}
 use Rattle.std.proofs.lemmas.Bool.{cases_lt, le-ltb, lt-ltb}
-use Rattle.std.proofs.lemmas.List.{append_assoc, append-nil}
+use Rattle.std.proofs.lemmas.List.{append_assoc, append-nil, length-append, nil_from_length}
+use Rattle.std.proofs.lemmas.List.Elements.{All-append, All-nil, All-tail, All-weaker}
+use Rattle.std.proofs.lemmas.List.Kept.{AllPairs-cons}
 use Rattle.std.proofs.lemmas.Simd.{map-map}
 use Rattle.linear_cons.specs.Functions.{complement_of}
 use Rattle.linear_cons.specs.declared.exact.Wide.{Wide}
@@ -19,11 +21,43 @@ use Rattle.tree_support.specs.Support.{HasNoStore}
 use Rattle.tree_support.specs.Systems.{System, of_leaf, systems}
 use Rattle.rows_in_hand.specs.declared.finding.Finding.{Finding}
 use Rattle.rows_in_hand.specs.Hands.{Held, IsMetNowhere, all_asked, asked, kind_of}
-use Rattle.rows_in_hand.specs.Searches.{Finds, IsSearched}
-use Rattle.tree_check.specs.Surveys.{IsReviewed, IsSurveyed, systems_within}
+use Rattle.rows_in_hand.specs.Searches.{Finds}
+use Rattle.tree_check.specs.declared.survey.Refuted.{Refuted}
+use Rattle.tree_check.specs.Surveys.{AreApart, IsAside, IsFound, IsFoundWithin, IsReviewed, IsSurveyed, LooksOn, systems_within}
+use Rattle.tree_support.proofs.Lists.{all_first, all_left, all_one, all_right}
 use Rattle.arc_search.specs.Walks.{side_of}
 use Rattle.tree_support.proofs.Nowhere.{leaf_nowhere}
 use Rattle.arc_search.proofs.Following.{nowhere_more}
+
+module _ {X : Type 0} (Rel : X → X → Type 0) where
+  no_pairs : AllPairs Rel []
+  no_pairs i j d before low = absurd (omega (arith, low))
+
+  no_two : (x : X) → AllPairs Rel (x ∷ [])
+  no_two x = AllPairs-cons Rel x [] (All-nil (Rel x)) no_pairs
+
+  pairs_first : (x : X) (xs : List X) → AllPairs Rel (x ∷ xs) → All (Rel x) xs
+  pairs_first x xs pairs k d low = pairs 0 (suc k) d (omega arith) (omega (arith, low))
+
+  pairs_rest : (x : X) (xs : List X) → AllPairs Rel (x ∷ xs) → AllPairs Rel xs
+  pairs_rest x xs pairs i j d before low = pairs (suc i) (suc j) d (omega (arith, before)) (omega (arith, low))
+
+  pairs_append : (xs ys : List X) → AllPairs Rel xs → AllPairs Rel ys → All (λ x. All (Rel x) ys) xs → AllPairs Rel (xs ++ ys)
+  pairs_append [] ys first second across = second
+  pairs_append (x ∷ xs) ys first second across =
+      AllPairs-cons Rel x (xs ++ ys) (All-append (Rel x) xs ys (pairs_first x xs first) (all_first (λ z. All (Rel z) ys) x xs across))
+      (pairs_append xs ys (pairs_rest x xs first) second (All-tail (λ z. All (Rel z) ys) x xs across))
+
+-- a survey that goes on behind more went on before
+pub looked_on : (collects : Bool) (now more new : List Refuted) → new ≡ now ++ more → LooksOn collects new → LooksOn collects now
+looked_on collects now more new is (inl all) = inl all
+looked_on collects now more new is (inr none) =
+    inr (nil_from_length now (let count = sym (length-append now more) ∙ ap length (sym is ∙ none) in omega (arith, count)))
+
+-- a leaf of the second side is another than one of the first
+further : (earlier later : Refuted) (passed mid count : ℕ) → mid ≡ passed + count → (near : ℕ) → earlier.leaf ≡ passed + near → near < count
+    → (far : ℕ) → later.leaf ≡ mid + far → later.leaf ≢ earlier.leaf
+further earlier later passed mid count counted near here low far there same = omega (arith, counted, here, low, there, same)
 
 module _ {R : Type 0} (ranks : Ranks R) where
   module _ (at : Setting R) (family : Trees R) (label : ℕ) where
@@ -49,67 +83,128 @@ module _ {R : Type 0} (ranks : Ranks R) where
     moved_none : (systems others : List (System R)) → systems ≡ others → All (HasNoStore ranks) systems → All (HasNoStore ranks) others
     moved_none systems others is none = subst (All (HasNoStore ranks)) is none
 
-    pub surveyed_first : (first : ℕ) (row : Row) (this that : Plan R) (asks : List Formed) (passed after : ℕ) (found : Option Finding)
-        → IsSurveyed ranks at family label first this (asks ++ given (side_of row.affine true) ∷ []) passed after true found
-        → IsSurveyed ranks at family label first (branch row this that) asks passed after true found
-    surveyed_first first row this that asks passed after None surveyed = surveyed
-    surveyed_first first row this that asks passed after (Some f) surveyed =
-        (surveyed.0, surveyed.1, (let low = surveyed.2 in omega arith), moved_finds (systems_within ranks at family label this (asks ++ given row.affine ∷ []) surveyed.0) (systems_within ranks at family label (branch row this that) asks surveyed.0) f (on_first row this that asks surveyed.0 surveyed.2) surveyed.3)
-
-    pub surveyed_then : (first : ℕ) (row : Row) (this that : Plan R) (asks : List Formed) (passed mid after : ℕ) (refuted : Bool) (before found : Option Finding)
-        → mid ≡ passed + leaves_of this
-        → IsSurveyed ranks at family label first this (asks ++ given (side_of row.affine true) ∷ []) passed mid false before
-        → IsSurveyed ranks at family label first that (asks ++ given (side_of row.affine false) ∷ []) mid after refuted found
-        → IsSurveyed ranks at family label first (branch row this that) asks passed after refuted found
-    surveyed_then first row this that asks passed mid after true before None count none surveyed = surveyed
-    surveyed_then first row this that asks passed mid after true before (Some f) count none surveyed = (
-      leaves_of this + surveyed.0,
-      (let is = surveyed.1 in omega arith),
-      (let low = surveyed.2 in omega arith),
-      moved_finds (systems_within ranks at family label that (asks ++ given (complement_of row.affine) ∷ []) surveyed.0) (systems_within ranks at family label (branch row this that) asks (leaves_of this + surveyed.0)) f (on_second row this that asks surveyed.0) surveyed.3,
+    within_first : (row : Row) (this that : Plan R) (asks : List Formed) (passed : ℕ) (refuted : Refuted)
+        → IsFoundWithin ranks at family label this (asks ++ given row.affine ∷ []) passed refuted
+        → IsFoundWithin ranks at family label (branch row this that) asks passed refuted
+    within_first row this that asks passed refuted found = (
+      found.0,
+      found.1,
+      (let low = found.2 in omega (arith, low)),
+      moved_finds (systems_within ranks at family label this (asks ++ given row.affine ∷ []) found.0)
+          (systems_within ranks at family label (branch row this that) asks found.0) refuted.finding (on_first row this that asks found.0 found.2) found.3,
     )
-    surveyed_then first row this that asks passed mid after false before found count none surveyed = λ place low from.
-        elim (cases_lt place (leaves_of this)) [
-          | inl near ↦ moved_none (systems_within ranks at family label this (asks ++ given row.affine ∷ []) place) (systems_within ranks at family label (branch row this that) asks place) (on_first row this that asks place near) (none place near from)
-          | inr far ↦
-              let behind : leaves_of this + (place - leaves_of this) ≡ place = omega arith in
-              subst (λ p. All (HasNoStore ranks) (systems_within ranks at family label (branch row this that) asks p)) behind
-              (moved_none (systems_within ranks at family label that (asks ++ given (complement_of row.affine) ∷ []) (place - leaves_of this))
-              (systems_within ranks at family label (branch row this that) asks (leaves_of this + (place - leaves_of this)))
-              (on_second row this that asks (place - leaves_of this))
-              (surveyed (place - leaves_of this) (omega arith) (omega arith)))
-        ]
+
+    within_second : (row : Row) (this that : Plan R) (asks : List Formed) (passed mid : ℕ) → mid ≡ passed + leaves_of this → (refuted : Refuted)
+        → IsFoundWithin ranks at family label that (asks ++ given (complement_of row.affine) ∷ []) mid refuted
+        → IsFoundWithin ranks at family label (branch row this that) asks passed refuted
+    within_second row this that asks passed mid count refuted found = (
+      leaves_of this + found.0,
+      (let is = found.1 in omega (arith, is, count)),
+      (let low = found.2 in omega (arith, low)),
+      moved_finds (systems_within ranks at family label that (asks ++ given (complement_of row.affine) ∷ []) found.0)
+          (systems_within ranks at family label (branch row this that) asks (leaves_of this + found.0)) refuted.finding
+          (on_second row this that asks found.0) found.3,
+    )
+
+    -- ---- what a survey finds
+
+    surveyed_none : (first : ℕ) (collects : Bool) (plan : Plan R) (asks : List Formed) (passed : ℕ) (old : List Refuted)
+        → (LooksOn collects old → (place : ℕ) → place < leaves_of plan → first ≤ passed + place
+        → All (HasNoStore ranks) (systems_within ranks at family label plan asks place))
+        → IsSurveyed ranks at family label first collects plan asks passed old old
+    surveyed_none first collects plan asks passed old none = record {
+      more = [];
+      listed = sym (append-nil old);
+      each = All-nil (IsFoundWithin ranks at family label plan asks passed);
+      apart = no_pairs (λ earlier later. later.leaf ≢ earlier.leaf);
+      others = λ looks place low from aside. none looks place low from;
+    }
+
+    -- of a branch's leaves those of both sides
+    pub surveyed_both : (first : ℕ) (collects : Bool) (row : Row) (this that : Plan R) (asks : List Formed) (passed mid : ℕ) (old now new : List Refuted)
+        → mid ≡ passed + leaves_of this
+        → IsSurveyed ranks at family label first collects this (asks ++ given (side_of row.affine true) ∷ []) passed old now
+        → IsSurveyed ranks at family label first collects that (asks ++ given (side_of row.affine false) ∷ []) mid now new
+        → IsSurveyed ranks at family label first collects (branch row this that) asks passed old new
+    surveyed_both first collects row this that asks passed mid old now new count near far =
+        let asks_near : List Formed = asks ++ given row.affine ∷ [] in
+        let asks_far : List Formed = asks ++ given (complement_of row.affine) ∷ [] in
+        let Near : Refuted → Type 0 = IsFoundWithin ranks at family label this asks_near passed in
+        let Far : Refuted → Type 0 = IsFoundWithin ranks at family label that asks_far mid in
+        let Both : Refuted → Type 0 = IsFoundWithin ranks at family label (branch row this that) asks passed in
+        record {
+          more = near.more ++ far.more;
+          listed = far.listed ∙ ap (λ front. front ++ far.more) near.listed ∙ append_assoc old near.more far.more;
+          each = All-append Both near.more far.more (All-weaker Near Both (within_first row this that asks passed) near.more near.each)
+              (All-weaker Far Both (within_second row this that asks passed mid count) far.more far.each);
+          apart = pairs_append (λ earlier later. later.leaf ≢ earlier.leaf) near.more far.more near.apart far.apart
+              (All-weaker Near (λ earlier. All (λ later. later.leaf ≢ earlier.leaf) far.more)
+              (λ earlier here. All-weaker Far (λ later. later.leaf ≢ earlier.leaf)
+              (λ later there. further earlier later passed mid (leaves_of this) count here.0 here.1 here.2 there.0 there.1) far.more far.each)
+              near.more near.each);
+          others = λ looks place low from aside. elim (cases_lt place (leaves_of this)) [
+            | inl here ↦
+                moved_none (systems_within ranks at family label this asks_near place) (systems_within ranks at family label (branch row this that) asks place)
+                (on_first row this that asks place here)
+                (near.others (looked_on collects now far.more new far.listed looks) place here from (all_left (IsAside (passed + place)) near.more far.more aside))
+            | inr there ↦
+                let behind : leaves_of this + (place - leaves_of this) ≡ place = omega (arith, there) in
+                let number : passed + place ≡ mid + (place - leaves_of this) = omega (arith, there, count) in
+                subst (λ p. All (HasNoStore ranks) (systems_within ranks at family label (branch row this that) asks p)) behind
+                (moved_none (systems_within ranks at family label that asks_far (place - leaves_of this))
+                (systems_within ranks at family label (branch row this that) asks (leaves_of this + (place - leaves_of this)))
+                (on_second row this that asks (place - leaves_of this))
+                (far.others looks (place - leaves_of this) (omega (arith, low, there)) (omega (arith, from, number))
+                (subst (λ n. All (IsAside n) far.more) number (all_right (IsAside (passed + place)) near.more far.more aside))))
+          ];
+        }
 
     -- ---- one leaf
 
-    pub surveyed_end : (first : ℕ) (end : Plan R) (asks : List Formed) (passed after : ℕ) (found : Option Finding) → leaves_of end ≡ 1
+    pub surveyed_undefined : (first : ℕ) (collects : Bool) (end : Plan R) (asks : List Formed) (passed : ℕ) (old : List Refuted) → leaves_of end ≡ 1
         → All (HasNoStore ranks) (of_leaf at (leaf_numbered end 0) family label (asks ++ map (λ a. given a) (path_of end 0)))
-        → IsSurveyed ranks at family label first end asks passed after false found
-    surveyed_end first end asks passed after found one none = λ place low from.
-        let is : place ≡ 0 = omega arith in subst (λ p. All (HasNoStore ranks) (systems_within ranks at family label end asks p)) (sym is) none
+        → IsSurveyed ranks at family label first collects end asks passed old old
+    surveyed_undefined first collects end asks passed old one none =
+        surveyed_none first collects end asks passed old (λ looks place low from.
+        let is : place ≡ 0 = omega (arith, low, one) in
+        subst (λ p. All (HasNoStore ranks) (systems_within ranks at family label end asks p)) (sym is) none)
 
-    pub surveyed_leaf : (first : ℕ) (why : Why) (rank : R) (asks : List Formed) (passed : ℕ) (refuted : Bool) (found : Option Finding)
-        → IsSearched ranks (of_leaf at (leaf why rank) family label asks) refuted found
-        → IsSurveyed ranks at family label first (leaf why rank) asks passed passed refuted found
-    surveyed_leaf first why rank asks passed true None searched = searched
-    surveyed_leaf first why rank asks passed true (Some f) searched =
-        (0, omega arith, omega arith, subst (λ all. Finds ranks (of_leaf at (leaf why rank) family label all) f) (sym (append-nil asks)) searched)
-    surveyed_leaf first why rank asks passed false found searched =
-        surveyed_end first (leaf why rank) asks passed passed found refl
-        (subst (λ all. All (HasNoStore ranks) (of_leaf at (leaf why rank) family label all)) (sym (append-nil asks)) searched)
+    pub surveyed_leaf : (first : ℕ) (collects : Bool) (why : Why) (rank : R) (asks : List Formed) (passed : ℕ) (old : List Refuted)
+        → All (HasNoStore ranks) (of_leaf at (leaf why rank) family label asks)
+        → IsSurveyed ranks at family label first collects (leaf why rank) asks passed old old
+    surveyed_leaf first collects why rank asks passed old none =
+        surveyed_undefined first collects (leaf why rank) asks passed old refl
+        (subst (λ all. All (HasNoStore ranks) (of_leaf at (leaf why rank) family label all)) (sym (append-nil asks)) none)
 
-    pub surveyed_before : (first : ℕ) (why : Why) (rank : R) (asks : List Formed) (passed : ℕ) (found : Option Finding) → passed < first
-        → IsSurveyed ranks at family label first (leaf why rank) asks passed passed false found
-    surveyed_before first why rank asks passed found before = λ place low from. absurd (omega arith)
+    pub surveyed_refuted : (first : ℕ) (collects : Bool) (why : Why) (rank : R) (asks : List Formed) (passed : ℕ) (old new : List Refuted) (f : Finding)
+        → new ≡ old ++ record { leaf = passed; finding = f } ∷ [] → Finds ranks (of_leaf at (leaf why rank) family label asks) f
+        → IsSurveyed ranks at family label first collects (leaf why rank) asks passed old new
+    surveyed_refuted first collects why rank asks passed old new f is finds =
+        let found : Refuted = record { leaf = passed; finding = f } in
+        record {
+          more = found ∷ [];
+          listed = is;
+          each = all_one (IsFoundWithin ranks at family label (leaf why rank) asks passed) found
+              (0, omega arith, omega arith, subst (λ all. Finds ranks (of_leaf at (leaf why rank) family label all) f) (sym (append-nil asks)) finds);
+          apart = no_two (λ earlier later. later.leaf ≢ earlier.leaf) found;
+          others = λ looks place low from aside.
+              absurd (all_first (IsAside (passed + place)) found [] aside (let is : place ≡ 0 = omega (arith, low) in omega (arith, is)));
+        }
+
+    pub surveyed_before : (first : ℕ) (collects : Bool) (plan : Plan R) (asks : List Formed) (passed : ℕ) (old : List Refuted)
+        → (LooksOn collects old → passed + leaves_of plan ≤ first) → IsSurveyed ranks at family label first collects plan asks passed old old
+    surveyed_before first collects plan asks passed old before =
+        surveyed_none first collects plan asks passed old
+        (λ looks place low from. absurd (let all = before looks in omega (arith, all, low, from)))
 
     -- behind what is met nowhere no leaf has a system with a store
-    pub surveyed_nowhere : (first : ℕ) (plan : Plan R) (asks : List Formed) (passed after : ℕ) (found : Option Finding) → IsMetNowhere (all_asked asks)
-        → IsSurveyed ranks at family label first plan asks passed after false found
-    surveyed_nowhere first plan asks passed after found none = λ place low from.
+    pub surveyed_nowhere : (first : ℕ) (collects : Bool) (plan : Plan R) (asks : List Formed) (passed : ℕ) (old : List Refuted)
+        → IsMetNowhere (all_asked asks) → IsSurveyed ranks at family label first collects plan asks passed old old
+    surveyed_nowhere first collects plan asks passed old none = surveyed_none first collects plan asks passed old (λ looks place low from.
         let more : List Formed = asks ++ map (λ a. given a) (path_of plan place) in
         leaf_nowhere ranks at (leaf_numbered plan place) family label more (λ store met.
         nowhere_more asks (map (λ a. given a) (path_of plan place)) none store
-        (subst (All (λ kind. MeetsKind store kind)) (sym (map-map kind_of (λ a. asked a) more)) met))
+        (subst (All (λ kind. MeetsKind store kind)) (sym (map-map kind_of (λ a. asked a) more)) met)))
 
     -- ---- the label's own tree
 
@@ -117,23 +212,31 @@ module _ {R : Type 0} (ranks : Ranks R) where
         → systems_within ranks at family label (family label) (rows_given (at.rows label)) place ≡ systems at family label place
     systems_are alive place = rw alive refl
 
-    pub reviewed_none : (first : ℕ) (found : Option Finding) (after : ℕ) → at.dead label ≡ false
-        → IsSurveyed ranks at family label first (family label) (rows_given (at.rows label)) 0 after false found
-        → IsReviewed ranks at family label first None
-    reviewed_none first found after alive surveyed = λ place low from.
-        moved_none (systems_within ranks at family label (family label) (rows_given (at.rows label)) place) (systems at family label place)
-        (systems_are alive place) (surveyed place low (omega (arith, from)))
-
-    pub reviewed_some : (first after : ℕ) (f : Finding) → at.dead label ≡ false
-        → IsSurveyed ranks at family label first (family label) (rows_given (at.rows label)) 0 after true (Some f)
-        → IsReviewed ranks at family label first (Some (record { leaf = after; finding = f }))
-    reviewed_some first after f alive surveyed =
-        let is : after ≡ surveyed.0 = (let is = surveyed.1 in omega (arith, is)) in
-        subst (λ place. (place < leaves_of (family label)) × Finds ranks (systems at family label place) f) (sym is) (
-          surveyed.2,
-          moved_finds (systems_within ranks at family label (family label) (rows_given (at.rows label)) surveyed.0) (systems at family label surveyed.0) f
-              (systems_are alive surveyed.0) surveyed.3,
+    found_is : at.dead label ≡ false → (refuted : Refuted) → IsFoundWithin ranks at family label (family label) (rows_given (at.rows label)) 0 refuted
+        → IsFound ranks at family label refuted
+    found_is alive refuted within =
+        let is : refuted.leaf ≡ within.0 = (let number = within.1 in omega (arith, number)) in
+        subst (λ place. (place < leaves_of (family label)) × Finds ranks (systems at family label place) refuted.finding) (sym is) (
+          within.2,
+          moved_finds (systems_within ranks at family label (family label) (rows_given (at.rows label)) within.0) (systems at family label within.0) refuted.finding
+              (systems_are alive within.0) within.3,
         )
+
+    pub reviewed : (first : ℕ) (collects : Bool) (refuted : List Refuted) → at.dead label ≡ false
+        → IsSurveyed ranks at family label first collects (family label) (rows_given (at.rows label)) 0 [] refuted
+        → IsReviewed ranks at family label first collects refuted
+    reviewed first collects refuted alive surveyed = record {
+      each = subst (All (IsFound ranks at family label)) (sym surveyed.listed)
+          (All-weaker (IsFoundWithin ranks at family label (family label) (rows_given (at.rows label)) 0) (IsFound ranks at family label) (found_is alive)
+          surveyed.more surveyed.each);
+      apart = subst AreApart (sym surveyed.listed) surveyed.apart;
+      others = λ looks place low from aside.
+          let these : All (IsAside place) surveyed.more = subst (All (IsAside place)) surveyed.listed aside in
+          let from_none : place ≡ 0 + place = omega arith in
+          moved_none (systems_within ranks at family label (family label) (rows_given (at.rows label)) place) (systems at family label place)
+          (systems_are alive place)
+          (surveyed.others looks place low (omega (arith, from)) (subst (λ n. All (IsAside n) surveyed.more) from_none these));
+    }
 
 -- nothing is in hand for nothing
 pub held_empty : (rows : List Row) (wide : Option Wide) → rows ≡ [] → wide ≡ None → Held [] rows wide

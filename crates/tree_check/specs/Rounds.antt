@@ -47,12 +47,16 @@ module _ {R : Type 0} where
   abbrev pub IsSameElsewhere : ℕ → List (Plan R) → List (Plan R) → Type 0
   IsSameElsewhere label old new = (other : ℕ) → other ≢ label → trees_in new other ≡ trees_in old other
 
-  -- the label isn't the other, and no arc leads from it there, whichever outcome or value is picked
-  pub record IsApart (at : Setting R) (label other : ℕ) : Type 0 where
-    pub own : label ≢ other
+  -- no arc leads from the label to the other, whichever outcome or value is picked
+  pub record LeadsElsewhere (at : Setting R) (label other : ℕ) : Type 0 where
     pub every : Avoid (at.flow.arcs label) other
     pub outcomes : (outcome : Bool) → Avoid (at.flow.arcs_of label outcome) other
     pub values : (a : Affine) → Avoid (at.flow.arcs_with label a) other
+
+  -- the label isn't the other, and no arc leads from it there
+  pub record IsApart (at : Setting R) (label other : ℕ) : Type 0 where
+    pub own : label ≢ other
+    pub ahead : LeadsElsewhere at label other
 
 -- the setting that they make
 abbrev pub setting_on : {D R : Type 0} → Domain D → Premises D R → Setting R

@@ -1,5 +1,5 @@
 -- The leaves of a label's tree, one after the other.
-use Rattle.std.specs.Prelude.{◌≡◌, ℕ, ◌+◌, ◌<◌, ◌≤◌, Bool, true, false, List, ◌++◌, map, All, Option, None, Some, IsSomeAnd}
+use Rattle.std.specs.Prelude.{◌≡◌, ◌≢◌, ◌⊎◌, ℕ, ◌+◌, ◌<◌, ◌≤◌, Bool, true, List, [], ◌++◌, map, All, AllPairs, Option, None, Some}
 use Rattle.decision_tree.specs.declared.rank.Rank.{Ghosts as Ranks}
 use Rattle.decision_tree.specs.Paths.{leaf_numbered, path_of}
 use Rattle.decision_tree.specs.Plans.{Plan, leaves_of}
@@ -8,25 +8,52 @@ use Rattle.tree_support.specs.Setting.{Setting, Trees}
 use Rattle.tree_support.specs.Support.{HasNoStore}
 use Rattle.tree_support.specs.Systems.{System, of_leaf, systems}
 use Rattle.rows_in_hand.specs.Searches.{Finds}
-use Rattle.rows_in_hand.specs.declared.finding.Finding.{Finding}
 use Rattle.tree_check.specs.declared.survey.Refuted.{Refuted}
+
+-- a survey goes on behind these leaves: it collects, or none was refuted yet
+abbrev pub LooksOn : Bool → List Refuted → Type 0
+LooksOn collects refuted = (collects ≡ true) ⊎ (refuted ≡ [])
+
+-- the refuted leaf is another than the one with the number
+abbrev pub IsAside : ℕ → Refuted → Type 0
+IsAside number refuted = refuted.leaf ≢ number
+
+-- no two of the refuted leaves are the same leaf
+abbrev pub AreApart : List Refuted → Type 0
+AreApart refuted = AllPairs (λ earlier later. later.leaf ≢ earlier.leaf) refuted
 
 module _ {R : Type 0} (ranks : Ranks R) (at : Setting R) (family : Trees R) (label : ℕ) where
   -- the systems of the leaf with the number, behind what is asked before the tree
   abbrev pub systems_within : Plan R → List Formed → ℕ → List (System R)
   systems_within plan asks place = of_leaf at (leaf_numbered plan place) family label (asks ++ map (λ a. given a) (path_of plan place))
 
-  -- The survey of a tree before which so many leaves were passed, and so many after it: a reason was found against the leaf that stands
-  -- there, or no store meets a system of any whose number is at least the first.
-  abbrev pub IsSurveyed : ℕ → Plan R → List Formed → ℕ → ℕ → Bool → Option Finding → Type 0
-  IsSurveyed first plan asks passed after true found =
-      IsSomeAnd found (λ f. (place : ℕ) × (after ≡ passed + place) × (place < leaves_of plan) × Finds ranks (systems_within plan asks place) f)
-  IsSurveyed first plan asks passed after false found =
-      (place : ℕ) → place < leaves_of plan → first ≤ passed + place → All (HasNoStore ranks) (systems_within plan asks place)
+  -- the leaf is one of the tree, before which so many were passed, and there is a reason against it
+  abbrev pub IsFoundWithin : Plan R → List Formed → ℕ → Refuted → Type 0
+  IsFoundWithin plan asks passed refuted =
+      (place : ℕ) × (refuted.leaf ≡ passed + place) × (place < leaves_of plan) × Finds ranks (systems_within plan asks place) refuted.finding
 
-  -- the same of the label's own tree: there is a reason against the leaf, or no store meets a system of any from the first on
-  abbrev pub IsReviewed : ℕ → Option Refuted → Type 0
-  IsReviewed first None =
-      (place : ℕ) → place < leaves_of (family label) → first ≤ place → All (HasNoStore ranks) (systems at family label place)
-  IsReviewed first (Some refuted) =
-      (refuted.leaf < leaves_of (family label)) × Finds ranks (systems at family label refuted.leaf) refuted.finding
+  -- The survey of a tree before which so many leaves were passed: it listed leaves with a reason against them, and where it goes on no store
+  -- meets a system of another from the first on.
+  pub record IsSurveyed (first : ℕ) (collects : Bool) (plan : Plan R) (asks : List Formed) (passed : ℕ) (old new : List Refuted) : Type 0 where
+    pub more : List Refuted
+    pub listed : new ≡ old ++ more
+    pub each : All (IsFoundWithin plan asks passed) more
+    pub apart : AreApart more
+    pub others : LooksOn collects new → (place : ℕ) → place < leaves_of plan → first ≤ passed + place → All (IsAside (passed + place)) more
+        → All (HasNoStore ranks) (systems_within plan asks place)
+
+  -- there is a reason against the leaf of the label's own tree
+  abbrev pub IsFound : Refuted → Type 0
+  IsFound refuted = (refuted.leaf < leaves_of (family label)) × Finds ranks (systems at family label refuted.leaf) refuted.finding
+
+  -- the same of the label's own tree
+  pub record IsReviewed (first : ℕ) (collects : Bool) (refuted : List Refuted) : Type 0 where
+    pub each : All IsFound refuted
+    pub apart : AreApart refuted
+    pub others : LooksOn collects refuted → (place : ℕ) → place < leaves_of (family label) → first ≤ place → All (IsAside place) refuted
+        → All (HasNoStore ranks) (systems at family label place)
+
+  -- the leaf is the first from a number on with a reason against it, or there is none
+  abbrev pub IsFirst : ℕ → Option Refuted → Type 0
+  IsFirst first None = (place : ℕ) → place < leaves_of (family label) → first ≤ place → All (HasNoStore ranks) (systems at family label place)
+  IsFirst first (Some refuted) = IsFound refuted

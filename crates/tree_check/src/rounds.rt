@@ -7,9 +7,9 @@ ghost use Rattle.tree_support.specs.Elimination.{cause_of};
 ghost use Rattle.tree_support.specs.Setting.{trees_in};
 ghost use Rattle.tree_support.specs.Support.{IsSupported};
 ghost use Rattle.arc_search.specs.Moves.{HasPlace, IsMovesAt};
-ghost use Rattle.tree_check.specs.Rounds.{Advances, AreClean, IsApart, IsSameElsewhere, IsSupportedAt, dropped_by, setting_on};
+ghost use Rattle.tree_check.specs.Rounds.{Advances, AreClean, IsApart, IsSameElsewhere, IsSupportedAt, LeadsElsewhere, dropped_by, setting_on};
 ghost use Rattle.tree_check.specs.Rounds.{without_refuted};
-ghost use Rattle.tree_check.specs.Surveys.{IsReviewed};
+ghost use Rattle.tree_check.specs.Surveys.{IsFirst, IsReviewed};
 
 use crate::survey::{Refuted, Survey};
 use arc_search::{Moves, target};
@@ -155,9 +155,14 @@ impl<'a, D: NumDomain, R: Rank> Premises<'a, D, R> {
         requires { label < length (all_labels (statements self.now.graph.now.body)) }
         ensures { result ≡ false → IsApart (setting_on D.NumDomain.own self.now) label other }
     {
-        if label == other {
-            return true;
-        }
+        label == other || self.leads(label, other)
+    }
+
+    /// Whether an edge leads from a label to another.
+    fn leads(&self, label: u32, other: u32) -> bool
+        requires { label < length (all_labels (statements self.now.graph.now.body)) }
+        ensures { result ≡ false → LeadsElsewhere (setting_on D.NumDomain.own self.now) label other }
+    {
         let edges = self.graph.edges(label);
         target(&edges[0]) == other || target(&edges[1]) == other
     }
@@ -210,16 +215,94 @@ impl<'a, D: NumDomain, R: Rank> Premises<'a, D, R> {
         ensures supported { OnOk result (drops.new.items ≡ drops.old.items
             → IsSupportedAt R.Rank.own (setting_on D.NumDomain.own self.now) (trees_in (map plan_of trees.new)) label) }
     {
+        if self.leads(label, label) {
+            return self.settle_in_turn(label, moves, rows, trees, drops);
+        }
+        self.settle_at_once(label, moves, rows, trees, drops)
+    }
+
+    /// The same of a label whose systems read its own tree: each leaf that is given up may change what is to be shown at the others.
+    fn settle_in_turn(
+        &self,
+        label: u32,
+        moves: &Moves,
+        rows: &[Row],
+        trees: &mut [Tree<R>],
+        drops: &mut Vec<Dropped>,
+    ) -> Result<(), AllocError>
+        requires label { label < length (all_labels (statements self.now.graph.now.body)) }
+        requires trees { length trees.old ≡ length (all_labels (statements self.now.graph.now.body)) }
+        requires leaves { (label : ℕ) → leaves_of (trees_in (map plan_of trees.old) label) < 2 ^ 64 - 1 }
+        requires place { HasPlace moves.now }
+        requires alive { (setting_on D.NumDomain.own self.now).dead label ≡ false }
+        requires moves { IsMovesAt (setting_on D.NumDomain.own self.now) label moves.now }
+        requires rows { (setting_on D.NumDomain.own self.now).rows label ≡ rows.now }
+        ensures advances { Advances R.Rank.own (setting_on D.NumDomain.own self.now) (map plan_of trees.old) drops.old.items
+            (map plan_of trees.new) drops.new.items }
+        ensures elsewhere { IsSameElsewhere label (map plan_of trees.old) (map plan_of trees.new) }
+        ensures supported { OnOk result (drops.new.items ≡ drops.old.items
+            → IsSupportedAt R.Rank.own (setting_on D.NumDomain.own self.now) (trees_in (map plan_of trees.new)) label) }
+    {
         let mut first = 0;
-        while let Some(refuted) = self.refuted(label, first, moves, rows, trees)? {
+        while let Some(refuted) = self.first_refuted(label, first, moves, rows, trees)? {
             give_up(trees, label, &refuted, drops)?;
             first = refuted.leaf + 1;
         }
         Ok(())
     }
 
+    /// The same of a label whose systems don't read its own tree: one survey finds all the leaves to be given up.
+    fn settle_at_once(
+        &self,
+        label: u32,
+        moves: &Moves,
+        rows: &[Row],
+        trees: &mut [Tree<R>],
+        drops: &mut Vec<Dropped>,
+    ) -> Result<(), AllocError>
+        requires label { label < length (all_labels (statements self.now.graph.now.body)) }
+        requires trees { length trees.old ≡ length (all_labels (statements self.now.graph.now.body)) }
+        requires leaves { (label : ℕ) → leaves_of (trees_in (map plan_of trees.old) label) < 2 ^ 64 - 1 }
+        requires place { HasPlace moves.now }
+        requires alive { (setting_on D.NumDomain.own self.now).dead label ≡ false }
+        requires moves { IsMovesAt (setting_on D.NumDomain.own self.now) label moves.now }
+        requires rows { (setting_on D.NumDomain.own self.now).rows label ≡ rows.now }
+        requires elsewhere { LeadsElsewhere (setting_on D.NumDomain.own self.now) label label }
+        ensures advances { Advances R.Rank.own (setting_on D.NumDomain.own self.now) (map plan_of trees.old) drops.old.items
+            (map plan_of trees.new) drops.new.items }
+        ensures elsewhere { IsSameElsewhere label (map plan_of trees.old) (map plan_of trees.new) }
+        ensures supported { OnOk result (drops.new.items ≡ drops.old.items
+            → IsSupportedAt R.Rank.own (setting_on D.NumDomain.own self.now) (trees_in (map plan_of trees.new)) label) }
+    {
+        let found = self.refuted(label, 0, true, moves, rows, trees)?;
+        self.give_up_each(label, &found, trees, drops)
+    }
+
+    /// Gives up the leaves that a survey found.
+    fn give_up_each(
+        &self,
+        label: u32,
+        found: &[Refuted],
+        trees: &mut [Tree<R>],
+        drops: &mut Vec<Dropped>,
+    ) -> Result<(), AllocError>
+        requires label { label < length trees.old }
+        requires elsewhere { LeadsElsewhere (setting_on D.NumDomain.own self.now) label label }
+        requires found { IsReviewed R.Rank.own (setting_on D.NumDomain.own self.now) (trees_in (map plan_of trees.old)) label 0 true found.now }
+        ensures advances { Advances R.Rank.own (setting_on D.NumDomain.own self.now) (map plan_of trees.old) drops.old.items
+            (map plan_of trees.new) drops.new.items }
+        ensures elsewhere { IsSameElsewhere label (map plan_of trees.old) (map plan_of trees.new) }
+        ensures supported { OnOk result (IsSupportedAt R.Rank.own (setting_on D.NumDomain.own self.now)
+            (trees_in (map plan_of trees.new)) label) }
+    {
+        for refuted in found {
+            give_up(trees, label, refuted, drops)?;
+        }
+        Ok(())
+    }
+
     /// The first refuted leaf at the label from a number on.
-    fn refuted(
+    fn first_refuted(
         &self,
         label: u32,
         first: u64,
@@ -234,7 +317,33 @@ impl<'a, D: NumDomain, R: Rank> Premises<'a, D, R> {
         requires moves { IsMovesAt (setting_on D.NumDomain.own self.now) label moves.now }
         requires rows { (setting_on D.NumDomain.own self.now).rows label ≡ rows.now }
         ensures { IfOk result (λ refuted.
-            IsReviewed R.Rank.own (setting_on D.NumDomain.own self.now) (trees_in (map plan_of trees.now)) label first refuted) }
+            IsFirst R.Rank.own (setting_on D.NumDomain.own self.now) (trees_in (map plan_of trees.now)) label first refuted) }
+    {
+        let refuted = self.refuted(label, first, false, moves, rows, trees)?;
+        match refuted.first() {
+            Some(refuted) => Ok(Some(*refuted)),
+            None => Ok(None),
+        }
+    }
+
+    /// The refuted leaves at the label from a number on: all of them, or the first.
+    fn refuted(
+        &self,
+        label: u32,
+        first: u64,
+        collects: bool,
+        moves: &Moves,
+        rows: &[Row],
+        trees: &[Tree<R>],
+    ) -> Result<Vec<Refuted>, AllocError>
+        requires label { label < length (all_labels (statements self.now.graph.now.body)) }
+        requires leaves { leaves_of (trees_in (map plan_of trees.now) label) < 2 ^ 64 - 1 }
+        requires place { HasPlace moves.now }
+        requires alive { (setting_on D.NumDomain.own self.now).dead label ≡ false }
+        requires moves { IsMovesAt (setting_on D.NumDomain.own self.now) label moves.now }
+        requires rows { (setting_on D.NumDomain.own self.now).rows label ≡ rows.now }
+        ensures { IfOk result (λ refuted. IsReviewed R.Rank.own (setting_on D.NumDomain.own self.now) (trees_in (map plan_of trees.now))
+            label first collects refuted.items) }
     {
         let survey = Survey {
             stand: Stand {
@@ -246,6 +355,7 @@ impl<'a, D: NumDomain, R: Rank> Premises<'a, D, R> {
                 parts: self.parts,
             },
             first,
+            collects,
         };
         let refuted = survey.refuted(self.alloc, rows)?;
         Ok(refuted)

@@ -1,5 +1,5 @@
 //! The leaves of a label's tree, one after the other.
-ghost use Rattle.std.specs.Prelude.{◌≡◌, ◌+◌, ◌-◌, ◌^◌, ◌<◌, ◌≤◌, ◌++◌, ◌∷◌, [], true, false, IfOk, map};
+ghost use Rattle.std.specs.Prelude.{◌≡◌, ◌+◌, ◌-◌, ◌^◌, ◌<◌, ◌≤◌, ◌++◌, ◌∷◌, [], true, false, IfOk, OnOk, map};
 ghost use Rattle.decision_tree.specs.Plans.{leaf, leaves_of, plan_of};
 ghost use Rattle.tree_support.specs.Forming.{given};
 ghost use Rattle.tree_support.specs.Setting.{trees_in};
@@ -7,7 +7,7 @@ ghost use Rattle.rows_in_hand.specs.Hands.{IsMetNowhere, all_asked};
 ghost use Rattle.leaf_search.specs.Leaves.{WhereStood};
 ghost use Rattle.arc_search.specs.Moves.{HasPlace};
 ghost use Rattle.rows_in_hand.specs.Searches.{Holds, IsLonger, IsSame, WhereAsked};
-ghost use Rattle.tree_check.specs.Surveys.{IsReviewed, IsSurveyed};
+ghost use Rattle.tree_check.specs.Surveys.{IsReviewed, IsSurveyed, LooksOn};
 ghost use Rattle.arc_search.specs.Walks.{side_of};
 
 use arc_search::{Way, add_rows};
@@ -24,76 +24,67 @@ pub(crate) struct Refuted {
     pub(crate) finding: Finding,
 }
 
-/// A survey of the leaves of a label's tree from a number on.
+/// A survey of the leaves of a label's tree from a number on: of all of them, or up to the first with a reason against it.
 #[derive(Drop)]
 pub(crate) struct Survey<'a, R: Rank> {
     pub(crate) stand: Stand<'a, R>,
     pub(crate) first: u64,
+    pub(crate) collects: bool,
 }
 
 impl<'a, R: Rank> Survey<'a, R> {
-    /// The first leaf with a reason against it, where the rows are what the label's invariant says.
-    pub(crate) fn refuted(&self, alloc: Global, rows: &[Row]) -> Result<Option<Refuted>, AllocError>
+    /// The leaves with a reason against them, where the rows are what the label's invariant says.
+    pub(crate) fn refuted(&self, alloc: Global, rows: &[Row]) -> Result<Vec<Refuted>, AllocError>
         requires place { HasPlace self.now.stand.moves.now }
         requires few { leaves_of (trees_in (map plan_of self.now.stand.family.now) self.now.stand.label) < 2 ^ 64 - 1 }
         ensures { IfOk result (λ refuted. WhereStood self.now.stand (λ at. at.dead self.now.stand.label ≡ false
-            → at.rows self.now.stand.label ≡ rows.now →
-            IsReviewed R.Rank.own at (trees_in (map plan_of self.now.stand.family.now)) self.now.stand.label self.now.first refuted)) }
+            → at.rows self.now.stand.label ≡ rows.now → IsReviewed R.Rank.own at (trees_in (map plan_of self.now.stand.family.now))
+            self.now.stand.label self.now.first self.now.collects refuted.items)) }
     {
+        let mut refuted = Vec::new(alloc);
         let Some(tree) = self.stand.family.get(self.stand.label as usize) else {
-            return Ok(None);
+            return Ok(refuted);
         };
         let mut hand = Hand::new(alloc);
         if !add_rows(rows, &mut hand)? {
-            return Ok(None);
+            return Ok(refuted);
         }
-        let mut leaf = 0;
-        let mut found = None;
-        if !self.refute(tree, &mut leaf, &mut hand, &mut found)? {
-            return Ok(None);
-        }
-        match found {
-            Some(finding) => Ok(Some(Refuted { leaf, finding })),
-            None => Ok(None),
-        }
+        let mut passed = 0;
+        self.refute(tree, &mut passed, &mut hand, &mut refuted)?;
+        Ok(refuted)
     }
 
-    /// Looks for a leaf of the tree with a reason against it, behind the rows in hand, and counts the leaves that it passes.
+    /// Lists the leaves of the tree with a reason against them, behind the rows in hand, and counts the leaves that it passes.
     #[cycle(survey)]
     fn refute(
         &self,
         tree: &Tree<R>,
         passed: &mut u64,
         hand: &mut Hand,
-        found: &mut Option<Finding>,
-    ) -> Result<bool, AllocError>
+        refuted: &mut Vec<Refuted>,
+    ) -> Result<(), AllocError>
         requires place { HasPlace self.now.stand.moves.now }
         requires few { passed.old + leaves_of (plan_of tree.now) < 2 ^ 64 - 1 }
-        ensures same { IfOk result (λ refuted. refuted ≡ false → IsSame hand.old hand.new) }
-        ensures passed { IfOk result (λ refuted. refuted ≡ false → passed.new ≡ passed.old + leaves_of (plan_of tree.now)) }
-        ensures surveyed { IfOk result (λ refuted. WhereStood self.now.stand (λ at. WhereAsked hand.old (λ asks.
-            IsSurveyed R.Rank.own at
-            (trees_in (map plan_of self.now.stand.family.now)) self.now.stand.label self.now.first
-            (plan_of tree.now) asks passed.old passed.new refuted found.new))) }
+        ensures same { OnOk result (IsSame hand.old hand.new) }
+        ensures passed { OnOk result (passed.new ≡ passed.old + leaves_of (plan_of tree.now)) }
+        ensures surveyed { OnOk result (WhereStood self.now.stand (λ at. WhereAsked hand.old (λ asks.
+            IsSurveyed R.Rank.own at (trees_in (map plan_of self.now.stand.family.now)) self.now.stand.label self.now.first self.now.collects
+            (plan_of tree.now) asks passed.old refuted.old.items refuted.new.items))) }
     {
         match tree {
             Tree::Node { row, yes, no } => {
-                if self.refute_behind(row, true, yes, passed, hand, found)? {
-                    return Ok(true);
-                }
-                let refuted = self.refute_behind(row, false, no, passed, hand, found)?;
-                Ok(refuted)
+                self.refute_behind(row, true, yes, passed, hand, refuted)?;
+                self.refute_behind(row, false, no, passed, hand, refuted)?;
+                Ok(())
             }
             Tree::Leaf { why, rank } => {
-                if self.refute_leaf(why, rank, *passed, hand, found)? {
-                    return Ok(true);
-                }
+                self.refute_leaf(why, rank, *passed, hand, refuted)?;
                 *passed += 1;
-                Ok(false)
+                Ok(())
             }
             Tree::Bottom | Tree::Top(_) => {
                 *passed += 1;
-                Ok(false)
+                Ok(())
             }
         }
     }
@@ -106,28 +97,51 @@ impl<'a, R: Rank> Survey<'a, R> {
         rank: &R,
         number: u64,
         hand: &mut Hand,
-        found: &mut Option<Finding>,
-    ) -> Result<bool, AllocError>
+        refuted: &mut Vec<Refuted>,
+    ) -> Result<(), AllocError>
         requires { HasPlace self.now.stand.moves.now }
-        ensures same { IfOk result (λ refuted. refuted ≡ false → IsSame hand.old hand.new) }
-        ensures surveyed { IfOk result (λ refuted. WhereStood self.now.stand (λ at. WhereAsked hand.old (λ asks.
-            IsSurveyed R.Rank.own at
-            (trees_in (map plan_of self.now.stand.family.now)) self.now.stand.label self.now.first
-            (leaf why.now rank.now) asks number number refuted found.new))) }
+        ensures same { OnOk result (IsSame hand.old hand.new) }
+        ensures surveyed { OnOk result (WhereStood self.now.stand (λ at. WhereAsked hand.old (λ asks.
+            IsSurveyed R.Rank.own at (trees_in (map plan_of self.now.stand.family.now)) self.now.stand.label self.now.first self.now.collects
+            (leaf why.now rank.now) asks number refuted.old.items refuted.new.items))) }
     {
         if number < self.first {
-            return Ok(false);
+            return Ok(());
         }
-        let refuted = self.stand.refute_leaf(why, rank, hand, found)?;
-        Ok(refuted)
+        if self.is_done(refuted) {
+            return Ok(());
+        }
+        let mut found = None;
+        if !self.stand.refute_leaf(why, rank, hand, &mut found)? {
+            return Ok(());
+        }
+        let Some(finding) = found else {
+            return Ok(());
+        };
+        let leaf = Refuted {
+            leaf: number,
+            finding,
+        };
+        refuted.push(leaf)?;
+        Ok(())
     }
 
-    /// Whether all leaves of a side stand before the first that is looked at, where so many were passed before it.
-    #[inline(never)]
-    fn skips(&self, side: &Tree<R>, passed: u64) -> bool
-        requires few { passed + leaves_of (plan_of side.now) < 2 ^ 64 - 1 }
-        ensures before { result ≡ true → passed + leaves_of (plan_of side.now) ≤ self.now.first }
+    /// Whether no further leaf is looked at, since one was refuted and others aren't collected.
+    fn is_done(&self, refuted: &[Refuted]) -> bool
+        ensures { result ≡ true → ¬ LooksOn self.now.collects refuted.now }
     {
+        !self.collects && !refuted.is_empty()
+    }
+
+    /// Whether none of a side's leaves is looked at, where so many were passed before it.
+    #[inline(never)]
+    fn skips(&self, side: &Tree<R>, passed: u64, refuted: &[Refuted]) -> bool
+        requires few { passed + leaves_of (plan_of side.now) < 2 ^ 64 - 1 }
+        ensures before { result ≡ true → LooksOn self.now.collects refuted.now → passed + leaves_of (plan_of side.now) ≤ self.now.first }
+    {
+        if self.is_done(refuted) {
+            return true;
+        }
         if passed >= self.first {
             return false;
         }
@@ -145,31 +159,28 @@ impl<'a, R: Rank> Survey<'a, R> {
         side: &Tree<R>,
         passed: &mut u64,
         hand: &mut Hand,
-        found: &mut Option<Finding>,
-    ) -> Result<bool, AllocError>
+        refuted: &mut Vec<Refuted>,
+    ) -> Result<(), AllocError>
         requires place { HasPlace self.now.stand.moves.now }
         requires few { passed.old + leaves_of (plan_of side.now) < 2 ^ 64 - 1 }
-        ensures same { IfOk result (λ refuted. refuted ≡ false → IsSame hand.old hand.new) }
-        ensures passed { IfOk result (λ refuted. refuted ≡ false → passed.new ≡ passed.old + leaves_of (plan_of side.now)) }
-        ensures surveyed { IfOk result (λ refuted. WhereStood self.now.stand (λ at. WhereAsked hand.old (λ asks.
-            IsSurveyed R.Rank.own at
-            (trees_in (map plan_of self.now.stand.family.now)) self.now.stand.label self.now.first (plan_of side.now)
-            (asks ++ given (side_of row.now.affine holds) ∷ []) passed.old passed.new refuted found.new))) }
+        ensures same { OnOk result (IsSame hand.old hand.new) }
+        ensures passed { OnOk result (passed.new ≡ passed.old + leaves_of (plan_of side.now)) }
+        ensures surveyed { OnOk result (WhereStood self.now.stand (λ at. WhereAsked hand.old (λ asks.
+            IsSurveyed R.Rank.own at (trees_in (map plan_of self.now.stand.family.now)) self.now.stand.label self.now.first self.now.collects
+            (plan_of side.now) (asks ++ given (side_of row.now.affine holds) ∷ []) passed.old refuted.old.items refuted.new.items))) }
     {
-        if self.skips(side, *passed) {
+        if self.skips(side, *passed, refuted) {
             *passed += side.leaves();
-            return Ok(false);
+            return Ok(());
         }
         let mark = hand.mark();
         if !self.enter(row, holds, hand)? {
             *passed += side.leaves();
-            return Ok(false);
+            return Ok(());
         }
-        if self.refute(side, passed, hand, found)? {
-            return Ok(true);
-        }
+        self.refute(side, passed, hand, refuted)?;
         hand.back(mark);
-        Ok(false)
+        Ok(())
     }
 
     /// Adds the row of a side.

@@ -10,12 +10,6 @@ returns-then-not-branch-clause-searched g c asks held =
     nowhere_behind g.R.Rank c.args.way.now.edge c.args.way.now.sets c.args.way.now.limit (trees_in (map plan_of c.args.trees.now) c.args.label) (asks ++ below_end c.args.value.now.affine c.args.value.now.hi)
     (c.in_ok-add_end.ensures.nowhere c.if-not-branch.true asks (below_end c.args.value.now.affine c.args.value.now.hi) c.below-formed.ensures held)
 
-pub returns-then-branch-clause-searched : goal.returns-then-branch-clause-searched
-returns-then-branch-clause-searched g c asks held =
-    let searched = c.in_ok-refute_at.ensures.searched (asks ++ below_end c.args.value.now.affine c.args.value.now.hi) (c.in_ok-add_end.ensures.held c.if-not-branch.false asks (below_end c.args.value.now.affine c.args.value.now.hi) c.below-formed.ensures held) in
-    rw c.if-branch.true at searched
-
 pub returns-clause-searched : goal.returns-clause-searched
 returns-clause-searched g c asks held =
-    let searched = c.in_ok-refute_at.ensures.searched (asks ++ below_end c.args.value.now.affine c.args.value.now.hi) (c.in_ok-add_end.ensures.held c.if-not-branch.false asks (below_end c.args.value.now.affine c.args.value.now.hi) c.below-formed.ensures held) in
-    rw c.if-branch.false at searched
+    c.in_ok-refuted.ensures.searched (asks ++ below_end c.args.value.now.affine c.args.value.now.hi) (c.in_ok-add_end.ensures.held c.if-not-branch.false asks (below_end c.args.value.now.affine c.args.value.now.hi) c.below-formed.ensures held)

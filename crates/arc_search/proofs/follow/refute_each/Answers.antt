@@ -15,7 +15,7 @@ returns-then-branch-clause-searched g c asks held =
 
 pub loop-rows-preserved : goal.loop-rows-preserved
 loop-rows-preserved g c =
-    let same = c.in_ok-refute_behind.ensures.same c.if-branch.false in (
+    let same = c.in_ok-refute_behind.ensures.same in (
       (same.0 ∙ c.loop-rows.invariant.0.0, same.1 ∙ c.loop-rows.invariant.0.1),
       λ asks held.
           let again = held_same (all_asked asks) c.args.hand.now c.loop-rows.hand c.loop-rows.invariant.0 held in

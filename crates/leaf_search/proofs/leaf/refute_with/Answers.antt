@@ -1,4 +1,4 @@
-use Rattle.std.proofs.Common.{true, [], ◌∷◌, ◌++◌, subst, sym}
+use Rattle.std.proofs.Common.{[], ◌∷◌, ◌++◌, subst, sym}
 use Rattle.rows_in_hand.specs.Hands.{IsMetNowhere, IsTried, all_asked, asked}
 use Rattle.rows_in_hand.proofs.Holding.{held_more, nowhere_added}
 use Rattle.arc_search.proofs.Walking.{asked_more}
@@ -10,16 +10,9 @@ returns-then-not-branch-clause-tried c asks held a forms =
     (nowhere_added (all_asked asks) c.args.hand.now.rows c.args.hand.now.wide (asked a) c.args.formed c.add.new.self.rows c.add.new.self.wide held forms
     (rw c.if-not-branch.true at c.in_ok-add.ensures))
 
-pub returns-then-branch-clause-tried : goal.returns-then-branch-clause-tried
-returns-then-branch-clause-tried c asks held a forms =
-    let more = held_more (all_asked asks) c.args.hand.now.rows c.args.hand.now.wide (asked a) c.args.formed c.add.new.self.rows c.add.new.self.wide held forms
-    (rw c.if-not-branch.false at c.in_ok-add.ensures) in
-    let tried = c.in_ok-settle.ensures (all_asked asks ++ asked a ∷ []) more in
-    subst (λ items. IsTried items 2 true c.settle.new.found) (sym (asked_more asks a)) (rw c.if-branch.true at tried)
-
 pub returns-clause-tried : goal.returns-clause-tried
 returns-clause-tried c asks held a forms =
     let more = held_more (all_asked asks) c.args.hand.now.rows c.args.hand.now.wide (asked a) c.args.formed c.add.new.self.rows c.add.new.self.wide held forms
     (rw c.if-not-branch.false at c.in_ok-add.ensures) in
-    let tried = c.in_ok-settle.ensures (all_asked asks ++ asked a ∷ []) more in
-    subst IsMetNowhere (sym (asked_more asks a)) (rw c.if-branch.false at tried)
+    subst (λ items. IsTried items 2 c.in_ok-refuted.refuted c.settle.new.found) (sym (asked_more asks a))
+    (c.in_ok-refuted.ensures (all_asked asks ++ asked a ∷ []) more)

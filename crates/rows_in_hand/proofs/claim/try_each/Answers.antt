@@ -13,7 +13,7 @@ returns-then-branch-clause-tried c items held =
 pub loop-alternative-preserved : goal.loop-alternative-preserved
 loop-alternative-preserved c = elim c.match-alternative.branch [
   | in-Some+in_ok-try_one+else-branch w ↦ rw w.hand-is (
-    let same = w.in_ok-try_one.ensures.same w.if-branch.false in
+    let same = w.in_ok-try_one.ensures.same in
         (same.0 ∙ c.loop-alternative.invariant.0.0, same.1 ∙ c.loop-alternative.invariant.0.1),
     λ items held.
         let tried = w.in_ok-try_one.ensures.tried items (held_same items c.args.hand.now c.loop-alternative.hand c.loop-alternative.invariant.0 held) in

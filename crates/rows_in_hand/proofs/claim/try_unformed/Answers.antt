@@ -3,16 +3,8 @@ use Rattle.rows_in_hand.specs.Hands.{unformed}
 use Rattle.rows_in_hand.proofs.Holding.{held_more}
 use Rattle.rows_in_hand.proofs.claim.try_unformed.Goals as goal
 
-pub returns-then-branch-clause-tried : goal.returns-then-branch-clause-tried
-returns-then-branch-clause-tried c items held =
-    let adds = c.in_ok-add.ensures in
-    let more = held_more items _ _ unformed (Err c.args.wide) _ _ held (c.requires, λ formed. formed) (refl, adds.1, adds.2) in
-    let tried = c.in_ok-settle.ensures _ more in
-    rw c.if-branch.true at tried
-
 pub returns-clause-tried : goal.returns-clause-tried
 returns-clause-tried c items held =
     let adds = c.in_ok-add.ensures in
     let more = held_more items _ _ unformed (Err c.args.wide) _ _ held (c.requires, λ formed. formed) (refl, adds.1, adds.2) in
-    let tried = c.in_ok-settle.ensures _ more in
-    rw c.if-branch.false at tried
+    c.in_ok-refuted.ensures _ more

@@ -31,6 +31,6 @@ pub returns-in_ok-refuted-in-Test-clause-searched :
     goal.returns-in_ok-refuted-in-Test-clause-searched
 returns-in_ok-refuted-in-Test-clause-searched g c asks held =
     let none = rw (c.if-branch.false, c.deref.ensures.value) at c.in_ok-refute_each-in-Test.ensures.searched asks held in
-    let again = held_same (all_asked asks) c.args.hand.now c.refute_each.new.hand (c.in_ok-refute_each-in-Test.ensures.same c.if-branch.false) held in
+    let again = held_same (all_asked asks) c.args.hand.now c.refute_each.new.hand (c.in_ok-refute_each-in-Test.ensures.same) held in
     let searched = rw c.deref-in-Test.ensures.value at c.in_ok-refuted-in-Test.ensures.searched asks again in
     rw c.in-Test.is (test_searched g.R.Rank (trees_in (map plan_of c.args.trees.now)) c.args.limit (testing 0 c.in-Test.yes c.in-Test.yes_rows.items) (testing 1 c.in-Test.no c.in-Test.no_rows.items) asks c.in_ok-refuted-in-Test.refuted c.refute_each-in-Test.new.found none searched)

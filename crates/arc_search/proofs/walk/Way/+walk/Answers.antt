@@ -16,7 +16,7 @@ pub refute-returns-in_ok-refuted-in-Node-clause-searched :
     goal.refute-returns-in_ok-refuted-in-Node-clause-searched
 refute-returns-in_ok-refuted-in-Node-clause-searched g t c asks held =
     let none = rw (c.if-branch.false, c.deref.ensures) at c.in_ok-refute_behind-in-Node.ensures.searched asks held in
-    let again = held_same (all_asked asks) c.args.hand.now c.refute_behind.new.hand (c.in_ok-refute_behind-in-Node.ensures.same c.if-branch.false) held in
+    let again = held_same (all_asked asks) c.args.hand.now c.refute_behind.new.hand (c.in_ok-refute_behind-in-Node.ensures.same) held in
     let rest = rw c.deref-in-Node.ensures at c.in_ok-refuted-in-Node.ensures.searched asks again in
     rw c.in-Node.is (searched_then g.R.Rank _ _ c.in_ok-refuted-in-Node.refuted c.refute_behind.new.found _ none rest)
 
@@ -37,5 +37,4 @@ refute_behind-returns-then-not-branch-clause-searched g t c asks held =
 
 pub refute_behind-returns-clause-searched : goal.refute_behind-returns-clause-searched
 refute_behind-returns-clause-searched g t c asks held =
-    let searched = c.in_ok-refute.ensures.searched (asks ++ moved_by c.args.self.now.sets (side_of c.args.row.now.affine c.args.holds) ∷ []) (c.in_ok-enter.ensures.held c.if-not-branch.false asks held) in
-    rw c.if-branch.false at searched
+    c.in_ok-refuted.ensures.searched (asks ++ moved_by c.args.self.now.sets (side_of c.args.row.now.affine c.args.holds) ∷ []) (c.in_ok-enter.ensures.held c.if-not-branch.false asks held)

@@ -21,7 +21,7 @@ returns-in_ok-refuted-in-Dead-clause-searched g c at is_at asks held =
 pub returns-in_ok-refuted-in-Step-clause-searched : goal.returns-in_ok-refuted-in-Step-clause-searched
 returns-in_ok-refuted-in-Step-clause-searched g c at is_at asks held =
     let none = rw c.if-branch.false at c.in_ok-refute_kept-in-Step.ensures.searched at is_at asks held in
-    let again = held_same (all_asked asks) c.args.hand.now c.refute_kept.new.hand (c.in_ok-refute_kept-in-Step.ensures.same c.if-branch.false) held in
+    let again = held_same (all_asked asks) c.args.hand.now c.refute_kept.new.hand (c.in_ok-refute_kept-in-Step.ensures.same) held in
     rw c.in-Step.is
     (searched_then g.R.Rank (of_keep at at.formula c.args.self.now.label asks)
     (of_pick at c.in-Step.pick (trees_in (map plan_of c.args.self.now.family.now)) c.args.rank.now c.args.self.now.label asks) c.in_ok-refuted-in-Step.refuted c.refute_kept.new.found

@@ -1,52 +1,45 @@
-use Rattle.std.proofs.Common.{map, ◌++◌, ◌∷◌, []}
-use Rattle.decision_tree.specs.Plans.{plan_of}
+use Rattle.std.proofs.Common.{map, refl, ⊎_elim, ◌++◌, ◌∷◌, []}
+use Rattle.decision_tree.specs.Plans.{bottom, plan_of, top}
 use Rattle.tree_support.specs.Forming.{given}
 use Rattle.tree_support.specs.Setting.{trees_in}
+use Rattle.tree_support.specs.Support.{HasNoStore}
+use Rattle.tree_support.proofs.Lists.{all_none}
 use Rattle.rows_in_hand.specs.Hands.{all_asked}
 use Rattle.arc_search.specs.Walks.{side_of}
 use Rattle.rows_in_hand.proofs.Choosing.{held_same}
-use Rattle.tree_check.proofs.Surveying.{surveyed_first, surveyed_nowhere, surveyed_then}
+use Rattle.tree_check.proofs.Surveying.{surveyed_before, surveyed_both, surveyed_nowhere, surveyed_undefined}
 use Rattle.tree_check.proofs.survey.Survey.+survey.Goals as goal
 
-pub refute-returns-then-branch-clause-surveyed : goal.refute-returns-then-branch-clause-surveyed
-refute-returns-then-branch-clause-surveyed g t c at is_at asks held =
-    let here = rw (c.if-branch.true, c.deref.ensures) at c.in_ok-refute_behind-in-Node.ensures.surveyed at is_at asks held in
+pub refute-returns-in_ok-refute_behind-in-Node-2-clause-surveyed : goal.refute-returns-in_ok-refute_behind-in-Node-2-clause-surveyed
+refute-returns-in_ok-refute_behind-in-Node-2-clause-surveyed g t c at is_at asks held =
+    let near = rw c.deref.ensures at c.in_ok-refute_behind-in-Node.ensures.surveyed at is_at asks held in
+    let again = held_same (all_asked asks) c.args.hand.now c.refute_behind.new.hand c.in_ok-refute_behind-in-Node.ensures.same held in
+    let far = rw c.deref-in-Node.ensures at c.in_ok-refute_behind-in-Node-2.ensures.surveyed at is_at asks again in
+    let count = rw c.deref.ensures at c.in_ok-refute_behind-in-Node.ensures.passed in
     rw c.in-Node.is
-    (surveyed_first g.R.Rank at (trees_in (map plan_of c.args.self.now.stand.family.now)) c.args.self.now.stand.label c.args.self.now.first c.in-Node.row (plan_of c.in-Node.yes.value) (plan_of c.in-Node.no.value) asks c.args.passed.now c.refute_behind.new.passed c.refute_behind.new.found here)
+    (surveyed_both g.R.Rank at (trees_in (map plan_of c.args.self.now.stand.family.now)) c.args.self.now.stand.label c.args.self.now.first c.args.self.now.collects c.in-Node.row (plan_of c.in-Node.yes.value) (plan_of c.in-Node.no.value) asks c.args.passed.now c.refute_behind.new.passed c.args.refuted.now.items c.refute_behind.new.refuted.items c.refute_behind-in-Node.new.refuted.items count near far)
 
-pub refute-returns-in_ok-refuted-in-Node-clause-surveyed :
-    goal.refute-returns-in_ok-refuted-in-Node-clause-surveyed
-refute-returns-in_ok-refuted-in-Node-clause-surveyed g t c at is_at asks held =
-    let none = rw (c.if-branch.false, c.deref.ensures) at c.in_ok-refute_behind-in-Node.ensures.surveyed at is_at asks held in
-    let again = held_same (all_asked asks) c.args.hand.now c.refute_behind.new.hand (c.in_ok-refute_behind-in-Node.ensures.same c.if-branch.false) held in
-    let rest = rw c.deref-in-Node.ensures at c.in_ok-refuted-in-Node.ensures.surveyed at is_at asks again in
-    let count = rw c.deref.ensures at c.in_ok-refute_behind-in-Node.ensures.passed c.if-branch.false in
-    rw c.in-Node.is
-    (surveyed_then g.R.Rank at (trees_in (map plan_of c.args.self.now.stand.family.now)) c.args.self.now.stand.label c.args.self.now.first c.in-Node.row (plan_of c.in-Node.yes.value) (plan_of c.in-Node.no.value) asks c.args.passed.now c.refute_behind.new.passed c.refute_behind-in-Node.new.passed c.in_ok-refuted-in-Node.refuted c.refute_behind.new.found c.refute_behind-in-Node.new.found count none rest)
+pub refute-returns-in_ok-refute_leaf-in-Leaf-clause-surveyed : goal.refute-returns-in_ok-refute_leaf-in-Leaf-clause-surveyed
+refute-returns-in_ok-refute_leaf-in-Leaf-clause-surveyed g t c at is_at asks held = rw c.in-Leaf.is (c.in_ok-refute_leaf-in-Leaf.ensures.surveyed at is_at asks held)
 
-pub refute_behind-returns-then-not-branch-clause-surveyed :
-    goal.refute_behind-returns-then-not-branch-clause-surveyed
+pub refute-returns-in-Bottom-clause-surveyed : goal.refute-returns-in-Bottom-clause-surveyed
+refute-returns-in-Bottom-clause-surveyed g t c at is_at asks held =
+    ⊎_elim
+    (λ is. rw is (surveyed_undefined g.R.Rank at (trees_in (map plan_of c.args.self.now.stand.family.now)) c.args.self.now.stand.label c.args.self.now.first c.args.self.now.collects bottom asks c.args.passed.now c.args.refuted.now.items refl (all_none (HasNoStore g.R.Rank))))
+    (λ is. rw is.1 (surveyed_undefined g.R.Rank at (trees_in (map plan_of c.args.self.now.stand.family.now)) c.args.self.now.stand.label c.args.self.now.first c.args.self.now.collects (top is.0) asks c.args.passed.now c.args.refuted.now.items refl (all_none (HasNoStore g.R.Rank))))
+    c.in-Bottom.is
+
+pub refute_behind-returns-then-skips-clause-surveyed : goal.refute_behind-returns-then-skips-clause-surveyed
+refute_behind-returns-then-skips-clause-surveyed g t c at is_at asks held =
+    let before = rw c.deref.ensures.value at c.skips.ensures.before c.if-skips.true in
+    surveyed_before g.R.Rank at (trees_in (map plan_of c.args.self.now.stand.family.now)) c.args.self.now.stand.label c.args.self.now.first c.args.self.now.collects (plan_of c.args.side.now) (asks ++ given (side_of c.args.row.now.affine c.args.holds) ∷ []) c.args.passed.now c.args.refuted.now.items
+    before
+
+pub refute_behind-returns-then-not-branch-clause-surveyed : goal.refute_behind-returns-then-not-branch-clause-surveyed
 refute_behind-returns-then-not-branch-clause-surveyed g t c at is_at asks held =
-    surveyed_nowhere g.R.Rank at (trees_in (map plan_of c.args.self.now.stand.family.now)) c.args.self.now.stand.label c.args.self.now.first (plan_of c.args.side.now) (asks ++ given (side_of c.args.row.now.affine c.args.holds) ∷ []) c.args.passed.now c.args.passed.now c.args.found.now
+    surveyed_nowhere g.R.Rank at (trees_in (map plan_of c.args.self.now.stand.family.now)) c.args.self.now.stand.label c.args.self.now.first c.args.self.now.collects (plan_of c.args.side.now) (asks ++ given (side_of c.args.row.now.affine c.args.holds) ∷ []) c.args.passed.now c.args.refuted.now.items
     (c.in_ok-enter.ensures.nowhere c.if-not-branch.true asks held)
-
-pub refute_behind-returns-then-branch-clause-surveyed :
-    goal.refute_behind-returns-then-branch-clause-surveyed
-refute_behind-returns-then-branch-clause-surveyed g t c at is_at asks held =
-    let surveyed = c.in_ok-refute.ensures.surveyed at is_at (asks ++ given (side_of c.args.row.now.affine c.args.holds) ∷ []) (c.in_ok-enter.ensures.held c.if-not-branch.false asks held) in
-    rw c.if-branch.true at surveyed
 
 pub refute_behind-returns-clause-surveyed : goal.refute_behind-returns-clause-surveyed
 refute_behind-returns-clause-surveyed g t c at is_at asks held =
-    let surveyed = c.in_ok-refute.ensures.surveyed at is_at (asks ++ given (side_of c.args.row.now.affine c.args.holds) ∷ []) (c.in_ok-enter.ensures.held c.if-not-branch.false asks held) in
-    rw c.if-branch.false at surveyed
-
-pub refute-returns-then-branch-2-clause-surveyed : goal.refute-returns-then-branch-2-clause-surveyed
-refute-returns-then-branch-2-clause-surveyed g t c at is_at asks held =
-    let surveyed = rw c.if-branch-2.true at c.in_ok-refute_leaf-in-Leaf.ensures.surveyed at is_at asks held in
-    rw c.in-Leaf.is surveyed
-
-pub refute-returns-else-branch-2-clause-surveyed : goal.refute-returns-else-branch-2-clause-surveyed
-refute-returns-else-branch-2-clause-surveyed g t c at is_at asks held =
-    let surveyed = rw c.if-branch-2.false at c.in_ok-refute_leaf-in-Leaf.ensures.surveyed at is_at asks held in
-    rw c.in-Leaf.is surveyed
+    c.in_ok-refute.ensures.surveyed at is_at (asks ++ given (side_of c.args.row.now.affine c.args.holds) ∷ []) (c.in_ok-enter.ensures.held c.if-not-branch.false asks held)

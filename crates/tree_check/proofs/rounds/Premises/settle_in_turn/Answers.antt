@@ -4,10 +4,10 @@ use Rattle.tree_support.specs.Setting.{trees_in}
 use Rattle.tree_check.specs.Rounds.{dropped_by, setting_on}
 use Rattle.tree_check.proofs.Marking.{same_elsewhere}
 use Rattle.tree_check.proofs.Settling.{advances_more, fewer_defined, leaves_stay, mapped_low, not_same, supported_from_start}
-use Rattle.tree_check.proofs.rounds.Premises.settle_alive.Goals as goal
+use Rattle.tree_check.proofs.rounds.Premises.settle_in_turn.Goals as goal
 
-pub refuted-requires-clause-leaves : goal.refuted-requires-clause-leaves
-refuted-requires-clause-leaves g c =
+pub first_refuted-requires-clause-leaves : goal.first_refuted-requires-clause-leaves
+first_refuted-requires-clause-leaves g c =
     let is = leaves_stay g.R.Rank (setting_on g.D.NumDomain c.args.self.now) (map plan_of c.args.trees.now) (map plan_of c.loop-refuted.trees) c.args.drops.now.items c.loop-refuted.drops.items c.loop-refuted.invariant.0 c.args.label in
     rw is (c.requires.leaves c.args.label)
 
@@ -22,12 +22,12 @@ overflow_add-first g c =
 pub loop-refuted-smaller : goal.loop-refuted-smaller
 loop-refuted-smaller g c =
     let reviewed = rw c.in-Some.is at c.in_ok-refuted.ensures in
-    fewer_defined g.R.Rank (setting_on g.D.NumDomain c.args.self.now) (map plan_of c.args.trees.now) (map plan_of c.loop-refuted.trees) (map plan_of c.give_up.new.trees) c.args.drops.now.items c.loop-refuted.drops.items c.args.label c.loop-refuted.first c.in-Some.refuted c.loop-refuted.invariant.0 (mapped_low c.args.trees.now c.args.label (subst (λ n. c.args.label < n) (sym c.requires.trees) c.requires.label)) reviewed c.in_ok-give_up.ensures.given
+    fewer_defined g.R.Rank (setting_on g.D.NumDomain c.args.self.now) (map plan_of c.args.trees.now) (map plan_of c.loop-refuted.trees) (map plan_of c.give_up.new.trees) c.args.drops.now.items c.loop-refuted.drops.items c.args.label c.in-Some.refuted c.loop-refuted.invariant.0 (mapped_low c.args.trees.now c.args.label (subst (λ n. c.args.label < n) (sym c.requires.trees) c.requires.label)) reviewed c.in_ok-give_up.ensures.given
 
 pub loop-refuted-preserved : goal.loop-refuted-preserved
 loop-refuted-preserved g c =
     let reviewed = rw c.in-Some.is at c.in_ok-refuted.ensures in (
-      advances_more g.R.Rank (setting_on g.D.NumDomain c.args.self.now) (map plan_of c.args.trees.now) (map plan_of c.loop-refuted.trees) (map plan_of c.give_up.new.trees) c.args.drops.now.items c.loop-refuted.drops.items c.give_up.new.drops.items c.args.label c.loop-refuted.first c.in-Some.refuted c.loop-refuted.invariant.0 (mapped_low c.args.trees.now c.args.label (subst (λ n. c.args.label < n) (sym c.requires.trees) c.requires.label)) reviewed c.in_ok-give_up.ensures.dropped c.in_ok-give_up.ensures.given,
+      advances_more g.R.Rank (setting_on g.D.NumDomain c.args.self.now) (map plan_of c.args.trees.now) (map plan_of c.loop-refuted.trees) (map plan_of c.give_up.new.trees) c.args.drops.now.items c.loop-refuted.drops.items c.give_up.new.drops.items c.args.label c.in-Some.refuted c.loop-refuted.invariant.0 (mapped_low c.args.trees.now c.args.label (subst (λ n. c.args.label < n) (sym c.requires.trees) c.requires.label)) reviewed c.in_ok-give_up.ensures.dropped c.in_ok-give_up.ensures.given,
       λ same. absurd (not_same g.R.Rank (setting_on g.D.NumDomain c.args.self.now) c.args.drops.now.items c.loop-refuted.invariant.0.more c.loop-refuted.drops.items c.give_up.new.drops.items (dropped_by c.args.label c.in-Some.refuted) c.loop-refuted.invariant.0.listed c.in_ok-give_up.ensures.dropped same),
       same_elsewhere c.args.label (map plan_of c.args.trees.now) (map plan_of c.loop-refuted.trees) (map plan_of c.give_up.new.trees) c.in-Some.refuted c.loop-refuted.invariant.2 c.in_ok-give_up.ensures.given,
     )

@@ -1,7 +1,7 @@
 use Rattle.std.proofs.Common.{◌≡◌, map}
 use Rattle.decision_tree.specs.Plans.{plan_of}
 use Rattle.tree_check.specs.Rounds.{Advances, IsSameElsewhere, defined_in, setting_on}
-use Rattle.tree_check.proofs.rounds.Premises.settle_alive.Given as goal
+use Rattle.tree_check.proofs.rounds.Premises.settle_in_turn.Given as goal
 
 abbrev pub invariant-loop-refuted : goal.invariant-loop-refuted
 invariant-loop-refuted g l =
