@@ -1,5 +1,5 @@
 -- What the lines of an exact level say.
-use Rattle.std.proofs.Common.{◌≡◌, ◌↔◌, ℕ, suc, Bool, true, false, cond, not, if◌then◌else◌, ℤ, pos, negsuc, int_le, inl, inr, List, [], ◌∷◌, length, All, Contains, Option, None, Some, ◌<◌, ◌≤◌, get_or, map, refl, sym, ap, ◌∙◌, subst, arith}
+use Rattle.std.proofs.Common.{◌≡◌, ◌↔◌, ℕ, suc, Bool, true, false, cond, not, if◌then◌else◌, ℤ, pos, negsuc, int_le, inl, inr, List, [], ◌∷◌, length, Contains, Option, None, Some, ◌<◌, ◌≤◌, get_or, map, refl, sym, ap, ◌∙◌, subst, arith}
 use Rattle.std.specs.Option.{unwrap_or}
 use Rattle.std.specs.Prelude.{IfSome, IsSome}
 use Rattle.std.proofs.lemmas.List.{length-map}
@@ -22,13 +22,9 @@ use Rattle.line_text.specs.declared.claim.Claim.{Claim}
 use Rattle.line_text.specs.declared.claim.Claim.TheVariants.{Exactly, Holds, Unknown, Within}
 use Rattle.report_text.specs.declared.line.Line.{Line}
 use Rattle.report_text.specs.declared.line.Top.TheVariants.{Exact}
-use Rattle.report_text.specs.declared.report.Header.{Header}
-use Rattle.report_text.specs.declared.report.Header.TheVariants.{Stopped}
-use Rattle.report_text.specs.declared.report.Stop.{Stop}
 use Rattle.report_text.specs.declared.report.Stop.TheVariants.{WideNumbers}
 use Rattle.report_text.specs.Leaves.{AreLinesOf, HasConstantRanks, OneOf, claim_at, claiming, is_unknown}
-use Rattle.decision_tree.specs.Extent.{IsTreeOver}
-use Rattle.report_text.specs.Printed.{IsLineOver}
+use Rattle.decision_tree.specs.Extent.{ComplementsFit, IsTreeOver}
 use Rattle.report_text.proofs.Standing.{one_line_met}
 use Rattle.control_flow.specs.Edges.{configuration}
 use Rattle.control_flow.specs.Labels.{all_labels, entry_of}
@@ -37,13 +33,14 @@ use Rattle.control_flow.proofs.Steps.{entry_is_start}
 use Rattle.backward_transfer.specs.AffineShapes.{tree_at}
 use Rattle.unroll.specs.Levels.{Claims, IsLevel, RanksCount, counted}
 use Rattle.unroll.specs.Measures.{IsLight}
-use Rattle.unroll.specs.Plain.{IsPlain}
+use Rattle.step_meaning.specs.Plain.{IsPlain}
 use Rattle.unroll.specs.Stopping.{IsCause}
 use Rattle.backward_transfer.proofs.Putting.{plan_at}
 use Rattle.unroll.proofs.LevelLaws.{Alike, alike_back, longest_alike, tests_alike}
-use Rattle.function_top.specs.Exact.{EndsExactly, IsExact, IsExactLevel, IsUnmade, MeetsLine, header_of, stop_of}
+use Rattle.function_top.specs.declared.found.Exact.TheVariants.{Made}
+use Rattle.function_top.specs.Exact.{EndsExactly, IsExact, IsExactTree, IsUnmade, MeetsLine, stop_of}
+use Rattle.function_top.specs.Printable.{IsPrintable}
 use Rattle.function_top.proofs.OnlyMet.{met_is_one}
-use Rattle.function_top.proofs.Over.{tree_lines_over, tree_over}
 
 -- the leaf at a store has a rank that is a number of steps, if it has one
 side_ranks : (t : Bool) (this that : Plan AffineRank) → RanksCount this → RanksCount that → RanksCount (if t then this else that)
@@ -100,31 +97,32 @@ module _ (input : Store) (claim : Claim) (known : is_unknown claim ≡ false) wh
   claiming_meets (line ∷ lines) (inl here) = first_meets (is_unknown line.claim) line (claiming lines) (ap is_unknown here.1 ∙ known) here.0 here.1
   claiming_meets (line ∷ lines) (inr later) = later_meets (not (is_unknown line.claim)) line (claiming lines) (claiming_meets lines later.1)
 
-module _ (names : List (List ℕ)) (body : Statements) (tests : ℕ) (lines : List Line) (level : IsExactLevel names body tests lines)
-    (input : Store) (is_input : IsInput (length names) input) (n : ℕ) where
+-- the lines of what an exact tree claims
+module _ (vars : ℕ) (body : Statements) (tests : ℕ) (tree : Plan AffineRank) (level : IsExactTree vars body tests tree) (all lines : List Line)
+    (are : AreLinesOf Exact tree all) (claims : lines ≡ claiming all) (input : Store) (is_input : IsInput vars input) (n : ℕ) where
   to_runs : MeetsLine input (Exactly (pos n)) lines → EndsExactly body tests input n
   to_runs meets =
-      let At : Line → Type 0 = λ (line : Line). line.claim ≡ claim_at Exact (eval level.tree input) in
-      let all = met_is_one (λ (line : Line). MeetsAll input line.rows) At level.all (one_line_met Exact input level.tree level.all level.lines_of) in
-      let kept = All-filter (λ line. not (is_unknown line.claim)) (λ (line : Line). MeetsAll input line.rows → At line) level.all all in
-      let is = All-contains (λ (line : Line). MeetsAll input line.rows → At line) (claiming level.all) meets.line kept
-      (subst (λ ls. Contains ls meets.line) level.claims meets.among) meets.meets in
-      (level.exact input is_input n).0 (claimed_by (eval level.tree input) n (ranks_at level.tree input level.ranks) (sym is ∙ meets.claims))
+      let At : Line → Type 0 = λ (line : Line). line.claim ≡ claim_at Exact (eval tree input) in
+      let every = met_is_one (λ (line : Line). MeetsAll input line.rows) At all (one_line_met Exact input tree all are) in
+      let kept = All-filter (λ line. not (is_unknown line.claim)) (λ (line : Line). MeetsAll input line.rows → At line) all every in
+      let is = All-contains (λ (line : Line). MeetsAll input line.rows → At line) (claiming all) meets.line kept
+      (subst (λ ls. Contains ls meets.line) claims meets.among) meets.meets in
+      (level.exact input is_input n).0 (claimed_by (eval tree input) n (ranks_at tree input level.ranks) (sym is ∙ meets.claims))
 
   of_runs : EndsExactly body tests input n → MeetsLine input (Exactly (pos n)) lines
   of_runs ends =
       let claimed = (level.exact input is_input n).1 ends in
-      let claims : claim_at Exact (eval level.tree input) ≡ Exactly (pos n) = ap (claim_at Exact) claimed.1 in
-      let one = one_line_met Exact input level.tree level.all level.lines_of in
-      subst (MeetsLine input (Exactly (pos n))) (sym level.claims)
-      (claiming_meets input (Exactly (pos n)) refl level.all
-      (subst (λ claim. OneOf (λ line. MeetsAll input line.rows) (λ line. line.claim ≡ claim) level.all) claims one))
+      let says : claim_at Exact (eval tree input) ≡ Exactly (pos n) = ap (claim_at Exact) claimed.1 in
+      let one = one_line_met Exact input tree all are in
+      subst (MeetsLine input (Exactly (pos n))) (sym claims)
+      (claiming_meets input (Exactly (pos n)) refl all
+      (subst (λ claim. OneOf (λ line. MeetsAll input line.rows) (λ line. line.claim ≡ claim) all) says one))
 
   pub met_by_runs : MeetsLine input (Exactly (pos n)) lines ↔ EndsExactly body tests input n
   met_by_runs = (to_runs, of_runs)
 
 -- the tree of a level at the entry tells of the runs from an input
-module _ (names : List (List ℕ)) (body : Statements) (tests : ℕ) (trees : List (Plan AffineRank)) (level : IsLevel tests body trees) where
+module _ (body : Statements) (tests : ℕ) (trees : List (Plan AffineRank)) (level : IsLevel tests body trees) where
   begins : (input : Store) → Alike (configuration body (entry_of body) input) (start body input)
   begins input = record { fronts = entry_is_start body; stores = refl }
 
@@ -144,9 +142,9 @@ module _ (names : List (List ℕ)) (body : Statements) (tests : ℕ) (trees : Li
       let back = alike_back here (start body input) (begins input) in
       (tests_alike tests n (start body input) here back ends.ends, longest_alike n (start body input) here back ends.longest)
 
-  pub exact_level : ((l : ℕ) → l ≤ tests → IsLight body l) → (tree : Plan AffineRank) (all lines : List Line) → tree ≡ tree_at trees (entry_of body) → AreLinesOf Exact tree all
-      → lines ≡ claiming all → IsExactLevel names body tests lines
-  exact_level light tree all lines is are claims =
+  pub exact_tree : (vars : ℕ) → ((l : ℕ) → l ≤ tests → IsLight body l) → (tree : Plan AffineRank) → tree ≡ tree_at trees (entry_of body)
+      → IsExactTree vars body tests tree
+  exact_tree vars light tree is =
       let low = entry_is_a_label body in
       let at = subst (λ t. (input : Store) → length input ≡ 16 → (n : ℕ) → Claims t input n ↔ EndsExactly body tests input n) (sym is)
       (λ input long n.
@@ -154,23 +152,32 @@ module _ (names : List (List ℕ)) (body : Statements) (tests : ℕ) (trees : Li
       ((λ claimed. ends_there input n (told.0 claimed)), (λ ends. told.1 (ends_here input n ends)))) in
       record {
         light = light;
-        tree = tree;
         exact = λ input is_input n. at input is_input.places n;
         ranks = subst RanksCount (sym is) (level.ranks (entry_of body) low);
-        all = all;
-        lines_of = are;
-        claims = claims;
       }
+
+  -- it can be printed
+  pub printable_tree : (vars : ℕ) → IsBody vars body → (tree : Plan AffineRank) → tree ≡ tree_at trees (entry_of body)
+      → IsPrintable vars tree × RanksCount tree
+  printable_tree vars valid tree is =
+      let low = entry_is_a_label body in (
+        record {
+          over = subst (IsTreeOver vars) (sym is) (level.variables (entry_of body) low vars valid);
+          complements = subst ComplementsFit (sym is) (level.complements (entry_of body) low);
+        },
+        subst RanksCount (sym is) (level.ranks (entry_of body) low),
+      )
 
 -- ---- the part as a whole
 
--- what the header says where a level was made
-module _ (names : List (List ℕ)) (body : Statements) (delay tests : ℕ) (lines : List Line) (plain : IsPlain body) (level : IsExactLevel names body tests lines) where
+-- what is known where a level was made
+module _ (vars : ℕ) (body : Statements) (delay tests : ℕ) (tree : Tree AffineRank) (plain : IsPlain body)
+    (level : IsExactTree vars body tests (plan_of tree)) where
   pub exact_by : (stopped : Option Cause) → (stopped ≡ None → tests ≡ delay) → (IsSome stopped → tests < delay)
-      → IfSome stopped (IsCause body (suc tests)) → IsExact names body delay (header_of tests (stop_of stopped)) lines
+      → IfSome stopped (IsCause body (suc tests)) → IsExact vars body delay (Made tests (stop_of stopped) tree)
   exact_by None whole short why = (plain, whole refl, level)
-  exact_by (Some (Nodes count)) whole short why = (plain, short refl, why.1, level)
-  exact_by (Some (Wide operands)) whole short why = (plain, short refl, (why.1, why.2), level)
+  exact_by (Some (Nodes count)) whole short why = (plain, (short refl, why.1), level)
+  exact_by (Some (Wide operands)) whole short why = (plain, (short refl, (why.1, why.2)), level)
   exact_by (Some (Rows count)) whole short why = absurd why
   exact_by (Some (Point num den)) whole short why = absurd why
   exact_by (Some Given) whole short why = absurd why
@@ -193,10 +200,6 @@ none_by (Some a) none = absurd (none a refl)
 pub some_stop : {A : Type 0} (stopped : Option Cause) (family : Option A) → (stopped ≡ None → IsSome family) → family ≡ None → IsSome stopped
 some_stop None family whole none = absurd (let there = subst IsSome none (whole refl) in cc)
 some_stop (Some cause) family whole none = refl
-
-pub stopped_by : (names : List (List ℕ)) (body : Statements) (delay : ℕ) (header : Header) (lines : List Line) (cause : Stop) → header ≡ Stopped cause → lines ≡ []
-    → IsUnmade body cause → IsExact names body delay header lines
-stopped_by names body delay header lines cause is none unmade = subst (λ h. IsExact names body delay h lines) (sym is) (unmade, none)
 
 -- what printing asks of the tree
 pub ranks_constant : (plan : Plan AffineRank) → RanksCount plan → HasConstantRanks plan
@@ -222,13 +225,3 @@ module _ (tests : ℕ) (body : Statements) (items : List (Tree AffineRank)) (tre
   pub entry_tree : (tree : Tree AffineRank) → tree ≡ get_or items entry tree → plan_of tree ≡ tree_at trees (entry_of body)
   entry_tree tree at =
       ap plan_of at ∙ plan_at items entry tree entry_inside ∙ ap (tree_at (map plan_of items)) is ∙ ap (λ list. tree_at list (entry_of body)) read
-
--- the lines of a level are over the program's names
-pub level_over : (names : List (List ℕ)) (body : Statements) → length names ≤ 15 → IsBody (length names) body → (tests : ℕ) (trees : List (Plan AffineRank))
-    → IsLevel tests body trees → (tree : Plan AffineRank) (all lines : List Line) → tree ≡ tree_at trees (entry_of body) → AreLinesOf Exact tree all
-    → lines ≡ claiming all → All (IsLineOver names) lines
-level_over names body few valid tests trees level tree all lines is are claims =
-    let own = subst (IsTreeOver (length names)) (sym is) (level.variables (entry_of body) (entry_is_a_label body) (length names) valid) in
-    subst (All (IsLineOver names)) (sym claims)
-    (All-filter (λ (line : Line). not (is_unknown line.claim)) (IsLineOver names) all
-    (tree_lines_over names Exact tree all (tree_over names (omega (arith, few)) tree own) are))

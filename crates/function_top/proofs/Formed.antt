@@ -9,10 +9,10 @@ use Rattle.report_text.specs.declared.line.Line.{Line}
 use Rattle.report_text.specs.declared.report.Report.{Report}
 use Rattle.report_text.specs.declared.report.Header.{Header}
 use Rattle.report_text.specs.Printed.{IsReportText, exact_part}
-use Rattle.function_top.specs.Analysis.{IsReportOf}
-use Rattle.function_top.specs.declared.order.Order.{Order}
+use Rattle.function_top.specs.declared.found.Found.{Found}
 use Rattle.function_top.specs.Form.{IsKnown, exact_head, proved_head, unknown_head, all_verdict, some_verdict, words, program}
 use Rattle.function_top.specs.Refusals.{fault_line, fault_text, usage_line, usage_text}
+use Rattle.function_top.specs.Shown.{Shows}
 use Rattle.function_top.proofs.Truth.{KnownLines, fault_lacks, usage_lacks}
 use Rattle.function_top.proofs.Written.{Bytes, EachWhole, Frames, Prints, one_good, report_holds}
 
@@ -47,8 +47,8 @@ module _ (left : Option Bytes) where
     all_spoken [] = All-nil (Prints (IsKnown left) frames names known.newline)
     all_spoken (line ∷ more) = All-cons (Prints (IsKnown left) frames names known.newline) line more (spoken line) (all_spoken more)
 
-    pub report_known : (order : Order) (report : Report) (body : Statements) (text : Bytes) → IsReportOf order names body report
-        → IsReportText names report text → EachWhole (IsKnown left) text
-    report_known order report body text due printed =
-        report_holds (IsKnown left) frames names known.newline report text due.unexplained (all_spoken report.exact) (all_spoken report.proved)
+    pub report_known : (found : Found) (report : Report) (text : Bytes) → Shows found report → IsReportText names report text
+        → EachWhole (IsKnown left) text
+    report_known found report text shows printed =
+        report_holds (IsKnown left) frames names known.newline report text shows.unexplained (all_spoken report.exact) (all_spoken report.proved)
         (all_spoken report.unknown) printed

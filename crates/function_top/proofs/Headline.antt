@@ -7,13 +7,14 @@ use Rattle.std.proofs.lemmas.Option.{same_Some}
 use Rattle.outside.specs.Faults.{Rose}
 use Rattle.outside.specs.Sink.{AppendsFront}
 use Rattle.step_meaning.specs.Countdown.{IsCountdown}
-use Rattle.step_meaning.specs.Syntax.{Statements}
+use Rattle.ctl_formula.specs.Formulas.{af_exit}
+use Rattle.ctl_rounds.specs.Asked.{RoseBy}
 use Rattle.source_parse.specs.Derives.{IsTextOf}
 use Rattle.source_parse.specs.Laws.{NamesAreDistinct, NamesAreNames, TextsAreUnique}
 use Rattle.linear_cons.specs.declared.affine.Affine.{Affine}
 use Rattle.linear_cons.specs.Functions.{complement_of}
 use Rattle.decision_tree.specs.declared.affine_rank.AffineRank.{AffineRank}
-use Rattle.decision_tree.specs.Plans.{Plan, bottom, branch, leaf, top}
+use Rattle.decision_tree.specs.Plans.{Plan, bottom, branch, leaf, plan_of, top}
 use Rattle.decision_tree.specs.Extent.{IsWhole}
 use Rattle.line_text.specs.declared.claim.Claim.{Claim}
 use Rattle.line_text.specs.declared.claim.Claim.TheVariants.{Within}
@@ -23,19 +24,23 @@ use Rattle.report_text.specs.declared.line.Line.{Line}
 use Rattle.report_text.specs.declared.line.Top.TheVariants.{Bound}
 use Rattle.report_text.specs.declared.report.Report.{Report}
 use Rattle.report_text.specs.Leaves.{AreLines, AreLinesOf, claiming_nothing, is_unknown, leaves_below, none, skipped, stands}
-use Rattle.report_text.specs.Printed.{IsReportText}
 use Rattle.function_top.specs.declared.order.Order.{Order}
 use Rattle.function_top.specs.declared.status.Status.{Status}
 use Rattle.function_top.specs.declared.status.Status.TheVariants.{AllInputs, SomeInputs, Words, Program, Formula, ReadFault, WriteFault, NoMemory}
-use Rattle.function_top.specs.Analysis.{IsReportOf}
-use Rattle.function_top.specs.Answer.{Answers, CoversCountdowns, IsComplete, after_failing}
+use Rattle.function_top.specs.declared.found.Found.{Found}
+use Rattle.function_top.specs.Answer.{Answers, CoversCountdowns, IsComplete, WasDue, after_failing}
 use Rattle.function_top.specs.Call.{Call}
-use Rattle.function_top.specs.Due.{IsDueOn, IsPastLimits, IsReportOn, IsWithinLimits}
-use Rattle.function_top.specs.Form.{IsKnown}
-use Rattle.function_top.specs.Order.{Ask}
+use Rattle.function_top.specs.Due.{IsDueOn, IsPastLimits, IsReport, IsReportOn, IsWithinLimits}
+use Rattle.function_top.specs.Form.{HasKnownLines}
+use Rattle.function_top.specs.Found.{IsFound}
+use Rattle.function_top.specs.Meeting.{AreMetOnce}
+use Rattle.function_top.specs.Order.{Accepted}
 use Rattle.function_top.specs.Refusals.{usage_text}
+use Rattle.function_top.specs.Shown.{Shows}
+use Rattle.function_top.specs.Subject.{IsSubject, Subject}
 use Rattle.function_top.specs.Text.{IsRead}
 use Rattle.function_top.proofs.Formed.{fault_known, report_known}
+use Rattle.function_top.proofs.MetOnce.{met_once}
 use Rattle.function_top.proofs.Named.{program_names}
 use Rattle.function_top.proofs.Truth.{EndAsLines, KnownLines, SaysTrue, fault_true, report_true}
 use Rattle.function_top.proofs.Written.{Bytes, EachWhole, Lacks, of_front, of_nothing}
@@ -66,52 +71,84 @@ known_texts unique spelled distinct ending newline one = record {
 
 -- ---- what is due is true, and of a known form
 
-report_on : KnownTexts → (order : Order) (text : Bytes) (names : List Bytes) (body : Statements) (report : Report) (bytes : Bytes) → IsTextOf text names body
-    → IsReportOn order text report bytes → EachWhole (SaysTrue names body) bytes
-report_on known order text names body report bytes h due =
-    let same = known.unique text due.names names due.body body due.program h in
-    report_true names body known.ending (known.lines names (program_names known.spelled known.distinct text names body h)) order report bytes
-    (subst (λ ns. IsReportOf order ns body report) same.0 (subst (λ bs. IsReportOf order due.names bs report) same.1 due.due))
-    (subst (λ ns. IsReportText ns report bytes) same.0 due.printed)
+-- a text has one subject
+pub same_subject : KnownTexts → (text : Bytes) (one other : Subject) → IsSubject text one → IsSubject text other → one ≡ other
+same_subject known text one other here there =
+    let same = known.unique text one.names other.names one.body other.body here.program there.program in
+    ap {B = Subject} (λ names. record { names = names; body = one.body; formula = one.formula }) same.0
+    ∙ ap {B = Subject} (λ body. record { names = other.names; body = body; formula = one.formula }) same.1
+    ∙ ap {B = Subject} (λ formula. record { names = other.names; body = other.body; formula = formula }) (here.formula ∙ sym there.formula)
 
-pub due_true : KnownTexts → (order : Order) (text : Bytes) (names : List Bytes) (body : Statements) (status : Status) (bytes : Bytes) → IsTextOf text names body
-    → IsDueOn order text status bytes → EachWhole (SaysTrue names body) bytes
-due_true known order text names body AllInputs bytes h due = report_on known order text names body due.0 bytes h due.1
-due_true known order text names body SomeInputs bytes h due = report_on known order text names body due.0 bytes h due.1
-due_true known order text names body Program bytes h (inl long) = subst (EachWhole (SaysTrue names body)) (sym long.line_is) (fault_true names body known.ending 14 65536)
-due_true known order text names body Program bytes h (inr (inl other)) = absurd (other.none names body h)
-due_true known order text names body Program bytes h (inr (inr past)) =
-    subst (EachWhole (SaysTrue names body)) (sym past.line_is) (fault_true names body known.ending past.number past.offset)
-due_true known order text names body Words bytes h due = absurd due
-due_true known order text names body Formula bytes h due = absurd due
-due_true known order text names body ReadFault bytes h due = absurd due
-due_true known order text names body WriteFault bytes h due = absurd due
-due_true known order text names body NoMemory bytes h due = absurd due
+true_report : KnownTexts → (order : Order) (text : Bytes) (subject : Subject) (report : Report) (turns : ℕ) (bytes : Bytes) → IsSubject text subject
+    → IsReportOn order text report turns bytes → EachWhole (SaysTrue subject) bytes
+true_report known order text subject report turns bytes h due =
+    subst (λ s. EachWhole (SaysTrue s) bytes) (same_subject known text due.subject subject due.is h)
+    (report_true due.subject known.ending
+    (known.lines due.subject.names (program_names known.spelled known.distinct text due.subject.names due.subject.body due.is.program))
+    order.delay due.found report bytes due.finds due.shows due.printed)
+
+pub due_true : KnownTexts → (order : Order) (text : Bytes) (subject : Subject) (status : Status) (turns : ℕ) (bytes : Bytes) → IsSubject text subject
+    → IsDueOn order text status turns bytes → EachWhole (SaysTrue subject) bytes
+due_true known order text subject AllInputs turns bytes h due = true_report known order text subject due.0 turns bytes h due.1
+due_true known order text subject SomeInputs turns bytes h due = true_report known order text subject due.0 turns bytes h due.1
+due_true known order text subject Program turns bytes h (inl long, asked) =
+    subst (EachWhole (SaysTrue subject)) (sym long.line_is) (fault_true subject known.ending 14 65536)
+due_true known order text subject Program turns bytes h (inr (inl other), asked) = absurd (other.none subject.names subject.body h.program)
+due_true known order text subject Program turns bytes h (inr (inr past), asked) =
+    subst (EachWhole (SaysTrue subject)) (sym past.line_is) (fault_true subject known.ending past.number past.offset)
+due_true known order text subject Words turns bytes h due = absurd due
+due_true known order text subject Formula turns bytes h due = absurd due
+due_true known order text subject ReadFault turns bytes h due = absurd due
+due_true known order text subject WriteFault turns bytes h due = absurd due
+due_true known order text subject NoMemory turns bytes h due = absurd due
 
 -- the text that was read is the one that was told
 pub told_read : (left : Option Bytes) (text told : Bytes) → IsRead left text → left ≡ Some told → told ≡ text
 told_read left text told read is = subst (λ l. IsRead l text) is read
 
-known_report : KnownTexts → (order : Order) (left : Option Bytes) (text : Bytes) → IsRead left text → (report : Report) (bytes : Bytes)
-    → IsReportOn order text report bytes → EachWhole (IsKnown left) bytes
-known_report known order left text read report bytes due =
-    report_known left due.names (known.lines due.names (program_names known.spelled known.distinct text due.names due.body due.program))
-    (λ told declared other is own. (known.unique text due.names declared due.body other due.program
+known_report : KnownTexts → (order : Order) (left : Option Bytes) (text : Bytes) → IsRead left text → (report : Report) (turns : ℕ) (bytes : Bytes)
+    → IsReportOn order text report turns bytes → HasKnownLines left bytes
+known_report known order left text read report turns bytes due =
+    let subject = due.subject in
+    report_known left subject.names (known.lines subject.names (program_names known.spelled known.distinct text subject.names subject.body due.is.program))
+    (λ told declared other is own. (known.unique text subject.names declared subject.body other due.is.program
     (subst (λ t. IsTextOf t declared other) (told_read left text told read is) own)).0)
-    order report due.body bytes due.due due.printed
+    due.found report bytes due.shows due.printed
 
-pub due_known : KnownTexts → (order : Order) (left : Option Bytes) (text : Bytes) → IsRead left text → (status : Status) (bytes : Bytes)
-    → IsDueOn order text status bytes → EachWhole (IsKnown left) bytes
-due_known known order left text read AllInputs bytes due = known_report known order left text read due.0 bytes due.1
-due_known known order left text read SomeInputs bytes due = known_report known order left text read due.0 bytes due.1
-due_known known order left text read Program bytes (inl long) = subst (EachWhole (IsKnown left)) (sym long.line_is) (fault_known left 14 65536)
-due_known known order left text read Program bytes (inr (inl other)) = subst (EachWhole (IsKnown left)) (sym other.line_is) (fault_known left other.number other.offset)
-due_known known order left text read Program bytes (inr (inr past)) = subst (EachWhole (IsKnown left)) (sym past.line_is) (fault_known left past.number past.offset)
-due_known known order left text read Words bytes due = absurd due
-due_known known order left text read Formula bytes due = absurd due
-due_known known order left text read ReadFault bytes due = absurd due
-due_known known order left text read WriteFault bytes due = absurd due
-due_known known order left text read NoMemory bytes due = absurd due
+pub due_known : KnownTexts → (order : Order) (left : Option Bytes) (text : Bytes) → IsRead left text → (status : Status) (turns : ℕ) (bytes : Bytes)
+    → IsDueOn order text status turns bytes → HasKnownLines left bytes
+due_known known order left text read AllInputs turns bytes due = known_report known order left text read due.0 turns bytes due.1
+due_known known order left text read SomeInputs turns bytes due = known_report known order left text read due.0 turns bytes due.1
+due_known known order left text read Program turns bytes (inl long, asked) = subst (HasKnownLines left) (sym long.line_is) (fault_known left 14 65536)
+due_known known order left text read Program turns bytes (inr (inl other), asked) =
+    subst (HasKnownLines left) (sym other.line_is) (fault_known left other.number other.offset)
+due_known known order left text read Program turns bytes (inr (inr past), asked) =
+    subst (HasKnownLines left) (sym past.line_is) (fault_known left past.number past.offset)
+due_known known order left text read Words turns bytes due = absurd due
+due_known known order left text read Formula turns bytes due = absurd due
+due_known known order left text read ReadFault turns bytes due = absurd due
+due_known known order left text read WriteFault turns bytes due = absurd due
+due_known known order left text read NoMemory turns bytes due = absurd due
+
+-- the lines of a report that is due are met once
+met_report : KnownTexts → (order : Order) (text : Bytes) (subject : Subject) (report : Report) (turns : ℕ) (bytes : Bytes) → IsSubject text subject
+    → IsReportOn order text report turns bytes → AreMetOnce subject.names bytes
+met_report known order text subject report turns bytes h due =
+    subst (λ (s : Subject). AreMetOnce s.names bytes) (same_subject known text due.subject subject due.is h)
+    (met_once due.subject.names
+    (known.lines due.subject.names (program_names known.spelled known.distinct text due.subject.names due.subject.body due.is.program))
+    known.ending due.found report bytes due.shows due.printed)
+
+pub due_met : KnownTexts → (order : Order) (text : Bytes) (subject : Subject) (status : Status) (turns : ℕ) (bytes : Bytes) → IsSubject text subject
+    → IsDueOn order text status turns bytes → IsReport status → AreMetOnce subject.names bytes
+due_met known order text subject AllInputs turns bytes h due is = met_report known order text subject due.0 turns bytes h due.1
+due_met known order text subject SomeInputs turns bytes h due is = met_report known order text subject due.0 turns bytes h due.1
+due_met known order text subject Program turns bytes h due is = absurd is
+due_met known order text subject Words turns bytes h due is = absurd is
+due_met known order text subject Formula turns bytes h due is = absurd is
+due_met known order text subject ReadFault turns bytes h due is = absurd is
+due_met known order text subject WriteFault turns bytes h due is = absurd is
+due_met known order text subject NoMemory turns bytes h due is = absurd is
 
 -- ---- what was written
 
@@ -162,26 +199,33 @@ keeps_itself (Some bytes) = refl
 -- ---- what the status says
 
 -- the status says what became of what was due
-pub settled_answers : (words : List Bytes) (order : Order) → Ask words order → (call : Call) (status result : Status) (text bytes : Bytes)
-    → IsRead call.left text → call.read_faults_after ≡ call.read_faults → IsDueOn order text status bytes
-    → Settles status result bytes call.taken call.taken_after call.write_faults call.write_faults_after → Answers words result call
-settled_answers words order asked call AllInputs result text bytes read faultless due (inl h) =
-    rw h.0 (bytes, record { order = order; asked = asked; text = text; read = read; faultless = faultless; due = due }, h.1)
-settled_answers words order asked call AllInputs result text bytes read faultless due (inr h) =
-    rw h.0 (bytes, inl (record { order = order; asked = asked; text = text; read = read; faultless = faultless; due = due }), h.1, h.2)
-settled_answers words order asked call SomeInputs result text bytes read faultless due (inl h) =
-    rw h.0 (bytes, record { order = order; asked = asked; text = text; read = read; faultless = faultless; due = due }, h.1)
-settled_answers words order asked call SomeInputs result text bytes read faultless due (inr h) =
-    rw h.0 (bytes, inr (record { order = order; asked = asked; text = text; read = read; faultless = faultless; due = due }), h.1, h.2)
-settled_answers words order asked call Program result text bytes read faultless due (inl h) =
-    rw h.0 (bytes, record { order = order; asked = asked; text = text; read = read; faultless = faultless; due = due }, inl h.1)
-settled_answers words order asked call Program result text bytes read faultless due (inr h) =
-    rw h.0 (bytes, record { order = order; asked = asked; text = text; read = read; faultless = faultless; due = due }, inr (h.1, h.2))
-settled_answers words order asked call Words result text bytes read faultless due settled = absurd due
-settled_answers words order asked call Formula result text bytes read faultless due settled = absurd due
-settled_answers words order asked call ReadFault result text bytes read faultless due settled = absurd due
-settled_answers words order asked call WriteFault result text bytes read faultless due settled = absurd due
-settled_answers words order asked call NoMemory result text bytes read faultless due settled = absurd due
+module _ (words : List Bytes) (call : Call) (accepted : Accepted words) (text bytes : Bytes) (turns : ℕ) (read : IsRead call.left text)
+    (faultless : call.read_faults_after ≡ call.read_faults) (rose : RoseBy (λ (times : ℕ). times) turns call.asked call.asked_after) where
+  was_due : (status : Status) → IsDueOn accepted.0 text status turns bytes → WasDue words call status bytes
+  was_due status due = record {
+    order = accepted.0;
+    asked = accepted.1;
+    text = text;
+    read = read;
+    faultless = faultless;
+    turns = turns;
+    due = due;
+    rose = rose;
+  }
+
+  pub settled_answers : (status result : Status) → IsDueOn accepted.0 text status turns bytes
+      → Settles status result bytes call.taken call.taken_after call.write_faults call.write_faults_after → Answers words result call
+  settled_answers AllInputs result due (inl h) = rw h.0 (bytes, was_due AllInputs due, h.1)
+  settled_answers AllInputs result due (inr h) = rw h.0 (bytes, inl (was_due AllInputs due), h.1, h.2)
+  settled_answers SomeInputs result due (inl h) = rw h.0 (bytes, was_due SomeInputs due, h.1)
+  settled_answers SomeInputs result due (inr h) = rw h.0 (bytes, inr (was_due SomeInputs due), h.1, h.2)
+  settled_answers Program result due (inl h) = rw h.0 (bytes, was_due Program due, inl h.1)
+  settled_answers Program result due (inr h) = rw h.0 (bytes, was_due Program due, inr (h.1, h.2))
+  settled_answers Words result due settled = absurd due
+  settled_answers Formula result due settled = absurd due
+  settled_answers ReadFault result due settled = absurd due
+  settled_answers WriteFault result due settled = absurd due
+  settled_answers NoMemory result due settled = absurd due
 
 -- words that are refused got the usage line
 pub refused_answers : (words : List Bytes) (call : Call) (result : Status)
@@ -190,47 +234,48 @@ refused_answers words call result (inl h) = (h.0, rw h.0 (inl h.1))
 refused_answers words call result (inr h) = (h.0, rw h.0 (inr (h.1, h.2)))
 
 -- what is due on a text comes with another status than refused words
-due_accepts : (order : Order) (status result : Status) (text bytes : Bytes) → IsDueOn order text status bytes → (result ≡ status) ⊎ (result ≡ after_failing status) → result ≢ Words
-due_accepts order AllInputs result text bytes due (inl is) e = let clash : AllInputs ≡ Words = sym is ∙ e in absurd (cc)
-due_accepts order AllInputs result text bytes due (inr is) e = let clash : WriteFault ≡ Words = sym is ∙ e in absurd (cc)
-due_accepts order SomeInputs result text bytes due (inl is) e = let clash : SomeInputs ≡ Words = sym is ∙ e in absurd (cc)
-due_accepts order SomeInputs result text bytes due (inr is) e = let clash : WriteFault ≡ Words = sym is ∙ e in absurd (cc)
-due_accepts order Program result text bytes due (inl is) e = let clash : Program ≡ Words = sym is ∙ e in absurd (cc)
-due_accepts order Program result text bytes due (inr is) e = let clash : Program ≡ Words = sym is ∙ e in absurd (cc)
-due_accepts order Words result text bytes due is e = due
-due_accepts order Formula result text bytes due is e = due
-due_accepts order ReadFault result text bytes due is e = due
-due_accepts order WriteFault result text bytes due is e = due
-due_accepts order NoMemory result text bytes due is e = due
+due_accepts : (order : Order) (status result : Status) (text bytes : Bytes) (turns : ℕ) → IsDueOn order text status turns bytes → (result ≡ status) ⊎ (result ≡ after_failing status) → result ≢ Words
+due_accepts order AllInputs result text bytes turns due (inl is) e = let clash : AllInputs ≡ Words = sym is ∙ e in absurd (cc)
+due_accepts order AllInputs result text bytes turns due (inr is) e = let clash : WriteFault ≡ Words = sym is ∙ e in absurd (cc)
+due_accepts order SomeInputs result text bytes turns due (inl is) e = let clash : SomeInputs ≡ Words = sym is ∙ e in absurd (cc)
+due_accepts order SomeInputs result text bytes turns due (inr is) e = let clash : WriteFault ≡ Words = sym is ∙ e in absurd (cc)
+due_accepts order Program result text bytes turns due (inl is) e = let clash : Program ≡ Words = sym is ∙ e in absurd (cc)
+due_accepts order Program result text bytes turns due (inr is) e = let clash : Program ≡ Words = sym is ∙ e in absurd (cc)
+due_accepts order Words result text bytes turns due is e = due
+due_accepts order Formula result text bytes turns due is e = due
+due_accepts order ReadFault result text bytes turns due is e = due
+due_accepts order WriteFault result text bytes turns due is e = due
+due_accepts order NoMemory result text bytes turns due is e = due
 
-pub settled_accepts : (order : Order) (status result : Status) (text bytes : Bytes) (taken taken' : Option Bytes) (writes writes' : ℕ) → IsDueOn order text status bytes
+pub settled_accepts : (order : Order) (status result : Status) (text bytes : Bytes) (turns : ℕ) (taken taken' : Option Bytes) (writes writes' : ℕ)
+    → IsDueOn order text status turns bytes
     → Settles status result bytes taken taken' writes writes' → result ≢ Words
-settled_accepts order status result text bytes taken taken' writes writes' due (inl h) = due_accepts order status result text bytes due (inl h.0)
-settled_accepts order status result text bytes taken taken' writes writes' due (inr h) = due_accepts order status result text bytes due (inr h.0)
+settled_accepts order status result text bytes turns taken taken' writes writes' due (inl h) = due_accepts order status result text bytes turns due (inl h.0)
+settled_accepts order status result text bytes turns taken taken' writes writes' due (inr h) = due_accepts order status result text bytes turns due (inr h.0)
 
--- no other status is left for the text of a program within the limits
-not_refused : (order : Order) (left : Option Bytes) (told text : Bytes) (names : List Bytes) (body : Statements) (bytes : Bytes) → left ≡ Some told → IsRead left text
-    → IsTextOf told names body → IsWithinLimits told → IsDueOn order text Program bytes → ⊥
-not_refused order left told text names body bytes is read h limits (inl long) =
+-- no other status is left for a text with a subject within the limits
+not_refused : (order : Order) (left : Option Bytes) (told text : Bytes) (subject : Subject) (turns : ℕ) (bytes : Bytes) → left ≡ Some told → IsRead left text
+    → IsSubject told subject → IsWithinLimits told → IsDueOn order text Program turns bytes → ⊥
+not_refused order left told text subject turns bytes is read h limits (inl long, asked) =
     let same = told_read left text told read is in
     let fits : length text ≤ 65536 = subst (λ t. length t ≤ 65536) same limits.short in
     let over = long.long in
     omega (arith, fits, over)
-not_refused order left told text names body bytes is read h limits (inr (inl other)) =
-    other.none names body (subst (λ t. IsTextOf t names body) (told_read left text told read is) h)
-not_refused order left told text names body bytes is read h limits (inr (inr past)) =
+not_refused order left told text subject turns bytes is read h limits (inr (inl other), asked) =
+    other.none subject.names subject.body (subst (λ t. IsTextOf t subject.names subject.body) (told_read left text told read is) h.program)
+not_refused order left told text subject turns bytes is read h limits (inr (inr past), asked) =
     limits.graph bytes (subst (λ t. IsPastLimits t bytes) (sym (told_read left text told read is)) past)
 
 pub complete : (words : List Bytes) (status : Status) (call : Call) → status ≢ Words → Answers words status call → IsComplete words status call
-complete words AllInputs call accepted h order text names body asked is program limits reads writes = inl refl
-complete words SomeInputs call accepted h order text names body asked is program limits reads writes = inr (inl refl)
-complete words NoMemory call accepted h order text names body asked is program limits reads writes = inr (inr refl)
-complete words Words call accepted h order text names body asked is program limits reads writes = absurd (accepted refl)
-complete words Program call accepted h order text names body asked is program limits reads writes =
-    absurd (not_refused h.1.order call.left text h.1.text names body h.0 is h.1.read program limits h.1.due)
-complete words Formula call accepted h order text names body asked is program limits reads writes = absurd h
-complete words ReadFault call accepted h order text names body asked is program limits reads writes = absurd (reads h.0)
-complete words WriteFault call accepted h order text names body asked is program limits reads writes = absurd (writes h.3)
+complete words AllInputs call other h text subject accepted is program limits reads writes = inl refl
+complete words SomeInputs call other h text subject accepted is program limits reads writes = inr (inl refl)
+complete words NoMemory call other h text subject accepted is program limits reads writes = inr (inr refl)
+complete words Words call other h text subject accepted is program limits reads writes = absurd (other refl)
+complete words Program call other h text subject accepted is program limits reads writes =
+    absurd (not_refused h.1.order call.left text h.1.text subject h.1.turns h.0 is h.1.read program limits h.1.due)
+complete words Formula call other h text subject accepted is program limits reads writes = absurd h
+complete words ReadFault call other h text subject accepted is program limits reads writes = absurd (reads h.0)
+complete words WriteFault call other h text subject accepted is program limits reads writes = absurd (writes h.3)
 
 -- ---- countdown programs
 
@@ -254,40 +299,27 @@ none_unknown (stands {path} {claim} {line} {leaves} {lines} is more) all =
     let claims : is_unknown line.claim ≡ false = ap is_unknown is.claims ∙ All-head Claims (path, claim) leaves all in
     rw claims (none_unknown more (All-tail Claims (path, claim) leaves all))
 
-never_failing : (status : Status) → after_failing status ≡ SomeInputs → ⊥
-never_failing AllInputs is = cc
-never_failing SomeInputs is = cc
-never_failing Words is = cc
-never_failing Program is = cc
-never_failing Formula is = cc
-never_failing ReadFault is = cc
-never_failing WriteFault is = cc
-never_failing NoMemory is = cc
-
 -- a tree without an undefined leaf leaves no input without a claim
 pub whole_claims : (tree : Plan AffineRank) (lines : List Line) → AreLinesOf Bound tree lines → IsWhole tree → claiming_nothing lines ≡ []
 whole_claims tree lines are whole = none_unknown are (all_claim [] tree whole)
 
-covered : (order : Order) (names : List Bytes) (body : Statements) (report : Report) → IsReportOf order names body report → IsCountdown body → report.unknown ≡ []
-covered order names body report due counts =
-    due.unknown ∙ whole_claims due.tree due.lines due.lines_of (due.countdown counts)
-
--- no failed write has the status of a report with an unknown line
-pub some_unknown : (status result : Status) → (result ≡ status) ⊎ (result ≡ after_failing status) → result ≡ SomeInputs → status ≡ SomeInputs
-some_unknown status result (inl same) is = sym same ∙ is
-some_unknown status result (inr failed) is = absurd (never_failing status (sym failed ∙ is))
+covered : (delay : ℕ) (subject : Subject) (found : Found) (report : Report) → IsFound delay subject found → Shows found report → subject.formula ≡ af_exit
+    → IsCountdown subject.body → report.unknown ≡ []
+covered delay subject found report finds shows ends counts =
+    shows.unknown ∙ whole_claims (plan_of found.cover) shows.lines shows.lines_of (finds.countdown ends counts)
 
 pub covers_countdowns : KnownTexts → (words : List Bytes) (status : Status) (call : Call) → Answers words status call → CoversCountdowns status call
-covers_countdowns known words SomeInputs call h told names body is program counts same =
-    let due = h.1.due in
-    let own = known.unique h.1.text names due.1.names body due.1.body
-    (subst (λ t. IsTextOf t names body) (told_read call.left h.1.text told h.1.read is) program) due.1.program
+covers_countdowns known words SomeInputs call h told subject is program counts same =
+    let report = h.1.due.1 in
+    let own : subject ≡ report.subject = same_subject known h.1.text subject report.subject
+    (subst (λ t. IsSubject t subject) (told_read call.left h.1.text told h.1.read is) program) report.is
     in
-    due.2 (covered h.1.order due.1.names due.1.body due.0 due.1.due (subst IsCountdown own.1 counts))
-covers_countdowns known words AllInputs call h told names body is program counts same = cc
-covers_countdowns known words Words call h told names body is program counts same = cc
-covers_countdowns known words Program call h told names body is program counts same = cc
-covers_countdowns known words Formula call h told names body is program counts same = cc
-covers_countdowns known words ReadFault call h told names body is program counts same = cc
-covers_countdowns known words WriteFault call h told names body is program counts same = cc
-covers_countdowns known words NoMemory call h told names body is program counts same = cc
+    h.1.due.2 (covered h.1.order.delay report.subject report.found h.1.due.0 report.finds report.shows report.is.formula
+    (subst (λ (s : Subject). IsCountdown s.body) own counts))
+covers_countdowns known words AllInputs call h told subject is program counts same = cc
+covers_countdowns known words Words call h told subject is program counts same = cc
+covers_countdowns known words Program call h told subject is program counts same = cc
+covers_countdowns known words Formula call h told subject is program counts same = cc
+covers_countdowns known words ReadFault call h told subject is program counts same = cc
+covers_countdowns known words WriteFault call h told subject is program counts same = cc
+covers_countdowns known words NoMemory call h told subject is program counts same = cc

@@ -1,18 +1,19 @@
 -- The lines of a tree over the names are over them.
-use Rattle.std.proofs.Common.{◌≡◌, ⊎_elim, ℕ, ◌<◌, ◌≤◌, ℤ, pos, negsuc, ◌-ℤ◌, List, [], ◌∷◌, ◌++◌, length, All, Contains, sym, subst, ◌∙◌, arith}
+use Rattle.std.proofs.Common.{◌≡◌, ⊎_elim, ℕ, ◌<◌, ◌≤◌, ℤ, pos, negsuc, ◌-ℤ◌, List, [], ◌∷◌, ◌++◌, length, not, All, Contains, sym, subst, ◌∙◌, arith}
 use Rattle.std.proofs.lemmas.Bool.{cases_lt}
 use Rattle.std.proofs.lemmas.Int.{ints}
 use Rattle.std.proofs.lemmas.List.{get_or_past}
-use Rattle.std.proofs.lemmas.List.Elements.{All-append, All-cons, All-head, All-map, All-nil, All-push, All-tail, All-weaker}
+use Rattle.std.proofs.lemmas.List.Elements.{All-append, All-cons, All-filter, All-head, All-map, All-nil, All-push, All-tail, All-weaker}
 use Rattle.linear_cons.specs.declared.affine.Affine.{Affine}
 use Rattle.linear_cons.specs.declared.row.Row.{Row}
 use Rattle.linear_cons.specs.Numbers.{at_places, number_at}
 use Rattle.linear_cons.specs.Functions.{coefficient, complement_of, constant_of}
+use Rattle.linear_cons.specs.Functions as functions
 use Rattle.linear_cons.proofs.Places.{length-at_places, number_at_places}
 use Rattle.linear_solve.proofs.Lists.{member_of}
 use Rattle.decision_tree.specs.declared.affine_rank.AffineRank.{AffineRank}
-use Rattle.decision_tree.specs.Plans.{Plan, bottom, branch, leaf, top}
-use Rattle.decision_tree.specs.Extent as trees
+use Rattle.decision_tree.specs.Plans.{Plan, bottom, branch, leaf, plan_of, top}
+use Rattle.decision_tree.specs.Extent.{IsTreeOver}
 use Rattle.line_text.specs.declared.claim.Claim.{Claim}
 use Rattle.decision_tree.specs.declared.reason.Why.{Why}
 use Rattle.line_text.specs.declared.claim.Claim.TheVariants.{Unknown}
@@ -21,9 +22,13 @@ use Rattle.line_text.specs.Spells.{IsClaimOver}
 use Rattle.report_text.specs.declared.line.Line.{Line}
 use Rattle.report_text.specs.declared.line.Top.{Top}
 use Rattle.report_text.specs.declared.line.Top.TheVariants.{Bound, Exact, Plain}
-use Rattle.report_text.specs.Leaves.{AreLines, AreLinesOf, IsLineOf, claim_of, leaves_below, none, skipped, stands}
+use Rattle.report_text.specs.declared.report.Header.{Header}
+use Rattle.report_text.specs.Leaves.{AreLines, AreLinesOf, IsLineOf, claim_of, is_unknown, leaves_below, none, skipped, stands}
 use Rattle.report_text.specs.Printed.{IsLineOver}
-use Rattle.function_top.specs.Analysis.{IsTreeOver}
+use Rattle.function_top.specs.declared.found.Exact.{Exact as Known}
+use Rattle.function_top.specs.declared.found.Exact.TheVariants.{Made, Unmade}
+use Rattle.function_top.specs.Printable.{IsExactPrintable}
+use Rattle.function_top.specs.Shown.{ShowsExact}
 
 -- a function of the numbers at places is 0 where its numbers are
 zero_at : (f : ℕ → ℤ) (place : ℕ) → (place < 16 → f place ≡ pos 0) → number_at (at_places f) place ≡ pos 0
@@ -32,7 +37,7 @@ zero_at f place is = ⊎_elim
     (λ past. get_or_past (at_places f) place (pos 0) (subst (λ n. n ≤ place) (sym (length-at_places f)) past))
     (cases_lt place 16)
 
-module _ (names : List (List ℕ)) where
+module _ (names : List (List ℕ)) (few : length names ≤ 15) where
   complement_over : (a : Affine) → IsOver names a → IsOver names (complement_of a)
   complement_over a over = record {
     few = over.few;
@@ -54,16 +59,20 @@ module _ (names : List (List ℕ)) where
   claim_over Bound why rank over = over
   claim_over Plain why rank over = tt
 
-  leaves_over : (claims : Top) (above : List Affine) (tree : Plan AffineRank) → All (IsOver names) above → IsTreeOver names tree
+  -- a function of the variables below the number of names is over the names
+  named : (a : Affine) → functions.IsOver (length names) a → IsOver names a
+  named a over = record { few = omega (arith, few); places = over.places; past = over.past }
+
+  leaves_over : (claims : Top) (above : List Affine) (tree : Plan AffineRank) → All (IsOver names) above → IsTreeOver (length names) tree
       → All IsLeafOver (leaves_below claims above tree)
   leaves_over claims above bottom over tree = one_over above Unknown over tt
   leaves_over claims above (top cause) over tree = one_over above Unknown over tt
-  leaves_over claims above (leaf why rank) over tree = one_over above (claim_of claims rank) over (claim_over claims why rank tree)
+  leaves_over claims above (leaf why rank) over tree = one_over above (claim_of claims rank) over (claim_over claims why rank (named rank.value tree.0))
   leaves_over claims above (branch row this that) over tree =
       All-append IsLeafOver (leaves_below claims (above ++ row.affine ∷ []) this) (leaves_below claims (above ++ complement_of row.affine ∷ []) that)
-      (leaves_over claims (above ++ row.affine ∷ []) this (All-push (IsOver names) above row.affine over tree.0) tree.1)
+      (leaves_over claims (above ++ row.affine ∷ []) this (All-push (IsOver names) above row.affine over (named row.affine tree.0)) tree.1)
       (leaves_over claims (above ++ complement_of row.affine ∷ []) that
-      (All-push (IsOver names) above (complement_of row.affine) over (complement_over row.affine tree.0)) tree.2)
+      (All-push (IsOver names) above (complement_of row.affine) over (complement_over row.affine (named row.affine tree.0))) tree.2)
 
   line_over : (path : List Affine) (claim : Claim) (line : Line) → IsLineOf path claim line → IsLeafOver (path, claim) → IsLineOver names line
   line_over path claim line is over = record {
@@ -80,14 +89,15 @@ module _ (names : List (List ℕ)) where
       All-cons (IsLineOver names) line lines (line_over path claim line is (All-head IsLeafOver (path, claim) leaves over))
       (lines_over more (All-tail IsLeafOver (path, claim) leaves over))
 
-  -- a tree over variables below the number of names is over the names
-  pub tree_over : length names ≤ 16 → (tree : Plan AffineRank) → trees.IsTreeOver (length names) tree → IsTreeOver names tree
-  tree_over few bottom is = tt
-  tree_over few (top cause) is = tt
-  tree_over few (leaf why rank) is = record { few = few; places = is.places; past = is.past }
-  tree_over few (branch row this that) is =
-      (record { few = few; places = is.0.places; past = is.0.past }, tree_over few this is.1, tree_over few that is.2)
-
-  pub tree_lines_over : (claims : Top) (tree : Plan AffineRank) (lines : List Line) → IsTreeOver names tree → AreLinesOf claims tree lines
+  pub tree_lines_over : (claims : Top) (tree : Plan AffineRank) (lines : List Line) → IsTreeOver (length names) tree → AreLinesOf claims tree lines
       → All (IsLineOver names) lines
   tree_lines_over claims tree lines over are = lines_over are (leaves_over claims [] tree (All-nil (IsOver names)) over)
+
+  -- so are those of an exact part
+  pub exact_over : (exact : Known) (header : Header) (lines : List Line) → IsExactPrintable (length names) exact → ShowsExact exact header lines
+      → All (IsLineOver names) lines
+  exact_over (Unmade stop) header lines printable shows = subst (All (IsLineOver names)) (sym shows.1) (All-nil (IsLineOver names))
+  exact_over (Made tests stop tree) header lines printable shows =
+      subst (All (IsLineOver names)) (sym shows.1.2)
+      (All-filter (λ (line : Line). not (is_unknown line.claim)) (IsLineOver names) shows.1.0
+      (tree_lines_over Exact (plan_of tree) shows.1.0 printable.0.over shows.1.1))

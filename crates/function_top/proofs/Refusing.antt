@@ -2,7 +2,7 @@
 use Rattle.std.proofs.Common.{◌≡◌, ℕ, List, Some}
 use Rattle.std.proofs.lemmas.Option.{none-some}
 use Rattle.source_parse.specs.declared.fault.ParseFault.{ParseFault}
-use Rattle.source_parse.specs.declared.fault.ParseFault.TheVariants.{Lex, Expected, Unknown, Twice, Mixed, BadRange, Outside, Limit, Memory}
+use Rattle.source_parse.specs.declared.fault.ParseFault.TheVariants.{Lex, Expected, Unknown, Twice, Mixed, BadRange, Outside, ZeroDivisor, Limit, Memory}
 use Rattle.source_parse.specs.Derives.{DerivesNone}
 use Rattle.source_parse.specs.Faults.{IsFaultOf, IsMemory, numbered}
 use Rattle.source_parse.specs.Laws.{ProgramsHaveNoFault}
@@ -17,6 +17,7 @@ is_no_memory (Twice at) found told memory = memory
 is_no_memory (Mixed at) found told memory = memory
 is_no_memory (BadRange at) found told memory = memory
 is_no_memory (Outside at) found told memory = memory
+is_no_memory (ZeroDivisor at) found told memory = memory
 is_no_memory (Limit which at count) found told memory = memory
 
 pub refused : (text : List ℕ) (fault : ParseFault) (found : ℕ × ℕ) → ProgramsHaveNoFault → IsFaultOf text fault → numbered fault ≡ Some found

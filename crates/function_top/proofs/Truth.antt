@@ -1,27 +1,22 @@
 -- What the command writes is true, line by line.
-use Rattle.std.proofs.Common.{◌≡◌, ℕ, pos, ◌≤ℤ◌, not, List, [], ◌∷◌, ◌++◌, length, All, Contains, codes, refl, sym, ap, ◌∙◌, subst, arith, append_assoc}
-use Rattle.std.specs.Prelude.{IsPermutation}
+use Rattle.std.proofs.Common.{◌≡◌, ℕ, not, List, [], ◌∷◌, ◌++◌, length, All, Contains, codes, refl, sym, ap, ◌∙◌, subst, arith, append_assoc}
 use Rattle.std.proofs.lemmas.List.Elements.{All-cons, All-filter, All-nil}
-use Rattle.std.proofs.lemmas.List.Sorted.{All-permutation, IsPermutation-sym}
 use Rattle.step_meaning.specs.Outcome.{Store}
-use Rattle.step_meaning.specs.Syntax.{Statements}
 use Rattle.step_meaning.specs.Run.{IsInput, start}
 use Rattle.linear_cons.specs.declared.affine.Affine.{Affine}
-use Rattle.linear_cons.specs.declared.row.Row.{Row}
-use Rattle.linear_cons.specs.Functions.{value_at}
-use Rattle.linear_cons.specs.Rows.{Meets, MeetsAll}
-use Rattle.linear_solve.proofs.Lists.{all_of, in_map, member_of}
+use Rattle.linear_cons.specs.Rows.{MeetsAll}
+use Rattle.linear_solve.proofs.Lists.{all_of, member_of}
 use Rattle.decision_tree.specs.declared.affine_rank.AffineRank.{AffineRank}
 use Rattle.decision_tree.specs.Evaluation.{eval}
-use Rattle.decision_tree.specs.Plans.{Plan, bottom, branch, leaf, top}
+use Rattle.decision_tree.specs.Plans.{Plan, bottom, branch, leaf, plan_of, top}
 use Rattle.line_text.specs.declared.claim.Claim.{Claim}
 use Rattle.line_text.specs.LineText.{functions_of}
 use Rattle.line_text.specs.Numeral.{numeral}
-use Rattle.line_text.specs.Spells.{EndsAsLine, MeetsCondition, Spells}
+use Rattle.line_text.specs.Spells.{EndsAsLine, Spells}
 use Rattle.line_text.proofs.Words.{numeral_is_numeral}
 use Rattle.report_text.specs.declared.line.Line.{Line}
 use Rattle.report_text.specs.declared.line.Top.{Top}
-use Rattle.report_text.specs.declared.line.Top.TheVariants.{Bound, Exact}
+use Rattle.report_text.specs.declared.line.Top.TheVariants.{Bound, Exact as Counted}
 use Rattle.report_text.specs.declared.report.Header.{Header}
 use Rattle.report_text.specs.declared.report.Header.TheVariants.{Absent, Partial, Stopped, Whole}
 use Rattle.report_text.specs.declared.report.Stop.{Stop}
@@ -30,13 +25,17 @@ use Rattle.report_text.specs.declared.report.Report.{Report}
 use Rattle.report_text.specs.Leaves.{AreLinesOf, claim_at, is_unknown}
 use Rattle.report_text.specs.Printed.{IsReportText, cause_text, exact_part}
 use Rattle.report_text.proofs.Standing.{one_line_met}
-use Rattle.ctl_rounds.specs.Bounds.{BoundsInputs}
-use Rattle.function_top.specs.declared.order.Order.{Order}
-use Rattle.function_top.specs.Analysis.{IsReportOf}
-use Rattle.function_top.specs.Exact.{IsExact, IsExactLevel}
+use Rattle.function_top.specs.declared.found.Exact.{Exact}
+use Rattle.function_top.specs.declared.found.Exact.TheVariants.{Made, Unmade}
+use Rattle.function_top.specs.declared.found.Found.{Found}
+use Rattle.function_top.specs.Exact.{IsExact, IsExactTree}
+use Rattle.function_top.specs.Found.{IsFound, IsTrueTree}
 use Rattle.function_top.specs.Refusals.{fault_line, fault_text, usage_line, usage_text}
+use Rattle.function_top.specs.Shown.{Shows, ShowsExact}
+use Rattle.function_top.specs.Subject.{Subject}
 use Rattle.function_top.specs.TrueLine.{IsTrueAt, TrueLine}
 use Rattle.unroll.specs.Levels.{RanksCount}
+use Rattle.function_top.proofs.Conditions.{condition_met}
 use Rattle.function_top.proofs.Endings.{colon_last, digit_last, other_before_s, other_last}
 use Rattle.function_top.proofs.ExactLines.{ranks_at}
 use Rattle.function_top.proofs.OnlyMet.{met_is_one}
@@ -68,29 +67,29 @@ fault_lacks number offset =
     (both_lack (numeral number) (codes " at " ++ numeral offset) (digits_lack (numeral number) (numeral_is_numeral number).1)
     (both_lack (codes " at ") (numeral offset) (tested (codes " at ") refl) (digits_lack (numeral offset) (numeral_is_numeral offset).1)))
 
--- whatever the line says over the names is true of the program
-abbrev pub SaysTrue : List Bytes → Statements → Bytes → Type 0
-SaysTrue names body line = (condition : List Affine) (claim : Claim) → Spells names line condition claim → TrueLine names body condition claim
+-- whatever the line says over the names is true of the subject
+abbrev pub SaysTrue : Subject → Bytes → Type 0
+SaysTrue subject line = (condition : List Affine) (claim : Claim) → Spells subject.names line condition claim → TrueLine subject condition claim
 
-module _ (names : List Bytes) (body : Statements) (ending : EndAsLines) where
+module _ (subject : Subject) (ending : EndAsLines) where
   -- a line that ends otherwise says nothing
-  silent : (line : Bytes) → (EndsAsLine line → ⊥) → SaysTrue names body line
-  silent line other condition claim s = absurd (other (ending names line condition claim s))
+  silent : (line : Bytes) → (EndsAsLine line → ⊥) → SaysTrue subject line
+  silent line other condition claim s = absurd (other (ending subject.names line condition claim s))
 
-  pub usage_true : EachWhole (SaysTrue names body) usage_text
+  pub usage_true : EachWhole (SaysTrue subject) usage_text
   usage_true =
-      one_good (SaysTrue names body) usage_line usage_text usage_lacks
+      one_good (SaysTrue subject) usage_line usage_text usage_lacks
       (silent usage_line (other_last usage_line (λ e. omega arith) (λ e. omega arith) (λ e. omega arith))) refl
 
-  pub fault_true : (number offset : ℕ) → EachWhole (SaysTrue names body) (fault_text number offset)
+  pub fault_true : (number offset : ℕ) → EachWhole (SaysTrue subject) (fault_text number offset)
   fault_true number offset =
       let digits = numeral_is_numeral offset in
-      one_good (SaysTrue names body) (fault_line number offset) (fault_text number offset) (fault_lacks number offset)
+      one_good (SaysTrue subject) (fault_line number offset) (fault_text number offset) (fault_lacks number offset)
       (silent (fault_line number offset)
       (subst (λ line. EndsAsLine line → ⊥) (sym (fault_is number offset)) (digit_last (fault_front number) (numeral offset) digits.0 digits.1)))
       refl
 
-  stop_silent : (cause : Stop) → SaysTrue names body (stopped_line cause)
+  stop_silent : (cause : Stop) → SaysTrue subject (stopped_line cause)
   stop_silent WideNumbers =
       silent (codes "exact: wide numbers") (other_before_s (codes "exact: wide numbers") refl (λ e. omega arith) (λ e. omega arith))
   stop_silent TooManyNodes =
@@ -100,21 +99,21 @@ module _ (names : List Bytes) (body : Statements) (ending : EndAsLines) where
       (other_last (codes "exact: not a plain program") (λ e. omega arith) (λ e. omega arith) (λ e. omega arith))
 
   -- a header says nothing
-  colon_silent : (front line : Bytes) → line ≡ front ++ 58 ∷ [] → SaysTrue names body line
+  colon_silent : (front line : Bytes) → line ≡ front ++ 58 ∷ [] → SaysTrue subject line
   colon_silent front line is = silent line (subst (λ l. EndsAsLine l → ⊥) (sym is) (colon_last front))
 
-  headers_silent : (header : Header) → All (SaysTrue names body) (exact_part header [])
-  headers_silent Absent = All-nil (SaysTrue names body)
+  headers_silent : (header : Header) → All (SaysTrue subject) (exact_part header [])
+  headers_silent Absent = All-nil (SaysTrue subject)
   headers_silent (Whole tests) =
-      All-cons (SaysTrue names body) (whole_line tests) []
-      (colon_silent (codes "exact, " ++ (numeral tests ++ codes " tests")) (whole_line tests) (simp append_assoc)) (All-nil (SaysTrue names body))
+      All-cons (SaysTrue subject) (whole_line tests) []
+      (colon_silent (codes "exact, " ++ (numeral tests ++ codes " tests")) (whole_line tests) (simp append_assoc)) (All-nil (SaysTrue subject))
   headers_silent (Partial tests cause) =
-      All-cons (SaysTrue names body) (partial_line tests cause) []
+      All-cons (SaysTrue subject) (partial_line tests cause) []
       (colon_silent (codes "exact, " ++ (numeral tests ++ (codes " tests, then " ++ cause_text cause))) (partial_line tests cause) (simp append_assoc))
-      (All-nil (SaysTrue names body))
-  headers_silent (Stopped cause) = All-cons (SaysTrue names body) (stopped_line cause) [] (stop_silent cause) (All-nil (SaysTrue names body))
+      (All-nil (SaysTrue subject))
+  headers_silent (Stopped cause) = All-cons (SaysTrue subject) (stopped_line cause) [] (stop_silent cause) (All-nil (SaysTrue subject))
 
-  frames : Frames (SaysTrue names body)
+  frames : Frames (SaysTrue subject)
   frames = record {
     exact = λ header. headers_silent header;
     proved = silent (codes "proved:") (other_last (codes "proved:") (λ e. omega arith) (λ e. omega arith) (λ e. omega arith));
@@ -123,32 +122,19 @@ module _ (names : List Bytes) (body : Statements) (ending : EndAsLines) where
     some_inputs = silent (codes "verdict: some inputs") (other_before_s (codes "verdict: some inputs") refl (λ e. omega arith) (λ e. omega arith));
   }
 
-  -- what the leaf claims where an input stands is true of it
-  abbrev IsTrueTree : Top → Plan AffineRank → Type 0
-  IsTrueTree claims tree = (input : Store) → IsInput (length names) input → IsTrueAt (claim_at claims (eval tree input)) input (start body input)
-
-  bound_true : (tree end : Plan AffineRank) (input : Store) → BoundsInputs (length names) body tree → IsInput (length names) input → eval tree input ≡ end
-      → IsTrueAt (claim_at Bound end) input (start body input)
-  bound_true tree bottom input bounds is_input is = tt
-  bound_true tree (top cause) input bounds is_input is = tt
-  bound_true tree (leaf why rank) input bounds is_input is = bounds input why rank is_input is
-  bound_true tree (branch row this that) input bounds is_input is = tt
-
-  bounds_true : (tree : Plan AffineRank) → BoundsInputs (length names) body tree → IsTrueTree Bound tree
-  bounds_true tree bounds input is_input = bound_true tree (eval tree input) input bounds is_input refl
-
-  counted_true : (tests : ℕ) (lines : List Line) (level : IsExactLevel names body tests lines) (input : Store) → IsInput (length names) input
-      → (end : Plan AffineRank) → RanksCount end → eval level.tree input ≡ end → IsTrueAt (claim_at Exact end) input (start body input)
-  counted_true tests lines level input is_input bottom counts is = tt
-  counted_true tests lines level input is_input (top cause) counts is = tt
-  counted_true tests lines level input is_input (leaf why rank) counts is =
+  counted_true : (tests : ℕ) (tree : Plan AffineRank) (level : IsExactTree (length subject.names) subject.body tests tree) (input : Store)
+      → IsInput (length subject.names) input → (end : Plan AffineRank) → RanksCount end → eval tree input ≡ end
+      → IsTrueAt subject.formula (claim_at Counted end) input (start subject.body input)
+  counted_true tests tree level input is_input bottom counts is = tt
+  counted_true tests tree level input is_input (top cause) counts is = tt
+  counted_true tests tree level input is_input (leaf why rank) counts is =
       let claimed = (level.exact input is_input counts.0).0 (why, is ∙ ap (leaf why) counts.1) in
-      subst (λ (r : AffineRank). IsTrueAt (claim_at Exact (leaf why r)) input (start body input)) (sym counts.1) claimed.longest
-  counted_true tests lines level input is_input (branch row this that) counts is = tt
+      subst (λ (r : AffineRank). IsTrueAt subject.formula (claim_at Counted (leaf why r)) input (start subject.body input)) (sym counts.1) claimed.longest
+  counted_true tests tree level input is_input (branch row this that) counts is = tt
 
-  exact_true : (tests : ℕ) (lines : List Line) (level : IsExactLevel names body tests lines) → IsTrueTree Exact level.tree
-  exact_true tests lines level input is_input =
-      counted_true tests lines level input is_input (eval level.tree input) (ranks_at level.tree input level.ranks) refl
+  exact_true : (tests : ℕ) (tree : Plan AffineRank) → IsExactTree (length subject.names) subject.body tests tree → IsTrueTree subject Counted tree
+  exact_true tests tree level input is_input =
+      counted_true tests tree level input is_input (eval tree input) (ranks_at tree input level.ranks) refl
 
   -- the claim of a line that an input meets is that of the leaf where the input stands
   claim_is : (claims : Top) (tree : Plan AffineRank) (lines : List Line) (line : Line) (input : Store) → AreLinesOf claims tree lines
@@ -158,49 +144,40 @@ module _ (names : List Bytes) (body : Statements) (ending : EndAsLines) where
       member_of (λ (line : Line). MeetsAll input line.rows → Is line) lines line
       (met_is_one (λ (line : Line). MeetsAll input line.rows) Is lines (one_line_met claims input tree lines are)) member met
 
-  condition_met : (rows sorted : List Row) (input : Store) → IsPermutation rows sorted → MeetsCondition input (functions_of sorted) → MeetsAll input rows
-  condition_met rows sorted input same met =
-      All-permutation (λ row. Meets input row) sorted rows (IsPermutation-sym rows sorted same)
-      (all_of (λ row. Meets input row) sorted
-      (λ row member. member_of (λ a. pos 0 ≤ℤ value_at a input) (functions_of sorted) row.affine met (in_map (λ (row : Row). row.affine) sorted row member)))
-
-  module _ (known : KnownLines names) where
+  module _ (known : KnownLines subject.names) where
     -- a line of a tree whose claims are true is true
-    line_true : (claims : Top) (tree : Plan AffineRank) (lines : List Line) → IsTrueTree claims tree → AreLinesOf claims tree lines → (line : Line)
-        → Contains lines line → Prints (SaysTrue names body) frames names known.newline line
+    line_true : (claims : Top) (tree : Plan AffineRank) (lines : List Line) → IsTrueTree subject claims tree → AreLinesOf claims tree lines → (line : Line)
+        → Contains lines line → Prints (SaysTrue subject) frames subject.names known.newline line
     line_true claims tree lines truth are line member text is condition claim s =
         let same = known.one text (functions_of is.condition) condition line.claim claim is.spells s in
-        subst (λ k. TrueLine names body k claim) same.0
-        (subst (λ k. TrueLine names body (functions_of is.condition) k) same.1
+        subst (λ k. TrueLine subject k claim) same.0
+        (subst (λ k. TrueLine subject (functions_of is.condition) k) same.1
         (record {
           holds = λ input is_input met.
-              subst (λ k. IsTrueAt k input (start body input))
+              subst (λ k. IsTrueAt subject.formula k input (start subject.body input))
               (sym (claim_is claims tree lines line input are member (condition_met line.rows is.condition input is.same met)))
               (truth input is_input);
         }))
 
     -- of each line of a report
     abbrev Printed : Line → Type 0
-    Printed line = Prints (SaysTrue names body) frames names known.newline line
+    Printed line = Prints (SaysTrue subject) frames subject.names known.newline line
 
-    level_true : (tests : ℕ) (lines : List Line) → IsExactLevel names body tests lines → All Printed lines
-    level_true tests lines level =
-        subst (All Printed) (sym level.claims)
-        (All-filter (λ line. not (is_unknown line.claim)) Printed level.all
-        (all_of Printed level.all (line_true Exact level.tree level.all (exact_true tests lines level) level.lines_of)))
+    exact_lines_true : (delay : ℕ) (exact : Exact) (header : Header) (lines : List Line) → IsExact (length subject.names) subject.body delay exact
+        → ShowsExact exact header lines → All Printed lines
+    exact_lines_true delay (Unmade stop) header lines is shows = subst (All Printed) (sym shows.1) (All-nil Printed)
+    exact_lines_true delay (Made tests stop tree) header lines is shows =
+        let all = shows.1.0 in
+        subst (All Printed) (sym shows.1.2)
+        (All-filter (λ line. not (is_unknown line.claim)) Printed all
+        (all_of Printed all (line_true Counted (plan_of tree) all (exact_true tests (plan_of tree) is.2) shows.1.1)))
 
-    exact_lines_true : (delay : ℕ) (header : Header) (lines : List Line) → IsExact names body delay header lines → All Printed lines
-    exact_lines_true delay (Whole tests) lines is = level_true tests lines is.2
-    exact_lines_true delay (Partial tests cause) lines is = level_true tests lines is.3
-    exact_lines_true delay (Stopped cause) lines is = subst (All Printed) (sym is.1) (All-nil Printed)
-    exact_lines_true delay Absent lines is = absurd is
-
-    pub report_true : (order : Order) (report : Report) (text : Bytes) → IsReportOf order names body report → IsReportText names report text
-        → EachWhole (SaysTrue names body) text
-    report_true order report text due printed =
-        let all = all_of Printed due.lines (line_true Bound due.tree due.lines (bounds_true due.tree due.bounds) due.lines_of) in
-        report_holds (SaysTrue names body) frames names known.newline report text due.unexplained
-        (exact_lines_true order.delay report.header report.exact due.exact)
-        (subst (All Printed) (sym due.proved) (All-filter (λ line. not (is_unknown line.claim)) Printed due.lines all))
-        (subst (All Printed) (sym due.unknown) (All-filter (λ line. is_unknown line.claim) Printed due.lines all))
+    pub report_true : (delay : ℕ) (found : Found) (report : Report) (text : Bytes) → IsFound delay subject found → Shows found report
+        → IsReportText subject.names report text → EachWhole (SaysTrue subject) text
+    report_true delay found report text finds shows printed =
+        let all = all_of Printed shows.lines (line_true Bound (plan_of found.cover) shows.lines finds.holds shows.lines_of) in
+        report_holds (SaysTrue subject) frames subject.names known.newline report text shows.unexplained
+        (exact_lines_true delay found.exact report.header report.exact finds.exact shows.exact)
+        (subst (All Printed) (sym shows.proved) (All-filter (λ line. not (is_unknown line.claim)) Printed shows.lines all))
+        (subst (All Printed) (sym shows.unknown) (All-filter (λ line. is_unknown line.claim) Printed shows.lines all))
         printed

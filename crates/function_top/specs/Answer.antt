@@ -1,11 +1,10 @@
 -- What each status of the command says.
-use Rattle.std.specs.Prelude.{◌≡◌, ◌≢◌, ℕ, ◌⊎◌, ◌↔◌, List, Some}
+use Rattle.std.specs.Prelude.{◌≡◌, ◌≢◌, ℕ, ◌⊎◌, List, Some}
 use Rattle.std.specs.Io.KnownBytes.{Appends, Keeps}
 use Rattle.outside.specs.Faults.{Rose}
 use Rattle.outside.specs.Sink.{AppendsFront, WritesOrFails}
-use Rattle.step_meaning.specs.Syntax.{Statements}
 use Rattle.step_meaning.specs.Countdown.{IsCountdown}
-use Rattle.source_parse.specs.Derives.{IsTextOf}
+use Rattle.ctl_rounds.specs.Asked.{RoseBy}
 use Rattle.function_top.specs.declared.status.Status.{Status}
 use Rattle.function_top.specs.declared.status.Status.TheVariants.{AllInputs, SomeInputs, Words, Program, Formula, ReadFault, WriteFault, NoMemory}
 use Rattle.function_top.specs.Call.{Call}
@@ -13,8 +12,9 @@ use Rattle.function_top.specs.Due.{IsDueOn, IsWithinLimits}
 use Rattle.function_top.specs.Form.{Form}
 use Rattle.function_top.specs.Headline.{Headline}
 use Rattle.function_top.specs.declared.order.Order.{Order}
-use Rattle.function_top.specs.Order.{Ask}
+use Rattle.function_top.specs.Order.{Accepted, Ask}
 use Rattle.function_top.specs.Refusals.{usage_text}
+use Rattle.function_top.specs.Subject.{IsSubject, Subject}
 use Rattle.function_top.specs.Text.{IsRead}
 
 -- the status where a write of what was due with this status failed: a report has one of its own
@@ -35,7 +35,9 @@ pub record WasDue (words : List (List ℕ)) (call : Call) (status : Status) (byt
   pub text : List ℕ
   pub read : IsRead call.left text
   pub faultless : call.read_faults_after ≡ call.read_faults
-  pub due : IsDueOn order text status bytes
+  pub turns : ℕ
+  pub due : IsDueOn order text status turns bytes
+  pub rose : RoseBy (λ times. times) turns call.asked call.asked_after
 
 -- the bytes were written whole; or a write failed, and a front of them was written
 abbrev pub Writes : Call → List ℕ → Type 0
@@ -56,25 +58,24 @@ Answers words WriteFault call =
     × AppendsFront call.taken call.taken_after bytes × Rose call.write_faults call.write_faults_after
 Answers words NoMemory call = (call.read_faults_after ≡ call.read_faults) × Keeps call.taken call.taken_after
 
--- An accepted order and the text of a program within the limits get their report, where no count of faults rose and memory didn't run out.
+-- An accepted order and a text with a subject within the limits get their report, where no count of faults rose and memory didn't run out.
 abbrev pub IsComplete : List (List ℕ) → Status → Call → Type 0
 IsComplete words status call =
-    (order : Order) (text : List ℕ) (names : List (List ℕ)) (body : Statements) → Ask words order → call.left ≡ Some text
-    → IsTextOf text names body → IsWithinLimits text
+    (text : List ℕ) (subject : Subject) → Accepted words → call.left ≡ Some text → IsSubject text subject → IsWithinLimits text
     → ¬ Rose call.read_faults call.read_faults_after → ¬ Rose call.write_faults call.write_faults_after
     → (status ≡ AllInputs) ⊎ (status ≡ SomeInputs) ⊎ (status ≡ NoMemory)
 
 -- No input of a countdown program is left out.
 abbrev pub CoversCountdowns : Status → Call → Type 0
 CoversCountdowns status call =
-    (text : List ℕ) (names : List (List ℕ)) (body : Statements) → call.left ≡ Some text → IsTextOf text names body → IsCountdown body
-    → status ≢ SomeInputs
+    (text : List ℕ) (subject : Subject) → call.left ≡ Some text → IsSubject text subject → IsCountdown subject.body → status ≢ SomeInputs
 
 -- All that is said of a call of the command with these words that ended with this status.
 pub record IsRun (words : List (List ℕ)) (status : Status) (call : Call) : Type 0 where
   pub headline : Headline call
   pub form : Form call
   pub answers : Answers words status call
-  pub refuses : (status ≡ Words) ↔ (¬ ((order : Order) × Ask words order))
+  pub refused : status ≡ Words → ¬ Accepted words
+  pub refuses : ¬ Accepted words → status ≡ Words
   pub complete : IsComplete words status call
   pub countdowns : CoversCountdowns status call

@@ -1,10 +1,9 @@
 -- What is due on a text.
-use Rattle.std.specs.Prelude.{◌≡◌, ◌≢◌, ℕ, ◌<◌, ◌≤◌, ◌⊎◌, List, [], length, Option, None, Some}
+use Rattle.std.specs.Prelude.{◌≡◌, ◌≢◌, ℕ, ◌<◌, ◌≤◌, ◌⊎◌, List, [], length, Option, None, Some, ⊤}
 use Rattle.step_meaning.specs.declared.program.Program.{Program as Parsed}
 use Rattle.step_meaning.specs.Offsets.{offsets}
-use Rattle.step_meaning.specs.Syntax.{Statements}
 use Rattle.source_parse.specs.declared.fault.ParseFault.{ParseFault}
-use Rattle.source_parse.specs.Derives.{Derives, DerivesNone, HasOffsets, IsTextOf}
+use Rattle.source_parse.specs.Derives.{Derives, DerivesNone, HasOffsets}
 use Rattle.source_parse.specs.Faults.{IsFaultOf, numbered}
 use Rattle.control_flow.specs.declared.fault.FlowFault.{FlowFault}
 use Rattle.control_flow.specs.declared.fault.FlowFault.TheVariants.{Labels, Conjunctions, Memory}
@@ -15,17 +14,23 @@ use Rattle.report_text.specs.Printed.{IsReportText}
 use Rattle.function_top.specs.declared.order.Order.{Order}
 use Rattle.function_top.specs.declared.status.Status.{Status}
 use Rattle.function_top.specs.declared.status.Status.TheVariants.{AllInputs, SomeInputs, Words, Program, Formula, ReadFault, WriteFault, NoMemory}
-use Rattle.function_top.specs.Analysis.{IsReportOf}
+use Rattle.function_top.specs.declared.found.Found.{Found}
+use Rattle.function_top.specs.Found.{IsFound}
 use Rattle.function_top.specs.Refusals.{fault_text}
+use Rattle.function_top.specs.Shown.{Shows}
+use Rattle.function_top.specs.Subject.{IsSubject, Subject}
 
--- the text, of at most 65,536 bytes, is a program, and these bytes are the report that is due on it by the order
-pub record IsReportOn (order : Order) (text : List ℕ) (report : Report) (bytes : List ℕ) : Type 0 where
+-- The text, of at most 65,536 bytes, has a subject; by the order this was found of it, asking the advisers so many times; and the report that
+-- shows it is these bytes.
+pub record IsReportOn (order : Order) (text : List ℕ) (report : Report) (turns : ℕ) (bytes : List ℕ) : Type 0 where
   pub short : length text ≤ 65536
-  pub names : List (List ℕ)
-  pub body : Statements
-  pub program : IsTextOf text names body
-  pub due : IsReportOf order names body report
-  pub printed : IsReportText names report bytes
+  pub subject : Subject
+  pub is : IsSubject text subject
+  pub found : Found
+  pub finds : IsFound order.delay subject found
+  pub asked : turns ≡ found.turns
+  pub shows : Shows found report
+  pub printed : IsReportText subject.names report bytes
 
 -- the text is too long, and this is the line that says so
 pub record IsTooLong (text line : List ℕ) : Type 0 where
@@ -63,6 +68,17 @@ pub record IsPastLimits (text line : List ℕ) : Type 0 where
   pub number_of : flow_numbered fault ≡ Some (number, offset)
   pub line_is : line ≡ fault_text number offset
 
+-- the status is that of a report
+abbrev pub IsReport : Status → Type 0
+IsReport AllInputs = ⊤
+IsReport SomeInputs = ⊤
+IsReport Words = ⊥
+IsReport Program = ⊥
+IsReport Formula = ⊥
+IsReport ReadFault = ⊥
+IsReport WriteFault = ⊥
+IsReport NoMemory = ⊥
+
 -- the status of a report with these unknown lines: all inputs exactly where there is none
 abbrev pub IsVerdict : Status → List Line → Type 0
 IsVerdict AllInputs unknown = unknown ≡ []
@@ -74,22 +90,24 @@ IsVerdict ReadFault unknown = ⊥
 IsVerdict WriteFault unknown = ⊥
 IsVerdict NoMemory unknown = ⊥
 
--- These bytes are due on the text by the order, and with them comes the status: a report that covers all inputs, one that doesn't, or the line of a text
--- that is refused.
-abbrev pub IsDueOn : Order → List ℕ → Status → List ℕ → Type 0
-IsDueOn order text AllInputs bytes = (report : Report) × IsReportOn order text report bytes × (report.unknown ≡ [])
-IsDueOn order text SomeInputs bytes = (report : Report) × IsReportOn order text report bytes × (report.unknown ≢ [])
-IsDueOn order text Program bytes = IsTooLong text bytes ⊎ IsNoProgram text bytes ⊎ IsPastLimits text bytes
-IsDueOn order text Words bytes = ⊥
-IsDueOn order text Formula bytes = ⊥
-IsDueOn order text ReadFault bytes = ⊥
-IsDueOn order text WriteFault bytes = ⊥
-IsDueOn order text NoMemory bytes = ⊥
+-- These bytes are due on the text by the order, with this status, and each adviser is asked for them so many times: a report that covers all
+-- inputs, asking at most eight times; one that doesn't, asking eight times; or the line of a text that is refused, asking nothing.
+abbrev pub IsDueOn : Order → List ℕ → Status → ℕ → List ℕ → Type 0
+IsDueOn order text AllInputs turns bytes =
+    (report : Report) × IsReportOn order text report turns bytes × (report.unknown ≡ []) × (turns ≤ 8)
+IsDueOn order text SomeInputs turns bytes =
+    (report : Report) × IsReportOn order text report turns bytes × (report.unknown ≢ []) × (turns ≡ 8)
+IsDueOn order text Program turns bytes = (IsTooLong text bytes ⊎ IsNoProgram text bytes ⊎ IsPastLimits text bytes) × (turns ≡ 0)
+IsDueOn order text Words turns bytes = ⊥
+IsDueOn order text Formula turns bytes = ⊥
+IsDueOn order text ReadFault turns bytes = ⊥
+IsDueOn order text WriteFault turns bytes = ⊥
+IsDueOn order text NoMemory turns bytes = ⊥
 
 -- so they are on each text of at most 65,536 bytes that is the program
-abbrev pub IsDueOnProgram : Order → Parsed → Status → List ℕ → Type 0
-IsDueOnProgram order program status bytes =
-    (text : List ℕ) → length text ≤ 65536 → Derives text program → HasOffsets text (offsets program.body) → IsDueOn order text status bytes
+abbrev pub IsDueOnProgram : Order → Parsed → Status → ℕ → List ℕ → Type 0
+IsDueOnProgram order program status turns bytes =
+    (text : List ℕ) → length text ≤ 65536 → Derives text program → HasOffsets text (offsets program.body) → IsDueOn order text status turns bytes
 
 -- The text is of at most 65,536 bytes, and past no limit of its graph.
 pub record IsWithinLimits (text : List ℕ) : Type 0 where

@@ -43,8 +43,10 @@ pub record IsClaimOn (left : Option (List ℕ)) (line : List ℕ) : Type 0 where
 abbrev pub IsKnown : Option (List ℕ) → List ℕ → Type 0
 IsKnown left line = IsClaimOn left line ⊎ IsFrame line ⊎ IsRefusal line
 
--- each whole line among the bytes that the sink took in the call is such
+-- each whole line of the bytes is such
+abbrev pub HasKnownLines : Option (List ℕ) → List ℕ → Type 0
+HasKnownLines left bytes = (line : List ℕ) → IsWholeLine bytes line → IsKnown left line
+
+-- so are the bytes that the sink took in the call
 abbrev pub Form : Call → Type 0
-Form call =
-    (before written line : List ℕ) → call.taken ≡ Some before → call.taken_after ≡ Some (before ++ written) → IsWholeLine written line
-    → IsKnown call.left line
+Form call = (before written : List ℕ) → call.taken ≡ Some before → call.taken_after ≡ Some (before ++ written) → HasKnownLines call.left written

@@ -2,11 +2,15 @@ pub mod Order
 pub mod Choosing
 pub mod Call
 pub mod Text
+pub mod Subject
 pub mod TrueLine
 pub mod Headline
 pub mod Refusals
 pub mod Exact
-pub mod Analysis
+pub mod Found
+pub mod Shown
+pub mod Printable
 pub mod Due
 pub mod Form
+pub mod Meeting
 pub mod Answer

@@ -49,3 +49,7 @@ pub record Ask (words : List (List ℕ)) (order : Order) : Type 0 where
   pub chosen : AreChoices (drop 1 words) choices
   pub domain : IsOnly Boxes (domains choices) order.domain
   pub delay : IsOnly 2 (delays choices) order.delay
+
+-- the words ask for something
+abbrev pub Accepted : List (List ℕ) → Type 0
+Accepted words = (order : Order) × Ask words order

@@ -1,86 +1,83 @@
-//! From a source to what is to be written.
+//! From a text to what is to be written for it.
 
-ghost use Rattle.std.specs.Prelude.{◌≡◌, ◌≤◌, ◌<◌, ◌+◌, ◌^◌, ◌⊎◌, ℕ, List, All, IfOk, IfSome, OnErr, MatchOption, Some, length, pos};
-ghost use Rattle.outside.specs.Faults.{Rose};
-ghost use Rattle.outside.specs.Source.{ConsumesUpTo};
-ghost use Rattle.step_meaning.specs.Countdown.{IsCountdown};
-ghost use Rattle.step_meaning.specs.Counts.{HasNoLoop};
+ghost use Rattle.std.specs.Prelude.{◌≡◌, ◌≤◌, ◌<◌, ◌^◌, ℕ, List, All, IfOk, Some, length};
 ghost use Rattle.step_meaning.specs.Syntax.{statements};
-ghost use Rattle.linear_cons.specs.Functions.{constant_of};
-ghost use Rattle.count_down.specs.Candidates.{last_steps};
-ghost use Rattle.count_down.specs.Trees.{ranked};
-ghost use Rattle.decision_tree.specs.Extent.{ComplementsFit, IsTreeOver, IsWhole};
-ghost use Rattle.decision_tree.specs.Plans.{plan_of, rank_of};
 ghost use Rattle.ctl_rounds.specs.Asked.{RoseBy};
-ghost use Rattle.ctl_rounds.specs.Bounds.{BoundsInputs};
 ghost use Rattle.function_top.specs.declared.order.Order.{Order};
-ghost use Rattle.function_top.specs.Due.{IsDueOn, IsDueOnProgram};
+ghost use Rattle.function_top.specs.Due.{IsDueOn, IsDueOnProgram, IsReport};
+ghost use Rattle.function_top.specs.Form.{HasKnownLines};
+ghost use Rattle.function_top.specs.Headline.{IsTrueText};
+ghost use Rattle.function_top.specs.Meeting.{AreMetOnce};
 ghost use Rattle.function_top.specs.Refusals.{fault_text};
-ghost use Rattle.function_top.specs.Text.{IsRead};
+ghost use Rattle.function_top.specs.Subject.{IsSubject, Subject};
 
 use crate::due::Due;
-use crate::exact::exact;
+use crate::finding::find;
 use crate::order::{Domain, Order};
 use crate::report::{fault as fault_line, report};
 use crate::status::Status;
 use advice::Adviser;
 use control_flow::{FlowFault, Graph};
-use ctl_formula::Formula;
-use ctl_rounds::laws::{covers_can_be_printed, covers_hold};
-use ctl_rounds::{analyse, cover};
-use decision_tree::{AffineRank, Tree};
-use forward_inv::{Inv, invariants};
 use interval_dom::Boxes;
+use line_text::laws::{a_line_spells_at_most_one_claim, lines_have_their_own_form};
 use num_domain::NumDomain;
 use octagon_dom::Octagon;
-use outside::{ReadEnd, Source, read_program};
 use poly_dom::Poly;
-use source_parse::{a_program_has_no_fault, parse};
+use source_parse::{
+    a_program_has_no_fault, a_text_is_one_program, names_are_distinct, names_are_spelled_as_names,
+    parse,
+};
 use std::alloc::{AllocError, Global};
 use step_meaning::Program;
-use tree_support::laws::invariants_tell_the_truth;
 
-/// Reads the source, and answers what is to be written for it, or `None` where a read failed. The only error is want of memory.
-pub fn answer<S: Source>(
-    alloc: Global,
-    order: &Order,
-    source: &mut S,
-    advisers: &mut Vec<Box<dyn Adviser>>,
-) -> Result<Option<Due>, AllocError>
-    requires patient { All (λ adviser. asked_of adviser ≤ 2 ^ 32) advisers.old.items }
-    ensures due { IfOk result (λ outcome. MatchOption outcome (Rose (S.faults source.old) (S.faults source.new))
-        (λ due. (text : List ℕ) × IsRead (S.left source.old) text × (S.faults source.new ≡ S.faults source.old) × IsDueOn order.now text due.status due.bytes.items)) }
-    ensures stops { ConsumesUpTo (65536 + 1) (S.left source.old) (S.left source.new) }
-    ensures never_falls { S.faults source.old ≤ S.faults source.new }
-    ensures stays { OnErr result (S.faults source.new ≡ S.faults source.old) }
-    ensures asked { (times : ℕ) × (times ≤ 8) × RoseBy (λ adviser. asked_of adviser) times advisers.old.items advisers.new.items }
-    ensures insists { IfOk result (λ outcome. IfSome outcome (λ due. due.status ≡ Status.SomeInputs
-        → RoseBy (λ adviser. asked_of adviser) 8 advisers.old.items advisers.new.items)) }
-{
-    match read_program(alloc, source)? {
-        ReadEnd::Text(text) => Ok(Some(answer_to(alloc, order, &text, advisers)?)),
-        ReadEnd::TooLong => Ok(Some(too_long(alloc)?)),
-        ReadEnd::Failed => Ok(None),
-    }
-}
-
-// What is to be written for a text.
-fn answer_to(
+/// What is to be written for a text by what an order asks: the report on the program that the text is, or the line of its first fault. It
+/// reads and writes nothing, so whoever embeds the analyser begins here.
+///
+/// `advisers` are shown facts about loops, and may hint at what bounds one: each equally often and at most eight times, and eight times
+/// where the report has an unknown line. Nothing is assumed of what they hint; each was asked at most 2^32 times before. The only error is
+/// want of memory; the advisers may have been asked by then.
+pub fn report_on(
     alloc: Global,
     order: &Order,
     text: &[u8],
     advisers: &mut Vec<Box<dyn Adviser>>,
 ) -> Result<Due, AllocError>
-    requires size { length text.now ≤ 65536 }
     requires patient { All (λ adviser. asked_of adviser ≤ 2 ^ 32) advisers.old.items }
-    ensures due { IfOk result (λ due. IsDueOn order.now text.now due.status due.bytes.items) }
-    ensures asked { (times : ℕ) × (times ≤ 8) × RoseBy (λ adviser. asked_of adviser) times advisers.old.items advisers.new.items }
-    ensures insists { IfOk result (λ due. due.status ≡ Status.SomeInputs
-        → RoseBy (λ adviser. asked_of adviser) 8 advisers.old.items advisers.new.items) }
+    ensures due { IfOk result (λ due. IsDueOn order.now text.now due.status due.turns due.bytes.items) }
+    ensures headline { IfOk result (λ due. (subject : Subject) → IsSubject text.now subject → IsTrueText subject due.bytes.items) }
+    ensures form { IfOk result (λ due. HasKnownLines (Some text.now) due.bytes.items) }
+    ensures lines { IfOk result (λ due. IsReport due.status → (subject : Subject) → IsSubject text.now subject
+        → AreMetOnce subject.names due.bytes.items) }
+    ensures asked { (times : ℕ) × (times ≤ 8) × RoseBy (λ adviser. asked_of adviser) times advisers.old.items advisers.new.items
+        × IfOk result (λ due. due.turns ≡ times) }
+{
+    a_text_is_one_program();
+    names_are_spelled_as_names();
+    names_are_distinct();
+    lines_have_their_own_form();
+    a_line_spells_at_most_one_claim();
+    let due = due_on(alloc, order, text, advisers)?;
+    Ok(due)
+}
+
+// What is to be written for a text.
+fn due_on(
+    alloc: Global,
+    order: &Order,
+    text: &[u8],
+    advisers: &mut Vec<Box<dyn Adviser>>,
+) -> Result<Due, AllocError>
+    requires patient { All (λ adviser. asked_of adviser ≤ 2 ^ 32) advisers.old.items }
+    ensures due { IfOk result (λ due. IsDueOn order.now text.now due.status due.turns due.bytes.items) }
+    ensures asked { (times : ℕ) × (times ≤ 8) × RoseBy (λ adviser. asked_of adviser) times advisers.old.items advisers.new.items
+        × IfOk result (λ due. due.turns ≡ times) }
 {
     a_program_has_no_fault();
+    if text.len() > 65_536 {
+        return too_long(alloc);
+    }
     match parse(alloc, text) {
-        Ok(program) => Ok(answer_on(alloc, order, &program, advisers)?),
+        Ok(program) => Ok(due_on_program(alloc, order, &program, advisers)?),
         Err(fault) => match fault.numbered() {
             Some((number, offset)) => Ok(refused(alloc, number, offset)?),
             None => Err(AllocError),
@@ -89,17 +86,16 @@ fn answer_to(
 }
 
 // What is to be written for a program.
-fn answer_on(
+fn due_on_program(
     alloc: Global,
     order: &Order,
     program: &Program,
     advisers: &mut Vec<Box<dyn Adviser>>,
 ) -> Result<Due, AllocError>
     requires patient { All (λ adviser. asked_of adviser ≤ 2 ^ 32) advisers.old.items }
-    ensures due { IfOk result (λ due. IsDueOnProgram order.now program.now due.status due.bytes.items) }
-    ensures asked { (times : ℕ) × (times ≤ 8) × RoseBy (λ adviser. asked_of adviser) times advisers.old.items advisers.new.items }
-    ensures insists { IfOk result (λ due. due.status ≡ Status.SomeInputs
-        → RoseBy (λ adviser. asked_of adviser) 8 advisers.old.items advisers.new.items) }
+    ensures due { IfOk result (λ due. IsDueOnProgram order.now program.now due.status due.turns due.bytes.items) }
+    ensures asked { (times : ℕ) × (times ≤ 8) × RoseBy (λ adviser. asked_of adviser) times advisers.old.items advisers.new.items
+        × IfOk result (λ due. due.turns ≡ times) }
 {
     match Graph::of(alloc, program) {
         Ok(graph) => Ok(reported(alloc, order, &graph, program, advisers)?),
@@ -120,10 +116,9 @@ fn reported(
     requires names { graph.now.names ≡ program.now.names }
     requires body { statements graph.now.body ≡ statements program.now.body }
     requires patient { All (λ adviser. asked_of adviser ≤ 2 ^ 32) advisers.old.items }
-    ensures due { IfOk result (λ due. IsDueOnProgram order.now program.now due.status due.bytes.items) }
-    ensures asked { (times : ℕ) × (times ≤ 8) × RoseBy (λ adviser. asked_of adviser) times advisers.old.items advisers.new.items }
-    ensures insists { IfOk result (λ due. due.status ≡ Status.SomeInputs
-        → RoseBy (λ adviser. asked_of adviser) 8 advisers.old.items advisers.new.items) }
+    ensures due { IfOk result (λ due. IsDueOnProgram order.now program.now due.status due.turns due.bytes.items) }
+    ensures asked { (times : ℕ) × (times ≤ 8) × RoseBy (λ adviser. asked_of adviser) times advisers.old.items advisers.new.items
+        × IfOk result (λ due. due.turns ≡ times) }
 {
     match order.domain {
         Domain::Boxes => analysed::<Boxes>(alloc, order, graph, program, advisers),
@@ -143,61 +138,33 @@ fn analysed<D: NumDomain>(
     requires names { graph.now.names ≡ program.now.names }
     requires body { statements graph.now.body ≡ statements program.now.body }
     requires patient { All (λ adviser. asked_of adviser ≤ 2 ^ 32) advisers.old.items }
-    ensures due { IfOk result (λ due. IsDueOnProgram order.now program.now due.status due.bytes.items) }
-    ensures asked { (times : ℕ) × (times ≤ 8) × RoseBy (λ adviser. asked_of adviser) times advisers.old.items advisers.new.items }
-    ensures insists { IfOk result (λ due. due.status ≡ Status.SomeInputs
-        → RoseBy (λ adviser. asked_of adviser) 8 advisers.old.items advisers.new.items) }
-{
-    let exact = exact(alloc, order.delay, graph, program)?;
-    let cover = bounded::<D>(alloc, order.delay, graph, program, advisers)?;
-    Ok(report(alloc, exact, &cover, &program.names)?)
-}
-
-// The cover of a certificate that every run ends, over one kind of sets.
-fn bounded<D: NumDomain>(
-    alloc: Global,
-    delay: u32,
-    graph: &Graph,
-    program: &Program,
-    advisers: &mut Vec<Box<dyn Adviser>>,
-) -> Result<Tree<AffineRank>, AllocError>
-    requires names { graph.now.names ≡ program.now.names }
-    requires body { statements graph.now.body ≡ statements program.now.body }
-    requires patient { All (λ adviser. asked_of adviser ≤ 2 ^ 32) advisers.old.items }
-    ensures bounds { IfOk result (λ cover. BoundsInputs (length program.now.names) (statements program.now.body) (plan_of cover)) }
-    ensures over { IfOk result (λ cover. IsTreeOver (length program.now.names) (plan_of cover)) }
-    ensures complements { IfOk result (λ cover. ComplementsFit (plan_of cover)) }
+    ensures due { IfOk result (λ due. IsDueOnProgram order.now program.now due.status due.turns due.bytes.items) }
     ensures asked { (times : ℕ) × (times ≤ 8) × RoseBy (λ adviser. asked_of adviser) times advisers.old.items advisers.new.items
-        × IfOk result (λ cover. IsWhole (plan_of cover) ⊎ (times ≡ 8)) }
-    ensures countdown { IsCountdown (statements program.now.body) → IfOk result (λ cover. IsWhole (plan_of cover)) }
-    ensures loopless { HasNoLoop (statements program.now.body) → IfOk result (λ cover.
-        rank_of (plan_of cover) ≡ Some (ranked (constant_of (pos (last_steps (statements program.now.body)))))) }
+        × IfOk result (λ due. due.turns ≡ times) }
 {
-    let inv: Inv<D> = invariants(alloc, graph)?;
-    let formula = Formula::af_exit(alloc)?;
-    let certificate = analyse(alloc, graph, program, &inv, &formula, advisers, delay)?;
-    invariants_tell_the_truth::<D>();
-    covers_hold();
-    covers_can_be_printed();
-    let cover = cover(alloc, &certificate, graph)?;
-    Ok(cover)
+    let found = find::<D>(alloc, order.delay, graph, program, advisers)?;
+    let due = report(alloc, &found, &program.names)?;
+    Ok(due)
 }
 
-// The line of a text of more than 65,536 bytes.
-fn too_long(alloc: Global) -> Result<Due, AllocError>
-    ensures due { IfOk result (λ due. (order : Order) (text : List ℕ) → 65536 < length text → IsDueOn order text due.status due.bytes.items) }
-    ensures status { IfOk result (λ due. due.status ≡ Status.Program) }
+/// The line of a text of more than 65,536 bytes. The only error is want of memory.
+pub(crate) fn too_long(alloc: Global) -> Result<Due, AllocError>
+    ensures due { IfOk result (λ due. (order : Order) (text : List ℕ) → 65536 < length text
+        → IsDueOn order text due.status due.turns due.bytes.items) }
+    ensures unasked { IfOk result (λ due. due.turns ≡ 0) }
 {
     refused(alloc, 14, 65_536)
 }
 
-// The line of a fault.
+// The line of a fault, for which no adviser is asked.
 fn refused(alloc: Global, number: u8, offset: u32) -> Result<Due, AllocError>
     ensures line { IfOk result (λ due. due.bytes.items ≡ fault_text number offset) }
     ensures status { IfOk result (λ due. due.status ≡ Status.Program) }
+    ensures unasked { IfOk result (λ due. due.turns ≡ 0) }
 {
     Ok(Due {
         bytes: fault_line(alloc, number, offset)?,
         status: Status::Program,
+        turns: 0,
     })
 }

@@ -1,88 +1,61 @@
-//! What is known exactly: the lines of the levels that are worked out test by test.
+//! What is known exactly: the levels that are worked out test by test.
 
-ghost use Rattle.std.specs.Prelude.{◌≡◌, List, [], All, IfOk};
+ghost use Rattle.std.specs.Prelude.{◌≡◌, ◌<◌, IfOk, length};
 ghost use Rattle.step_meaning.specs.Syntax.{statements};
 ghost use Rattle.decision_tree.specs.Plans.{plan_of};
-ghost use Rattle.unroll.specs.Levels.{RanksCount};
-ghost use Rattle.report_text.specs.declared.line.Line.{Line};
-ghost use Rattle.report_text.specs.Leaves.{AreLinesOf, claiming};
-ghost use Rattle.decision_tree.specs.Extent.{ComplementsFit};
-ghost use Rattle.report_text.specs.Printed.{IsLineOver};
-ghost use Rattle.function_top.specs.Exact.{IsExact, header_of, stop_of};
+ghost use Rattle.backward_transfer.specs.AffineShapes.{tree_at};
+ghost use Rattle.function_top.specs.Exact.{IsExact, stop_of};
+ghost use Rattle.function_top.specs.Printable.{IsExactPrintable};
 
+use crate::found::Exact;
 use control_flow::Graph;
-use decision_tree::{AffineRank, Cause, Tree};
-use report_text::{Header, Lines, Stop, Top, lines};
+use decision_tree::{AffineRank, Cause, Family, Tree};
+use report_text::Stop;
 use std::alloc::{AllocError, Global};
 use step_meaning::Program;
-use unroll::{is_plain, unroll};
+use unroll::{Unrolled, unroll};
 
-/// The exact part of a report: its header and its lines.
-#[derive(Drop)]
-pub(crate) struct ExactPart {
-    pub header: Header,
-    pub lines: Lines,
-}
-
-/// The exact part for so many tests of loops, of a program with its graph. The only error is want of memory.
-pub(crate) fn exact(
+/// What is known exactly for so many tests of loops, of a program with its graph. The only error is want of memory.
+pub(crate) fn exactly(
     alloc: Global,
     delay: u32,
     graph: &Graph,
     program: &Program,
-) -> Result<ExactPart, AllocError>
+) -> Result<Exact, AllocError>
     requires names { graph.now.names ≡ program.now.names }
     requires body { statements graph.now.body ≡ statements program.now.body }
-    ensures exact { IfOk result (λ exact. IsExact program.now.names (statements program.now.body) delay exact.header exact.lines) }
-    ensures over { IfOk result (λ exact. All (IsLineOver program.now.names) exact.lines) }
+    ensures exact { IfOk result (λ exact. IsExact (length program.now.names) (statements program.now.body) delay exact) }
+    ensures printable { IfOk result (λ exact. IsExactPrintable (length program.now.names) exact) }
 {
-    if !is_plain(program) {
-        return Ok(stopped(alloc, Stop::NotPlain));
+    if !program.is_plain() {
+        return Ok(Exact::Unmade(Stop::NotPlain));
     }
-    let unrolled = unroll(alloc, graph, delay)?;
-    let stop = stop_of(&unrolled.stopped);
-    let Some(family) = &unrolled.family else {
-        return Ok(stopped(alloc, stop.unwrap_or(Stop::WideNumbers)));
-    };
-    let lines = claims(alloc, &family.trees.items()[graph.entry() as usize])?;
-    Ok(ExactPart {
-        header: header_of(unrolled.tests, stop),
-        lines,
-    })
-}
-
-// The lines of what the tree claims exactly.
-fn claims(alloc: Global, tree: &Tree<AffineRank>) -> Result<Lines, AllocError>
-    requires fits { ComplementsFit (plan_of tree.now) }
-    requires ranks { RanksCount (plan_of tree.now) }
-    ensures { IfOk result (λ claimed. (all : List Line) × AreLinesOf Top.Exact (plan_of tree.now) all × (claimed ≡ claiming all)) }
-{
-    let (claimed, _) = lines(alloc, tree, Top::Exact)?.parted(alloc)?;
-    Ok(claimed)
-}
-
-// No level was made.
-fn stopped(alloc: Global, cause: Stop) -> ExactPart
-    ensures header { result.header ≡ Header.Stopped cause }
-    ensures lines { result.lines ≡ [] }
-{
-    ExactPart {
-        header: Header::Stopped { cause },
-        lines: Lines::of(Vec::new(alloc)),
+    let Unrolled {
+        family,
+        tests,
+        stopped,
+    } = unroll(alloc, graph, delay)?;
+    let stop = stop_of(&stopped);
+    match family {
+        Some(family) => Ok(Exact::Made {
+            tests,
+            stop,
+            tree: tree_at(family, graph.entry()),
+        }),
+        None => Ok(Exact::Unmade(stop.unwrap_or(Stop::WideNumbers))),
     }
 }
 
-// The header of a level for so many tests, with why there is no further one.
-fn header_of(tests: u32, stop: Option<Stop>) -> Header
-    ensures { result ≡ header_of tests stop }
+// The tree of a family at a label.
+fn tree_at(family: Family<AffineRank>, label: u32) -> Tree<AffineRank>
+    requires { label < length family.trees }
+    ensures { plan_of result ≡ tree_at family.trees label }
 {
-    match stop {
-        Some(cause) => Header::Partial { tests, cause },
-        None => Header::Whole { tests },
-    }
+    let mut trees = family.trees.into_vec();
+    trees.swap_remove(label as usize)
 }
 
-// Why no further level was made, in the words of a header.
+// Why no further level was made, in the words of a report.
 fn stop_of(cause: &Option<Cause>) -> Option<Stop>
     ensures { result ≡ stop_of cause.now }
 {

@@ -1,15 +1,24 @@
-//! The top call: `run` does all that the program does, and carries the headline.
+//! The top calls: `run` does all that the program does, and carries the headline; `report_on` does the same for a text at hand, reading and
+//! writing nothing.
 #![tactic(auto)]
 
 mod answer;
 mod due;
 mod exact;
+mod finding;
+mod found;
 mod laws;
 mod order;
 mod report;
 mod status;
 mod top;
 
-pub use laws::{each_input_meets_one_line, exact_lines_are_met_by_exact_runs};
+pub use answer::report_on;
+pub use due::Due;
+pub use laws::{
+    each_input_meets_at_most_one_exact_line, each_input_meets_one_line,
+    exact_lines_are_met_by_exact_runs,
+};
+pub use order::{Domain, Order};
 pub use status::Status;
 pub use top::run;

@@ -1,22 +1,18 @@
 //! The texts that the command writes.
 
-ghost use Rattle.std.specs.Prelude.{◌≡◌, IfOk, List, All};
-ghost use Rattle.decision_tree.specs.Plans.{plan_of};
-ghost use Rattle.report_text.specs.declared.line.Line.{Line};
-ghost use Rattle.report_text.specs.declared.line.Top.TheVariants as top;
-ghost use Rattle.report_text.specs.Leaves.{AreLinesOf, claiming, claiming_nothing};
-ghost use Rattle.decision_tree.specs.Extent.{ComplementsFit};
-ghost use Rattle.report_text.specs.Printed.{IsLineOver, IsReportText};
-ghost use Rattle.function_top.specs.Analysis.{IsTreeOver, report_of};
+ghost use Rattle.std.specs.Prelude.{◌≡◌, ◌≤◌, ℕ, IfOk, length};
+ghost use Rattle.report_text.specs.declared.report.Report.{Report};
+ghost use Rattle.report_text.specs.Printed.{IsReportText};
 ghost use Rattle.function_top.specs.Due.{IsVerdict};
+ghost use Rattle.function_top.specs.Printable.{IsExactPrintable, IsFoundPrintable};
 ghost use Rattle.function_top.specs.Refusals.{fault_text, usage_text};
+ghost use Rattle.function_top.specs.Shown.{Shows, ShowsExact, header_of};
 
 use crate::due::Due;
-use crate::exact::ExactPart;
+use crate::found::{Exact, Found};
 use crate::status::Status;
-use decision_tree::{AffineRank, Tree};
 use line_text::push_numeral;
-use report_text::{Lines, Report, Top, lines, print};
+use report_text::{Header, Lines, Report, Stop, Top, lines, print};
 use std::alloc::{AllocError, Global};
 use step_meaning::Names;
 
@@ -27,32 +23,54 @@ pub fn usage() -> &'static [u8]
     b"usage: function [--ctl TEXT] [--domain boxes|octagons|polyhedra] [--delay N] [--at TEXT] [--explain] [--demo N]\n"
 }
 
-/// The report by its exact part and by the tree at the entry of a program, and its status. The only error is want of memory.
-pub fn report(
-    alloc: Global,
-    exact: ExactPart,
-    tree: &Tree<AffineRank>,
-    names: &Names,
-) -> Result<Due, AllocError>
-    requires exact { All (IsLineOver names.now) exact.lines }
-    requires fits { ComplementsFit (plan_of tree.now) }
-    requires over { IsTreeOver names.now (plan_of tree.now) }
-    ensures { IfOk result (λ due. (lines : List Line) × AreLinesOf top.Bound (plan_of tree.now) lines
-        × IsReportText names.now (report_of exact.header exact.lines (claiming lines) (claiming_nothing lines)) due.bytes.items
-        × IsVerdict due.status (claiming_nothing lines)) }
+/// The report of what was found of a program with these names, and its status. The only error is want of memory.
+pub(crate) fn report(alloc: Global, found: &Found, names: &Names) -> Result<Due, AllocError>
+    requires few { length names.now ≤ 15 }
+    requires printable { IsFoundPrintable (length names.now) found.now }
+    ensures shows { IfOk result (λ due. (report : Report) × Shows found.now report × IsReportText names.now report due.bytes.items
+        × IsVerdict due.status report.unknown) }
+    ensures turns { IfOk result (λ due. due.turns ≡ found.now.turns) }
 {
-    let (proved, unknown) = lines(alloc, tree, Top::Bound)?.parted(alloc)?;
+    let (header, exact) = exact_part(alloc, &found.exact)?;
+    let (proved, unknown) = lines(alloc, &found.cover, Top::Bound)?.parted(alloc)?;
     let status = verdict(&unknown);
-    let ExactPart { header, lines } = exact;
     let report = Report {
         header,
-        exact: lines,
+        exact,
         proved,
         unknown,
         explain: None,
     };
     let bytes = print(alloc, &report, names)?;
-    Ok(Due { bytes, status })
+    Ok(Due {
+        bytes,
+        status,
+        turns: found.turns,
+    })
+}
+
+// The exact part of a report: its header and its lines.
+fn exact_part(alloc: Global, exact: &Exact) -> Result<(Header, Lines), AllocError>
+    requires { (vars : ℕ) × IsExactPrintable vars exact.now }
+    ensures { IfOk result (λ part. ShowsExact exact.now part.0 part.1) }
+{
+    match exact {
+        Exact::Unmade(stop) => Ok((Header::Stopped { cause: *stop }, Lines::of(Vec::new(alloc)))),
+        Exact::Made { tests, stop, tree } => {
+            let (claimed, _) = lines(alloc, tree, Top::Exact)?.parted(alloc)?;
+            Ok((header_of(*tests, *stop), claimed))
+        }
+    }
+}
+
+// The header of a level for so many tests, by why there is no further one.
+fn header_of(tests: u32, stop: Option<Stop>) -> Header
+    ensures { result ≡ header_of tests stop }
+{
+    match stop {
+        Some(cause) => Header::Partial { tests, cause },
+        None => Header::Whole { tests },
+    }
 }
 
 // The status of a report with these unknown lines.

@@ -1,22 +1,26 @@
 //! The top call.
 
-ghost use Rattle.std.specs.Prelude.{◌≡◌, ◌≤◌, ◌<◌, ◌+◌, ◌⊎◌, ◌^◌, ℕ, All, map};
+ghost use Rattle.std.specs.Prelude.{◌≡◌, ◌≤◌, ◌<◌, ◌+◌, ◌⊎◌, ◌^◌, ℕ, List, All, IfOk, IfSome, MatchOption, OnErr, map};
 ghost use Rattle.std.specs.Io.KnownBytes.{Appends};
 ghost use Rattle.outside.specs.Faults.{Rose};
 ghost use Rattle.outside.specs.Sink.{AppendsFront};
 ghost use Rattle.outside.specs.Source.{ConsumesUpTo};
 ghost use Rattle.ctl_rounds.specs.Asked.{RoseBy};
 ghost use Rattle.function_top.specs.Answer.{IsRun, after_failing};
+ghost use Rattle.function_top.specs.Due.{IsDueOn};
+ghost use Rattle.function_top.specs.Order.{Accepted};
+ghost use Rattle.function_top.specs.Text.{IsRead};
 
-use crate::answer::answer;
-use crate::order::order_of;
+use crate::answer::{report_on, too_long};
+use crate::due::Due;
+use crate::order::{Order, order_of};
 use crate::report::usage;
 use crate::status::Status;
 use advice::Adviser;
 use line_text::laws::{a_line_spells_at_most_one_claim, lines_have_their_own_form};
-use outside::{Sink, Source, write_all};
+use outside::{ReadEnd, Sink, Source, read_program, write_all};
 use source_parse::{a_text_is_one_program, names_are_distinct, names_are_spelled_as_names};
-use std::alloc::Global;
+use std::alloc::{AllocError, Global};
 
 /// Does all that the program does: reads a program from the source, and writes the report on it to the sink.
 ///
@@ -43,13 +47,14 @@ pub fn run<S: Source, K: Sink>(
       read_faults_after = S.faults source.new;
       write_faults = K.faults sink.old;
       write_faults_after = K.faults sink.new;
+      asked = map (λ adviser. asked_of adviser) advisers.old.items;
+      asked_after = map (λ adviser. asked_of adviser) advisers.new.items;
     } }
-    ensures unread { result ≡ Status.Words → source.new ≡ source.old }
+    ensures unread { ¬ Accepted (map (λ word. word.now) words.now) → source.new ≡ source.old }
     ensures stops { ConsumesUpTo (65536 + 1) (S.left source.old) (S.left source.new) }
     ensures reads_never_fall { S.faults source.old ≤ S.faults source.new }
     ensures writes_never_fall { K.faults sink.old ≤ K.faults sink.new }
     ensures asked { (times : ℕ) × (times ≤ 8) × RoseBy (λ adviser. asked_of adviser) times advisers.old.items advisers.new.items }
-    ensures insists { result ≡ Status.SomeInputs → RoseBy (λ adviser. asked_of adviser) 8 advisers.old.items advisers.new.items }
 {
     a_text_is_one_program();
     names_are_spelled_as_names();
@@ -63,6 +68,30 @@ pub fn run<S: Source, K: Sink>(
         Ok(Some(due)) => settle(sink, &due.bytes, due.status),
         Ok(None) => Status::ReadFault,
         Err(_) => Status::NoMemory,
+    }
+}
+
+// Reads the source, and answers what is to be written for it, or `None` where a read failed.
+fn answer<S: Source>(
+    alloc: Global,
+    order: &Order,
+    source: &mut S,
+    advisers: &mut Vec<Box<dyn Adviser>>,
+) -> Result<Option<Due>, AllocError>
+    requires patient { All (λ adviser. asked_of adviser ≤ 2 ^ 32) advisers.old.items }
+    ensures due { IfOk result (λ outcome. MatchOption outcome (Rose (S.faults source.old) (S.faults source.new))
+        (λ due. (text : List ℕ) × IsRead (S.left source.old) text × (S.faults source.new ≡ S.faults source.old)
+        × IsDueOn order.now text due.status due.turns due.bytes.items)) }
+    ensures stops { ConsumesUpTo (65536 + 1) (S.left source.old) (S.left source.new) }
+    ensures never_falls { S.faults source.old ≤ S.faults source.new }
+    ensures stays { OnErr result (S.faults source.new ≡ S.faults source.old) }
+    ensures asked { (times : ℕ) × (times ≤ 8) × RoseBy (λ adviser. asked_of adviser) times advisers.old.items advisers.new.items
+        × IfOk result (λ outcome. IfSome outcome (λ due. due.turns ≡ times)) }
+{
+    match read_program(alloc, source)? {
+        ReadEnd::Text(text) => Ok(Some(report_on(alloc, order, &text, advisers)?)),
+        ReadEnd::TooLong => Ok(Some(too_long(alloc)?)),
+        ReadEnd::Failed => Ok(None),
     }
 }
 

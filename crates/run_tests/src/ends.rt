@@ -36,6 +36,24 @@ impl Source for Endless {
     }
 }
 
+// Counts the calls.
+#[derive(Drop)]
+struct Counting {
+    source: MemorySource,
+    calls: u32,
+}
+
+impl Source for Counting {
+    ghost left = { λ counting. ⟦<MemorySource as Source>⟧.left counting.source };
+
+    ghost faults = { λ counting. ⟦<MemorySource as Source>⟧.faults counting.source };
+
+    fn read(&mut self, buffer: &mut [u8]) -> Got {
+        self.calls = self.calls.saturating_add(1);
+        self.source.read(buffer)
+    }
+}
+
 #[test]
 fn a_source_may_drip(rt: HostRuntime) -> Result<(), Fail> {
     let alloc = rt.alloc();
@@ -54,15 +72,20 @@ fn a_source_may_never_end(rt: HostRuntime) -> Result<(), Fail> {
     Ok(())
 }
 
+// The first read gives the text, and the second tells its end.
 #[test]
-fn a_read_may_fail(rt: HostRuntime) -> Result<(), Fail> {
+fn reading_stops_at_the_first_failed_read(rt: HostRuntime) -> Result<(), Fail> {
     let alloc = rt.alloc();
     for failing in [1u32, 2] {
         let numbers = [failing].to_vec(alloc)?;
-        let mut source = MemorySource::new(EMPTY.as_bytes().to_vec(alloc)?, numbers);
+        let mut source = Counting {
+            source: MemorySource::new(EMPTY.as_bytes().to_vec(alloc)?, numbers),
+            calls: 0,
+        };
         let (status, written) = outcome(alloc, NO_OPTIONS, &mut source)?;
         assert_eq!(rt; status, Status::ReadFault, "at the read {failing}");
         assert_eq!(rt; written.len(), 0, "at the read {failing}");
+        assert_eq!(rt; source.calls, failing);
     }
     Ok(())
 }

@@ -5,7 +5,7 @@ use function_top::Status;
 use std::test::Fail;
 
 /// Texts with the line of their fault.
-const FAULTS: [(&str, &str); 13] = [
+const FAULTS: [(&str, &str); 14] = [
     ("int main() { @ }", "program: 1 at 13\n"),
     (
         "int main() { int x; x = 9223372036854775808; }",
@@ -34,6 +34,7 @@ const FAULTS: [(&str, &str); 13] = [
         "program: 13 at 20\n",
     ),
     ("int main() { break; }", "program: 17 at 13\n"),
+    ("int main() { int x; x = x / 0; }", "program: 18 at 28\n"),
 ];
 
 #[test]

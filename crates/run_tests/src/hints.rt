@@ -1,6 +1,6 @@
 //! Hints that say nothing.
 
-use crate::running::{COUNTDOWN, NO_OPTIONS, TWO_SPEEDS, outcome_with, unadvised};
+use crate::running::{COUNTDOWN, NO_OPTIONS, TWO_SPEEDS, outcome_by, outcome_with, unadvised};
 use advice::{Adviser, Hint, LoopFact};
 use function_top::Status;
 use linear_cons::Affine;
@@ -48,6 +48,26 @@ fn hints_that_say_nothing_change_nothing(rt: HostRuntime) -> Result<(), Fail> {
         let (found, report) = idly_advised(rt.alloc(), text)?;
         assert_eq!(rt; report.as_slice(), written.as_slice(), "on {text}");
         assert_eq!(rt; found, status, "on {text}");
+    }
+    Ok(())
+}
+
+// One adviser whose hints say nothing is asked in each turn, as long as an input has no claim.
+#[test]
+fn an_idle_adviser_is_asked_eight_times(rt: HostRuntime) -> Result<(), Fail> {
+    let alloc = rt.alloc();
+    let text = "int main() { int x; while (x > 0) x = x + 1; }";
+    let report = "exact, 2 tests:\n-x >= 0: exactly 1 step\nproved:\n-x >= 0: within 1 step\n\
+        unknown:\nx - 1 >= 0: unknown\nverdict: some inputs\n";
+    let mut source = MemorySource::new(text.as_bytes().to_vec(alloc)?, Vec::new(alloc));
+    let mut advisers: Vec<Box<dyn Adviser>> = Vec::with_capacity(alloc, 1)?;
+    advisers.push(Box::new(alloc, Idle { asked: 0 })?)?;
+    let (status, written) = outcome_by(alloc, NO_OPTIONS, &mut source, &mut advisers)?;
+    assert_eq!(rt; written.as_slice(), report.as_bytes());
+    assert_eq!(rt; status, Status::SomeInputs);
+    assert_eq!(rt; advisers.len(), 1);
+    for adviser in &advisers {
+        assert_eq!(rt; adviser.asked(), 8);
     }
     Ok(())
 }

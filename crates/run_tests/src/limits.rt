@@ -16,7 +16,7 @@ type Repeated = (
     &'static str,
 );
 
-const TEXTS: [Repeated; 11] = [
+const TEXTS: [Repeated; 13] = [
     (EMPTY, " ", 65_522, "", AllInputs, EMPTY_REPORT),
     (EMPTY, " ", 65_523, "", Program, "program: 14 at 65536\n"),
     (
@@ -34,6 +34,22 @@ const TEXTS: [Repeated; 11] = [
         "}",
         AllInputs,
         "exact, 2 tests:\nalways: exactly 1023 steps\nproved:\nalways: within 1023 steps\nunknown:\nverdict: all inputs\n",
+    ),
+    (
+        "int main() { }/*",
+        "x",
+        65_519,
+        "*/",
+        Program,
+        "program: 14 at 65536\n",
+    ),
+    (
+        "int main() {",
+        ";",
+        1_024,
+        "}",
+        Program,
+        "program: 12 at 1035\n",
     ),
     (
         "int main() {",

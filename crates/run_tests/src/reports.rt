@@ -15,9 +15,10 @@ const WITHIN_FIVE: &str =
 
 // A loop whose test comes down to `x - 1 >= 0`, counted down under noise in `y`.
 const NOISE: &str = "extern int __VERIFIER_nondet_int(void);
+/* counts down under noise */
 int main() {
   int x, y;
-  while (x > 0 && y < 100) {
+  while (x > 0 && y < 100) { // guard
     if (__VERIFIER_nondet_int()) y = y + 1;
     else y = y - 1;
     x = x - 1;
@@ -33,7 +34,7 @@ const APART: &str =
 const SUMMED: &str =
     "int main() { int x, y, z; x = ?; y = ?; z = ?; if (x + y > z) if (z > 2*x) if (x > y) while (?) ; }";
 
-const WITHOUT_LOOPS: [Case; 8] = [
+const WITHOUT_LOOPS: [Case; 10] = [
     (EMPTY, NO_OPTIONS, AllInputs, EMPTY_REPORT),
     (
         "int main() { int x; x = 7; }",
@@ -67,6 +68,19 @@ const WITHOUT_LOOPS: [Case; 8] = [
         "exact, 2 tests:\n-x - 1 >= 0: exactly 3 steps\n-x >= 0 and x >= 0: exactly 2 steps\n\
          x - 1 >= 0: exactly 3 steps\nproved:\nalways: within 3 steps\nunknown:\nverdict: all inputs\n",
     ),
+    (
+        "int main() { int a, b, c, d, e, f, g, h, i, j, k, l, m, n, o; }",
+        NO_OPTIONS,
+        AllInputs,
+        EMPTY_REPORT,
+    ),
+    // A square is at least 0, so the loop isn't reached.
+    (
+        "int main() { int x, y; y = x*x; if (y < 0) while (?) ; }",
+        NO_OPTIONS,
+        AllInputs,
+        "exact: not a plain program\nproved:\nalways: within 2 steps\nunknown:\nverdict: all inputs\n",
+    ),
     // Numbers past 128 bits matter only where they are compared.
     (
         "int main() { int x, y; x = 4611686018427387904*x + y; x = 4611686018427387904*x + y; \
@@ -82,7 +96,7 @@ fn programs_without_loops_give_their_reports(rt: HostRuntime) -> Result<(), Fail
     hold(&rt, rt.alloc(), &WITHOUT_LOOPS)
 }
 
-const COUNTING_DOWN: [Case; 4] = [
+const COUNTING_DOWN: [Case; 5] = [
     (COUNTDOWN, NO_OPTIONS, AllInputs, COUNTDOWN_REPORT),
     (TWO_SPEEDS, NO_OPTIONS, AllInputs, TWO_SPEEDS_REPORT),
     // The choice between two ways to the test of the loop multiplies their trees.
@@ -91,6 +105,13 @@ const COUNTING_DOWN: [Case; 4] = [
         NO_OPTIONS,
         AllInputs,
         "exact, 0 tests, then too many nodes:\nproved:\n-x >= 0: within 2 steps\nx - 1 >= 0: within 4*x + 2 steps\n\
+         unknown:\nverdict: all inputs\n",
+    ),
+    (
+        NOISE,
+        &["function", "--delay", "0"],
+        AllInputs,
+        "exact, 0 tests:\nproved:\n-x >= 0: within 2 steps\nx - 1 >= 0: within 4*x + 2 steps\n\
          unknown:\nverdict: all inputs\n",
     ),
     // Nine turns of three steps behind one, and the last test.
@@ -233,6 +254,35 @@ fn loops_that_are_left_and_skipped_give_their_reports(rt: HostRuntime) -> Result
 #[test]
 fn loops_that_count_in_other_ways_give_their_reports(rt: HostRuntime) -> Result<(), Fail> {
     hold(&rt, rt.alloc(), &COUNTING_IN_OTHER_WAYS)
+}
+
+const DIVIDED: [Case; 3] = [
+    // What is left by 4 is at most 3: three turns of two steps behind one, and the last test.
+    (
+        "int main() { int x, y; x = y % 4; while (x > 0) x = x - 1; }",
+        NO_OPTIONS,
+        AllInputs,
+        "exact: not a plain program\nproved:\nalways: within 8 steps\nunknown:\nverdict: all inputs\n",
+    ),
+    // Half of 8 and of 9 is 4.
+    (
+        "int main() { int x, y; x = [8, 9]; y = x / 2; while (y > 0) y = y - 1; }",
+        NO_OPTIONS,
+        AllInputs,
+        "exact: not a plain program\nproved:\nalways: within 11 steps\nunknown:\nverdict: all inputs\n",
+    ),
+    // -7 / 2 is -3, and -9 / 2 is -4: four turns up to 0.
+    (
+        "int main() { int x, y; x = [-9, -7]; y = x / 2; while (y < 0) y = y + 1; }",
+        NO_OPTIONS,
+        AllInputs,
+        "exact: not a plain program\nproved:\nalways: within 11 steps\nunknown:\nverdict: all inputs\n",
+    ),
+];
+
+#[test]
+fn programs_that_divide_give_their_reports(rt: HostRuntime) -> Result<(), Fail> {
+    hold(&rt, rt.alloc(), &DIVIDED)
 }
 
 const UNDER_OPTIONS: [Case; 7] = [

@@ -5,16 +5,16 @@ use Rattle.report_text.specs.declared.line.Line.{Line}
 use Rattle.report_text.specs.declared.line.Top.TheVariants.{Bound}
 use Rattle.report_text.specs.Leaves.{is_unknown}
 use Rattle.report_text.specs.Printed.{IsLineOver}
-use Rattle.function_top.proofs.Over.{tree_lines_over}
+use Rattle.function_top.proofs.Over.{exact_over, tree_lines_over}
 use Rattle.function_top.proofs.report.report.Goals as goal
 
 pub print-requires : goal.print-requires
 print-requires c =
     let names = c.args.names.now in
     let lines = c.in_ok-lines.field-0 in
-    let all = tree_lines_over names Bound (plan_of c.args.tree.now) lines c.requires.over c.in_ok-lines.ensures in
+    let all = tree_lines_over names c.requires.few Bound (plan_of c.args.found.now.cover) lines c.requires.printable.cover.over c.in_ok-lines.ensures in
     record {
-      exact = c.requires.exact;
+      exact = exact_over names c.requires.few c.args.found.now.exact c.in_ok-header.header c.in_ok-header.exact c.requires.printable.exact c.in_ok-header.ensures;
       proved = subst (All (IsLineOver names)) (sym c.in_ok-proved.ensures.claiming)
           (All-filter (λ (line : Line). not (is_unknown line.claim)) (IsLineOver names) lines all);
       unknown = subst (All (IsLineOver names)) (sym c.in_ok-proved.ensures.nothing)

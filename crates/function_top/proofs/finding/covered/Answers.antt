@@ -1,4 +1,4 @@
-use Rattle.std.proofs.Common.{◌≡◌, All, inl, inr, length, rules, sym, subst, ◌∙◌, arith}
+use Rattle.std.proofs.Common.{◌≡◌, All, length, rules, sym, subst, arith}
 use Rattle.step_meaning.specs.Syntax.{statements}
 use Rattle.control_flow.specs.Labels.{all_labels}
 use Rattle.count_down.proofs.Leads.{all_weaken}
@@ -11,8 +11,8 @@ use Rattle.tree_support.specs.Told.{told_by}
 use Rattle.ctl_rounds.specs.Certified.{Certifies, IsFamilyFor}
 use Rattle.ctl_rounds.specs.Covers.{IsCover}
 use Rattle.ctl_rounds.proofs.Asking.{unasked}
-use Rattle.function_top.proofs.answer.bounded.Given as given
-use Rattle.function_top.proofs.answer.bounded.Goals as goal
+use Rattle.function_top.proofs.finding.covered.Given as given
+use Rattle.function_top.proofs.finding.covered.Goals as goal
 
 pub returns-in_err-inv-clause-asked : goal.returns-in_err-inv-clause-asked
 returns-in_err-inv-clause-asked g c =
@@ -47,11 +47,8 @@ printable g c =
     c.covers_can_be_printed.ensures (length program.names) (statements program.body) told (ctl c.in_ok-formula.formula) certificate.parts certificate.tops
     c.in_ok-certificate.ensures.certified (plan_of c.in_ok-cover.cover) (covers g c)
 
-pub returns-clause-over : goal.returns-clause-over
-returns-clause-over g c = (printable g c).0
-
-pub returns-clause-complements : goal.returns-clause-complements
-returns-clause-complements g c = (printable g c).1
+pub returns-clause-printable : goal.returns-clause-printable
+returns-clause-printable g c = let both = printable g c in record { over = both.0; complements = both.1 }
 
 pub returns-clause-bounds : goal.returns-clause-bounds
 returns-clause-bounds g c =
@@ -77,13 +74,7 @@ pub returns-clause-loopless : goal.returns-clause-loopless
 returns-clause-loopless g c = λ free. c.in_ok-certificate.ensures.loopless free (plan_of c.in_ok-cover.cover) (covers g c)
 
 pub returns-clause-asked : goal.returns-clause-asked
-returns-clause-asked g c =
-    let asked = c.in_ok-certificate.ensures.asked in (
-      asked.0,
-      asked.1,
-      asked.2,
-      elim (c.in_ok-certificate.ensures.turns (plan_of c.in_ok-cover.cover) (covers g c)) [
-        | inl whole ↦ inl whole
-        | inr turns ↦ inr (sym asked.3 ∙ turns)
-      ],
-    )
+returns-clause-asked g c = c.in_ok-certificate.ensures.asked
+
+pub returns-clause-insists : goal.returns-clause-insists
+returns-clause-insists g c = c.in_ok-certificate.ensures.turns (plan_of c.in_ok-cover.cover) (covers g c)

@@ -1,0 +1,136 @@
+-- How many lines of the text of a report an input meets.
+use Rattle.std.proofs.Common.{◌≡◌, ◌⊎◌, inl, inr, List, [], ◌∷◌, ◌++◌, sym, subst}
+use Rattle.std.specs.List.{AllZip}
+use Rattle.std.specs.Prelude.{IsPermutation}
+use Rattle.std.proofs.lemmas.List.Elements.{All-cons, All-nil}
+use Rattle.std.proofs.lemmas.List.Sorted.{All-permutation, IsPermutation-append, IsPermutation-cons, IsPermutation-middle, IsPermutation-refl, IsPermutation-sym, IsPermutation-trans}
+use Rattle.step_meaning.specs.Outcome.{Store}
+use Rattle.linear_cons.specs.Rows.{MeetsAll}
+use Rattle.line_text.specs.LineText.{functions_of}
+use Rattle.line_text.specs.Spells.{MeetsCondition}
+use Rattle.report_text.specs.declared.line.Line.{Line}
+use Rattle.report_text.specs.Leaves.{NoneOf, OneOf}
+use Rattle.report_text.specs.declared.report.Header.{Header}
+use Rattle.report_text.specs.declared.report.Header.TheVariants.{Absent, Partial, Stopped, Whole}
+use Rattle.report_text.specs.declared.report.Report.{Report}
+use Rattle.report_text.specs.Printed.{AreExactTexts, AreTextsOf, IsReportText, IsTextOf}
+use Rattle.report_text.specs.Sections.{Sections}
+use Rattle.report_text.proofs.Cutting.{KnownTexts, report_sections}
+use Rattle.line_text.proofs.Words.{numeral_is_numeral}
+use Rattle.function_top.specs.declared.found.Found.{Found}
+use Rattle.function_top.specs.Exact.{MeetsAtMostOneLine}
+use Rattle.function_top.specs.Shown.{Shows}
+use Rattle.function_top.specs.Meeting.{AreMetOnce, AreUnmet, IsMet, MeetsOne}
+use Rattle.function_top.proofs.Conditions.{condition_met, rows_met}
+use Rattle.function_top.proofs.Once.{at_most_one, one_line}
+use Rattle.function_top.proofs.Truth.{EndAsLines, KnownLines}
+use Rattle.function_top.proofs.Written.{Bytes}
+
+module _ (names : List Bytes) (known : KnownLines names) (input : Store) where
+  abbrev Met : Line → Type 0
+  Met line = MeetsAll input line.rows
+
+  -- a text is met where the line is of which it is the text
+  text_met : (line : Line) (text : Bytes) → IsTextOf names line text → Met line → IsMet names input text
+  text_met line text is met = record {
+    condition = functions_of is.condition;
+    claim = line.claim;
+    spells = is.spells;
+    meets = rows_met line.rows is.condition input is.same met;
+  }
+
+  line_met : (line : Line) (text : Bytes) → IsTextOf names line text → IsMet names input text → Met line
+  line_met line text is met =
+      let same = known.one text (functions_of is.condition) met.condition line.claim met.claim is.spells met.spells in
+      condition_met line.rows is.condition input is.same (subst (MeetsCondition input) (sym same.0) met.meets)
+
+  none_met : (lines : List Line) (texts : List Bytes) → AllZip (λ line text. IsTextOf names line text) lines texts → NoneOf Met lines → AreUnmet names input texts
+  none_met [] [] zipped none = All-nil (λ text. ¬ IsMet names input text)
+  none_met [] (text ∷ texts) zipped none = absurd zipped
+  none_met (line ∷ lines) [] zipped none = absurd zipped
+  none_met (line ∷ lines) (text ∷ texts) zipped none =
+      All-cons (λ text. ¬ IsMet names input text) text texts (λ met. none.0 (line_met line text zipped.0 met)) (none_met lines texts zipped.1 none.1)
+
+  one_met : (Is : Line → Type 0) (lines : List Line) (texts : List Bytes) → AllZip (λ line text. IsTextOf names line text) lines texts → OneOf Met Is lines
+      → MeetsOne names input texts
+  one_met Is [] [] zipped one = absurd one
+  one_met Is [] (text ∷ texts) zipped one = absurd zipped
+  one_met Is (line ∷ lines) [] zipped one = absurd zipped
+  one_met Is (line ∷ lines) (text ∷ texts) zipped (inl here) = record {
+    line = text;
+    others = texts;
+    are = IsPermutation-refl (text ∷ texts);
+    met = text_met line text zipped.0 here.0;
+    unmet = none_met lines texts zipped.1 here.2;
+  }
+  one_met Is (line ∷ lines) (text ∷ texts) zipped (inr later) =
+      let rest = one_met Is lines texts zipped.1 later.1 in record {
+        line = rest.line;
+        others = text ∷ rest.others;
+        are = IsPermutation-trans (text ∷ texts) (text ∷ rest.line ∷ rest.others) (rest.line ∷ text ∷ rest.others)
+            (IsPermutation-cons text texts (rest.line ∷ rest.others) rest.are) (IsPermutation-middle (text ∷ []) rest.line rest.others);
+        met = rest.met;
+        unmet = All-cons (λ text. ¬ IsMet names input text) text rest.others (λ met. later.0 (line_met line text zipped.0 met)) rest.unmet;
+      }
+
+  -- in another order
+  reordered : (texts others : List Bytes) → IsPermutation texts others → MeetsOne names input texts → MeetsOne names input others
+  reordered texts others same one = record {
+    line = one.line;
+    others = one.others;
+    are = IsPermutation-trans others texts (one.line ∷ one.others) (IsPermutation-sym texts others same) one.are;
+    met = one.met;
+    unmet = one.unmet;
+  }
+
+  zipped_both : (lines more : List Line) (texts rest : List Bytes) → AllZip (λ line text. IsTextOf names line text) lines texts
+      → AllZip (λ line text. IsTextOf names line text) more rest → AllZip (λ line text. IsTextOf names line text) (lines ++ more) (texts ++ rest)
+  zipped_both [] more [] rest first second = second
+  zipped_both [] more (text ∷ texts) rest first second = absurd first
+  zipped_both (line ∷ lines) more [] rest first second = absurd first
+  zipped_both (line ∷ lines) more (text ∷ texts) rest first second = (first.0, zipped_both lines more texts rest first.1 second)
+
+  pub one_of_both : (Is : Line → Type 0) (lines more : List Line) (texts rest : List Bytes) → AreTextsOf names lines texts → AreTextsOf names more rest
+      → OneOf Met Is (lines ++ more) → MeetsOne names input (texts ++ rest)
+  one_of_both Is lines more texts rest first second one =
+      reordered (first.unsorted ++ second.unsorted) (texts ++ rest)
+      (IsPermutation-append first.unsorted texts second.unsorted rest first.same second.same)
+      (one_met Is (lines ++ more) (first.unsorted ++ second.unsorted) (zipped_both lines more first.unsorted second.unsorted first.each second.each) one)
+
+  pub one_of : (Is : Line → Type 0) (lines : List Line) (texts : List Bytes) → AreTextsOf names lines texts → OneOf Met Is lines → MeetsOne names input texts
+  one_of Is lines texts are one = reordered are.unsorted texts are.same (one_met Is lines are.unsorted are.each one)
+
+  pub none_of : (lines : List Line) (texts : List Bytes) → AreTextsOf names lines texts → NoneOf Met lines → AreUnmet names input texts
+  none_of lines texts are none = All-permutation (λ text. ¬ IsMet names input text) are.unsorted texts are.same (none_met lines are.unsorted are.each none)
+
+-- ---- the text of a report
+
+module _ (names : List Bytes) (known : KnownLines names) (ending : EndAsLines) where
+  exact_texts : (input : Store) (header : Header) (lines : List Line) (texts : List Bytes) → AreExactTexts names header lines texts
+      → MeetsAtMostOneLine input lines → AreUnmet names input texts ⊎ MeetsOne names input texts
+  exact_texts input (Whole tests) lines texts are (inl none) = inl (none_of names known input lines texts are none)
+  exact_texts input (Whole tests) lines texts are (inr one) = inr (one_of names known input (λ line. line.claim ≡ one.0) lines texts are one.1)
+  exact_texts input (Partial tests stop) lines texts are (inl none) = inl (none_of names known input lines texts are none)
+  exact_texts input (Partial tests stop) lines texts are (inr one) = inr (one_of names known input (λ line. line.claim ≡ one.0) lines texts are one.1)
+  exact_texts input Absent lines texts are met = subst (λ ts. AreUnmet names input ts ⊎ MeetsOne names input ts) (sym are) (inl (All-nil (λ text. ¬ IsMet names input text)))
+  exact_texts input (Stopped stop) lines texts are met =
+      subst (λ ts. AreUnmet names input ts ⊎ MeetsOne names input ts) (sym are) (inl (All-nil (λ text. ¬ IsMet names input text)))
+
+  pub met_once : (found : Found) (report : Report) (text : Bytes) → Shows found report → IsReportText names report text → AreMetOnce names text
+  met_once found report text shows printed =
+      let texts : KnownTexts names = record {
+        newline = known.newline;
+        ending = λ line condition claim. ending names line condition claim;
+        digits = numeral_is_numeral;
+      } in
+      let cut = report_sections texts report text printed in
+      record {
+        together = λ input.
+            let one = one_line found report shows input in
+            subst (λ (s : Sections). MeetsOne names input (s.proved ++ s.unknown)) (sym cut)
+            (one_of_both names known input (λ line. line.claim ≡ one.0) report.proved report.unknown printed.proved printed.unknown printed.proved_are
+            printed.unknown_are one.1);
+        exact = λ input.
+            subst (λ (s : Sections). AreUnmet names input s.exact ⊎ MeetsOne names input s.exact) (sym cut)
+            (exact_texts input report.header report.exact printed.exact printed.exact_are (at_most_one found report shows input));
+      }

@@ -1,0 +1,23 @@
+-- What a report can be printed of.
+use Rattle.std.specs.Prelude.{ℕ, ⊤}
+use Rattle.decision_tree.specs.declared.affine_rank.AffineRank.{AffineRank}
+use Rattle.decision_tree.specs.Extent.{ComplementsFit, IsTreeOver}
+use Rattle.decision_tree.specs.Plans.{Plan, plan_of}
+use Rattle.unroll.specs.Levels.{RanksCount}
+use Rattle.function_top.specs.declared.found.Exact.{Exact}
+use Rattle.function_top.specs.declared.found.Exact.TheVariants.{Made, Unmade}
+use Rattle.function_top.specs.declared.found.Found.{Found}
+
+-- the tree speaks of so many variables alone, and the complements of its rows fit 128 bits
+pub record IsPrintable (vars : ℕ) (tree : Plan AffineRank) : Type 0 where
+  pub over : IsTreeOver vars tree
+  pub complements : ComplementsFit tree
+
+-- so does the tree of an exact part, whose ranks are constants
+abbrev pub IsExactPrintable : ℕ → Exact → Type 0
+IsExactPrintable vars (Unmade stop) = ⊤
+IsExactPrintable vars (Made tests stop tree) = IsPrintable vars (plan_of tree) × RanksCount (plan_of tree)
+
+pub record IsFoundPrintable (vars : ℕ) (found : Found) : Type 0 where
+  pub exact : IsExactPrintable vars found.exact
+  pub cover : IsPrintable vars (plan_of found.cover)

@@ -1,0 +1,28 @@
+//! What the analysis finds of a program.
+
+use decision_tree::{AffineRank, Tree};
+use report_text::Stop;
+
+/// What is known exactly of a program.
+#[derive(Drop)]
+pub(crate) enum Exact {
+    /// Nothing, and why.
+    Unmade(Stop),
+    /// For so many tests of loops: the tree at the entry, which claims the length of the longest run where all end with as many tests. Why
+    /// there is no further level, where fewer tests are allowed than were asked for.
+    Made {
+        tests: u32,
+        stop: Option<Stop>,
+        tree: Tree<AffineRank>,
+    },
+}
+
+/// What was found, before any of it is text.
+#[derive(Drop)]
+pub(crate) struct Found {
+    pub exact: Exact,
+    /// What the families of a certificate say at the entry, joined.
+    pub cover: Tree<AffineRank>,
+    /// How often each adviser was asked for it.
+    pub turns: u32,
+}
