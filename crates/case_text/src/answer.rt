@@ -2,7 +2,7 @@
 use crate::words::NAMES;
 use decision_tree::{AffineRank, Cause, Pick, Tree, Why};
 use line_text::{is_over, push_affine, push_number};
-use linear_cons::{Affine, Bounds, Op, PLACES, Row, RowKind, Wide};
+use linear_cons::{Affine, Bounds, Linear, Op, PLACES, Row, RowKind, Wide};
 use std::alloc::{AllocError, Global};
 use step_meaning::Names;
 
@@ -60,11 +60,11 @@ impl Answer {
         }
     }
 
-    /// Adds the number, or `none`.
-    pub fn push_number_or_none(&mut self, number: Option<i128>) {
+    /// Adds the number, or the word for none.
+    pub fn push_number_or(&mut self, number: Option<i128>, none: &str) {
         match number {
             Some(number) => self.push_number(number),
-            None => self.push("none"),
+            None => self.push(none),
         }
     }
 
@@ -74,6 +74,19 @@ impl Answer {
         } else if push_affine(&mut self.text, function, &self.names).is_err() {
             self.is_cut = true;
         }
+    }
+
+    /// Adds the linear expression, as `read_linear` reads it.
+    pub fn push_linear(&mut self, value: &Linear) {
+        self.push_function(&value.affine);
+        if *value == Linear::exactly(value.affine) {
+            return;
+        }
+        self.push(" + [");
+        self.push_number_or(value.lo, "-inf");
+        self.push(", ");
+        self.push_number_or(value.hi, "inf");
+        self.push("]");
     }
 
     pub fn push_row(&mut self, row: &Row) {

@@ -1,7 +1,7 @@
-//! Functions, linear expressions and rows, as lines say them.
+//! Functions, linear expressions, ends and rows, as lines say them.
 use crate::many::add_many;
 use crate::words::{Words, number_of, place_of};
-use linear_cons::{Affine, Linear, Row, RowKind};
+use linear_cons::{Affine, Bounds, Linear, PLACES, Row, RowKind};
 use std::alloc::{AllocError, Global};
 
 /// Reads a function: terms `2*x`, `x`, `-x` or `7`, parted by `+` and `-`. A range behind a `+` is left.
@@ -71,6 +71,32 @@ pub fn read_linear(words: &mut Words<'_>) -> Linear {
     let hi = words.number_or("inf");
     words.expect("]");
     Linear { affine, lo, hi }
+}
+
+/// Reads the ends of variables: `x from -7 to 7, y from 0`, or `anywhere` where none is known.
+pub fn read_ends(words: &mut Words<'_>) -> Bounds {
+    let mut ends = [(None, None); PLACES];
+    if words.takes("anywhere") {
+        return Bounds { ends };
+    }
+    for _ in 0..words.len() {
+        let place = words.place();
+        let low = read_end("from", words);
+        let high = read_end("to", words);
+        ends[place as usize] = (low, high);
+        if !words.takes(",") {
+            break;
+        }
+    }
+    Bounds { ends }
+}
+
+/// Reads the end that stands behind the word, if the word is there.
+fn read_end(word: &str, words: &mut Words<'_>) -> Option<i128> {
+    if words.takes(word) {
+        return Some(words.number());
+    }
+    None
 }
 
 /// Reads a constraint: a function, and `>= 0` behind it.

@@ -1,7 +1,7 @@
-//! Functions, rows, ranges, trees, formulas and answers of single layers, read from lines of text and written.
+//! Functions, rows, ranges, ends, trees, formulas and answers of single layers, read from lines of text and written.
 //!
 //! It is for programs that are told in lines what to do, and promises nothing but that each call returns. The front door: `spaced` and `Words`,
-//! `read_function`, `read_linear`, `read_constraint`, `read_row`, `read_rows`, `read_tree`, `read_formula`, and `Answer`.
+//! `read_function`, `read_linear`, `read_ends`, `read_constraint`, `read_row`, `read_rows`, `read_tree`, `read_formula`, and `Answer`.
 #![tactic(auto)]
 
 mod answer;
@@ -14,6 +14,6 @@ mod words;
 
 pub use answer::Answer;
 pub use formulas::read_formula;
-pub use functions::{read_constraint, read_function, read_linear, read_row, read_rows};
+pub use functions::{read_constraint, read_ends, read_function, read_linear, read_row, read_rows};
 pub use trees::{read_leaf, read_tree};
 pub use words::{Words, spaced};

@@ -128,6 +128,7 @@ fn push_answer(
     if domain_cases::answers(alloc, name, &mut words, answer)?
         || tree_cases::answers(alloc, name, &mut words, answer)?
         || check_cases::answers(alloc, name, &mut words, answer)?
+        || form_cases::answers(alloc, name, &mut words, answer)?
     {
         return Ok(words.fault());
     }

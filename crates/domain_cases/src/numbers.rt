@@ -165,7 +165,7 @@ fn list(alloc: Global, words: &mut Words<'_>, answer: &mut Answer) -> Result<(),
 fn push_bound(words: &mut Words<'_>, answer: &mut Answer) {
     let own = read_bound(words);
     if words.takes("number") {
-        return answer.push_number_or_none(own.end());
+        return answer.push_number_or(own.end(), "none");
     }
     match made(own, words) {
         Bound::At(number) => {

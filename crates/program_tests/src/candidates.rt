@@ -8,7 +8,7 @@ use std::process::Abort;
 use std::test::Fail;
 
 /// Items of `main`, and the trees at the labels of the program from 0 on.
-const CANDIDATES: [(&str, &[&str]); 12] = [
+const CANDIDATES: [(&str, &[&str]); 14] = [
     ("", &["end 0"]),
     ("int x; if (x > 0) x = 1;", &["end 0", "2", "1"]),
     ("if (?) return; ; ;", &["end 0", "3", "1", "2", "1"]),
@@ -67,6 +67,25 @@ const CANDIDATES: [(&str, &[&str]); 12] = [
     (
         "int x; while (x == 0) x = x + 1;",
         &["end 0", "[-1x0 0: -2x0 3 | 1]", "[-1x0 -1: -2x0 2 | 2]"],
+    ),
+    // Of two rows that are counted down the first in the text counts.
+    (
+        "int x, y; while (x > 0 && y > 0) { x = x - 1; y = y - 1; }",
+        &[
+            "end 0",
+            "[1x0 -1: 3x0 1 | 1]",
+            "[1x0 -2: 3x0 0 | 3]",
+            "[1x0 -1: 3x0 2 | 2]",
+        ],
+    ),
+    (
+        "int x, y; while (y > 0 && x > 0) { x = x - 1; y = y - 1; }",
+        &[
+            "end 0",
+            "[1x1 -1: 3x1 1 | 1]",
+            "[1x1 -2: 3x1 0 | 3]",
+            "[1x1 -2: 3x1 -1 | 2]",
+        ],
     ),
     (
         "int x; while (x > 0) x = x - 2147483648;",

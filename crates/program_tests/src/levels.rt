@@ -5,7 +5,7 @@ use decision_tree::{AffineRank, Cause, Tree};
 use std::alloc::Global;
 use std::process::Abort;
 use std::test::Fail;
-use unroll::{Unrolled, growth, is_plain, unroll, weight};
+use unroll::{Unrolled, growth, unroll, weight};
 
 /// Items of `main`, the level asked for, the one that is made, why it stops, and the trees at the labels from 0 on.
 const LEVELS: [(&str, u32, u32, &str, &[&str]); 16] = [
@@ -216,7 +216,7 @@ const PLAIN: [(&str, bool); 12] = [
 /// What is made of the level of the program, which is plain.
 fn level_of(rt: &impl Abort, alloc: Global, items: &str, tests: u32) -> Result<Unrolled, Fail> {
     let program = program(rt, alloc, items)?;
-    assert!(rt; is_plain(&program), "{items}");
+    assert!(rt; program.is_plain(), "{items}");
     let graph = Graph::of(alloc, &program)?;
     Ok(unroll(alloc, &graph, tests)?)
 }
@@ -264,7 +264,7 @@ fn long_programs_have_levels(rt: HostRuntime) -> Result<(), Fail> {
 fn levels_have_weights(rt: HostRuntime) -> Result<(), Fail> {
     for (items, tests, most) in WEIGHTS {
         let program = program(&rt, rt.alloc(), items)?;
-        assert!(rt; is_plain(&program), "{items}");
+        assert!(rt; program.is_plain(), "{items}");
         let graph = Graph::of(rt.alloc(), &program)?;
         assert_eq!(rt; weight(rt.alloc(), &graph, tests)?, most, "of {items}");
     }
@@ -275,7 +275,7 @@ fn levels_have_weights(rt: HostRuntime) -> Result<(), Fail> {
 fn levels_have_growths(rt: HostRuntime) -> Result<(), Fail> {
     for (items, tests, most) in GROWTHS {
         let program = program(&rt, rt.alloc(), items)?;
-        assert!(rt; is_plain(&program), "{items}");
+        assert!(rt; program.is_plain(), "{items}");
         let graph = Graph::of(rt.alloc(), &program)?;
         assert_eq!(rt; growth(rt.alloc(), &graph, tests)?, most, "of {items}");
     }
@@ -286,7 +286,7 @@ fn levels_have_growths(rt: HostRuntime) -> Result<(), Fail> {
 fn some_programs_are_plain(rt: HostRuntime) -> Result<(), Fail> {
     for (items, plain) in PLAIN {
         let program = program(&rt, rt.alloc(), items)?;
-        assert_eq!(rt; is_plain(&program), plain, "{items}");
+        assert_eq!(rt; program.is_plain(), plain, "{items}");
     }
     Ok(())
 }

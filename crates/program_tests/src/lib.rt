@@ -1,5 +1,5 @@
-//! Rows on what the layers of the analysis say of small programs, worked out by hand: linear forms, graphs, invariants, candidates,
-//! levels, sweeps, facts of loops, what the check leaves of families of trees, and what advisers hint.
+//! Rows on what the layers of the analysis say of small programs, worked out by hand: graphs, invariants, candidates, levels,
+//! sweeps, facts of loops, what the check leaves of families of trees, and what advisers hint.
 //!
 //! It holds tests alone. It stands on the layers and on `source_parse`, so that no layer stands on how a text is read.
 #![tactic(auto)]
@@ -10,8 +10,6 @@ mod candidates;
 mod checks;
 #[cfg(test)]
 mod facts;
-#[cfg(test)]
-mod forms;
 #[cfg(test)]
 mod graphs;
 #[cfg(test)]

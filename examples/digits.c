@@ -1,0 +1,8 @@
+/* The digits of a number are counted. That a tenth is less than the whole isn't known. */
+int main() {
+  int number, digits = 0;
+  while (number > 0) {
+    number = number / 10;
+    digits = digits + 1;
+  }
+}
