@@ -1,13 +1,14 @@
 -- The definitions at work on small programs: what they say of a program that a reader can run by hand. The variable x is at place 0, and a
 -- store has sixteen places.
-use Rattle.std.proofs.Common.{◌≡◌, ℕ, zero, suc, ℤ, pos, ◌≤ℤ◌, ◌<ℤ◌, ◌-ℤ◌, Bool, true, false, inl, inr, IsTrue, [], ◌∷◌, ◌++◌, None, Some, slice_set, refl, sym, ◌∙◌, ap, subst, arith}
+use Rattle.std.proofs.Common.{◌≡◌, ℕ, zero, suc, ℤ, pos, negsuc, ◌≤ℤ◌, ◌<ℤ◌, ◌-ℤ◌, ◌*ℤ◌, Bool, true, false, inl, inr, IsTrue, [], ◌∷◌, ◌++◌, None, Some, slice_set, refl, sym, ◌∙◌, ap, subst, arith}
 use Rattle.std.proofs.lemmas.Int.{ints}
 use Rattle.step_meaning.specs.declared.expression.Op2.TheVariants.{Sub, Greater, And, Or}
-use Rattle.step_meaning.specs.Syntax.{Expression, number, variable, free, range, truth, negation, pair, Statement, Statements, assign, skip, return, break, continue, if_else, while_loop, do_while, empty, sequence}
-use Rattle.step_meaning.specs.Outcome.{Store, May, MayTest}
+use Rattle.step_meaning.specs.Syntax.{Expression, number, variable, divided, quotient, remainder, free, range, truth, negation, pair, Statement, Statements, assign, skip, return, break, continue, if_else, while_loop, do_while, empty, sequence}
+use Rattle.step_meaning.specs.Outcome.{Store, May, MayTest, Truncates}
 use Rattle.step_meaning.specs.Step.{Configuration, Todo, one, turn, items_of, Step, Next, IsFinal, behind_body, front}
 use Rattle.step_meaning.specs.Run.{start, EndsWithin, EndsInTests, Longest}
 use Rattle.step_meaning.proofs.Progress.{holds, fails}
+use Rattle.step_meaning.proofs.Quotients.{left_between, only}
 
 same : (d e : Configuration) → d.todo ≡ e.todo → d.store ≡ e.store → d ≡ e
 same d e todo store =
@@ -290,3 +291,42 @@ not_true s m = cc
 
 false_or_free : (s : Store) → MayTest (pair Or (truth false) free) s true
 false_or_free s = inr (false, true, refl, tt, refl)
+
+-- `-7 / 2` is -3 and `-7 % 2` is -1, and `7 / -2` is -3 and `7 % -2` is 1; they are nothing else
+two_in_minus_seven : Truncates (negsuc 6) (pos 2) (negsuc 2)
+two_in_minus_seven = record { small = omega (arith, ints); sign = (λ high. absurd (omega (arith, ints)), λ low. omega (arith, ints)) }
+
+minus_two_in_seven : Truncates (pos 7) (negsuc 1) (negsuc 2)
+minus_two_in_seven = record { small = omega (arith, ints); sign = (λ high. omega (arith, ints), λ low. absurd (omega (arith, ints))) }
+
+-- what a division of such a number makes is what its one quotient makes
+module _ (number divisor known : ℤ) (is : Truncates number divisor known) where
+  the_quotient : (v : ℤ) → May (divided quotient (variable 0) divisor) (store_of number) v → v ≡ known
+  the_quotient v may = may.4 ∙ only number divisor may.1 known (subst (λ a. Truncates a divisor may.1) may.2 may.3) is
+
+  the_remainder : (v : ℤ) → May (divided remainder (variable 0) divisor) (store_of number) v → v ≡ number -ℤ known *ℤ divisor
+  the_remainder v may =
+      may.4 ∙ ap (λ a. a -ℤ may.1 *ℤ divisor) may.2
+      ∙ ap (λ q. number -ℤ q *ℤ divisor) (only number divisor may.1 known (subst (λ a. Truncates a divisor may.1) may.2 may.3) is)
+
+half_of_minus_seven : May (divided quotient (variable 0) (pos 2)) (store_of (negsuc 6)) (negsuc 2)
+half_of_minus_seven = (negsuc 6, negsuc 2, refl, two_in_minus_seven, refl)
+
+only_half_of_minus_seven : (v : ℤ) → May (divided quotient (variable 0) (pos 2)) (store_of (negsuc 6)) v → v ≡ negsuc 2
+only_half_of_minus_seven = the_quotient (negsuc 6) (pos 2) (negsuc 2) two_in_minus_seven
+
+left_of_minus_seven : (v : ℤ) → May (divided remainder (variable 0) (pos 2)) (store_of (negsuc 6)) v → v ≡ negsuc 0
+left_of_minus_seven = the_remainder (negsuc 6) (pos 2) (negsuc 2) two_in_minus_seven
+
+seven_by_minus_two : (v : ℤ) → May (divided quotient (variable 0) (negsuc 1)) (store_of (pos 7)) v → v ≡ negsuc 2
+seven_by_minus_two = the_quotient (pos 7) (negsuc 1) (negsuc 2) minus_two_in_seven
+
+left_of_seven : (v : ℤ) → May (divided remainder (variable 0) (negsuc 1)) (store_of (pos 7)) v → v ≡ pos 1
+left_of_seven = the_remainder (pos 7) (negsuc 1) (negsuc 2) minus_two_in_seven
+
+-- `? % 4` is from -3 to 3, and nothing is divided by 0
+left_of_any : (s : Store) (v : ℤ) → May (divided remainder free (pos 4)) s v → (negsuc 2 ≤ℤ v) × (v ≤ℤ pos 3)
+left_of_any s v may = subst (λ r. (negsuc 2 ≤ℤ r) × (r ≤ℤ pos 3)) (sym may.4) (left_between may.0 (pos 4) may.1 may.3)
+
+nothing_by_zero : (s : Store) (v : ℤ) → ¬ May (divided quotient (variable 0) (pos 0)) s v
+nothing_by_zero s v may = let small = may.3.small in omega (arith, ints)
