@@ -1,6 +1,6 @@
-//! Calls on states of the numerical domains: `boxes`, `octagons` or `polyhedra`, a question and a state. The questions are `ends`, `rows`, and `outline` for the
-//! number of rows with the first and the last. A state is made of all stores by steps, which are rows that it meets and assignments `x = L`, parted by `then`;
-//! behind it others that it takes in stand behind `join` and `widen`, and further steps behind `meet`.
+//! Calls on states of the numerical domains: `boxes`, `octagons` or `polyhedra`, a question and a state. The questions are `ends`, `rows`, `outline` for the
+//! number of rows with the first and the last, and `implies` with a row, `of` before the state. A state is made of all stores by steps, which are rows that it
+//! meets, one after the other or behind `together` at once, and assignments `x = L`, parted by `then`; behind it others that it takes in stand behind `join` and `widen`, and further steps behind `meet`.
 use case_text::{Answer, Words, read_linear, read_rows};
 use interval_dom::Boxes;
 use num_domain::NumDomain;
@@ -31,6 +31,9 @@ fn push_asked<D: NumDomain>(
     answer: &mut Answer,
 ) -> Result<(), AllocError> {
     let question = words.take();
+    if question == "implies" {
+        return push_implied::<D>(alloc, words, answer);
+    }
     let state: D = read_states(alloc, words)?;
     match question {
         "ends" if state.is_empty() => answer.push("empty"),
@@ -38,6 +41,21 @@ fn push_asked<D: NumDomain>(
         "rows" => push_rows(alloc, &state, answer)?,
         "outline" => push_outline(alloc, &state, answer)?,
         _ => words.fail("no such question"),
+    }
+    Ok(())
+}
+
+/// Adds whether the state behind `of` says that its members meet the row before.
+fn push_implied<D: NumDomain>(
+    alloc: Global,
+    words: &mut Words<'_>,
+    answer: &mut Answer,
+) -> Result<(), AllocError> {
+    let rows = read_rows(alloc, words)?;
+    words.expect("of");
+    let state: D = read_states(alloc, words)?;
+    if let Some(row) = rows.first() {
+        answer.push_yes_or_no(state.implies(row));
     }
     Ok(())
 }
@@ -145,12 +163,15 @@ fn take_steps<D: NumDomain>(
     Ok(())
 }
 
-/// Meets rows.
+/// Meets rows, one after the other, or behind `together` at once.
 fn meet<D: NumDomain>(
     alloc: Global,
     state: &mut D,
     words: &mut Words<'_>,
 ) -> Result<(), AllocError> {
+    if words.takes("together") {
+        return state.meet_rows(alloc, &read_rows(alloc, words)?);
+    }
     let rows = read_rows(alloc, words)?;
     for row in &rows {
         state.meet_row(alloc, row)?;

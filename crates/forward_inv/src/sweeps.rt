@@ -208,9 +208,7 @@ fn grown<D: NumDomain>(
         let mut wide = before.copy(alloc)?;
         wide.widen(alloc, set)?;
         if let Some(Some(limit)) = limits.get(label as usize) {
-            for row in &limit.rows(alloc)? {
-                wide.meet_row(alloc, row)?;
-            }
+            wide.meet_rows(alloc, &limit.rows(alloc)?)?;
         }
         *set = wide;
     }

@@ -1,5 +1,5 @@
 -- Over an edge a set's members come into the set behind it.
-use Rattle.std.proofs.Common.{◌≡◌, ℕ, ◌≤◌, ℤ, pos, ◌≤ℤ◌, Bool, List, slice_set, Some, sym, ap, subst, arith}
+use Rattle.std.proofs.Common.{◌≡◌, ℕ, ℤ, pos, ◌≤ℤ◌, Bool, List, slice_set, Some, sym, ap, subst, arith}
 use Rattle.std.proofs.lemmas.Int.{by_lt_z, ints}
 use Rattle.step_meaning.specs.Outcome.{May, MayTest}
 use Rattle.step_meaning.specs.Syntax.{Expression}

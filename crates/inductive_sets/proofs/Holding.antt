@@ -1,5 +1,5 @@
 -- Sets of stores for labels: what holds of each, and that edges lead from one into the other.
-use Rattle.std.proofs.Common.{◌≡◌, ℕ, zero, suc, ◌+◌, ◌<◌, ◌==◌, true, false, ℤ, get_or, List, [], ◌∷◌, ◌++◌, length, slice_get, Option, None, Some, IfSome, IsSomeAnd, All, refl, sym, ap, subst, ◌∙◌, arith, inl, inr, length-set}
+use Rattle.std.proofs.Common.{◌≡◌, ℕ, zero, suc, ◌<◌, ◌==◌, true, false, ℤ, get_or, List, [], ◌∷◌, ◌++◌, length, slice_get, Option, None, Some, IfSome, IsSomeAnd, All, refl, sym, ap, subst, ◌∙◌, arith, inl, inr, length-set}
 use Rattle.std.proofs.lemmas.List.Elements.{All-head, All-tail}
 use Rattle.std.proofs.lemmas.Option.{slice_get_past, slice_get_read}
 use Rattle.std.proofs.lemmas.Bool.{ltb-true}
@@ -9,6 +9,7 @@ use Rattle.std.proofs.lemmas.Bool.Decides.{Decides-eqb}
 use Rattle.step_meaning.specs.Outcome.{Store}
 use Rattle.step_meaning.specs.Syntax.{Statements}
 use Rattle.linear_cons.specs.declared.row.Row.{Row}
+use Rattle.linear_cons.specs.Rows.{MeetsAll}
 use Rattle.num_domain.specs.Domain.{AllMeet, HasEvery, IsStore}
 use Rattle.control_flow.specs.declared.edge.Edge.{Edge}
 use Rattle.control_flow.specs.declared.edge.EdgeKind.{EdgeKind}
@@ -32,27 +33,25 @@ leads_store (tests head c yes_label no_label) (Test holds) store next leads long
 leads_store (tests head c yes_label no_label) Skip store next leads long = absurd leads
 
 module _ {D : Type 0} (has : D → List ℤ → Type 0) where
-  pub one_more_holds : (lists : List (List Row)) (sets : List D) (rows : List Row) (set : D) → HoldEach has lists sets → HoldsRows has rows set
-      → HoldEach has (lists ++ rows ∷ []) (sets ++ set ∷ [])
-  one_more_holds [] [] rows set before here = (here, tt)
-  one_more_holds [] (s ∷ sets) rows set before here = absurd before
-  one_more_holds (r ∷ lists) [] rows set before here = absurd before
-  one_more_holds (r ∷ lists) (s ∷ sets) rows set before here = (before.0, one_more_holds lists sets rows set before.1 here)
+  -- the next set holds the rows of the next label
+  pub one_more_holds : (rows_at : ℕ → List Row) (sets : List D) (set : D) → HoldEach has rows_at sets → HoldsRows has (rows_at (length sets)) set
+      → HoldEach has rows_at (sets ++ set ∷ [])
+  one_more_holds rows_at [] set before here zero other is = let same : set ≡ other = cc in subst (HoldsRows has (rows_at 0)) same here
+  one_more_holds rows_at [] set before here (suc label) other is = absurd (cc)
+  one_more_holds rows_at (first ∷ sets) set before here zero other is = before 0 other is
+  one_more_holds rows_at (first ∷ sets) set before here (suc label) other is =
+      one_more_holds (λ i. rows_at (suc i)) sets set (λ i at there. before (suc i) at there) here label other is
 
-  pub same_long : (lists : List (List Row)) (sets : List D) → HoldEach has lists sets → length sets ≡ length lists
-  same_long [] [] holds = refl
-  same_long [] (s ∷ sets) holds = absurd holds
-  same_long (r ∷ lists) [] holds = absurd holds
-  same_long (r ∷ lists) (s ∷ sets) holds = ap suc (same_long lists sets holds.1)
+  pub none_hold : (rows_at : ℕ → List Row) → HoldEach has rows_at []
+  none_hold rows_at label set is = absurd (cc)
 
-  -- where there are rows there is a set that holds them
-  pub holds_at : (lists : List (List Row)) (sets : List D) (i : ℕ) (rows : List Row) → HoldEach has lists sets → slice_get lists i ≡ Some rows
-      → IsSomeAnd (slice_get sets i) (HoldsRows has rows)
-  holds_at [] [] i rows holds is = absurd (cc)
-  holds_at [] (s ∷ sets) i rows holds is = absurd holds
-  holds_at (r ∷ lists) [] i rows holds is = absurd holds
-  holds_at (r ∷ lists) (s ∷ sets) zero rows holds is = let same : r ≡ rows = cc in subst (λ t. HoldsRows has t s) same holds.0
-  holds_at (r ∷ lists) (s ∷ sets) (suc i) rows holds is = holds_at lists sets i rows holds.1 is
+  -- each label has a set that holds its rows
+  pub holds_at : (rows_at : ℕ → List Row) (sets : List D) (i : ℕ) → HoldEach has rows_at sets → i < length sets
+      → IsSomeAnd (slice_get sets i) (HoldsRows has (rows_at i))
+  holds_at rows_at [] i holds low = absurd (omega (arith, low))
+  holds_at rows_at (set ∷ sets) zero holds low = holds 0 set refl
+  holds_at rows_at (set ∷ sets) (suc i) holds low =
+      holds_at (λ k. rows_at (suc k)) sets i (λ k at there. holds (suc k) at there) (omega (arith, low))
 
   -- what is there is also what follows from it
   pub some_weaker : {X : Type 0} (P Q : X → Type 0) (x : Option X) → ((y : X) → P y → Q y) → IsSomeAnd x P → IsSomeAnd x Q
@@ -60,24 +59,25 @@ module _ {D : Type 0} (has : D → List ℤ → Type 0) where
   some_weaker P Q (Some y) there holds = there y holds
 
   -- an edge behind which all rows of the target are met
-  pub kept_edge : (body : Statements) (lists : List (List Row)) (sets : List D) (label : ℕ) (edge : Edge) (set : D) (moved : Option D) (rows : List Row)
-      → HoldEach has lists sets → slice_get sets label ≡ Some set → slice_get lists edge.to ≡ Some rows
+  pub kept_edge : (body : Statements) (rows_at : ℕ → List Row) (sets : List D) (label : ℕ) (edge : Edge) (set : D) (moved : Option D) (rows : List Row)
+      → HoldEach has rows_at sets → slice_get sets label ≡ Some set → edge.to < length sets → rows ≡ rows_at edge.to
       → LeadsInto (action_at body label) edge.kind (has set) (IsMemberOf has moved) → All (λ row. AllMeet row (IsMemberOf has moved)) rows
       → KeepsEdge has body sets label edge
-  kept_edge body lists sets label edge set moved rows holds own there leads implied =
+  kept_edge body rows_at sets label edge set moved rows holds own there are leads implied =
       subst (λ found. IfSome found (λ set. IsSomeAnd (slice_get sets edge.to) (λ target. LeadsInto (action_at body label) edge.kind (has set) (has target)))) (sym own)
-      (some_weaker (HoldsRows has rows) (λ target. LeadsInto (action_at body label) edge.kind (has set) (has target)) (slice_get sets edge.to)
+      (some_weaker (HoldsRows has (rows_at edge.to)) (λ target. LeadsInto (action_at body label) edge.kind (has set) (has target)) (slice_get sets edge.to)
       (λ target held store next long member step.
       let after = leads_store (action_at body label) edge.kind store next step long in
-      held next after (λ k d low. implied k d low next after (leads store next long member step)))
-      (holds_at lists sets edge.to rows holds there))
+      held next after (subst (MeetsAll next) are (λ k d low. implied k d low next after (leads store next long member step))))
+      (holds_at rows_at sets edge.to holds there))
 
   -- the entry has every store where it has no row
-  pub free_entry : (body : Statements) (lists : List (List Row)) (sets : List D) (entry : ℕ) → HoldEach has lists sets → slice_get lists entry ≡ Some []
+  pub free_entry : (rows_at : ℕ → List Row) (sets : List D) (entry : ℕ) → HoldEach has rows_at sets → rows_at entry ≡ [] → entry < length sets
       → IsSomeAnd (slice_get sets entry) (λ set. HasEvery (has set))
-  free_entry body lists sets entry holds is =
-      some_weaker (HoldsRows has []) (λ set. HasEvery (has set)) (slice_get sets entry) (λ set held store long. held store long (λ k d low. absurd (omega (arith, low))))
-      (holds_at lists sets entry [] holds is)
+  free_entry rows_at sets entry holds free there =
+      some_weaker (HoldsRows has (rows_at entry)) (λ set. HasEvery (has set)) (slice_get sets entry)
+      (λ set held store long. held store long (subst (MeetsAll store) (sym free) (λ k d low. absurd (omega (arith, low)))))
+      (holds_at rows_at sets entry holds there)
 
   past_edges : (P : Edge → Type 0) (label : ℕ) (action : Action) → ((edge : Edge) → P edge) → EachEdge P (edges_from label action)
   past_edges P label ends each = tt

@@ -1,32 +1,12 @@
--- Sets met with rows, one after the other, and with one of some lists of rows.
-use Rattle.std.proofs.Common.{◌≡◌, ℕ, ◌+◌, ◌<◌, ◌≤◌, ℤ, inl, inr, List, [], ◌∷◌, ◌++◌, length, take, get_or, Option, subst, arith}
-use Rattle.std.proofs.Math.ListN.{get_or-append}
-use Rattle.std.proofs.lemmas.List.{length-append, take_all}
-use Rattle.std.proofs.lemmas.List.Elements.{All-cons, All-nil, All-contains, Contains-push}
+-- Sets met with one of some lists of rows.
+use Rattle.std.proofs.Common.{◌≡◌, ℕ, ◌+◌, ◌<◌, ℤ, inl, inr, List, [], ◌∷◌, ◌++◌, length, take, get_or, Option, subst}
+use Rattle.std.proofs.lemmas.List.Elements.{All-cons, All-nil}
 use Rattle.linear_cons.specs.declared.row.Row.{Row}
 use Rattle.linear_cons.specs.Rows.{Meets, MeetsAll}
 use Rattle.linear_forms.specs.Meeting.{MeetsEach, MeetsOne}
-use Rattle.num_domain.specs.Domain.{IsStore, KeepsMeeting}
-use Rattle.inductive_sets.specs.Sets.{IsMemberOf, KeepsMeetingAll, KeepsMeetingOne, KeepsMembers}
+use Rattle.num_domain.specs.Domain.{IsStore, KeepsMeetingAll}
+use Rattle.inductive_sets.specs.Sets.{IsMemberOf, KeepsMeetingOne, KeepsMembers}
 use Rattle.inductive_sets.proofs.Taking.{taken}
-
--- a store that meets all of a list with one more meets the front and the last
-front_met : (store : List ℤ) (rows : List Row) (row : Row) → MeetsAll store (rows ++ row ∷ []) → MeetsAll store rows
-front_met store rows row met = λ k d low.
-    let whole = length-append rows (row ∷ []) in
-    subst (Meets store) (get_or-append rows (row ∷ []) d k low) (met k d (omega (arith, low, whole)))
-
-last_met : (store : List ℤ) (rows : List Row) (row : Row) → MeetsAll store (rows ++ row ∷ []) → Meets store row
-last_met store rows row met = All-contains (Meets store) (rows ++ row ∷ []) row met (Contains-push rows row)
-
-pub all_more : (old mid new : List ℤ → Type 0) (rows : List Row) (i : ℕ) (row : Row) → i < length rows → row ≡ get_or rows i row
-    → KeepsMeetingAll (take i rows) old mid → KeepsMeeting row mid new → KeepsMeetingAll (take (i + 1) rows) old new
-all_more old mid new rows i row low is before step store long has met =
-    let whole : MeetsAll store (take i rows ++ row ∷ []) = subst (MeetsAll store) (taken rows i row low is) met in
-    step store long (before store long has (front_met store (take i rows) row whole)) (last_met store (take i rows) row whole)
-
-pub all_done : (old new : List ℤ → Type 0) (rows : List Row) (i : ℕ) → length rows ≤ i → KeepsMeetingAll (take i rows) old new → KeepsMeetingAll rows old new
-all_done old new rows i end keeps = subst (λ seen. KeepsMeetingAll seen old new) (take_all i rows end) keeps
 
 each_all : (store : List ℤ) (rows : List Row) → MeetsEach store rows → MeetsAll store rows
 each_all store [] met = All-nil (Meets store)

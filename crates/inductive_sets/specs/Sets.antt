@@ -1,5 +1,5 @@
 -- Sets of stores, one for each label of a program, and what the edges do to them. A set is what says which stores are its members.
-use Rattle.std.specs.Prelude.{◌≡◌, ℕ, ℤ, List, [], ◌∷◌, length, Option, None, Some, slice_get, IfSome, IsSomeAnd, ⊤}
+use Rattle.std.specs.Prelude.{◌≡◌, ℕ, zero, suc, ℤ, Bool, false, List, [], ◌∷◌, ◌++◌, length, Option, None, Some, if◌then◌else◌, slice_get, slice_index_or, IfSome, IsSomeAnd}
 use Rattle.step_meaning.specs.Syntax.{Statements}
 use Rattle.step_meaning.specs.Outcome.{Store}
 use Rattle.linear_cons.specs.declared.row.Row.{Row}
@@ -16,12 +16,9 @@ abbrev pub IsMemberOf : {D : Type 0} → (D → List ℤ → Type 0) → Option 
 IsMemberOf has None store = ⊥
 IsMemberOf has (Some set) store = has set store
 
--- the new set has each store of the old one, or each of those that meet all rows, or all rows of one of the lists
+-- the new set has each store of the old one, or each of those that meet all rows of one of the lists
 abbrev pub KeepsMembers : (List ℤ → Type 0) → (List ℤ → Type 0) → Type 0
 KeepsMembers old new = (store : List ℤ) → IsStore store → old store → new store
-
-abbrev pub KeepsMeetingAll : List Row → (List ℤ → Type 0) → (List ℤ → Type 0) → Type 0
-KeepsMeetingAll rows old new = (store : List ℤ) → IsStore store → old store → MeetsAll store rows → new store
 
 abbrev pub KeepsMeetingOne : List (List Row) → (List ℤ → Type 0) → (List ℤ → Type 0) → Type 0
 KeepsMeetingOne lists old new = (store : List ℤ) → IsStore store → old store → MeetsOne store lists → new store
@@ -34,11 +31,28 @@ LeadsInto action kind old new = (store next : Store) → IsStore store → old s
 abbrev pub HoldsRows : {D : Type 0} → (D → List ℤ → Type 0) → List Row → D → Type 0
 HoldsRows has rows set = (store : List ℤ) → IsStore store → MeetsAll store rows → has set store
 
--- so for each of the sets and the rows at its place
-abbrev pub HoldEach : {D : Type 0} → (D → List ℤ → Type 0) → List (List Row) → List D → Type 0
-HoldEach has [] [] = ⊤
-HoldEach has (rows ∷ lists) (set ∷ sets) = HoldsRows has rows set × HoldEach has lists sets
-HoldEach has _ _ = ⊥
+-- so for each of the sets and the rows of its label
+abbrev pub HoldEach : {D : Type 0} → (D → List ℤ → Type 0) → (ℕ → List Row) → List D → Type 0
+HoldEach {D = D} has rows_at sets = (label : ℕ) (set : D) → slice_get sets label ≡ Some set → HoldsRows has (rows_at label) set
+
+-- the row, if there is one
+abbrev pub listed : Option Row → List Row
+listed None = []
+listed (Some row) = row ∷ []
+
+-- of the first n rows those that have their mark
+unfoldable pub marked_below : ℕ → List Row → List Bool → List Row
+marked_below zero rows marks = []
+marked_below (suc n) rows marks = marked_below n rows marks ++ (if slice_index_or marks n false then listed (slice_get rows n) else [])
+
+-- of the rows of a guess those that have their mark, where there is a guess, and there are marks for it
+abbrev pub rows_kept : {D : Type 0} → (D → List Row) → Option D → Option (List Bool) → List Row
+rows_kept told (Some guess) (Some marks) = marked_below (length (told guess)) (told guess) marks
+rows_kept told _ _ = []
+
+-- for each label those of its guess
+abbrev pub kept_at : {D : Type 0} → (D → List Row) → List D → List (List Bool) → ℕ → List Row
+kept_at told guesses marks label = rows_kept told (slice_get guesses label) (slice_get marks label)
 
 -- the edge from the label leads from its set, where it has one, into that of its target, which is there
 abbrev pub KeepsEdge : {D : Type 0} → (D → List ℤ → Type 0) → Statements → List D → ℕ → Edge → Type 0

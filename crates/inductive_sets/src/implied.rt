@@ -3,14 +3,18 @@ ghost use Rattle.std.specs.Prelude.{IfOk, IsTrue, All};
 ghost use Rattle.num_domain.specs.Domain.{AllMeet};
 ghost use Rattle.inductive_sets.specs.Sets.{IsMemberOf};
 
+use crate::guess::Marks;
 use linear_cons::Row;
 use num_domain::NumDomain;
 use std::alloc::{AllocError, Global};
 
-/// True only where each member meets the row: the set has none that meets its complement.
+/// True only where each member meets the row: where the set says so at once, or else has no member that meets the complement.
 pub(crate) fn implies<D: NumDomain>(alloc: Global, set: &D, row: &Row) -> Result<bool, AllocError>
     ensures { IfOk result (λ implied. IsTrue implied → AllMeet row.now (D.has set.now)) }
 {
+    if set.implies(row) {
+        return Ok(true);
+    }
     let Ok(complement) = row.not() else {
         return Ok(false);
     };
@@ -38,21 +42,20 @@ pub(crate) fn implies_all<D: NumDomain>(
     Ok(true)
 }
 
-/// Of the rows those that each member, if there is a set, is seen to meet.
-pub(crate) fn implied_of<D: NumDomain>(
+/// Gives up each of the rows that has its mark and that some member, if there is a set, isn't seen to meet.
+pub(crate) fn give_up<D: NumDomain>(
     alloc: Global,
+    marks: &mut Marks,
     set: &Option<D>,
     rows: &[Row],
-) -> Result<Vec<Row>, AllocError> {
-    let mut implied = Vec::with_capacity(alloc, rows.len())?;
-    for row in rows {
-        let keeps = match set {
-            Some(set) => implies(alloc, set, row)?,
-            None => true,
-        };
-        if keeps {
-            implied.push(*row)?;
+) -> Result<(), AllocError> {
+    let Some(set) = set else {
+        return Ok(());
+    };
+    for place in 0..rows.len() {
+        if marks.has(place) && !implies(alloc, set, &rows[place])? {
+            marks.give_up(place);
         }
     }
-    Ok(implied)
+    Ok(())
 }

@@ -1,16 +1,16 @@
 //! Sets that each edge keeps.
-ghost use Rattle.std.specs.Prelude.{◌≡◌, ◌<◌, IfOk, IsTrue, length, Some, slice_get, ◌∷◌, []};
+ghost use Rattle.std.specs.Prelude.{◌≡◌, ◌<◌, IfOk, IsTrue, length, ◌∷◌, []};
 ghost use Rattle.step_meaning.specs.Syntax.{statements};
 ghost use Rattle.control_flow.specs.Edges.{EachEdge, edges_from};
 ghost use Rattle.control_flow.specs.Labels.{action_at, all_labels};
-ghost use Rattle.inductive_sets.specs.Sets.{AreInductive, HoldEach, KeepsEdge};
+ghost use Rattle.inductive_sets.specs.Sets.{AreInductive, HoldEach, KeepsEdge, kept_at};
 
-use crate::guess::{sets_of, told};
-use crate::implied::{implied_of, implies_all};
+use crate::guess::{Marks, all_marked, kept_rows, sets_of};
+use crate::implied::{give_up, implies_all};
 use crate::transfer::flow;
 use control_flow::laws::edges_lead_to_labels;
 use control_flow::{Edge, Graph};
-use linear_cons::Rows;
+use linear_cons::Row;
 use num_domain::NumDomain;
 use std::alloc::{AllocError, Global};
 
@@ -27,14 +27,14 @@ pub fn inductive<D: NumDomain>(
 ) -> Result<Vec<D>, AllocError>
     ensures { IfOk result (λ sets. AreInductive D.has (statements graph.now.body) sets.items) }
 {
-    let mut lists = told(alloc, guesses, graph.entry())?;
+    let mut marks = all_marked(alloc, guesses, graph.entry())?;
     for _ in 0..TURNS {
-        let sets = sets_of(alloc, &lists)?;
-        if are_inductive(alloc, graph, &lists, &sets)? {
+        let sets = sets_of(alloc, guesses, &marks, graph.labels())?;
+        if are_inductive(alloc, graph, guesses, &marks, &sets)? {
             return Ok(sets);
         }
-        let fewer = weaker(alloc, graph, &lists, &sets)?;
-        lists = fewer;
+        let fewer = weaker(alloc, graph, guesses, &marks, &sets)?;
+        marks = fewer;
     }
     let sets = tops(alloc, graph)?;
     Ok(sets)
@@ -52,35 +52,36 @@ fn tops<D: NumDomain>(alloc: Global, graph: &Graph) -> Result<Vec<D>, AllocError
     Ok(sets)
 }
 
-/// True only where the sets of these rows are inductive.
+/// True only where the sets of the rows that are kept are inductive.
 fn are_inductive<D: NumDomain>(
     alloc: Global,
     graph: &Graph,
-    lists: &[Rows],
+    guesses: &[D],
+    marks: &[Marks],
     sets: &[D],
 ) -> Result<bool, AllocError>
-    requires { HoldEach D.has lists.now sets.now }
+    requires holds { HoldEach D.has (kept_at D.told_rows guesses.now marks.now) sets.now }
+    requires count { length sets.now ≡ length (all_labels (statements graph.now.body)) }
     ensures { IfOk result (λ kept. IsTrue kept → AreInductive D.has (statements graph.now.body) sets.now) }
 {
-    if lists.len() != graph.labels() as usize || !is_free(lists, graph.entry()) {
+    edges_lead_to_labels();
+    let free = kept_rows(alloc, guesses, marks, graph.entry())?;
+    if !has_no_row(&free) {
         return Ok(false);
     }
     for label in 0..graph.labels() {
-        if !are_kept(alloc, graph, label, lists, sets)? {
+        if !are_kept(alloc, graph, label, guesses, marks, sets)? {
             return Ok(false);
         }
     }
     Ok(true)
 }
 
-/// There is a list at the label, and it has no row.
-fn is_free(lists: &[Rows], label: u32) -> bool
-    ensures { IsTrue result → slice_get lists.now label ≡ Some [] }
+/// True only where the list is empty.
+fn has_no_row(rows: &[Row]) -> bool
+    ensures { IsTrue result → rows.now ≡ [] }
 {
-    match lists.get(label as usize) {
-        Some(rows) => rows.items().is_empty(),
-        None => false,
-    }
+    rows.is_empty()
 }
 
 /// True only where each edge of the label leads from its set into that of its target.
@@ -88,18 +89,19 @@ fn are_kept<D: NumDomain>(
     alloc: Global,
     graph: &Graph,
     label: u32,
-    lists: &[Rows],
+    guesses: &[D],
+    marks: &[Marks],
     sets: &[D],
 ) -> Result<bool, AllocError>
     requires within { label < length (all_labels (statements graph.now.body)) }
-    requires holds { HoldEach D.has lists.now sets.now }
+    requires holds { HoldEach D.has (kept_at D.told_rows guesses.now marks.now) sets.now }
     ensures { IfOk result (λ kept. IsTrue kept → EachEdge (KeepsEdge D.has (statements graph.now.body) sets.now label) (edges_from label (action_at (statements graph.now.body) label))) }
 {
     let edges = graph.edges(label);
-    if !is_kept(alloc, graph, label, &edges[0], lists, sets)? {
+    if !is_kept(alloc, graph, label, &edges[0], guesses, marks, sets)? {
         return Ok(false);
     }
-    let kept = is_kept(alloc, graph, label, &edges[1], lists, sets)?;
+    let kept = is_kept(alloc, graph, label, &edges[1], guesses, marks, sets)?;
     Ok(kept)
 }
 
@@ -109,11 +111,12 @@ fn is_kept<D: NumDomain>(
     graph: &Graph,
     label: u32,
     edge: &Option<Edge>,
-    lists: &[Rows],
+    guesses: &[D],
+    marks: &[Marks],
     sets: &[D],
 ) -> Result<bool, AllocError>
     requires within { label < length (all_labels (statements graph.now.body)) }
-    requires holds { HoldEach D.has lists.now sets.now }
+    requires holds { HoldEach D.has (kept_at D.told_rows guesses.now marks.now) sets.now }
     ensures { IfOk result (λ kept. IsTrue kept → EachEdge (KeepsEdge D.has (statements graph.now.body) sets.now label) (edge.now ∷ [])) }
 {
     let Some(edge) = edge else {
@@ -122,24 +125,26 @@ fn is_kept<D: NumDomain>(
     let Some(set) = sets.get(label as usize) else {
         return Ok(false);
     };
-    let Some(rows) = lists.get(edge.to as usize) else {
+    if edge.to as usize >= sets.len() {
         return Ok(false);
-    };
+    }
     let moved = flow(alloc, graph, label, edge.kind, set)?;
-    let kept = implies_all(alloc, &moved, rows.items())?;
+    let rows = kept_rows(alloc, guesses, marks, edge.to)?;
+    let kept = implies_all(alloc, &moved, &rows)?;
     Ok(kept)
 }
 
-/// Of the rows those that the edges lead into, as far as is seen.
+/// Of the rows that are kept those that the edges lead into, as far as is seen.
 fn weaker<D: NumDomain>(
     alloc: Global,
     graph: &Graph,
-    lists: &[Rows],
+    guesses: &[D],
+    marks: &[Marks],
     sets: &[D],
-) -> Result<Vec<Rows>, AllocError> {
-    let mut left = Vec::with_capacity(alloc, lists.len())?;
-    for rows in lists {
-        left.push(Rows::of(rows.items().to_vec(alloc)?))?;
+) -> Result<Vec<Marks>, AllocError> {
+    let mut fewer = Vec::with_capacity(alloc, marks.len())?;
+    for marks in marks {
+        fewer.push(marks.copy(alloc)?)?;
     }
     for label in 0..graph.labels() {
         let Some(set) = sets.get(label as usize) else {
@@ -149,12 +154,15 @@ fn weaker<D: NumDomain>(
             let Some(edge) = edge else {
                 continue;
             };
+            let (Some(guess), Some(marks)) = (
+                guesses.get(edge.to as usize),
+                fewer.get_mut(edge.to as usize),
+            ) else {
+                continue;
+            };
             let moved = flow(alloc, graph, label, edge.kind, set)?;
-            if let Some(rows) = left.get_mut(edge.to as usize) {
-                let fewer = implied_of(alloc, &moved, rows.items())?;
-                *rows = Rows::of(fewer);
-            }
+            give_up(alloc, marks, &moved, &guess.rows(alloc)?)?;
         }
     }
-    Ok(left)
+    Ok(fewer)
 }

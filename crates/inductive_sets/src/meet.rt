@@ -1,24 +1,10 @@
-//! Sets met with rows.
-ghost use Rattle.std.specs.Prelude.{IfOk, OnOk};
-ghost use Rattle.inductive_sets.specs.Sets.{IsMemberOf, KeepsMeetingAll, KeepsMeetingOne, KeepsMembers};
+//! Sets met with the rows of conjunctions.
+ghost use Rattle.std.specs.Prelude.{IfOk};
+ghost use Rattle.inductive_sets.specs.Sets.{IsMemberOf, KeepsMeetingOne, KeepsMembers};
 
-use linear_cons::{Row, Rows};
+use linear_cons::Rows;
 use num_domain::NumDomain;
 use std::alloc::{AllocError, Global};
-
-/// Keeps the members that meet all rows.
-pub(crate) fn meet_all<D: NumDomain>(
-    alloc: Global,
-    set: &mut D,
-    rows: &[Row],
-) -> Result<(), AllocError>
-    ensures { OnOk result (KeepsMeetingAll rows.now (D.has set.old) (D.has set.new)) }
-{
-    for row in rows {
-        set.meet_row(alloc, row)?;
-    }
-    Ok(())
-}
 
 /// The members that meet all rows of some conjunction; no set where there is no conjunction.
 pub(crate) fn meet_some<D: NumDomain>(
@@ -31,7 +17,7 @@ pub(crate) fn meet_some<D: NumDomain>(
     let mut all = None;
     for rows in conjunctions {
         let mut met = set.copy(alloc)?;
-        meet_all(alloc, &mut met, rows.items())?;
+        met.meet_rows(alloc, rows.items())?;
         let more = joined(alloc, all, met)?;
         all = Some(more);
     }

@@ -6,7 +6,7 @@ ghost use Rattle.num_domain.specs.Lines.{rows_of_lines};
 
 use crate::interval::Interval;
 use linear_cons::{Affine, Bounds, Linear, PLACES, Row, RowKind};
-use num_domain::{Bound, NumDomain};
+use num_domain::{Bound, NumDomain, ends_imply};
 use std::alloc::{AllocError, Global};
 
 /// The stores whose number at each place lies between two ends, either of which may be missing.
@@ -16,8 +16,8 @@ pub struct Boxes {
 }
 
 impl Boxes {
-    ghost use Rattle.std.specs.Prelude.{◌≡◌, ◌<◌, true, false};
-    ghost use Rattle.num_domain.specs.Domain.{HasEvery, KeepsAssigned, KeepsMeeting, Within};
+    ghost use Rattle.std.specs.Prelude.{◌≡◌, ◌<◌, All, true, false};
+    ghost use Rattle.num_domain.specs.Domain.{HasEvery, KeepsAssigned, KeepsMeeting, KeepsMeetingAll, Within};
     ghost use Rattle.interval_dom.specs.Boxes.{Has, IsLeastOf, KeepsOtherEnds, MeetsAlone, RefinesEnds, SetsHull, WidensFilled};
     ghost use Rattle.interval_dom.specs.Boxes.{bounds_of, is_empty_box, rows_of};
 
@@ -64,6 +64,17 @@ impl Boxes {
         let before = self.ends();
         for place in 0..PLACES {
             self.intervals[place] = part_for(row, &before, place, &self.intervals[place]);
+        }
+    }
+
+    /// Refines the ends by each row, one after the other.
+    fn refine_all(&mut self, rows: &[Row])
+        ensures keeps { KeepsMeetingAll rows.now (Has self.old) (Has self.new) }
+        ensures inside { Within (Has self.new) (Has self.old) }
+        ensures alone { All (λ row. MeetsAlone row (Has self.new)) rows.now }
+    {
+        for row in rows {
+            self.refine(row);
         }
     }
 
@@ -205,9 +216,10 @@ fn push_upper(rows: &mut Vec<Row>, place: usize, upper: Bound<i128>) -> Result<(
 }
 
 impl NumDomain for Boxes {
-    ghost use Rattle.std.specs.Prelude.{◌≡◌, ◌<◌, ℕ, true, false, map, IsOk, IfOk, OnErr};
-    ghost use Rattle.num_domain.specs.Domain.{AllMeet, HasEvery, IsMeet, IsPlain, IsUnchanged, KeepsAssigned, KeepsMeeting, SameMembers, Within};
-    ghost use Rattle.interval_dom.specs.Boxes.{Has, HasOneEnd, IsLeastOf, KeepsOtherEnds, RefinesEnds, SetsHull, TellsEmpty};
+    ghost use Rattle.std.specs.Prelude.{◌≡◌, ◌<◌, ℕ, All, true, false, map, IsOk, IfOk, OnErr};
+    ghost use Rattle.num_domain.specs.Domain.{AllMeet, HasEvery, IsMeet, IsPlain, IsUnchanged, KeepsAssigned, KeepsMeeting, KeepsMeetingAll};
+    ghost use Rattle.num_domain.specs.Domain.{SameMembers, Within};
+    ghost use Rattle.interval_dom.specs.Boxes.{Has, HasOneEnd, IsLeastOf, KeepsOtherEnds, MeetsAlone, RefinesEnds, SetsHull, TellsEmpty};
     ghost use Rattle.interval_dom.specs.Boxes.{WidensFilled};
     ghost use Rattle.interval_dom.specs.Boxes.{bounds_of, is_empty_box, lines_below, rows_of};
     ghost use Rattle.interval_dom.specs.Laws.BoxLaws.{empty_none, rows_met};
@@ -239,6 +251,19 @@ impl NumDomain for Boxes {
         ensures err { OnErr result (IsUnchanged Has is_empty_box rows_of bounds_of self.old self.new) }
     {
         self.refine(row);
+        Ok(())
+    }
+
+    /// Refines the ends by each row, one after the other: each member meets the rows of one variable whose
+    /// constant is not -2^127.
+    fn meet_rows(&mut self, _alloc: Global, rows: &[Row]) -> Result<(), AllocError>
+        ensures keeps { IfOk result (λ _. KeepsMeetingAll rows.now (Has self.old) (Has self.new)) }
+        ensures alone { IfOk result (λ _. All (λ row. MeetsAlone row (Has self.new)) rows.now) }
+        ensures inside { IfOk result (λ _. Within (Has self.new) (Has self.old)) }
+        ensures total { IsOk result }
+        ensures err { OnErr result (IsUnchanged Has is_empty_box rows_of bounds_of self.old self.new) }
+    {
+        self.refine_all(rows);
         Ok(())
     }
 
@@ -292,6 +317,11 @@ impl NumDomain for Boxes {
         ensures exact { TellsEmpty result (Has self.now) }
     {
         self.has_none()
+    }
+
+    /// Exactly where the least value of the row's function over the ends is known and not negative.
+    fn implies(&self, row: &Row) -> bool {
+        ends_imply(&self.ends(), row)
     }
 
     /// One row for each end whose row fits, and no other.

@@ -5,7 +5,7 @@ use Rattle.linear_cons.specs.declared.bounds.Linear.{Linear}
 use Rattle.linear_cons.specs.declared.row.Row.{Row}
 use Rattle.linear_cons.specs.Bounds.{Covers}
 use Rattle.linear_cons.specs.Functions.{MentionsOnly}
-use Rattle.linear_cons.specs.Rows.{Meets}
+use Rattle.linear_cons.specs.Rows.{Meets, MeetsAll}
 
 -- a store has sixteen places
 abbrev pub IsStore : List ℤ → Type 0
@@ -27,9 +27,17 @@ SameMembers has also = (store : List ℤ) → IsStore store → has store ↔ al
 abbrev pub KeepsMeeting : Row → (List ℤ → Type 0) → (List ℤ → Type 0) → Type 0
 KeepsMeeting row old new = (store : List ℤ) → IsStore store → old store → Meets store row → new store
 
+-- each store of the old set that meets all rows is in the new one
+abbrev pub KeepsMeetingAll : List Row → (List ℤ → Type 0) → (List ℤ → Type 0) → Type 0
+KeepsMeetingAll rows old new = (store : List ℤ) → IsStore store → old store → MeetsAll store rows → new store
+
 -- the members after are exactly those before that meet the row
 abbrev pub IsMeet : Row → (List ℤ → Type 0) → (List ℤ → Type 0) → Type 0
 IsMeet row old new = (store : List ℤ) → IsStore store → new store ↔ (old store × Meets store row)
+
+-- the members after are exactly those before that meet all rows
+abbrev pub IsMeetAll : List Row → (List ℤ → Type 0) → (List ℤ → Type 0) → Type 0
+IsMeetAll rows old new = (store : List ℤ) → IsStore store → new store ↔ (old store × MeetsAll store rows)
 
 -- the new set has each store of the old one with the number at the place replaced by any that the
 -- linear expression may have there

@@ -4,7 +4,7 @@ ghost use Rattle.linear_cons.specs.declared.bounds.Bounds.{Bounds};
 ghost use Rattle.linear_cons.specs.declared.row.Row.{Row};
 ghost use Rattle.linear_cons.specs.Bounds.{LiesIn};
 ghost use Rattle.linear_cons.specs.Rows.{MeetsAll};
-ghost use Rattle.num_domain.specs.Domain.{AllMeet, HasEvery, IsPlain, IsUnchanged, KeepsAssigned, KeepsMeeting, SameMembers};
+ghost use Rattle.num_domain.specs.Domain.{AllMeet, HasEvery, IsPlain, IsUnchanged, KeepsAssigned, KeepsMeeting, KeepsMeetingAll, SameMembers};
 ghost use Rattle.num_domain.specs.Domain.{Within};
 
 use linear_cons::{Bounds, Linear, Row};
@@ -38,6 +38,11 @@ pub trait NumDomain: Drop + Sized {
         ensures plain { IfOk result (λ _. (place : ℕ) → IsPlain row.now place → AllMeet row.now (has self.new)) }
         ensures err { OnErr result (IsUnchanged has seen_empty told_rows told_bounds self.old self.new) };
 
+    /// Keeps the members that meet all rows.
+    fn meet_rows(&mut self, alloc: Global, rows: &[Row]) -> Result<(), AllocError>
+        ensures keeps { IfOk result (λ _. KeepsMeetingAll rows.now (has self.old) (has self.new)) }
+        ensures err { OnErr result (IsUnchanged has seen_empty told_rows told_bounds self.old self.new) };
+
     /// Keeps the members of both.
     fn join(&mut self, alloc: Global, other: &Self) -> Result<(), AllocError>
         ensures own { IfOk result (λ _. Within (has self.old) (has self.new)) }
@@ -60,6 +65,11 @@ pub trait NumDomain: Drop + Sized {
     /// True only where there is no member.
     fn is_empty(&self) -> bool
         ensures { result ≡ seen_empty self.now };
+
+    /// True only where each member meets the row. It takes no memory, and may miss what the rows say
+    /// together.
+    fn implies(&self, row: &Row) -> bool
+        ensures { IsTrue result → AllMeet row.now (has self.now) };
 
     /// Rows that each member meets.
     fn rows(&self, alloc: Global) -> Result<Vec<Row>, AllocError>

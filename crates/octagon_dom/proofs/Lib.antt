@@ -1,6 +1,7 @@
 pub mod Writing
 pub mod EndSums
 pub mod Members
+pub mod Lowering
 pub mod Voids
 pub mod TermLaws
 pub mod StatedLaws

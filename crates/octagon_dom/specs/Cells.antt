@@ -1,5 +1,5 @@
 -- Bounds on differences of signed places, kept as a matrix in one flat list.
-use Rattle.std.specs.Prelude.{◌≡◌, ◌≢◌, ◌≤◌, ℕ, zero, suc, ◌+◌, ◌*◌, ◌-◌, ◌/◌, ◌%◌, ◌<◌, ◌==◌, ◌||◌, ℤ, pos, neg_ℤ, ◌+ℤ◌, ◌-ℤ◌, Bool, false}
+use Rattle.std.specs.Prelude.{◌≡◌, ◌≢◌, ◌≤◌, ℕ, zero, suc, ◌+◌, ◌*◌, ◌-◌, ◌/◌, ◌%◌, ◌<◌, ◌==◌, ◌||◌, ℤ, pos, neg_ℤ, ◌+ℤ◌, ◌-ℤ◌, ◌≤ℤ◌, Bool, false}
 use Rattle.std.specs.Prelude.{List, length, Option, None, Some, if◌then◌else◌, int_lt, slice_index_or}
 use Rattle.std.specs.Int.{int_max, int_min}
 use Rattle.linear_cons.specs.Bounds.{IsUpTo}
@@ -51,6 +51,12 @@ abbrev pub least_end : Option ℤ → Option ℤ → Option ℤ
 least_end None right = right
 least_end (Some a) None = Some a
 least_end (Some a) (Some b) = Some (int_min a b)
+
+-- the end is there and is not above the other one
+abbrev pub IsWithin : Option ℤ → Option ℤ → Type 0
+IsWithin None most = ⊥
+IsWithin (Some a) None = ⊥
+IsWithin (Some a) (Some b) = a ≤ℤ b
 
 -- the bound that goes from a to i, over a new bound to j, and from there to b
 abbrev pub way_over : List (Bound ℤ) → ℕ → ℕ → Option ℤ → Matrix

@@ -1,15 +1,16 @@
 -- The bounds that rows state.
-use Rattle.std.specs.Prelude.{◌≡◌, ◌≢◌, ℕ, ◌+◌, ◌*◌, ◌-◌, ◌^◌, ◌<◌, ℤ, pos, negsuc, ◌+ℤ◌, ◌-ℤ◌, ◌*ℤ◌, ◌≤ℤ◌, ◌<ℤ◌, List, Some, int_lt}
+use Rattle.std.specs.Prelude.{◌≡◌, ◌≢◌, ℕ, ◌+◌, ◌*◌, ◌-◌, ◌^◌, ◌<◌, ℤ, pos, negsuc, ◌+ℤ◌, ◌-ℤ◌, ◌*ℤ◌, ◌≤ℤ◌, ◌<ℤ◌, List, length, Some, int_lt}
 use Rattle.std.specs.Prelude.{if◌then◌else◌}
 use Rattle.linear_cons.specs.declared.bounds.Bounds.{Bounds}
 use Rattle.linear_cons.specs.declared.row.Row.{Row}
 use Rattle.linear_cons.specs.Bounds.{IsUpTo, LiesIn}
 use Rattle.linear_cons.specs.Numbers.{number_at}
-use Rattle.linear_cons.specs.Rows.{Meets}
+use Rattle.linear_cons.specs.Rows.{Meets, MeetsAll}
 use Rattle.num_domain.specs.declared.bound.Bound.{Bound}
 use Rattle.num_domain.specs.Ends.{some_end}
 use Rattle.octagon_dom.specs.declared.stated.Stated.{Stated}
-use Rattle.octagon_dom.specs.Cells.{AreCellsOf, signed, tightened, turned}
+use Rattle.octagon_dom.specs.Cells.{AreCellsOf, IsBelow, signed, tightened, turned}
+use Rattle.octagon_dom.specs.Terms.{IsOctagonal}
 
 -- it is a bound on two signed places
 pub record IsBetweenTwo (stated : Stated) : Type 0 where
@@ -31,6 +32,17 @@ pub record AreEntered (old : List (Bound ℤ)) (stated : Stated) (new : List (Bo
 pub record IsHalfSized (c : ℤ) : Type 0 where
   pub from : negsuc (2 ^ 126 - 1) ≤ℤ c
   pub below : c <ℤ pos (2 ^ 126)
+
+-- cells after rows were met: a store is below them where it is below the old ones and meets all rows, and only where it is below the old ones
+pub record AreMet (rows : List Row) (old new : List (Bound ℤ)) : Type 0 where
+  pub long : length new ≡ 1024
+  pub keeps : (store : List ℤ) → IsBelow old store → MeetsAll store rows → IsBelow new store
+  pub inside : (store : List ℤ) → IsBelow new store → IsBelow old store
+
+-- each store below the cells meets the row, if that states a bound whose double fits
+abbrev pub MeetsStated : Row → List (Bound ℤ) → Type 0
+MeetsStated row cells =
+    IsOctagonal row.affine → IsHalfSized row.affine.constant → (store : List ℤ) → IsBelow cells store → Meets store row
 
 -- the row states the bound: the stores that meet the row are those that keep to the bound, if its number fits
 pub record IsStatedBy (row : Row) (stated : Stated) : Type 0 where

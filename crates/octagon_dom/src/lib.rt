@@ -8,6 +8,7 @@ mod cells;
 mod closing;
 mod ends;
 mod listing;
+mod meeting;
 mod merging;
 mod moving;
 mod octagon;

@@ -5,6 +5,7 @@ use crate::cells::{CELLS, is_void};
 use crate::closing::{close, meet};
 use crate::ends::bounds_of;
 use crate::listing::rows_of;
+use crate::meeting::{imply, meet_all};
 use crate::merging::{join, widen};
 use crate::setting::set;
 use linear_cons::{Bounds, Linear, Row};
@@ -21,8 +22,8 @@ pub struct Octagon {
 }
 
 impl Octagon {
-    ghost use Rattle.std.specs.Prelude.{◌≡◌, ◌<◌, true, IfOk};
-    ghost use Rattle.num_domain.specs.Domain.{HasEvery, IsMeet, KeepsAssigned, KeepsMeeting, SameMembers, Within};
+    ghost use Rattle.std.specs.Prelude.{◌≡◌, ◌<◌, All, IsTrue, true, IfOk};
+    ghost use Rattle.num_domain.specs.Domain.{AllMeet, HasEvery, IsMeet, KeepsAssigned, KeepsMeeting, KeepsMeetingAll, SameMembers, Within};
     ghost use Rattle.octagon_dom.specs.Assignments.{IsSimpleBeside, SetsValue};
     ghost use Rattle.octagon_dom.specs.Octagons.{Has, HullsClosed, MovesClosed, StatesBound, WidensFilled, bounds_of, is_empty_octagon};
 
@@ -66,6 +67,23 @@ impl Octagon {
     {
         self.close_up();
         meet(self.cells.as_mut_slice(), row);
+    }
+
+    /// Adds what each row states.
+    fn add_all(&mut self, rows: &[Row])
+        ensures keeps { KeepsMeetingAll rows.now (Has self.old) (Has self.new) }
+        ensures inside { Within (Has self.new) (Has self.old) }
+        ensures stated { All (λ row. StatesBound row → AllMeet row (Has self.new)) rows.now }
+    {
+        self.close_up();
+        meet_all(self.cells.as_mut_slice(), rows);
+    }
+
+    /// True only where each member meets the row.
+    fn tells(&self, row: &Row) -> bool
+        ensures { IsTrue result → AllMeet row.now (Has self.now) }
+    {
+        imply(&self.cells, row)
     }
 
     /// Takes the bounds of another one.
@@ -145,11 +163,11 @@ impl Octagon {
 }
 
 impl NumDomain for Octagon {
-    ghost use Rattle.std.specs.Prelude.{◌≡◌, ◌≤◌, ◌<◌, ◌↔◌, ℕ, ℤ, List, length, true, IsOk, IfOk, OnErr};
+    ghost use Rattle.std.specs.Prelude.{◌≡◌, ◌≤◌, ◌<◌, ◌↔◌, ℕ, ℤ, List, All, length, true, IsOk, IfOk, OnErr};
     ghost use Rattle.linear_cons.specs.Bounds.{LiesIn};
     ghost use Rattle.linear_cons.specs.Rows.{MeetsAll};
     ghost use Rattle.num_domain.specs.Domain.{AllMeet, HasEvery, IsMeet, IsPlain, IsStore, IsUnchanged, KeepsAssigned, KeepsMeeting};
-    ghost use Rattle.num_domain.specs.Domain.{SameMembers, Within};
+    ghost use Rattle.num_domain.specs.Domain.{KeepsMeetingAll, SameMembers, Within};
     ghost use Rattle.octagon_dom.specs.Assignments.{IsSimpleBeside, SetsValue};
     ghost use Rattle.octagon_dom.specs.Octagons.{Has, HullsClosed, KeepsToEnds, MovesClosed, StatesBound, WidensFilled, bounds_of, is_empty_octagon};
     ghost use Rattle.octagon_dom.specs.Octagons.{rows_of};
@@ -183,6 +201,18 @@ impl NumDomain for Octagon {
         ensures err { OnErr result (IsUnchanged Has is_empty_octagon rows_of bounds_of self.old self.new) }
     {
         self.add(row);
+        Ok(())
+    }
+
+    /// Adds the bounds that the rows state or ask for, as one row after the other does. Takes no memory.
+    fn meet_rows(&mut self, _alloc: Global, rows: &[Row]) -> Result<(), AllocError>
+        ensures keeps { IfOk result (λ _. KeepsMeetingAll rows.now (Has self.old) (Has self.new)) }
+        ensures stated { IfOk result (λ _. All (λ row. StatesBound row → AllMeet row (Has self.new)) rows.now) }
+        ensures inside { IfOk result (λ _. Within (Has self.new) (Has self.old)) }
+        ensures total { IsOk result }
+        ensures err { OnErr result (IsUnchanged Has is_empty_octagon rows_of bounds_of self.old self.new) }
+    {
+        self.add_all(rows);
         Ok(())
     }
 
@@ -237,6 +267,11 @@ impl NumDomain for Octagon {
 
     fn is_empty(&self) -> bool {
         self.has_none()
+    }
+
+    /// By one bound where the row states one, and else by the ends.
+    fn implies(&self, row: &Row) -> bool {
+        self.tells(row)
     }
 
     /// At most 512 rows, one for each sum or difference that is bounded: exactly the members meet them.

@@ -1,6 +1,6 @@
 -- Lists of rows that grow.
 use Rattle.std.proofs.Common.{◌≡◌, ◌⊎◌, ◌<◌, ◌≤◌, ℤ, true, false, Bool, not, List, [], ◌∷◌, ◌++◌, length, Some, Contains, inl, inr, ⊎_elim, arith, refl, sym, subst, ◌∙◌}
-use Rattle.std.proofs.Common.{◌+◌, ◌≤ℤ◌, pos, ℕ, cond, suc, zero, drop, ap}
+use Rattle.std.proofs.Common.{◌+◌, ◌≤ℤ◌, pos, ℕ, cond, suc, zero, drop, get_or, take, ap}
 use Rattle.std.specs.List.{filter, remove}
 use Rattle.std.proofs.lemmas.List.Elements.{All-append, All-contains_itself, All-drop, All-filter, Contains-append_cases}
 use Rattle.std.proofs.lemmas.List.Elements.{Contains-append_left, Contains-append_right}
@@ -11,9 +11,9 @@ use Rattle.linear_cons.specs.Functions.{complement_of, value_at}
 use Rattle.linear_cons.specs.Rows.{Meets, MeetsAll}
 use Rattle.linear_cons.specs.Settling.{settles, tells}
 use Rattle.linear_cons.proofs.RowLaws.{met_either}
-use Rattle.linear_cons.proofs.Telling.{settled_row_holds, told_holds}
+use Rattle.linear_cons.proofs.Telling.{settled_row_fails, settled_row_holds, told_holds}
 use Rattle.linear_solve.specs.Answers.{HasNoStore}
-use Rattle.linear_solve.proofs.Lists.{all_of, member_of}
+use Rattle.linear_solve.proofs.Lists.{all_of, member_of, take_snoc}
 use Rattle.num_domain.proofs.LineLaws.{all_none, all_one}
 use Rattle.poly_dom.specs.Lists.{AddsAll, AddsImplied, AreCommon, HasRoom, Imply, IsAdded}
 
@@ -32,33 +32,36 @@ added_told row rows few told = record {
   inside = λ small store met. met;
   rest = λ full store met. All-drop (λ r. Meets store r) 1 rows met;
   among = λ other member. inl member;
+  grows = omega arith;
   few = few;
 }
+
+-- a store that meets all of a list with one row more meets the front and the last
+last_met : (store : List ℤ) (kept : List Row) (row : Row) → MeetsAll store (kept ++ row ∷ []) → Meets store row
+last_met store kept row met = member_of (λ r. Meets store r) (kept ++ row ∷ []) row met
+    (Contains-append_right kept (row ∷ []) row (0, omega arith, refl))
+
+front_met : (store : List ℤ) (kept : List Row) (row : Row) → MeetsAll store (kept ++ row ∷ []) → MeetsAll store kept
+front_met store kept row met = all_of (λ r. Meets store r) kept
+    (λ other member. member_of (λ r. Meets store r) (kept ++ row ∷ []) other met (Contains-append_left kept (row ∷ []) other member))
 
 -- a row behind some of the old ones, which imply the old ones with it, and of 256 all but the oldest
 pub added_behind : (row : Row) (old kept : List Row) → ((other : Row) → Contains kept other → Contains old other)
     → (length old < 256 → (store : List ℤ) → MeetsAll store kept → Meets store row → MeetsAll store old)
     → (length old ≡ 256 → (store : List ℤ) → MeetsAll store kept → Meets store row → MeetsAll store (drop 1 old)) → length kept < 256
-    → IsAdded row old (kept ++ row ∷ [])
-added_behind row old kept are implied implied_rest few = record {
+    → length kept ≤ length old → IsAdded row old (kept ++ row ∷ [])
+added_behind row old kept are implied implied_rest few short = record {
   keeps = λ store met own. All-append (λ r. Meets store r) kept (row ∷ [])
       (all_of (λ r. Meets store r) kept (λ other member. member_of (λ r. Meets store r) old other met (are other member)))
       (all_one (λ r. Meets store r) row own);
-  met = λ store met. last store met;
-  inside = λ small store met. implied small store (first store met) (last store met);
-  rest = λ full store met. implied_rest full store (first store met) (last store met);
+  met = λ store met. last_met store kept row met;
+  inside = λ small store met. implied small store (front_met store kept row met) (last_met store kept row met);
+  rest = λ full store met. implied_rest full store (front_met store kept row met) (last_met store kept row met);
   among = λ other member. ⊎_elim (λ old. inl (are other old)) (λ one. inr (only row other one))
       (Contains-append_cases kept (row ∷ []) other member);
+  grows = let long = length-append kept (row ∷ []) in omega (arith, long, short);
   few = let long = length-append kept (row ∷ []) in omega (arith, long, few);
 }
-  where
-    last : (store : List ℤ) → MeetsAll store (kept ++ row ∷ []) → Meets store row
-    last store met = member_of (λ r. Meets store r) (kept ++ row ∷ []) row met
-        (Contains-append_right kept (row ∷ []) row (0, omega arith, refl))
-
-    first : (store : List ℤ) → MeetsAll store (kept ++ row ∷ []) → MeetsAll store kept
-    first store met = all_of (λ r. Meets store r) kept
-        (λ other member. member_of (λ r. Meets store r) (kept ++ row ∷ []) other met (Contains-append_left kept (row ∷ []) other member))
 
 -- ---- the rows that another doesn't tell
 
@@ -111,6 +114,7 @@ added_small row old room are few = added_behind row old room
     (λ small. all)
     (λ full store met own. All-drop (λ r. Meets store r) 1 old (all store met own))
     few
+    (let short = filter_short (untold row) old in let same = ap length are in omega (arith, short, same))
   where
     all : (store : List ℤ) → MeetsAll store room → Meets store row → MeetsAll store old
     all store met own = untold_met row old store (subst (MeetsAll store) are met) own
@@ -125,6 +129,7 @@ added_full row old room full are few = added_behind row old room
     (λ small. absurd (let short = filter_short (untold row) old in omega (arith, short, small, full)))
     (λ whole store met own. untold_rest row old store (full ∙ sym whole) (subst (MeetsAll store) are met) own)
     few
+    (let short = filter_short (untold row) old in omega (arith, short, full, few))
 
 -- the row behind those that it doesn't tell, once there is room
 pub added_row : (row : Row) (old kept room new : List Row) → length old ≤ 256 → kept ≡ filter (untold row) old
@@ -148,13 +153,41 @@ without_oldest old new is less few full = record {
 
 -- ---- several rows more
 
--- a list that grew by one row of the others
-pub adds_more : (rows old now new : List Row) (row : Row) → Contains rows row → AddsAll rows old now → IsAdded row now new
-    → AddsAll rows old new
-adds_more rows old now new row member before added = record {
-  keeps = λ store met all. added.keeps store (before.keeps store met all) (member_of (λ r. Meets store r) rows row all member);
+-- a list that grew by no row, and by one of the others more
+pub adds_none : (old : List Row) → length old ≤ 256 → AddsAll [] old old
+adds_none old few = record {
+  keeps = λ store met all. met;
+  inside = λ small store met. met;
+  met = λ small store met. all_none (λ r. Meets store r);
+  grows = omega arith;
+  few = few;
+}
+
+adds_last : (seen old now new : List Row) (row : Row) → AddsAll seen old now → IsAdded row now new → AddsAll (seen ++ row ∷ []) old new
+adds_last seen old now new row before added = record {
+  keeps = λ store met all. added.keeps store (before.keeps store met (front_met store seen row all)) (last_met store seen row all);
+  inside = λ small store met. before.inside (omega (arith, small, long)) store (added.inside (room small) store met);
+  met = λ small store met. All-append (λ r. Meets store r) seen (row ∷ [])
+      (before.met (omega (arith, small, long)) store (added.inside (room small) store met)) (all_one (λ r. Meets store r) row (added.met store met));
+  grows = let more = added.grows in let own = before.grows in omega (arith, more, own, long);
   few = added.few;
 }
+  where
+    long : length (seen ++ row ∷ []) ≡ length seen + 1
+    long = length-append seen (row ∷ [])
+
+    room : length old + length (seen ++ row ∷ []) ≤ 256 → length now < 256
+    room small = let own = before.grows in omega (arith, small, long, own)
+
+pub adds_more : (rows old now new : List Row) (i : ℕ) (row : Row) → i < length rows → row ≡ get_or rows i row → AddsAll (take i rows) old now
+    → IsAdded row now new → AddsAll (take (i + 1) rows) old new
+adds_more rows old now new i row low is before added =
+    subst (λ seen. AddsAll seen old new) (sym (take_snoc rows i row low is)) (adds_last (take i rows) old now new row before added)
+
+-- rows that are opposed to the one that is added leave no store, where none is given up
+pub none_added : (row : Row) (old new : List Row) → IsAdded row old new → length old < 256 → settles old row ≡ Some false → HasNoStore new
+none_added row old new added small opposed store met =
+    settled_row_fails old row store opposed (added.inside small store met) (added.met store met)
 
 -- the same where the given ones imply the row
 pub implied_more : (rows given old now new : List Row) (row : Row) → Contains rows row → Imply given row

@@ -1,5 +1,5 @@
 -- Lists of rows: what they imply, and what lists that grow keep.
-use Rattle.std.specs.Prelude.{◌≡◌, ◌⊎◌, ◌<◌, ◌≤◌, ℤ, List, Contains, drop, length}
+use Rattle.std.specs.Prelude.{◌≡◌, ◌⊎◌, ◌+◌, ◌<◌, ◌≤◌, suc, ℤ, List, Contains, drop, length}
 use Rattle.linear_cons.specs.declared.bounds.Bounds.{Bounds}
 use Rattle.linear_cons.specs.declared.row.Row.{Row}
 use Rattle.linear_cons.specs.Bounds.{LiesIn}
@@ -26,6 +26,7 @@ pub record IsAdded (row : Row) (old new : List Row) : Type 0 where
   pub inside : length old < 256 → ImplyAll new old
   pub rest : length old ≡ 256 → ImplyAll new (drop 1 old)
   pub among : (other : Row) → Contains new other → Contains old other ⊎ (other ≡ row)
+  pub grows : length new ≤ suc (length old)
   pub few : length new ≤ 256
 
 -- a list with room for one more row: the old ones where there was room, and of 256 all but the oldest
@@ -34,9 +35,12 @@ pub record HasRoom (old new : List Row) : Type 0 where
   pub same : length old < 256 → new ≡ old
   pub rest : length old ≡ 256 → new ≡ drop 1 old
 
--- a list with more rows, of those of another
+-- a list with all rows of another one more, of which some tell others: where there is room for all it says what both lists say
 pub record AddsAll (rows old new : List Row) : Type 0 where
   pub keeps : (store : List ℤ) → MeetsAll store old → MeetsAll store rows → MeetsAll store new
+  pub inside : length old + length rows ≤ 256 → ImplyAll new old
+  pub met : length old + length rows ≤ 256 → ImplyAll new rows
+  pub grows : length new ≤ length old + length rows
   pub few : length new ≤ 256
 
 -- a list with more rows, of those of another that the given ones imply

@@ -55,3 +55,13 @@ pub(crate) fn with_row(alloc: Global, rows: &[Row], row: &Row) -> Result<Vec<Row
     add(&mut list, row)?;
     Ok(list)
 }
+
+/// The rows and several more.
+pub(crate) fn with_rows(alloc: Global, rows: &[Row], more: &[Row]) -> Result<Vec<Row>, AllocError>
+    requires { length rows.now ≤ 256 }
+    ensures { IfOk result (λ list. AddsAll more.now rows.now list.items) }
+{
+    let mut list = Vec::from_slice(alloc, rows)?;
+    add_all(&mut list, more)?;
+    Ok(list)
+}

@@ -4,7 +4,7 @@ ghost use Rattle.interval_dom.specs.Boxes.{Has};
 ghost use Rattle.linear_cons.specs.Rows.{MeetsAll};
 ghost use Rattle.linear_solve.specs.Answers.{HasNoStore};
 ghost use Rattle.num_domain.specs.Domain.{IsStore};
-ghost use Rattle.poly_dom.specs.Lists.{AddsImplied, AreBounds, AreCommon, Imply};
+ghost use Rattle.poly_dom.specs.Lists.{AddsImplied, AreBounds, AreCommon, Imply, ImplyAll};
 
 use crate::adding::add;
 use interval_dom::Boxes;
@@ -39,6 +39,18 @@ pub(crate) fn imply(alloc: Global, rows: &[Row], row: &Row) -> Result<bool, Allo
     let mut both = Vec::from_slice(alloc, rows)?;
     both.push(complement)?;
     have_none(alloc, &both)
+}
+
+/// True only where one of the rows tells each of some more.
+pub(crate) fn tell_all(rows: &[Row], more: &[Row]) -> bool
+    ensures { IsTrue result → ImplyAll rows.now more.now }
+{
+    for row in more {
+        let Some(true) = settles(rows, row) else {
+            return false;
+        };
+    }
+    true
 }
 
 /// Adds those of the rows that the given ones imply.

@@ -4,11 +4,11 @@ ghost use Rattle.linear_solve.specs.Answers.{HasNoStore};
 ghost use Rattle.poly_dom.specs.Laws.OneProof.{AreBounds-prop};
 ghost use Rattle.poly_dom.specs.Lists.{AreBounds};
 
-use crate::adding::with_row;
+use crate::adding::{MOST, with_row, with_rows};
 use crate::carrying::assigned;
-use crate::judging::{add_implied, common, ends_of, have_none};
+use crate::judging::{add_implied, common, ends_of, have_none, tell_all};
 use linear_cons::{Bounds, Linear, Row, settles};
-use num_domain::NumDomain;
+use num_domain::{NumDomain, ends_imply};
 use std::alloc::{AllocError, Global};
 
 /// The stores that meet at most 256 rows, the oldest row first.
@@ -23,8 +23,10 @@ pub struct Poly {
 }
 
 impl Poly {
-    ghost use Rattle.std.specs.Prelude.{◌≡◌, ◌≤◌, length, IsTrue, IfOk};
+    ghost use Rattle.std.specs.Prelude.{◌≡◌, ◌<◌, ◌≤◌, false, length, IsTrue, IfOk, Some};
+    ghost use Rattle.linear_cons.specs.Settling.{settles};
     ghost use Rattle.linear_solve.specs.Answers.{HasNoStore};
+    ghost use Rattle.poly_dom.specs.Lists.{IsAdded};
 
     /// The polyhedron of the rows. The solver is asked whether it has a member.
     fn of(alloc: Global, rows: Vec<Row>) -> Result<Poly, AllocError>
@@ -53,6 +55,33 @@ impl Poly {
         })
     }
 
+    /// True only where one of the rows is opposed to another one, and none has to be given up for it.
+    fn excludes(&self, row: &Row) -> bool
+        ensures opposed { IsTrue result → settles self.now.rows.items row.now ≡ Some false }
+        ensures room { IsTrue result → length self.now.rows.items < 256 }
+    {
+        match settles(&self.rows, row) {
+            Some(false) => self.rows.len() < MOST,
+            _ => false,
+        }
+    }
+
+    /// The polyhedron with one row more. The solver is asked whether it has a member where no row is
+    /// opposed to that.
+    fn met(&self, alloc: Global, row: &Row) -> Result<Poly, AllocError>
+        ensures { IfOk result (λ set. IsAdded row.now self.now.rows.items set.rows.items) }
+    {
+        let rows = with_row(alloc, &self.rows, row)?;
+        if self.excludes(row) {
+            return Ok(Poly {
+                rows,
+                empty: true,
+                bounds: self.bounds,
+            });
+        }
+        Poly::of(alloc, rows)
+    }
+
     /// The polyhedron of the same rows.
     fn twin(&self, alloc: Global) -> Result<Poly, AllocError>
         ensures { IfOk result (λ twin. twin.rows.items ≡ self.now.rows.items) }
@@ -67,11 +96,11 @@ impl Poly {
 }
 
 impl NumDomain for Poly {
-    ghost use Rattle.std.specs.Prelude.{◌≡◌, ◌<◌, ◌≤◌, ◌↔◌, ◌⊎◌, ℕ, ℤ, List, All, Contains, drop, length, true, false, IfOk, OnErr};
+    ghost use Rattle.std.specs.Prelude.{◌≡◌, ◌<◌, ◌≤◌, ◌+◌, ◌↔◌, ◌⊎◌, ℕ, ℤ, List, All, Contains, drop, length, true, false, IfOk, OnErr};
     ghost use Rattle.linear_cons.specs.declared.row.Row.{Row};
     ghost use Rattle.linear_cons.specs.Rows.{MeetsAll};
-    ghost use Rattle.num_domain.specs.Domain.{AllMeet, IsMeet, IsPlain, IsStore, IsUnchanged, KeepsMeeting, SameMembers};
-    ghost use Rattle.num_domain.specs.Domain.{Within};
+    ghost use Rattle.num_domain.specs.Domain.{AllMeet, IsMeet, IsMeetAll, IsPlain, IsStore, IsUnchanged, KeepsMeeting, KeepsMeetingAll};
+    ghost use Rattle.num_domain.specs.Domain.{SameMembers, Within};
     ghost use Rattle.poly_dom.specs.Polyhedra.{Has, bounds_lie, bounds_of, empty_none, is_empty_poly, rows_met, rows_of};
 
     ghost has = { Has };
@@ -86,9 +115,9 @@ impl NumDomain for Poly {
         Poly::filled(alloc, Vec::new(alloc))
     }
 
-    /// Adds the row, and asks the solver whether a member is left. Of rows with the same coefficients the
-    /// tightest stays, and past 256 rows the oldest is given up. A polyhedron that is seen to be empty
-    /// stays.
+    /// Adds the row, and asks the solver whether a member is left, unless a row is opposed to it. Of rows
+    /// with the same coefficients the tightest stays, and past 256 rows the oldest is given up. A polyhedron
+    /// that is seen to be empty stays.
     fn meet_row(&mut self, alloc: Global, row: &Row) -> Result<(), AllocError>
         ensures keeps { IfOk result (λ _. KeepsMeeting row.now (Has self.old) (Has self.new)) }
         ensures plain { IfOk result (λ _. (place : ℕ) → IsPlain row.now place → AllMeet row.now (Has self.new)) }
@@ -103,7 +132,22 @@ impl NumDomain for Poly {
         if let Some(true) = settles(&self.rows, row) {
             return Ok(());
         }
-        let rows = with_row(alloc, &self.rows, row)?;
+        *self = self.met(alloc, row)?;
+        Ok(())
+    }
+
+    /// Adds all rows, and asks the solver once whether a member is left. That is exact where there are no
+    /// more than 256 rows in all. A polyhedron that is seen to be empty stays.
+    fn meet_rows(&mut self, alloc: Global, rows: &[Row]) -> Result<(), AllocError>
+        ensures keeps { IfOk result (λ _. KeepsMeetingAll rows.now (Has self.old) (Has self.new)) }
+        ensures exact { IfOk result (λ _. length (rows_of self.old) + length rows.now ≤ 256
+            → IsMeetAll rows.now (Has self.old) (Has self.new)) }
+        ensures err { OnErr result (IsUnchanged Has is_empty_poly rows_of bounds_of self.old self.new) }
+    {
+        if self.empty || tell_all(&self.rows, rows) {
+            return Ok(());
+        }
+        let rows = with_rows(alloc, &self.rows, rows)?;
         *self = Poly::of(alloc, rows)?;
         Ok(())
     }
@@ -167,6 +211,17 @@ impl NumDomain for Poly {
     /// What the solver answered when the rows were put together.
     fn is_empty(&self) -> bool {
         self.empty
+    }
+
+    /// Where there is no member, where one of the rows tells the row, or where the ends say that it is met.
+    fn implies(&self, row: &Row) -> bool {
+        if self.empty {
+            return true;
+        }
+        if let Some(true) = settles(&self.rows, row) {
+            return true;
+        }
+        ends_imply(&self.bounds, row)
     }
 
     /// At most 256 rows, the oldest first: exactly the members meet them.

@@ -1,6 +1,6 @@
-use Rattle.std.proofs.Common.{◌≡◌, Some, drop, subst, true}
+use Rattle.std.proofs.Common.{◌≡◌, Some, drop, true}
 use Rattle.linear_cons.proofs.Telling.{settled_row_holds}
-use Rattle.linear_cons.specs.Rows.{Meets, MeetsAll}
+use Rattle.linear_cons.specs.Rows.{Meets}
 use Rattle.linear_cons.specs.Settling.{settles}
 use Rattle.linear_cons.specs.declared.row.Row.{Row}
 use Rattle.linear_solve.proofs.Lists.{all_of, member_of}
@@ -24,15 +24,13 @@ returns-in-Some-true-clause-exact c small store is =
     (λ has. (has, settled_row_holds c.args.self.now.rows.items c.args.row.now store told has.1), λ both. both.0)
 
 pub returns-clause-plain : goal.returns-clause-plain
-returns-clause-plain c place plain store is has =
-    c.in_ok-rows.ensures.met store (subst (MeetsAll store) c.in_ok-self.ensures has.1)
+returns-clause-plain c place plain store is has = c.in_ok-self.ensures.met store has.1
 
 pub returns-clause-met : goal.returns-clause-met
-returns-clause-met c store is has = c.in_ok-rows.ensures.met store (subst (MeetsAll store) c.in_ok-self.ensures has.1)
+returns-clause-met c store is has = c.in_ok-self.ensures.met store has.1
 
 pub returns-clause-rest : goal.returns-clause-rest
 returns-clause-rest c full =
-    let added = rw c.deref-2.ensures.value at c.in_ok-rows.ensures in
     all_of (λ (row : Row). AllMeet row (Has c.in_ok-self.field-0)) (drop 1 c.args.self.now.rows.items)
     (λ row member store is has. member_of (λ r. Meets store r) (drop 1 c.args.self.now.rows.items) row
-    (added.rest full store (subst (MeetsAll store) c.in_ok-self.ensures has.1)) member)
+    (c.in_ok-self.ensures.rest full store has.1) member)
