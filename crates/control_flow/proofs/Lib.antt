@@ -7,3 +7,11 @@ pub mod LabelLaws
 pub mod Onward
 pub mod Taken
 pub mod Readers
+pub mod PlainLabels
+pub mod PlainActions
+pub mod Comparing
+pub mod Filling
+pub mod Held
+pub mod Holding
+pub mod Existing
+pub mod Measuring

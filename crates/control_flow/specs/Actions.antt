@@ -1,9 +1,9 @@
 -- What a valid program does at its labels, and where its edges lead.
-use Rattle.std.specs.Prelude.{◌≡◌, ◌⊎◌, ℕ, suc, ◌<◌, ◌≤◌, true, false, ⊤}
+use Rattle.std.specs.Prelude.{◌≡◌, ◌⊎◌, ℕ, suc, ◌<◌, ◌≤◌, true, false, length, ⊤}
 use Rattle.step_meaning.specs.Syntax.{Statements}
 use Rattle.step_meaning.specs.Valid.{IsNumber, IsTest}
 use Rattle.control_flow.specs.Edges.{is_head_by}
-use Rattle.control_flow.specs.Labels.{Action, ends, assigns, passes, tests, action_at}
+use Rattle.control_flow.specs.Labels.{Action, ends, assigns, passes, tests, action_at, all_labels}
 
 -- an assignment gives a declared variable a number, and a test is one, over `vars` variables
 abbrev pub IsSorted : ℕ → Action → Type 0
@@ -34,3 +34,20 @@ LeadsOn body label (assigns x e next) = IsBehind body (suc label) next
 LeadsOn body label (passes next) = IsBehind body (suc label) next
 LeadsOn body label (tests true c then_to else_to) = ⊤
 LeadsOn body label (tests false c then_to else_to) = IsBehind body (suc label) then_to × IsBehind body (suc label) else_to
+
+-- something holds at each label, at those from n on and those that are done first, at those below n that are done first, and at those that
+-- follow
+abbrev pub AtAll : Statements → (ℕ → Type 0) → Type 0
+AtAll body P = (label : ℕ) → label < length (all_labels body) → P label
+
+abbrev pub AtBehind : Statements → ℕ → (ℕ → Type 0) → Type 0
+AtBehind body n P = (label : ℕ) → label < length (all_labels body) → IsBehind body n label → P label
+
+abbrev pub AtFirst : Statements → ℕ → (ℕ → Type 0) → Type 0
+AtFirst body n P = (label : ℕ) → label < n → IsDoneFirst body label → P label
+
+abbrev pub AtNext : Action → (ℕ → Type 0) → Type 0
+AtNext ends P = ⊤
+AtNext (assigns x e next) P = P next
+AtNext (passes next) P = P next
+AtNext (tests head c then_to else_to) P = P then_to × P else_to

@@ -2,5 +2,10 @@ pub mod Labels
 pub mod Bodies
 pub mod Edges
 pub mod Actions
+pub mod Readings
+pub mod Fitting
+pub mod Measures
+pub mod Sizing
+pub mod Growth
 pub mod Tables
 pub mod Faults

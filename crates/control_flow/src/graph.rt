@@ -5,7 +5,9 @@ ghost use Rattle.step_meaning.specs.Syntax.{expression, size_of, statements};
 ghost use Rattle.control_flow.specs.Bodies.{body_of};
 ghost use Rattle.control_flow.specs.Edges.{assigned_by, choice_by, choice_of_test, choice_of_value, edges_from, is_head_by, test_by};
 ghost use Rattle.control_flow.specs.Faults.{IsFlowFault, wide_offsets};
+ghost use Rattle.control_flow.specs.Growth.{greatest_of_tests};
 ghost use Rattle.control_flow.specs.Labels.{action_at, all_labels, entry_of};
+ghost use Rattle.control_flow.specs.Sizing.{held, leaves_at};
 ghost use Rattle.control_flow.specs.Tables.{action_of};
 
 use crate::bodies::body_in;
@@ -13,6 +15,7 @@ use crate::copy;
 use crate::edge::{Choice, Edge, EdgeKind};
 use crate::fault::FlowFault;
 use crate::limit::{CONJUNCTIONS, least_wide, room_behind};
+use crate::measure::{Measures, measures_of};
 use crate::node::Node;
 use crate::number::{entry, table};
 use std::alloc::Global;
@@ -20,7 +23,7 @@ use std::marker::Model;
 use step_meaning::{Block, Expr, Program};
 
 /// The most labels of a program, label 0 included.
-const LABELS: u32 = 1024;
+pub(crate) const LABELS: u32 = 1024;
 
 /// The labels of a program and the edges between them. Label 0 is the end; each statement has one of the others, in the order of the
 /// tree: a statement stands before its parts, the first part of an `if` before the second, a body before its step; the label of a `do`
@@ -30,6 +33,7 @@ pub struct Graph {
     program: Program,
     entry: u32,
     nodes: Vec<Node>,
+    measures: Measures,
 }
 
 impl Model for Graph {
@@ -38,7 +42,9 @@ impl Model for Graph {
     ghost use Rattle.step_meaning.specs.contracts.program.Program as program_type;
     ghost use Rattle.step_meaning.specs.declared.program.Program.{Program};
     ghost use Rattle.step_meaning.specs.Syntax.{statements};
+    ghost use Rattle.control_flow.specs.Growth.{greatest_of_tests};
     ghost use Rattle.control_flow.specs.Labels.{entry_of};
+    ghost use Rattle.control_flow.specs.Sizing.{AreLeaves};
     ghost use Rattle.control_flow.specs.Tables.{IsTableOf};
 
     ghost Value = { Program };
@@ -47,7 +53,9 @@ impl Model for Graph {
 
     ghost view = { λ inside. inside.program };
 
-    ghost invariant = { λ inside. IsTableOf inside.nodes.items (statements inside.program.body) × (inside.entry ≡ entry_of (statements inside.program.body)) };
+    ghost invariant = { λ inside. IsTableOf inside.nodes.items (statements inside.program.body) × (inside.entry ≡ entry_of (statements inside.program.body))
+        × AreLeaves (statements inside.program.body) inside.measures.leaves.items
+        × (inside.measures.greatest ≡ greatest_of_tests (statements inside.program.body)) };
 }
 
 impl Graph {
@@ -64,10 +72,12 @@ impl Graph {
         let program = copy::program(alloc, program)?;
         let nodes = table(alloc, &program.body)?;
         let entry = entry(&program.body, 1, 0);
+        let measures = measures_of(alloc, &program, &nodes)?;
         Ok(Graph {
             program,
             entry,
             nodes,
+            measures,
         })
     }
 
@@ -155,8 +165,23 @@ impl Graph {
         }
     }
 
-    // What is done at the label.
-    fn node(&self, label: u32) -> &Node
+    /// The most leaves that the rows of the label's test make, and 1 where there is none, or the type's last value where that is less.
+    pub(crate) fn leaves(&self, label: u32) -> u128
+        requires { label < length (all_labels (statements self.now.body)) }
+        ensures { result ≡ held (leaves_at (action_at (statements self.now.body) label)) }
+    {
+        self.measures.leaves[label as usize]
+    }
+
+    /// The greatest size of a number in a row of a test.
+    pub(crate) fn greatest_of_tests(&self) -> u128
+        ensures { result ≡ greatest_of_tests (statements self.now.body) }
+    {
+        self.measures.greatest
+    }
+
+    /// The entry of the table for the label.
+    pub(crate) fn node(&self, label: u32) -> &Node
         requires { label < length (all_labels (statements self.now.body)) }
         ensures { action_of result.now ≡ action_at (statements self.now.body) label }
     {

@@ -8,6 +8,7 @@ ghost use Rattle.step_meaning.specs.Valid.{IsBody};
 ghost use Rattle.control_flow.specs.Actions.{IsSorted, LeadsBelow, LeadsOn};
 ghost use Rattle.control_flow.specs.Edges.{EdgesAreSteps, Reached, SomeEdge, BothTaken, LandsAt, configuration, edges_from};
 ghost use Rattle.control_flow.specs.Labels.{action_at, all_labels, assigns, entry_of, rest, tests};
+ghost use Rattle.control_flow.specs.Measures.{AreSizes};
 
 /// The steps of the configurations of a label, its statements with a store, are those of its edges and no others. Each leads to a list
 /// with the same front as that of the edge's target. A run begins with the front of the entry.
@@ -48,4 +49,11 @@ pub fn edges_lead_onward()
 /// What is done at a label of a valid program is over its variables.
 pub fn actions_are_over_the_variables()
     ensures { (vars : ℕ) (body : Statements) → IsBody vars body → (l : ℕ) → l < length (all_labels body) → IsSorted vars (action_at body l) }
+{}
+
+/// There are sizes that keep to the rules, and they are the only ones.
+pub fn there_are_sizes()
+    ensures some { (body : Statements) → (sizes : ℕ → ℕ → ℕ) × AreSizes body sizes }
+    ensures only { (body : Statements) (sizes others : ℕ → ℕ → ℕ) → AreSizes body sizes → AreSizes body others
+        → (level label : ℕ) → label < length (all_labels body) → sizes level label ≡ others level label }
 {}

@@ -1,20 +1,28 @@
-//! The control flow of a program: its labels, and the edges between them.
+//! The control flow of a program: its labels, the edges between them, and how large the trees of its levels may be.
 //!
 //! It stands on `step_meaning` for programs and their steps, and on `linear_forms`, whose calls it passes on. The front door: `Graph`,
-//! whose readers answer in constant time; `laws` says that the steps of a label's configurations are its edges.
+//! whose readers answer in constant time, and whose `weight` and `growth` bound the trees of a level and their numbers by the program alone;
+//! `laws` says that the steps of a label's configurations are its edges, and that there are such sizes.
 #![tactic(auto)]
 
+mod action;
 mod bodies;
 mod copy;
 mod edge;
 mod fault;
+mod fitting;
 mod graph;
+mod growth;
 pub mod laws;
 mod limit;
+mod measure;
 mod node;
 mod number;
+mod sizes;
 
+pub use action::Action;
 pub use edge::{Choice, Edge, EdgeKind};
 pub use fault::FlowFault;
 pub use graph::Graph;
 pub use linear_forms::{affine_of, conjunctions, linearise, spread};
+pub use measure::anywhere;

@@ -17,7 +17,7 @@ use Rattle.tree_unify.specs.Shapes.{on_side}
 use Rattle.backward_transfer.specs.Tests.{IsLaterSmall, TestAsks, enabled, failure_tried, not_refuted, rows_asked, tested, tried}
 use Rattle.backward_transfer.specs.Steps.{asked, assigned, stepped}
 use Rattle.backward_transfer.proofs.Making.{node_most}
-use Rattle.unroll.specs.Measures.{leaves_asking}
+use Rattle.control_flow.specs.Measures.{leaves_asking}
 use Rattle.unroll.proofs.Agreeing.{AreAgreeing, Extends, last_told, none_agree, settled_held, settled_refuted, some_kept}
 use Rattle.unroll.proofs.DualAsks.{Held, Turned, all_ask, down_agrees, dual_asks, each_refuted, refuted, side_by, some_held, some_left, turned_agrees, turned_on}
 use Rattle.unroll.proofs.SpreadRows.{IsLong}

@@ -5,7 +5,7 @@ use Rattle.step_meaning.specs.Syntax.{Statements}
 use Rattle.control_flow.specs.Actions.{IsBehind}
 use Rattle.control_flow.specs.Edges.{is_head_by}
 use Rattle.control_flow.specs.Labels.{Action, ends, assigns, passes, tests, action_at, all_labels}
-use Rattle.unroll.specs.Growth.{factor, factor_at, growth_of, product_below, test_size}
+use Rattle.control_flow.specs.Growth.{factor, factor_at, growth_of, product_below, test_size}
 use Rattle.unroll.specs.Building.{left_by}
 use Rattle.unroll.specs.Within.{place_by, place_of, steps_of}
 

@@ -12,14 +12,15 @@ use Rattle.linear_cons.specs.Sizes.{total_size}
 use Rattle.step_meaning.specs.Syntax.{Expression, Statements, free}
 use Rattle.control_flow.specs.Edges.{is_head_by}
 use Rattle.control_flow.specs.Labels.{Action, ends, assigns, passes, tests, action_at, all_labels}
-use Rattle.unroll.specs.Building.{AtNext, left_by}
-use Rattle.unroll.specs.Growth.{factor, factor_at, greatest_of_conjunctions, growth_of, product_below, row_size, test_size}
+use Rattle.control_flow.specs.Actions.{AtNext}
+use Rattle.unroll.specs.Building.{left_by}
+use Rattle.control_flow.specs.Growth.{factor, factor_at, greatest_of_conjunctions, growth_of, product_below, row_size, test_size}
 use Rattle.backward_transfer.specs.AffineShapes.{tree_at}
-use Rattle.unroll.specs.Measures.{anywhere}
+use Rattle.control_flow.specs.Measures.{anywhere}
 use Rattle.unroll.specs.Plain.{IsFittingTest}
 use Rattle.unroll.specs.Within.{AreWithin, IsNarrow, IsWithin, TellsNumbers, place_of, steps_of}
 use Rattle.unroll.proofs.DualAsks.{IsAsked}
-use Rattle.unroll.proofs.Filling.{all_next, behind_next}
+use Rattle.control_flow.proofs.Filling.{all_next, behind_next}
 use Rattle.unroll.proofs.Growing.{FollowsFrom, below_more, below_some, growth_least, place_behind, place_within, turned_rows, turned_steps}
 use Rattle.unroll.proofs.Lifting.{plain_test}
 use Rattle.unroll.proofs.SpreadRows.{spread_long}

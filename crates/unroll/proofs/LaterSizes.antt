@@ -25,7 +25,7 @@ use Rattle.step_meaning.specs.Syntax.{Expression, number, variable, free, range,
 use Rattle.linear_forms.specs.Duality.{AreDual}
 use Rattle.linear_forms.specs.Spreading.{spread_of}
 use Rattle.linear_forms.proofs.Dual.{spread_dual}
-use Rattle.unroll.specs.Measures.{anywhere, leaves_of_test, size_of_test}
+use Rattle.control_flow.specs.Measures.{anywhere, leaves_of_test, size_of_test}
 use Rattle.unroll.specs.Plain.{IsFittingTest}
 use Rattle.backward_transfer.specs.AffineShapes.{affine_ranks, same_rank, tested_shape}
 use Rattle.unroll.proofs.Bounding.{dual_later, dual_size, node_bound, stepped_size}

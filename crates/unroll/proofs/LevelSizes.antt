@@ -5,7 +5,7 @@ use Rattle.step_meaning.specs.Syntax.{Expression, Statements, number, variable, 
 use Rattle.control_flow.specs.Edges.{is_head_by}
 use Rattle.control_flow.specs.Labels.{Action, action_at, all_labels}
 use Rattle.unroll.specs.Building.{left_by}
-use Rattle.unroll.specs.Measures.{AreSizes, IsHeavy, IsLight, greatest_below, leaves_of_test, size_before, size_by, size_of_test}
+use Rattle.control_flow.specs.Measures.{AreSizes, IsHeavy, IsLight, greatest_below, leaves_of_test, size_before, size_by, size_of_test}
 
 module _ (sizes : ℕ → ℕ → ℕ) (action : Action) where
   size_left : (head : Bool) → is_head_by action ≡ head → (limit left : ℕ) → left_by head limit ≡ Some left → size_by sizes limit action ≡ size_before (sizes left) action

@@ -7,12 +7,16 @@ use Rattle.decision_tree.specs.declared.tree.Tree.{Tree}
 use Rattle.step_meaning.specs.Syntax.{Statements}
 use Rattle.control_flow.specs.Edges.{configuration}
 use Rattle.control_flow.specs.Labels.{all_labels}
-use Rattle.unroll.specs.Building.{AtAll, AtBehind, AtFirst, ClaimsAt, TellsAt, TellsTree}
+use Rattle.control_flow.specs.Actions.{AtAll, AtBehind, AtFirst}
+use Rattle.unroll.specs.Building.{ClaimsAt, TellsAt, TellsTree}
 use Rattle.backward_transfer.specs.AffineShapes.{tree_at, plans}
 use Rattle.unroll.specs.Levels.{IsLevel}
-use Rattle.unroll.proofs.Filling.{put_behind, put_first}
+use Rattle.unroll.specs.Within.{place_of}
+use Rattle.control_flow.proofs.Filling.{put_behind, put_first}
 use Rattle.backward_transfer.proofs.Putting.{plans_length, plans_set}
+use Rattle.unroll.proofs.Growing.{below_some}
 use Rattle.unroll.proofs.LevelLaws.{tells_exactly}
+use Rattle.unroll.proofs.WithinTrees.{rows_at_most}
 
 pub is_level : (tests : ℕ) (body : Statements) (trees : List (Plan AffineRank)) → length trees ≡ length (all_labels body) → AtAll body (TellsAt tests body trees)
     → IsLevel tests body trees
@@ -23,6 +27,7 @@ is_level tests body trees long tell = record {
   ranks = λ label low. (tell label low).ranks;
   complements = λ label low. (tell label low).complements;
   variables = λ label low. (tell label low).variables;
+  numbers = λ label low. rows_at_most _ _ _ (below_some body (place_of body label)) (tree_at trees label) (tell label low).numbers.within;
   small = λ label low. (tell label low).small;
 }
 

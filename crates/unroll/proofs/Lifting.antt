@@ -30,7 +30,7 @@ use Rattle.control_flow.specs.Edges.{configuration}
 use Rattle.control_flow.specs.Labels.{assigns, passes, tests, action_at, all_labels, rest}
 use Rattle.unroll.specs.Building.{ClaimsAt, IsBefore, IsBeforeBoth, Tells, TellsTree, left_by}
 use Rattle.unroll.specs.Levels.{RanksCount, counted}
-use Rattle.unroll.specs.Measures.{AreSizes, anywhere}
+use Rattle.control_flow.specs.Measures.{AreSizes, anywhere}
 use Rattle.unroll.specs.Within.{TellsNumbers}
 use Rattle.step_meaning.specs.Plain.{IsPlainTest}
 use Rattle.unroll.proofs.Counting.{claims_one, counts_at, made_tells, twice}

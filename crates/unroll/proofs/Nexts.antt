@@ -1,13 +1,12 @@
 -- The configurations behind those of a label.
 use Rattle.std.proofs.Common.{◌≡◌, ◌⊎◌, inl, inr, ℕ, ◌<◌, ℤ, Bool, true, false, length, set, refl, ap, subst, ◌∙◌, ⊎_elim}
 use Rattle.step_meaning.specs.Outcome.{May, MayTest, Store}
-use Rattle.step_meaning.specs.Step.{Configuration, Step}
+use Rattle.step_meaning.specs.Step.{Configuration, Step, front}
 use Rattle.step_meaning.specs.Syntax.{Expression, Statements}
 use Rattle.control_flow.specs.Edges.{EachEdge, LandsAt, Leads, SomeEdge, configuration, edges_from}
 use Rattle.control_flow.specs.Labels.{Action, assigns, passes, tests, action_at, all_labels, rest}
 use Rattle.control_flow.proofs.LabelLaws.{only_end_is_final}
 use Rattle.control_flow.proofs.Steps.{edges_are_steps}
-use Rattle.step_meaning.specs.Step.{front}
 use Rattle.unroll.proofs.LevelLaws.{Alike, TwoNext}
 
 module _ (body : Statements) (l : ℕ) (low : l < length (all_labels body)) (some : l ≡ 0 → ⊥) (s : Store) where

@@ -2,45 +2,36 @@
 use Rattle.std.specs.Result.{IsErrAnd}
 use Rattle.std.specs.Prelude.{IfErr, IfSome, IsSomeAnd}
 use Rattle.std.specs.Option.{is_some}
-use Rattle.std.proofs.Common.{◌≡◌, ℕ, suc, ◌^◌, ◌-◌, ◌<◌, ◌≤◌, min, if◌then◌else◌, Option, None, Some, Result, Ok, Err, List, length, refl, sym, ap, subst, ◌∙◌, arith}
+use Rattle.std.proofs.Common.{◌≡◌, ℕ, suc, ◌<◌, ◌≤◌, if◌then◌else◌, Option, None, Some, Result, Ok, Err, List, refl, sym, subst, arith}
 use Rattle.decision_tree.specs.Plans.{Plan}
 use Rattle.decision_tree.specs.declared.affine_rank.AffineRank.{AffineRank}
 use Rattle.decision_tree.specs.declared.family.Family.{Family}
 use Rattle.decision_tree.specs.declared.reason.Cause.{Cause}
 use Rattle.linear_cons.specs.declared.exact.Wide.{Wide as Operands}
 use Rattle.step_meaning.specs.Syntax.{Statements}
-use Rattle.control_flow.specs.Labels.{all_labels}
-use Rattle.unroll.specs.Measures.{AreSizes, IsHeavy, IsLight, greatest_below}
+use Rattle.control_flow.specs.Measures.{IsHeavy, IsLight, IsWeight}
 use Rattle.unroll.specs.Refusals.{IsNodes, IsRefusal, IsRefusalAt, IsWide}
-use Rattle.unroll.specs.Sizing.{HasSizes, held_at}
 use Rattle.unroll.specs.Stopping.{IsCause}
 use Rattle.unroll.specs.declared.moving.Refusal.{Refusal}
 use Rattle.unroll.specs.declared.moving.Refusal.TheVariants.{Full, Memory, Wide}
-use Rattle.unroll.proofs.Holding.{greatest_held}
 
 -- what is said of an error is said where it is passed on
 pub told_of : {T : Type 0} (P : Refusal → Type 0) (r : Result T Refusal) (error : Refusal) → IsErrAnd r (λ (e : Refusal). e ≡ error) → P error → IfErr r P
 told_of P (Ok x) error gives own = absurd gives
 told_of P (Err e) error gives own = subst P (sym gives) own
 
--- the greatest number of a list of sizes is above 65,536 exactly where the weight is
-module _ (body : Statements) (level : ℕ) (list : List ℕ) (count : length list ≡ length (all_labels body)) (has : HasSizes body level list) where
-  most_is : (sizes : ℕ → ℕ → ℕ) → AreSizes body sizes
-      → greatest_below (λ label. held_at list label) (length list) ≡ min (greatest_below (sizes level) (length (all_labels body))) (2 ^ 128 - 1)
-  most_is sizes are =
-      ap (greatest_below (λ label. held_at list label)) count
-      ∙ greatest_held (2 ^ 128 - 1) (omega arith) (length (all_labels body)) (λ label. held_at list label) (sizes level) (has sizes are)
+-- the weight of a level, as far as it is held, is above 65,536 exactly where it is itself
+module _ (body : Statements) (level most : ℕ) (is : IsWeight body level most) where
+  pub light_by : most ≤ 65536 → IsLight body level
+  light_by few sizes are = let same = is sizes are in omega (arith, same, few)
 
-  pub light_by : greatest_below (λ label. held_at list label) (length list) ≤ 65536 → IsLight body level
-  light_by few sizes are = let same = most_is sizes are in omega (arith, same, few)
+  pub heavy_by : 65536 < most → IsHeavy body level
+  heavy_by more sizes are = let same = is sizes are in omega (arith, same, more)
 
-  heavy_by : 65536 < greatest_below (λ label. held_at list label) (length list) → IsHeavy body level
-  heavy_by more sizes are = let same = most_is sizes are in omega (arith, same, more)
-
-  pub refused_by : (refusal : Refusal) → IsNodes refusal → 65536 < greatest_below (λ label. held_at list label) (length list) → IsRefusalAt body level refusal
-  refused_by (Full count) nodes more = (nodes, heavy_by more)
-  refused_by (Wide operands) nodes more = absurd nodes
-  refused_by (Memory error) nodes more = absurd nodes
+pub refused_by : (body : Statements) (level : ℕ) (refusal : Refusal) → IsNodes refusal → IsHeavy body level → IsRefusalAt body level refusal
+refused_by body level (Full count) nodes heavy = (nodes, heavy)
+refused_by body level (Wide operands) nodes heavy = absurd nodes
+refused_by body level (Memory error) nodes heavy = absurd nodes
 
 -- a refusal of the trees of a light level
 pub refused_at : (body : Statements) (level : ℕ) (refusal : Refusal) → IsLight body level → IsRefusal refusal → ((count : ℕ) → refusal ≡ Full count → IsHeavy body level)

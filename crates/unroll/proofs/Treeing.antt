@@ -4,80 +4,34 @@ use Rattle.step_meaning.specs.Countdown.{form_of}
 use Rattle.linear_cons.specs.Functions.{value_at}
 use Rattle.linear_forms.specs.Meeting.{MeetsOne}
 use Rattle.linear_forms.specs.Spreading.{spread_of}
-use Rattle.linear_forms.proofs.Naming.{number_names, test_names}
 use Rattle.decision_tree.specs.Evaluation.{eval}
 use Rattle.decision_tree.specs.Plans.{Plan, size_of}
 use Rattle.decision_tree.specs.declared.affine_rank.AffineRank.{AffineRank}
-use Rattle.step_meaning.specs.AffineExpressions.{IsAffine}
-use Rattle.step_meaning.specs.Naming.{NamesBelow}
 use Rattle.step_meaning.specs.Outcome.{Store}
 use Rattle.step_meaning.specs.Step.{front}
 use Rattle.step_meaning.specs.Syntax.{Expression, Statements}
 use Rattle.step_meaning.specs.Valid.{IsBody, IsNumber, IsTest}
-use Rattle.control_flow.specs.Actions.{IsSorted, LeadsBelow}
+use Rattle.control_flow.specs.Actions.{IsSorted, AtNext}
 use Rattle.control_flow.specs.Edges.{is_head_by}
 use Rattle.control_flow.specs.Labels.{Action, ends, assigns, passes, tests, action_at, all_labels, rest}
-use Rattle.control_flow.proofs.LabelLaws.{edges_lead_to_labels, labels_are_sorted}
+use Rattle.control_flow.proofs.LabelLaws.{labels_are_sorted}
 use Rattle.decision_tree.specs.Extent.{IsTreeOver, ComplementsFit}
-use Rattle.unroll.specs.Building.{AtNext, IsBefore, IsBeforeBoth, TellsAt, TellsTree, left_by}
+use Rattle.unroll.specs.Building.{IsBefore, IsBeforeBoth, TellsAt, TellsTree, left_by}
 use Rattle.backward_transfer.specs.AffineShapes.{tree_at}
 use Rattle.unroll.specs.Levels.{RanksCount}
-use Rattle.unroll.specs.Measures.{AreSizes, anywhere, size_before, size_of_test}
-use Rattle.step_meaning.specs.Plain.{IsPlain, IsPlainTest}
-use Rattle.unroll.specs.Plain.{ActionFits, IsFittingTest, IsPlainAction}
+use Rattle.control_flow.specs.Measures.{AreSizes, anywhere, size_before, size_of_test}
+use Rattle.step_meaning.specs.Plain.{IsPlain}
+use Rattle.control_flow.specs.Fitting.{ActionFits}
+use Rattle.unroll.specs.Plain.{IsFittingTest}
 use Rattle.unroll.specs.Within.{TellsNumbers}
 use Rattle.unroll.proofs.GrownLabels.{at_more}
 use Rattle.unroll.proofs.LevelSizes.{label_size, test_more}
 use Rattle.unroll.proofs.Lifting.{assign_tree, pass_tree, test_tree}
 use Rattle.unroll.proofs.LevelLaws.{is_loop}
 use Rattle.unroll.proofs.Ordering.{does, does_something, heads_are_loops}
-use Rattle.unroll.proofs.PlainLabels.{labels_are_plain}
-
--- an assignment at a label
-pub record IsAssigned (x : ℕ) (e : Expression) (next labels : ℕ) : Type 0 where
-  pub place : x < 16
-  pub affine : IsAffine e
-  pub names : NamesBelow 16 e
-  pub inside : next < labels
-
--- a test at a label
-pub record IsTested (c : Expression) (then_to else_to labels : ℕ) : Type 0 where
-  pub plain : IsPlainTest c
-  pub names : NamesBelow 16 c
-  pub inside : then_to < labels
-  pub also : else_to < labels
+use Rattle.control_flow.proofs.PlainActions.{plain_as, sorted_as}
 
 module _ (body : Statements) (vars : ℕ) (few : vars ≤ 15) (valid : IsBody vars body) (plain : IsPlain body) (l : ℕ) (low : l < length (all_labels body)) where
-  sorted_as : (action : Action) → action ≡ action_at body l → IsSorted vars action
-  sorted_as action is = subst (IsSorted vars) (sym is) (labels_are_sorted vars body valid l low)
-
-  plain_as : (action : Action) → action ≡ action_at body l → IsPlainAction action
-  plain_as action is = subst IsPlainAction (sym is) (labels_are_plain body plain l low)
-
-  below_as : (action : Action) → action ≡ action_at body l → LeadsBelow (length (all_labels body)) action
-  below_as action is = subst (LeadsBelow (length (all_labels body))) (sym is) (edges_lead_to_labels body l low)
-
-  pub is_assigned : (x : ℕ) (e : Expression) (next : ℕ) → assigns x e next ≡ action_at body l → IsAssigned x e next (length (all_labels body))
-  is_assigned x e next is =
-      let sorted = sorted_as (assigns x e next) is in record {
-        place = let below = sorted.0 in omega (arith, below, few);
-        affine = plain_as (assigns x e next) is;
-        names = number_names vars 16 (omega (arith, few)) e sorted.1;
-        inside = below_as (assigns x e next) is;
-      }
-
-  pub is_passed : (next : ℕ) → passes next ≡ action_at body l → next < length (all_labels body)
-  is_passed next is = below_as (passes next) is
-
-  pub is_tested : (head : Bool) (c : Expression) (p q : ℕ) → tests head c p q ≡ action_at body l → IsTested c p q (length (all_labels body))
-  is_tested head c p q is =
-      let below = below_as (tests head c p q) is in record {
-        plain = plain_as (tests head c p q) is;
-        names = test_names vars 16 (omega (arith, few)) c (sorted_as (tests head c p q) is);
-        inside = below.0;
-        also = below.1;
-      }
-
   -- the end is done at no label but 0
   pub never_ends : 0 < l → ends ≡ action_at body l → ⊥
   never_ends some is = let something : does (action_at body l) ≡ true = does_something body l low some in let nothing : false ≡ true = ap does is ∙ something in absurd (cc)
@@ -118,8 +72,8 @@ module _ (body : Statements) (vars : ℕ) (few : vars ≤ 15) (valid : IsBody va
     tested_fits head c p q is = record {
       vars = vars;
       few = few;
-      sorted = sorted_as (tests head c p q) is;
-      plain = plain_as (tests head c p q) is;
+      sorted = sorted_as body vars few valid plain l low (tests head c p q) is;
+      plain = plain_as body vars few valid plain l low (tests head c p q) is;
       fit = subst ActionFits (sym is) fit;
     }
 
@@ -131,7 +85,7 @@ module _ (body : Statements) (vars : ℕ) (few : vars ≤ 15) (valid : IsBody va
           let behind_next = behind_as (assigns x e next) is in
           assign_tree body l low apart limit left allows_loop made ranks complements variables numbers
           (λ sizes are. let same = size_is sizes are (assigns x e next) is in let most = behind_next.small sizes are in omega (arith, same, most, less))
-          vars x e next (sym is) few (sorted_as (assigns x e next) is).1 (plain_as (assigns x e next) is) (tree_at trees next) behind_next before
+          vars x e next (sym is) few (sorted_as body vars few valid plain l low (assigns x e next) is).1 (plain_as body vars few valid plain l low (assigns x e next) is) (tree_at trees next) behind_next before
 
       pub passed_tells : (next : ℕ) → passes next ≡ action_at body l → size_of made ≤ size_of (tree_at trees next)
           → ((s : Store) → IsBefore (eval (tree_at trees next) s) (eval made s)) → TellsTree limit body l made
@@ -153,7 +107,7 @@ module _ (body : Statements) (vars : ℕ) (few : vars ≤ 15) (valid : IsBody va
           let same = size_is sizes are (tests head c p q) is in
           let most = test_more (size_of (tree_at trees p)) (size_of (tree_at trees q)) (sizes left p) (sizes left q) (two.0.small sizes are) (two.1.small sizes are) c in
           omega (arith, same, most, less))
-          vars few head c p q (sym is) (sorted_as (tests head c p q) is) (plain_as (tests head c p q) is)
+          vars few head c p q (sym is) (sorted_as body vars few valid plain l low (tests head c p q) is) (plain_as body vars few valid plain l low (tests head c p q) is)
           (subst ActionFits (sym is) fit) (tree_at trees p) (tree_at trees q) two.0 two.1 both holds fails
 
     -- the numbers of the trees behind are those of their labels

@@ -26,7 +26,7 @@ use Rattle.decision_tree.specs.Extent.{IsTreeOver, PickIs}
 use Rattle.linear_cons.proofs.Over.{over_constant, over_difference, over_multiple, over_places, over_put, over_quotient, over_sum}
 use Rattle.tree_unify.specs.Shapes.{leaf_met}
 use Rattle.tree_unify.specs.declared.join.Join.TheVariants.{Later}
-use Rattle.unroll.specs.Measures.{anywhere}
+use Rattle.control_flow.specs.Measures.{anywhere}
 use Rattle.backward_transfer.specs.AffineShapes.{affine_ranks, assigned_shape, cut, same_rank, stepped_shape, tested_shape}
 use Rattle.linear_forms.specs.Duality.{EachOf}
 use Rattle.backward_transfer.specs.Tests.{enabled}

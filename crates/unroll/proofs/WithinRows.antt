@@ -13,8 +13,8 @@ use Rattle.linear_cons.specs.Sizes.{SizesAtMost, total_size}
 use Rattle.linear_forms.specs.Duality.{EachOf}
 use Rattle.step_meaning.specs.Syntax.{Statements}
 use Rattle.control_flow.specs.Labels.{action_at, all_labels}
-use Rattle.unroll.specs.Growth.{greatest_of_conjunctions, greatest_of_rows, greatest_size, row_size, test_size}
-use Rattle.unroll.specs.Measures.{greatest_below}
+use Rattle.control_flow.specs.Growth.{greatest_of_conjunctions, greatest_of_rows, greatest_size, row_size, test_size}
+use Rattle.control_flow.specs.Measures.{greatest_below}
 use Rattle.unroll.specs.Within.{IsWithin}
 use Rattle.unroll.proofs.Keeping.{KindIs}
 use Rattle.unroll.proofs.LevelSizes.{at_most_greatest}

@@ -1,16 +1,17 @@
 -- How large the numbers of the tree before a step are, by those of the trees behind it; and that what is formed for it fits.
 use Rattle.std.proofs.Common.{ℕ, suc, ◌+◌, ◌*◌, ◌<◌, ◌≤◌, List, [], refl, arith}
+use Rattle.std.proofs.Math.Nat.{le_refl, mul-le-mul}
 use Rattle.linear_cons.specs.declared.affine.Affine.{Affine}
 use Rattle.linear_cons.specs.declared.row.Row.{Row}
-use Rattle.decision_tree.specs.Plans.{Plan, bottom, leaf}
+use Rattle.decision_tree.specs.Plans.{Plan, bottom, branch, leaf, top}
 use Rattle.decision_tree.specs.declared.affine_rank.AffineRank.{AffineRank}
 use Rattle.decision_tree.specs.declared.reason.Why.{Why}
 use Rattle.decision_tree.specs.declared.reason.Why.TheVariants.{End}
-use Rattle.linear_cons.specs.Sizes.{total_size}
+use Rattle.linear_cons.specs.Sizes.{SizesAtMost, total_size}
 use Rattle.step_meaning.specs.Syntax.{Statements}
 use Rattle.backward_transfer.specs.Steps.{AssignFits, StepFits}
 use Rattle.backward_transfer.specs.Tests.{ComplementFits, EnabledFits, TestAsks, enabled}
-use Rattle.unroll.specs.Levels.{counted}
+use Rattle.unroll.specs.Levels.{RowsAtMost, counted}
 use Rattle.backward_transfer.specs.AffineShapes.{CutFits, affine_ranks, assigned_shape, cut, same_rank, stepped_shape, tested_shape}
 use Rattle.unroll.specs.Within.{AreWithin, EachIs, IsNarrow, IsSteps, IsWithin, TellsNumbers}
 use Rattle.unroll.proofs.CountedRanks.{met_fits, met_steps, more_fits, more_steps, put_fits, put_steps}
@@ -90,6 +91,23 @@ module _ (k most steps : ℕ) where
               affine_ranks.one_more affine_ranks.add_one_fits (λ why. more_fits steps narrow.few) this that first second both) holds fails asked,
           trim_fits Rows Next same_rank (turned_fits k most narrow.some narrow.small) [] (tested_shape this that holds fails) moved_back,
         )
+
+-- ---- no number of a row passes the most
+
+row_at_most : (k most : ℕ) → 1 ≤ k → (row : Row) → IsWithin k most row → SizesAtMost most row.affine
+row_at_most k most some row own =
+    let more : own.size * 1 ≤ own.size * k = mul-le-mul (le_refl own.size) some in
+    let least = own.small in record {
+      coefficients = λ i low. let each = own.sizes.coefficients i low in omega (arith, each, more, least);
+      constants = let each = own.sizes.constants in omega (arith, each, more, least);
+    }
+
+pub rows_at_most : (k most steps : ℕ) → 1 ≤ k → (plan : Plan AffineRank) → AreWithin k most steps plan → RowsAtMost most plan
+rows_at_most k most steps some (branch row this that) within =
+    (row_at_most k most some row within.0, rows_at_most k most steps some this within.1, rows_at_most k most steps some that within.2)
+rows_at_most k most steps some (leaf why rank) within = tt
+rows_at_most k most steps some bottom within = tt
+rows_at_most k most steps some (top cause) within = tt
 
 -- ---- trees within larger numbers, and those made without any
 

@@ -1,5 +1,5 @@
 -- What is known while the trees of a level are made.
-use Rattle.std.specs.Prelude.{◌≡◌, ℕ, zero, suc, ◌<◌, ◌≤◌, max, ◌⊎◌, Bool, true, false, Option, None, Some, List, length, ⊤}
+use Rattle.std.specs.Prelude.{◌≡◌, ℕ, zero, suc, ◌≤◌, max, ◌⊎◌, Bool, true, false, Option, None, Some, List, length}
 use Rattle.decision_tree.specs.Evaluation.{eval}
 use Rattle.decision_tree.specs.Plans.{Plan, is_defined, leaf, size_of}
 use Rattle.decision_tree.specs.declared.affine_rank.AffineRank.{AffineRank}
@@ -8,16 +8,12 @@ use Rattle.step_meaning.specs.Outcome.{Store}
 use Rattle.step_meaning.specs.Run.{EndsInTests, Longest}
 use Rattle.step_meaning.specs.Step.{Configuration}
 use Rattle.step_meaning.specs.Syntax.{Statements}
-use Rattle.control_flow.specs.Actions.{IsBehind, IsDoneFirst}
 use Rattle.control_flow.specs.Edges.{configuration}
-use Rattle.control_flow.specs.Labels.{Action, ends, assigns, passes, tests, action_at, all_labels}
 use Rattle.step_meaning.specs.Valid.{IsBody}
 use Rattle.decision_tree.specs.Extent.{IsTreeOver, ComplementsFit}
 use Rattle.backward_transfer.specs.AffineShapes.{tree_at}
 use Rattle.unroll.specs.Levels.{RanksCount, counted}
-use Rattle.unroll.specs.Measures.{AreSizes}
-use Rattle.step_meaning.specs.Plain.{IsPlain}
-use Rattle.unroll.specs.Plain.{ActionFits}
+use Rattle.control_flow.specs.Measures.{AreSizes}
 use Rattle.unroll.specs.Within.{TellsNumbers}
 
 -- The numbers that stand are those of the longest run, where all runs end with at most so many tests of a loop.
@@ -54,25 +50,6 @@ pub record TellsTree (limit : ℕ) (body : Statements) (label : ℕ) (plan : Pla
   pub numbers : TellsNumbers limit body label plan
   pub small : (sizes : ℕ → ℕ → ℕ) → AreSizes body sizes → size_of plan ≤ sizes limit label
 
--- ---- labels in the order in which they are done
-
--- something holds at each label, at those from n on and those that are done first, at those below n that are done first, and at those that
--- follow
-abbrev pub AtAll : Statements → (ℕ → Type 0) → Type 0
-AtAll body P = (label : ℕ) → label < length (all_labels body) → P label
-
-abbrev pub AtBehind : Statements → ℕ → (ℕ → Type 0) → Type 0
-AtBehind body n P = (label : ℕ) → label < length (all_labels body) → IsBehind body n label → P label
-
-abbrev pub AtFirst : Statements → ℕ → (ℕ → Type 0) → Type 0
-AtFirst body n P = (label : ℕ) → label < n → IsDoneFirst body label → P label
-
-abbrev pub AtNext : Action → (ℕ → Type 0) → Type 0
-AtNext ends P = ⊤
-AtNext (assigns x e next) P = P next
-AtNext (passes next) P = P next
-AtNext (tests head c then_to else_to) P = P then_to × P else_to
-
 -- the tree of the label tells
 abbrev pub TellsAt : ℕ → Statements → List (Plan AffineRank) → ℕ → Type 0
 TellsAt limit body trees label = TellsTree limit body label (tree_at trees label)
@@ -82,8 +59,3 @@ abbrev pub left_by : Bool → ℕ → Option ℕ
 left_by true zero = None
 left_by true (suc limit) = Some limit
 left_by false limit = Some limit
-
--- a plain program whose numbers fit 128 bits
-pub record IsFitting (body : Statements) : Type 0 where
-  pub plain : IsPlain body
-  pub fit : (label : ℕ) → label < length (all_labels body) → ActionFits (action_at body label)

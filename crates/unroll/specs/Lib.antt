@@ -1,10 +1,6 @@
 pub mod Plain
-pub mod Actions
-pub mod Measures
 pub mod Levels
 pub mod Building
 pub mod Refusals
-pub mod Sizing
 pub mod Stopping
-pub mod Growth
 pub mod Within

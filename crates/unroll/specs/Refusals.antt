@@ -2,9 +2,9 @@
 use Rattle.std.specs.Prelude.{ℕ, ◌^◌, ◌<◌, ◌⊎◌, ⊤}
 use Rattle.linear_cons.specs.Exact.{IsOutside}
 use Rattle.step_meaning.specs.Syntax.{Statements}
-use Rattle.unroll.specs.Building.{IsFitting}
-use Rattle.unroll.specs.Growth.{growth_of}
-use Rattle.unroll.specs.Measures.{IsHeavy, IsLight}
+use Rattle.control_flow.specs.Fitting.{IsFitting}
+use Rattle.control_flow.specs.Growth.{growth_of}
+use Rattle.control_flow.specs.Measures.{IsHeavy, IsLight}
 use Rattle.tree_unify.specs.declared.fault.TreeFault.{TreeFault}
 use Rattle.tree_unify.specs.declared.fault.TreeFault.TheVariants.{Full as TooFull, Memory as NoMemory, Wide as TooWide}
 use Rattle.unroll.specs.declared.moving.Refusal.{Refusal}

@@ -5,7 +5,7 @@ use Rattle.linear_cons.specs.Exact.{IsOutside}
 use Rattle.decision_tree.specs.declared.reason.Cause.{Cause}
 use Rattle.decision_tree.specs.declared.reason.Cause.TheVariants.{Given, Nodes, Point, Rows, Wide}
 use Rattle.step_meaning.specs.Syntax.{Statements}
-use Rattle.unroll.specs.Measures.{IsHeavy, IsLight}
+use Rattle.control_flow.specs.Measures.{IsHeavy, IsLight}
 use Rattle.unroll.specs.Refusals.{IsWide}
 use Rattle.unroll.specs.declared.levels.Unrolled.{Unrolled}
 

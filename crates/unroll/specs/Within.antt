@@ -8,7 +8,7 @@ use Rattle.decision_tree.specs.declared.reason.Why.{Why}
 use Rattle.step_meaning.specs.Syntax.{Statements}
 use Rattle.control_flow.specs.Edges.{is_head_by}
 use Rattle.control_flow.specs.Labels.{action_at, all_labels}
-use Rattle.unroll.specs.Growth.{factor_at, growth_of, product_below}
+use Rattle.control_flow.specs.Growth.{factor_at, growth_of, product_below}
 use Rattle.unroll.specs.Levels.{counted}
 
 -- each row of the tree is such, and each reason with its rank

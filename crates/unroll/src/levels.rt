@@ -1,19 +1,20 @@
 //! Levels made in turn.
-ghost use Rattle.std.specs.Prelude.{◌≡◌, ℕ, suc, ◌^◌, ◌<◌, ◌≤◌, IfOk, IfErr, IfSome, IsSome, IsSomeAnd, OnOk, length};
+ghost use Rattle.std.specs.Prelude.{◌≡◌, ℕ, suc, ◌^◌, ◌<◌, ◌≤◌, IfOk, IfErr, IfSome, IsSome, IsSomeAnd, OnErr, OnOk, length};
 ghost use Rattle.step_meaning.specs.Syntax.{Statements, statements};
 ghost use Rattle.control_flow.specs.Labels.{all_labels};
 ghost use Rattle.backward_transfer.specs.AffineShapes.{plans};
-ghost use Rattle.unroll.specs.Building.{AtAll, IsFitting, TellsAt};
+ghost use Rattle.control_flow.specs.Actions.{AtAll};
+ghost use Rattle.control_flow.specs.Fitting.{IsFitting};
+ghost use Rattle.unroll.specs.Building.{TellsAt};
 ghost use Rattle.unroll.specs.Levels.{IsLevel};
 ghost use Rattle.step_meaning.specs.Plain.{IsPlain};
-ghost use Rattle.unroll.specs.Measures.{IsLight, greatest_below};
+ghost use Rattle.control_flow.specs.Measures.{IsHeavy, IsLight};
 ghost use Rattle.unroll.specs.Refusals.{IsNodes, IsRefusalAt};
-ghost use Rattle.unroll.specs.Sizing.{AreLeaves, HasSizes, held_at};
+ghost use Rattle.control_flow.specs.Sizing.{HasSizes};
 ghost use Rattle.unroll.specs.Stopping.{IsCause, IsMade, next_level};
 
-use crate::fitting::check_labels;
 use crate::moving::Refusal;
-use crate::sizes::{first_sizes, greatest, leaves, next_sizes};
+use crate::sizes::{first_sizes, next_sizes};
 use crate::trees::{first_trees, next_trees};
 use control_flow::Graph;
 use decision_tree::{AffineRank, Cause, Family, Tree, TreeList};
@@ -52,9 +53,8 @@ pub fn unroll(alloc: Global, graph: &Graph, tests: u32) -> Result<Unrolled, Allo
     ensures light { IfOk result (λ unrolled. IsSome unrolled.family → (level : ℕ) → level ≤ unrolled.tests → IsLight (statements graph.now.body) level) }
     ensures cause { IfOk result (λ unrolled. IfSome unrolled.stopped (IsCause (statements graph.now.body) (next_level unrolled))) }
 {
-    let leaves = leaves(alloc, graph)?;
-    match first(alloc, graph, &leaves) {
-        Ok(level) => climb(alloc, graph, &leaves, level, tests),
+    match first(alloc, graph) {
+        Ok(level) => climb(alloc, graph, level, tests),
         Err(refusal) => {
             let cause = cause(refusal)?;
             Ok(Unrolled {
@@ -67,15 +67,8 @@ pub fn unroll(alloc: Global, graph: &Graph, tests: u32) -> Result<Unrolled, Allo
 }
 
 /// The level for so many tests, or the last one before it, from level 0 on.
-fn climb(
-    alloc: Global,
-    graph: &Graph,
-    leaves: &[u128],
-    first: Level,
-    tests: u32,
-) -> Result<Unrolled, AllocError>
+fn climb(alloc: Global, graph: &Graph, first: Level, tests: u32) -> Result<Unrolled, AllocError>
     requires fitting { IsFitting (statements graph.now.body) }
-    requires leaves { AreLeaves (statements graph.now.body) leaves.now }
     requires light { IsLight (statements graph.now.body) 0 }
     requires sizes { HasSizes (statements graph.now.body) 0 first.sizes.items }
     requires sizes_count { length first.sizes.items ≡ length (all_labels (statements graph.now.body)) }
@@ -88,7 +81,7 @@ fn climb(
 {
     let mut level = first;
     for made in 0..tests {
-        match next(alloc, graph, leaves, &level) {
+        match next(alloc, graph, &level) {
             Ok(more) => level = more,
             Err(refusal) => {
                 let cause = cause(refusal)?;
@@ -130,9 +123,8 @@ fn cause(refusal: Refusal) -> Result<Cause, AllocError>
 }
 
 /// Level 0.
-fn first(alloc: Global, graph: &Graph, leaves: &[u128]) -> Result<Level, Refusal>
+fn first(alloc: Global, graph: &Graph) -> Result<Level, Refusal>
     requires plain { IsPlain (statements graph.now.body) }
-    requires leaves { AreLeaves (statements graph.now.body) leaves.now }
     ensures tells { IfOk result (λ level. AtAll (statements graph.now.body) (TellsAt 0 (statements graph.now.body) (plans level.trees.items))) }
     ensures sizes { IfOk result (λ level. HasSizes (statements graph.now.body) 0 level.sizes.items) }
     ensures sizes_count { IfOk result (λ level. length level.sizes.items ≡ length (all_labels (statements graph.now.body))) }
@@ -141,9 +133,9 @@ fn first(alloc: Global, graph: &Graph, leaves: &[u128]) -> Result<Level, Refusal
     ensures fitting { OnOk result (IsFitting (statements graph.now.body)) }
     ensures refusal { IfErr result (IsRefusalAt (statements graph.now.body) 0) }
 {
-    let sizes = first_sizes(alloc, graph, leaves)?;
-    check_sizes(&sizes)?;
-    match check_labels(graph) {
+    let sizes = first_sizes(alloc, graph)?;
+    check_sizes(graph, &sizes)?;
+    match graph.check_numbers() {
         Ok(()) => {}
         Err(wide) => return Err(Refusal::Wide(wide)),
     }
@@ -152,9 +144,8 @@ fn first(alloc: Global, graph: &Graph, leaves: &[u128]) -> Result<Level, Refusal
 }
 
 /// The level behind the last one.
-fn next(alloc: Global, graph: &Graph, leaves: &[u128], last: &Level) -> Result<Level, Refusal>
+fn next(alloc: Global, graph: &Graph, last: &Level) -> Result<Level, Refusal>
     requires fitting { IsFitting (statements graph.now.body) }
-    requires leaves { AreLeaves (statements graph.now.body) leaves.now }
     requires sizes_count { length last.now.sizes.items ≡ length (all_labels (statements graph.now.body)) }
     requires count { length last.now.trees.items ≡ length (all_labels (statements graph.now.body)) }
     ensures tells { (tests : ℕ) → AtAll (statements graph.now.body) (TellsAt tests (statements graph.now.body) (plans last.now.trees.items))
@@ -169,19 +160,20 @@ fn next(alloc: Global, graph: &Graph, leaves: &[u128], last: &Level) -> Result<L
         → AtAll (statements graph.now.body) (TellsAt tests (statements graph.now.body) (plans last.now.trees.items))
         → IfErr result (IsRefusalAt (statements graph.now.body) (suc tests)) }
 {
-    let sizes = next_sizes(alloc, graph, leaves, &last.sizes)?;
-    check_sizes(&sizes)?;
+    let sizes = next_sizes(alloc, graph, &last.sizes)?;
+    check_sizes(graph, &sizes)?;
     let trees = next_trees(alloc, graph, &last.trees)?;
     Ok(Level { sizes, trees })
 }
 
 /// No size is above the most nodes.
-fn check_sizes(sizes: &[u128]) -> Result<(), Refusal>
-    ensures light { OnOk result (greatest_below (λ label. held_at sizes.now label) (length sizes.now) ≤ 65536) }
-    ensures heavy { IfErr result (λ refusal. 65536 < greatest_below (λ label. held_at sizes.now label) (length sizes.now)) }
+fn check_sizes(graph: &Graph, sizes: &[u128]) -> Result<(), Refusal>
+    requires { length sizes.now ≡ length (all_labels (statements graph.now.body)) }
+    ensures light { (level : ℕ) → HasSizes (statements graph.now.body) level sizes.now → OnOk result (IsLight (statements graph.now.body) level) }
+    ensures heavy { (level : ℕ) → HasSizes (statements graph.now.body) level sizes.now → OnErr result (IsHeavy (statements graph.now.body) level) }
     ensures nodes { IfErr result IsNodes }
 {
-    let most = greatest(sizes);
+    let most = graph.weight_of(sizes);
     if most > NODES {
         return Err(Refusal::Full {
             count: most.min(u64::MAX as u128) as u64,

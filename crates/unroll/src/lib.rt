@@ -1,19 +1,12 @@
 //! Exact levels: from which stores all runs end with at most so many tests of a loop, and how long the longest one is.
 //!
 //! It stands on `control_flow` for labels, on `decision_tree` for trees and on `backward_transfer` for the trees before a step. The front
-//! door: `unroll`, for plain programs; `specs/Levels` says what its trees tell. `weight` bounds the trees by the
-//! program alone. The `laws` say that there are such sizes.
+//! door: `unroll`, for plain programs; `specs/Levels` says what its trees tell.
 #![tactic(auto)]
 
-mod action;
-mod fitting;
-pub mod laws;
 mod levels;
 mod moving;
-mod numbers;
 mod sizes;
 mod trees;
 
 pub use levels::{Unrolled, unroll};
-pub use numbers::growth;
-pub use sizes::weight;

@@ -6,17 +6,18 @@ ghost use Rattle.decision_tree.specs.declared.reason.Why.TheVariants.{End};
 ghost use Rattle.step_meaning.specs.Syntax.{statements};
 ghost use Rattle.control_flow.specs.Edges.{is_head_by};
 ghost use Rattle.control_flow.specs.Labels.{action_at, all_labels};
-ghost use Rattle.unroll.specs.Building.{AtAll, AtBehind, AtFirst, AtNext, IsFitting, TellsAt, TellsTree, left_by};
-ghost use Rattle.unroll.specs.Growth.{growth_of};
+ghost use Rattle.control_flow.specs.Actions.{AtAll, AtBehind, AtFirst, AtNext};
+ghost use Rattle.control_flow.specs.Fitting.{IsFitting};
+ghost use Rattle.unroll.specs.Building.{TellsAt, TellsTree, left_by};
+ghost use Rattle.control_flow.specs.Growth.{growth_of};
 ghost use Rattle.backward_transfer.specs.AffineShapes.{tree_at, plans};
 ghost use Rattle.unroll.specs.Levels.{counted};
-ghost use Rattle.unroll.specs.Measures.{AreSizes, IsHeavy};
+ghost use Rattle.control_flow.specs.Measures.{AreSizes, IsHeavy};
 ghost use Rattle.unroll.specs.Refusals.{IsRefusal};
 ghost use Rattle.unroll.specs.declared.moving.Refusal.TheVariants.{Full, Wide as TooLarge};
 
-use crate::action::{Action, done_at};
 use crate::moving::{Refusal, assigned, passed, tested};
-use control_flow::Graph;
+use control_flow::{Action, Graph};
 use decision_tree::{AffineRank, Tree, Why};
 use linear_cons::Affine;
 use std::alloc::{AllocError, Global};
@@ -204,7 +205,7 @@ fn tree(
         → result ≡ Err (TooLarge operands) → 2 ^ 100 < growth_of (statements graph.now.body) tests }
     ensures refusal { IfErr result IsRefusal }
 {
-    match done_at(graph, label) {
+    match graph.done_at(label) {
         Action::End => Ok(ended()),
         Action::Assign { place, value, next } => {
             let tree = assigned(alloc, place, value, &behind[next as usize])?;

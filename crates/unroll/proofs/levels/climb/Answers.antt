@@ -5,10 +5,11 @@ use Rattle.decision_tree.specs.declared.affine_rank.AffineRank.{AffineRank}
 use Rattle.decision_tree.specs.declared.family.Family.{Family}
 use Rattle.step_meaning.specs.Syntax.{Statements, statements}
 use Rattle.backward_transfer.specs.AffineShapes.{plans}
-use Rattle.unroll.specs.Building.{AtAll, TellsAt}
+use Rattle.control_flow.specs.Actions.{AtAll}
+use Rattle.unroll.specs.Building.{TellsAt}
 use Rattle.unroll.specs.Levels.{IsLevel}
-use Rattle.unroll.specs.Measures.{IsLight}
-use Rattle.unroll.specs.Sizing.{HasSizes}
+use Rattle.control_flow.specs.Measures.{IsLight}
+use Rattle.control_flow.specs.Sizing.{HasSizes}
 use Rattle.unroll.proofs.LevelSizes.{light_up}
 use Rattle.unroll.proofs.Levelling.{is_level}
 use Rattle.backward_transfer.proofs.Putting.{plans_length}

@@ -2,9 +2,10 @@ use Rattle.std.proofs.Common.{◌≡◌, ℕ, ◌≤◌, length}
 use Rattle.step_meaning.specs.Syntax.{statements}
 use Rattle.control_flow.specs.Labels.{all_labels}
 use Rattle.backward_transfer.specs.AffineShapes.{plans}
-use Rattle.unroll.specs.Building.{AtAll, TellsAt}
-use Rattle.unroll.specs.Measures.{IsLight}
-use Rattle.unroll.specs.Sizing.{HasSizes}
+use Rattle.control_flow.specs.Actions.{AtAll}
+use Rattle.unroll.specs.Building.{TellsAt}
+use Rattle.control_flow.specs.Measures.{IsLight}
+use Rattle.control_flow.specs.Sizing.{HasSizes}
 use Rattle.unroll.proofs.levels.climb.Given as goal
 
 -- the trees of the level so far tell, and its sizes are kept, none of which is large

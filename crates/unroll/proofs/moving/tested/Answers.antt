@@ -9,14 +9,14 @@ use Rattle.step_meaning.specs.Syntax.{Expression, expression}
 use Rattle.unroll.specs.Building.{IsBefore, IsBeforeBoth}
 use Rattle.unroll.specs.Levels.{RanksCount}
 use Rattle.decision_tree.specs.Extent.{ComplementsFit, IsTreeOver}
-use Rattle.unroll.specs.Measures.{anywhere}
+use Rattle.control_flow.specs.Measures.{anywhere}
 use Rattle.backward_transfer.specs.AffineShapes.{CutFits, affine_ranks, cut, same_rank, tested_shape}
 use Rattle.backward_transfer.proofs.Making.{trimmed_size}
 use Rattle.unroll.proofs.LaterSizes.{shape_full, shape_size}
 use Rattle.unroll.proofs.Ranking.{tested_count}
 use Rattle.unroll.proofs.Standing.{both_before, first_before, second_before, trimmed_complements}
 use Rattle.backward_transfer.specs.Tests.{ComplementFits, EnabledFits, TestAsks}
-use Rattle.unroll.specs.Growth.{greatest_of_conjunctions}
+use Rattle.control_flow.specs.Growth.{greatest_of_conjunctions}
 use Rattle.unroll.specs.Plain.{IsFittingTest}
 use Rattle.unroll.specs.Within.{AreWithin, IsNarrow}
 use Rattle.unroll.proofs.GrownLabels.{asked_within}

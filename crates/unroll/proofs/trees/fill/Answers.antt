@@ -1,8 +1,9 @@
 use Rattle.std.proofs.Common.{◌≡◌, suc, ◌-◌, sym, subst, arith}
 use Rattle.step_meaning.specs.Syntax.{statements}
 use Rattle.backward_transfer.specs.AffineShapes.{plans}
-use Rattle.unroll.specs.Building.{AtBehind, TellsAt}
-use Rattle.unroll.proofs.Filling.{all_behind, behind_first}
+use Rattle.control_flow.specs.Actions.{AtBehind}
+use Rattle.unroll.specs.Building.{TellsAt}
+use Rattle.control_flow.proofs.Filling.{all_behind, behind_first}
 use Rattle.unroll.proofs.Passing.{passed_on}
 use Rattle.unroll.proofs.trees.fill.Goals as goal
 

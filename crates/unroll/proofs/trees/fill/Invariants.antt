@@ -2,7 +2,8 @@ use Rattle.std.proofs.Common.{◌≡◌, ℕ, length}
 use Rattle.step_meaning.specs.Syntax.{statements}
 use Rattle.control_flow.specs.Labels.{all_labels}
 use Rattle.backward_transfer.specs.AffineShapes.{plans}
-use Rattle.unroll.specs.Building.{AtBehind, AtFirst, TellsAt}
+use Rattle.control_flow.specs.Actions.{AtBehind, AtFirst}
+use Rattle.unroll.specs.Building.{TellsAt}
 use Rattle.unroll.proofs.trees.fill.Given as goal
 
 -- the trees from the label on tell

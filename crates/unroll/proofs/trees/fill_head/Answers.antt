@@ -5,7 +5,7 @@ use Rattle.control_flow.specs.Labels.{action_at}
 use Rattle.backward_transfer.specs.AffineShapes.{plans}
 use Rattle.unroll.specs.Building.{TellsAt, left_by}
 use Rattle.unroll.proofs.LevelSizes.{heavy_at}
-use Rattle.unroll.proofs.Filling.{all_next, skip_first}
+use Rattle.control_flow.proofs.Filling.{all_next, skip_first}
 use Rattle.unroll.proofs.Levelling.{tree_first}
 use Rattle.unroll.proofs.Passing.{passed_on}
 use Rattle.unroll.proofs.trees.fill_head.Goals as goal

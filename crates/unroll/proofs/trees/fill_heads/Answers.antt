@@ -1,7 +1,8 @@
 use Rattle.std.proofs.Common.{◌≡◌, suc, ◌+◌, subst, arith}
 use Rattle.step_meaning.specs.Syntax.{statements}
 use Rattle.backward_transfer.specs.AffineShapes.{plans}
-use Rattle.unroll.specs.Building.{AtFirst, TellsAt}
+use Rattle.control_flow.specs.Actions.{AtFirst}
+use Rattle.unroll.specs.Building.{TellsAt}
 use Rattle.unroll.proofs.Passing.{passed_on}
 use Rattle.unroll.proofs.trees.fill_heads.Goals as goal
 

@@ -2,7 +2,8 @@ use Rattle.std.proofs.Common.{◌≡◌, ℕ, suc, length}
 use Rattle.step_meaning.specs.Syntax.{statements}
 use Rattle.control_flow.specs.Labels.{all_labels}
 use Rattle.backward_transfer.specs.AffineShapes.{plans}
-use Rattle.unroll.specs.Building.{AtAll, AtFirst, TellsAt}
+use Rattle.control_flow.specs.Actions.{AtAll, AtFirst}
+use Rattle.unroll.specs.Building.{TellsAt}
 use Rattle.unroll.proofs.trees.fill_heads.Given as goal
 
 -- the trees of the tests of loops so far tell

@@ -5,7 +5,7 @@ use Rattle.control_flow.specs.Labels.{action_at}
 use Rattle.backward_transfer.specs.AffineShapes.{plans}
 use Rattle.unroll.specs.Building.{TellsAt, left_by}
 use Rattle.unroll.proofs.LevelSizes.{heavy_at}
-use Rattle.unroll.proofs.Filling.{behind_next, skip_behind}
+use Rattle.control_flow.proofs.Filling.{behind_next, skip_behind}
 use Rattle.unroll.proofs.Levelling.{tree_behind}
 use Rattle.unroll.proofs.Passing.{passed_on}
 use Rattle.unroll.proofs.trees.fill_one.Goals as goal

@@ -1,7 +1,8 @@
 use Rattle.std.proofs.Common.{◌≡◌, length, sym, ap, subst, ◌∙◌, arith}
 use Rattle.step_meaning.specs.Syntax.{statements}
 use Rattle.backward_transfer.specs.AffineShapes.{plans}
-use Rattle.unroll.specs.Building.{AtAll, TellsAt}
+use Rattle.control_flow.specs.Actions.{AtAll}
+use Rattle.unroll.specs.Building.{TellsAt}
 use Rattle.unroll.proofs.Filling.{unclaimed_first}
 use Rattle.backward_transfer.proofs.Putting.{written_back}
 use Rattle.unroll.proofs.Passing.{passed_on}

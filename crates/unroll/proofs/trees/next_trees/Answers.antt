@@ -2,7 +2,8 @@ use Rattle.std.proofs.Common.{◌≡◌, suc, length, sym, ap, subst, ◌∙◌}
 use Rattle.step_meaning.specs.Syntax.{statements}
 use Rattle.control_flow.specs.Labels.{all_labels}
 use Rattle.backward_transfer.specs.AffineShapes.{plans}
-use Rattle.unroll.specs.Building.{AtAll, AtFirst, TellsAt}
+use Rattle.control_flow.specs.Actions.{AtAll, AtFirst}
+use Rattle.unroll.specs.Building.{TellsAt}
 use Rattle.unroll.proofs.Filling.{end_first}
 use Rattle.backward_transfer.proofs.Putting.{written_back}
 use Rattle.unroll.proofs.Passing.{passed_on}

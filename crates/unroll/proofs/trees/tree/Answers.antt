@@ -7,14 +7,15 @@ use Rattle.step_meaning.specs.Syntax.{expression, statements}
 use Rattle.unroll.specs.Building.{IsBefore, IsBeforeBoth}
 use Rattle.backward_transfer.specs.AffineShapes.{tree_at, plans}
 use Rattle.unroll.specs.Levels.{RanksCount}
-use Rattle.unroll.specs.Measures.{size_of_test}
+use Rattle.control_flow.specs.Measures.{size_of_test}
 use Rattle.unroll.proofs.Passing.{passed_on}
 use Rattle.backward_transfer.proofs.Putting.{plan_at}
 use Rattle.decision_tree.specs.Extent.{IsTreeOver}
-use Rattle.unroll.proofs.Treeing.{assigned_full, assigned_ranks_behind, assigned_tells, assigned_variables, is_assigned, is_passed, is_tested, never_ends, passed_full, passed_ranks_behind, passed_tells, passed_variables, numbers_behind, tested_fits, tested_full, tested_ranks_behind, tested_tells, tested_variables}
+use Rattle.unroll.proofs.Treeing.{assigned_full, assigned_ranks_behind, assigned_tells, assigned_variables, never_ends, passed_full, passed_ranks_behind, passed_tells, passed_variables, numbers_behind, tested_fits, tested_full, tested_ranks_behind, tested_tells, tested_variables}
+use Rattle.control_flow.proofs.PlainActions.{is_assigned, is_passed, is_tested}
 use Rattle.step_meaning.specs.AffineExpressions.{ExpressionFits}
 use Rattle.linear_cons.specs.Sizes.{total_size}
-use Rattle.unroll.specs.Plain.{ActionFits}
+use Rattle.control_flow.specs.Fitting.{ActionFits}
 use Rattle.unroll.specs.Within.{AreWithin}
 use Rattle.unroll.proofs.GrownLabels.{assigned_numbers, assigned_wide, passed_numbers, passed_wide, tested_numbers, tested_wide}
 use Rattle.unroll.proofs.trees.tree.Goals as goal

@@ -1,5 +1,0 @@
-use Rattle.unroll.proofs.Existing.{only_ones, sizes_in, there_are}
-use Rattle.unroll.proofs.laws.there_are_sizes.Goals as goal
-
-pub returns : goal.returns
-returns c = record { some = λ body. (sizes_in body, there_are body); only = only_ones }

@@ -1,7 +1,0 @@
-use Rattle.std.proofs.Common.{◌≡◌, ℕ, ◌+◌, ◌^◌}
-use Rattle.unroll.specs.Sizing.{held}
-use Rattle.unroll.proofs.numbers.power.Given as goal
-
--- the power so far
-abbrev pub invariant-loop : goal.invariant-loop
-invariant-loop l = (n : ℕ) → l.base ≡ held n → l.power ≡ held (n ^ (l.counter + 1))
