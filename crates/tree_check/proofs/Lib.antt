@@ -1,7 +1,9 @@
 pub mod Surveying
 pub mod Settling
+pub mod Renewing
 pub mod Collecting
+pub mod Telling
+pub mod Narrowing
 pub mod Sparing
 pub mod Reading
-pub mod Marking
 pub mod Counting

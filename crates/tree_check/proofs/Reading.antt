@@ -1,5 +1,5 @@
--- What the systems of a label read of a family: its tree at the label, and those at the targets of the label's arcs.
-use Rattle.std.proofs.Common.{◌≡◌, ◌≢◌, ◌⊎◌, inl, inr, ℕ, zero, suc, ◌<◌, ◌==◌, Bool, true, false, if◌then◌else◌, List, [], ◌∷◌, slice_index_or, All, Contains, Option, None, refl, sym, ap, subst, ◌∙◌, arith}
+-- The targets of arcs are those of edges.
+use Rattle.std.proofs.Common.{◌≡◌, ◌≢◌, ◌⊎◌, inl, inr, ℕ, zero, suc, ◌==◌, Bool, true, false, if◌then◌else◌, List, [], ◌∷◌, slice_index_or, Contains, Option, None, refl, sym, ap, ◌∙◌, arith}
 use Rattle.std.proofs.lemmas.Bool.{eqb-false}
 use Rattle.std.proofs.lemmas.List.Elements.{Contains-append_cases}
 use Rattle.linear_cons.specs.declared.affine.Affine.{Affine}
@@ -11,37 +11,9 @@ use Rattle.linear_forms.specs.Linearising.{is_exact, linear_of}
 use Rattle.linear_forms.specs.Spreading.{spread_of}
 use Rattle.control_flow.specs.Edges.{edges_from}
 use Rattle.control_flow.specs.Labels.{Action, ends, assigns, passes, tests}
-use Rattle.decision_tree.specs.declared.rank.Rank.{Ghosts as Ranks}
-use Rattle.decision_tree.specs.Paths.{leaf_numbered}
-use Rattle.decision_tree.specs.Plans.{Plan, leaves_of}
 use Rattle.tree_support.specs.Flow.{Arc, arcs_by, arcs_of_outcome, arcs_putting, assigning, testing}
-use Rattle.tree_support.specs.Setting.{Setting, Trees}
-use Rattle.tree_support.specs.Support.{HasNoStore}
-use Rattle.tree_support.specs.Systems.{System, of_leaf, region}
-use Rattle.tree_support.proofs.Readers.{IsSameAhead, leaf_same}
 use Rattle.arc_search.specs.Moves.{target_of}
-use Rattle.tree_check.specs.Rounds.{Avoid, IsSupportedAt}
-
-module _ {R : Type 0} (ranks : Ranks R) (at : Setting R) (old new : Trees R) where
-  either_same : (dead : Bool) (first second : List (System R)) → first ≡ second → (if dead then [] else first) ≡ (if dead then [] else second)
-  either_same true first second same = refl
-  either_same false first second same = same
-
-  pub still_supported : (label : ℕ) → new label ≡ old label → IsSameAhead at old new label → IsSupportedAt ranks at old label
-      → IsSupportedAt ranks at new label
-  still_supported label here same supported =
-      subst
-      (λ (plan : Plan R). (place : ℕ) → place < leaves_of plan → All (HasNoStore ranks) (if at.dead label then [] else of_leaf at (leaf_numbered plan place) new label (region at plan label place)))
-      (sym here)
-      (λ place low.
-      subst (All (HasNoStore ranks))
-      (sym (either_same (at.dead label)
-      (of_leaf at (leaf_numbered (old label) place) new label (region at (old label) label place))
-      (of_leaf at (leaf_numbered (old label) place) old label (region at (old label) label place))
-      (leaf_same at old new (leaf_numbered (old label) place) label (region at (old label) label place) same)))
-      (supported place low))
-
--- ---- the targets of arcs are those of edges
+use Rattle.tree_check.specs.Rounds.{Avoid}
 
 -- the edge of a number
 abbrev pub edge_to : List (Option Edge) → ℕ → ℕ

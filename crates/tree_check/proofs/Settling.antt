@@ -10,7 +10,7 @@ use Rattle.linear_cons.specs.declared.row.Row.{Row}
 use Rattle.decision_tree.specs.declared.rank.Rank.{Ghosts as Ranks}
 use Rattle.decision_tree.specs.declared.reason.Cause.{Cause}
 use Rattle.decision_tree.specs.declared.tree.Tree.{Tree}
-use Rattle.decision_tree.specs.Paths.{leaf_numbered, with_leaf}
+use Rattle.decision_tree.specs.Paths.{leaf_numbered, path_of, with_leaf}
 use Rattle.decision_tree.specs.Plans.{Plan, bottom, branch, is_defined, leaf, leaves_of, plan_of, top}
 use Rattle.tree_support.specs.declared.dropped.Dropped.{Dropped}
 use Rattle.tree_support.specs.Elimination.{Eliminates, cause_of, without_dropped}
@@ -21,8 +21,10 @@ use Rattle.tree_support.specs.Systems.{System, of_leaf, region, systems}
 use Rattle.tree_support.proofs.Dropping.{changes, same_counts}
 use Rattle.tree_check.specs.Checking.{WasCutShort}
 use Rattle.tree_check.specs.declared.survey.Refuted.{Refuted}
+use Rattle.tree_check.specs.declared.survey.Span.{Span}
 use Rattle.tree_check.specs.Rounds.{Advances, IsSupportedAt, defined_in, defined_of, dropped_by, without_refuted}
 use Rattle.rows_in_hand.specs.Searches.{Finds}
+use Rattle.tree_check.proofs.Surveying.{not_beyond}
 use Rattle.tree_check.specs.Surveys.{IsAside, IsFirst, IsFound, IsReviewed}
 
 module _ {R : Type 0} where
@@ -50,6 +52,10 @@ module _ {R : Type 0} where
   plan_at [] label tree low = absurd (omega arith)
   plan_at (first ∷ trees) zero tree low = refl
   plan_at (first ∷ trees) (suc label) tree low = plan_at trees label tree (omega (arith, low))
+
+  pub plan_got : (trees : List (Tree R)) (label : ℕ) (tree : Tree R) → label < length trees → tree ≡ get_or trees label tree
+      → plan_of tree ≡ trees_in (map plan_of trees) label
+  plan_got trees label tree low is = ap plan_of is ∙ plan_at trees label tree low
 
   pub plans_given : (trees : List (Tree R)) (label : ℕ) (refuted : Refuted) (was tree : Tree R) (cause : Cause) → label < length trees
       → cause ≡ cause_of refuted.finding.reason → plan_of tree ≡ with_leaf (plan_of (get_or trees label was)) refuted.leaf (top cause)
@@ -197,14 +203,15 @@ module _ {R : Type 0} (ranks : Ranks R) (at : Setting R) where
   supported_from_start family label first start reviewed = λ place low. reviewed place low (omega (arith, start))
 
   -- the first of the leaves that a survey found, which stopped there
-  pub first_some : (family : Trees R) (label first : ℕ) (collects : Bool) (found : List Refuted) (refuted : Refuted) → 0 < length found
-      → refuted ≡ get_or found 0 refuted → IsReviewed ranks at family label first collects found → IsFirst ranks at family label first (Some refuted)
-  first_some family label first collects found refuted low is reviewed = subst (IsFound ranks at family label) (sym is) (reviewed.each 0 refuted low)
+  pub first_some : (family : Trees R) (label : ℕ) (span : Span) (within : List Formed) (found : List Refuted) (refuted : Refuted) → 0 < length found
+      → refuted ≡ get_or found 0 refuted → IsReviewed ranks at family label span within found → IsFirst ranks at family label span.first (Some refuted)
+  first_some family label span within found refuted low is reviewed = subst (IsFound ranks at family label) (sym is) (reviewed.each 0 refuted low)
 
-  pub first_none : (family : Trees R) (label first : ℕ) (collects : Bool) (found : List Refuted) → found ≡ []
-      → IsReviewed ranks at family label first collects found → IsFirst ranks at family label first None
-  first_none family label first collects found none reviewed = λ place low from.
-      reviewed.others (inr none) place low from (subst (All (IsAside place)) (sym none) (All-nil (IsAside place)))
+  pub first_none : (family : Trees R) (label : ℕ) (span : Span) (within : List Formed) (found : List Refuted) → found ≡ [] → span.narrows ≡ false
+      → IsReviewed ranks at family label span within found → IsFirst ranks at family label span.first None
+  first_none family label span within found none whole reviewed = λ place low from.
+      not_beyond span.narrows within (path_of (family label) place) whole
+      (reviewed.others (inr none) place low from (subst (All (IsAside place)) (sym none) (All-nil (IsAside place))))
 
   -- ---- the labels
 

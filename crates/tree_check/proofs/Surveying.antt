@@ -1,11 +1,12 @@
 -- The leaves of a label's tree, one after the other.
-use Rattle.std.proofs.Common.{◌≡◌, ◌≢◌, ℕ, zero, suc, ◌+◌, ◌-◌, ◌<◌, ◌≤◌, inl, inr, Bool, true, false, nat_lt, List, [], ◌∷◌, ◌++◌, length, map, get_or, All, AllPairs, Option, None, refl, sym, ap, subst, ◌∙◌, arith}
+use Rattle.std.proofs.Common.{◌≡◌, ◌≢◌, ◌⊎◌, ℕ, zero, suc, ◌+◌, ◌-◌, ◌<◌, ◌≤◌, inl, inr, Bool, true, false, nat_lt, List, [], ◌∷◌, ◌++◌, length, map, get_or, All, AllPairs, Option, None, refl, sym, ap, subst, ◌∙◌, arith}
 use Rattle.std.proofs.lemmas.Bool.{cases_lt, le-ltb, lt-ltb}
 use Rattle.std.proofs.lemmas.List.{append_assoc, append-nil, length-append, nil_from_length}
 use Rattle.std.proofs.lemmas.List.Elements.{All-append, All-nil, All-tail, All-weaker}
 use Rattle.std.proofs.lemmas.List.Kept.{AllPairs-cons}
 use Rattle.std.proofs.lemmas.Simd.{map-map}
 use Rattle.linear_cons.specs.Functions.{complement_of}
+use Rattle.linear_cons.specs.declared.affine.Affine.{Affine}
 use Rattle.linear_cons.specs.declared.exact.Wide.{Wide}
 use Rattle.linear_cons.specs.declared.row.Row.{Row}
 use Rattle.linear_cons.specs.Rows.{MeetsKind}
@@ -23,7 +24,8 @@ use Rattle.rows_in_hand.specs.declared.finding.Finding.{Finding}
 use Rattle.rows_in_hand.specs.Hands.{Held, IsMetNowhere, all_asked, asked, kind_of}
 use Rattle.rows_in_hand.specs.Searches.{Finds}
 use Rattle.tree_check.specs.declared.survey.Refuted.{Refuted}
-use Rattle.tree_check.specs.Surveys.{AreApart, IsAside, IsFound, IsFoundWithin, IsReviewed, IsSurveyed, LooksOn, systems_within}
+use Rattle.tree_check.specs.declared.survey.Span.{Span}
+use Rattle.tree_check.specs.Surveys.{AreApart, IsAside, IsFound, IsFoundWithin, IsReviewed, IsBeyond, IsSurveyed, LooksOn, systems_within}
 use Rattle.tree_support.proofs.Lists.{all_first, all_left, all_one, all_right}
 use Rattle.arc_search.specs.Walks.{side_of}
 use Rattle.tree_support.proofs.Nowhere.{leaf_nowhere}
@@ -49,10 +51,22 @@ module _ {X : Type 0} (Rel : X → X → Type 0) where
       (pairs_append xs ys (pairs_rest x xs first) second (All-tail (λ z. All (Rel z) ys) x xs across))
 
 -- a survey that goes on behind more went on before
-pub looked_on : (collects : Bool) (now more new : List Refuted) → new ≡ now ++ more → LooksOn collects new → LooksOn collects now
-looked_on collects now more new is (inl all) = inl all
-looked_on collects now more new is (inr none) =
+looked_on : (span : Span) (now more new : List Refuted) → new ≡ now ++ more → LooksOn span new → LooksOn span now
+looked_on span now more new is (inl all) = inl all
+looked_on span now more new is (inr none) =
     inr (nil_from_length now (let count = sym (length-append now more) ∙ ap length (sym is ∙ none) in omega (arith, count)))
+
+-- a row of the path may be asked within as well
+beyond_more : (narrows : Bool) (within : List Formed) (a : Affine) (path : List Affine) → IsBeyond narrows (within ++ given a ∷ []) path
+    → IsBeyond narrows within (a ∷ path)
+beyond_more false within a path beyond = beyond
+beyond_more true within a path beyond =
+    subst (λ asks. IsMetNowhere (all_asked asks)) (append_assoc within (given a ∷ []) (map (λ b. given b) path)) beyond
+
+-- one that isn't narrowed looks at all leaves
+pub not_beyond : {P : Type 0} (narrows : Bool) (within : List Formed) (path : List Affine) → narrows ≡ false → P ⊎ IsBeyond narrows within path → P
+not_beyond narrows within path whole (inl holds) = holds
+not_beyond narrows within path whole (inr beyond) = absurd (subst (λ t. IsBeyond t within path) whole beyond)
 
 -- a leaf of the second side is another than one of the first
 further : (earlier later : Refuted) (passed mid count : ℕ) → mid ≡ passed + count → (near : ℕ) → earlier.leaf ≡ passed + near → near < count
@@ -106,27 +120,53 @@ module _ {R : Type 0} (ranks : Ranks R) where
           (on_second row this that asks found.0) found.3,
     )
 
+    -- ---- what a survey doesn't look at
+
+    -- no store meets a system of the leaf, or a narrowed survey doesn't look there
+    abbrev Clear : Span → Plan R → List Formed → List Formed → ℕ → Type 0
+    Clear span plan asks within place =
+        All (HasNoStore ranks) (systems_within ranks at family label plan asks place) ⊎ IsBeyond span.narrows within (path_of plan place)
+
+    clear_first : (span : Span) (row : Row) (this that : Plan R) (asks within : List Formed) (place : ℕ) → place < leaves_of this
+        → Clear span this (asks ++ given row.affine ∷ []) (within ++ given row.affine ∷ []) place → Clear span (branch row this that) asks within place
+    clear_first span row this that asks within place low (inl none) =
+        inl (moved_none (systems_within ranks at family label this (asks ++ given row.affine ∷ []) place)
+        (systems_within ranks at family label (branch row this that) asks place) (on_first row this that asks place low) none)
+    clear_first span row this that asks within place low (inr beyond) =
+        let lower : nat_lt place (leaves_of this) ≡ true = lt-ltb place (leaves_of this) low in
+        inr (rw lower (beyond_more span.narrows within row.affine (path_of this place) beyond))
+
+    clear_second : (span : Span) (row : Row) (this that : Plan R) (asks within : List Formed) (place : ℕ)
+        → Clear span that (asks ++ given (complement_of row.affine) ∷ []) (within ++ given (complement_of row.affine) ∷ []) place
+        → Clear span (branch row this that) asks within (leaves_of this + place)
+    clear_second span row this that asks within place (inl none) =
+        inl (moved_none (systems_within ranks at family label that (asks ++ given (complement_of row.affine) ∷ []) place)
+        (systems_within ranks at family label (branch row this that) asks (leaves_of this + place)) (on_second row this that asks place) none)
+    clear_second span row this that asks within place (inr beyond) =
+        let higher : nat_lt (leaves_of this + place) (leaves_of this) ≡ false = le-ltb (leaves_of this + place) (leaves_of this) (omega arith) in
+        let rest : (leaves_of this + place) - leaves_of this ≡ place = omega arith in
+        inr (rw (higher, rest) (beyond_more span.narrows within (complement_of row.affine) (path_of that place) beyond))
+
     -- ---- what a survey finds
 
-    surveyed_none : (first : ℕ) (collects : Bool) (plan : Plan R) (asks : List Formed) (passed : ℕ) (old : List Refuted)
-        → (LooksOn collects old → (place : ℕ) → place < leaves_of plan → first ≤ passed + place
-        → All (HasNoStore ranks) (systems_within ranks at family label plan asks place))
-        → IsSurveyed ranks at family label first collects plan asks passed old old
-    surveyed_none first collects plan asks passed old none = record {
+    surveyed_none : (span : Span) (plan : Plan R) (asks within : List Formed) (passed : ℕ) (old : List Refuted)
+        → (LooksOn span old → (place : ℕ) → place < leaves_of plan → span.first ≤ passed + place → Clear span plan asks within place)
+        → IsSurveyed ranks at family label span plan asks within passed old old
+    surveyed_none span plan asks within passed old clear = record {
       more = [];
       listed = sym (append-nil old);
       each = All-nil (IsFoundWithin ranks at family label plan asks passed);
       apart = no_pairs (λ earlier later. later.leaf ≢ earlier.leaf);
-      others = λ looks place low from aside. none looks place low from;
+      others = λ looks place low from aside. clear looks place low from;
     }
 
     -- of a branch's leaves those of both sides
-    pub surveyed_both : (first : ℕ) (collects : Bool) (row : Row) (this that : Plan R) (asks : List Formed) (passed mid : ℕ) (old now new : List Refuted)
+    pub surveyed_both : (span : Span) (row : Row) (this that : Plan R) (asks within : List Formed) (passed mid : ℕ) (old now new : List Refuted)
         → mid ≡ passed + leaves_of this
-        → IsSurveyed ranks at family label first collects this (asks ++ given (side_of row.affine true) ∷ []) passed old now
-        → IsSurveyed ranks at family label first collects that (asks ++ given (side_of row.affine false) ∷ []) mid now new
-        → IsSurveyed ranks at family label first collects (branch row this that) asks passed old new
-    surveyed_both first collects row this that asks passed mid old now new count near far =
+        → IsSurveyed ranks at family label span this (asks ++ given (side_of row.affine true) ∷ []) (within ++ given (side_of row.affine true) ∷ []) passed old now
+        → IsSurveyed ranks at family label span that (asks ++ given (side_of row.affine false) ∷ []) (within ++ given (side_of row.affine false) ∷ []) mid now new
+        → IsSurveyed ranks at family label span (branch row this that) asks within passed old new
+    surveyed_both span row this that asks within passed mid old now new count near far =
         let asks_near : List Formed = asks ++ given row.affine ∷ [] in
         let asks_far : List Formed = asks ++ given (complement_of row.affine) ∷ [] in
         let Near : Refuted → Type 0 = IsFoundWithin ranks at family label this asks_near passed in
@@ -144,16 +184,13 @@ module _ {R : Type 0} (ranks : Ranks R) where
               near.more near.each);
           others = λ looks place low from aside. elim (cases_lt place (leaves_of this)) [
             | inl here ↦
-                moved_none (systems_within ranks at family label this asks_near place) (systems_within ranks at family label (branch row this that) asks place)
-                (on_first row this that asks place here)
-                (near.others (looked_on collects now far.more new far.listed looks) place here from (all_left (IsAside (passed + place)) near.more far.more aside))
+                clear_first span row this that asks within place here
+                (near.others (looked_on span now far.more new far.listed looks) place here from (all_left (IsAside (passed + place)) near.more far.more aside))
             | inr there ↦
                 let behind : leaves_of this + (place - leaves_of this) ≡ place = omega (arith, there) in
                 let number : passed + place ≡ mid + (place - leaves_of this) = omega (arith, there, count) in
-                subst (λ p. All (HasNoStore ranks) (systems_within ranks at family label (branch row this that) asks p)) behind
-                (moved_none (systems_within ranks at family label that asks_far (place - leaves_of this))
-                (systems_within ranks at family label (branch row this that) asks (leaves_of this + (place - leaves_of this)))
-                (on_second row this that asks (place - leaves_of this))
+                subst (Clear span (branch row this that) asks within) behind
+                (clear_second span row this that asks within (place - leaves_of this)
                 (far.others looks (place - leaves_of this) (omega (arith, low, there)) (omega (arith, from, number))
                 (subst (λ n. All (IsAside n) far.more) number (all_right (IsAside (passed + place)) near.more far.more aside))))
           ];
@@ -161,25 +198,25 @@ module _ {R : Type 0} (ranks : Ranks R) where
 
     -- ---- one leaf
 
-    pub surveyed_undefined : (first : ℕ) (collects : Bool) (end : Plan R) (asks : List Formed) (passed : ℕ) (old : List Refuted) → leaves_of end ≡ 1
+    pub surveyed_undefined : (span : Span) (end : Plan R) (asks within : List Formed) (passed : ℕ) (old : List Refuted) → leaves_of end ≡ 1
         → All (HasNoStore ranks) (of_leaf at (leaf_numbered end 0) family label (asks ++ map (λ a. given a) (path_of end 0)))
-        → IsSurveyed ranks at family label first collects end asks passed old old
-    surveyed_undefined first collects end asks passed old one none =
-        surveyed_none first collects end asks passed old (λ looks place low from.
+        → IsSurveyed ranks at family label span end asks within passed old old
+    surveyed_undefined span end asks within passed old one none =
+        surveyed_none span end asks within passed old (λ looks place low from.
         let is : place ≡ 0 = omega (arith, low, one) in
-        subst (λ p. All (HasNoStore ranks) (systems_within ranks at family label end asks p)) (sym is) none)
+        inl (subst (λ p. All (HasNoStore ranks) (systems_within ranks at family label end asks p)) (sym is) none))
 
-    pub surveyed_leaf : (first : ℕ) (collects : Bool) (why : Why) (rank : R) (asks : List Formed) (passed : ℕ) (old : List Refuted)
+    pub surveyed_leaf : (span : Span) (why : Why) (rank : R) (asks within : List Formed) (passed : ℕ) (old : List Refuted)
         → All (HasNoStore ranks) (of_leaf at (leaf why rank) family label asks)
-        → IsSurveyed ranks at family label first collects (leaf why rank) asks passed old old
-    surveyed_leaf first collects why rank asks passed old none =
-        surveyed_undefined first collects (leaf why rank) asks passed old refl
+        → IsSurveyed ranks at family label span (leaf why rank) asks within passed old old
+    surveyed_leaf span why rank asks within passed old none =
+        surveyed_undefined span (leaf why rank) asks within passed old refl
         (subst (λ all. All (HasNoStore ranks) (of_leaf at (leaf why rank) family label all)) (sym (append-nil asks)) none)
 
-    pub surveyed_refuted : (first : ℕ) (collects : Bool) (why : Why) (rank : R) (asks : List Formed) (passed : ℕ) (old new : List Refuted) (f : Finding)
+    pub surveyed_refuted : (span : Span) (why : Why) (rank : R) (asks within : List Formed) (passed : ℕ) (old new : List Refuted) (f : Finding)
         → new ≡ old ++ record { leaf = passed; finding = f } ∷ [] → Finds ranks (of_leaf at (leaf why rank) family label asks) f
-        → IsSurveyed ranks at family label first collects (leaf why rank) asks passed old new
-    surveyed_refuted first collects why rank asks passed old new f is finds =
+        → IsSurveyed ranks at family label span (leaf why rank) asks within passed old new
+    surveyed_refuted span why rank asks within passed old new f is finds =
         let found : Refuted = record { leaf = passed; finding = f } in
         record {
           more = found ∷ [];
@@ -191,20 +228,37 @@ module _ {R : Type 0} (ranks : Ranks R) where
               absurd (all_first (IsAside (passed + place)) found [] aside (let is : place ≡ 0 = omega (arith, low) in omega (arith, is)));
         }
 
-    pub surveyed_before : (first : ℕ) (collects : Bool) (plan : Plan R) (asks : List Formed) (passed : ℕ) (old : List Refuted)
-        → (LooksOn collects old → passed + leaves_of plan ≤ first) → IsSurveyed ranks at family label first collects plan asks passed old old
-    surveyed_before first collects plan asks passed old before =
-        surveyed_none first collects plan asks passed old
+    pub surveyed_before : (span : Span) (plan : Plan R) (asks within : List Formed) (passed : ℕ) (old : List Refuted)
+        → (LooksOn span old → passed + leaves_of plan ≤ span.first) → IsSurveyed ranks at family label span plan asks within passed old old
+    surveyed_before span plan asks within passed old before =
+        surveyed_none span plan asks within passed old
         (λ looks place low from. absurd (let all = before looks in omega (arith, all, low, from)))
 
     -- behind what is met nowhere no leaf has a system with a store
-    pub surveyed_nowhere : (first : ℕ) (collects : Bool) (plan : Plan R) (asks : List Formed) (passed : ℕ) (old : List Refuted)
-        → IsMetNowhere (all_asked asks) → IsSurveyed ranks at family label first collects plan asks passed old old
-    surveyed_nowhere first collects plan asks passed old none = surveyed_none first collects plan asks passed old (λ looks place low from.
+    pub surveyed_nowhere : (span : Span) (plan : Plan R) (asks within : List Formed) (passed : ℕ) (old : List Refuted)
+        → IsMetNowhere (all_asked asks) → IsSurveyed ranks at family label span plan asks within passed old old
+    surveyed_nowhere span plan asks within passed old none = surveyed_none span plan asks within passed old (λ looks place low from.
         let more : List Formed = asks ++ map (λ a. given a) (path_of plan place) in
-        leaf_nowhere ranks at (leaf_numbered plan place) family label more (λ store met.
+        inl (leaf_nowhere ranks at (leaf_numbered plan place) family label more (λ store met.
         nowhere_more asks (map (λ a. given a) (path_of plan place)) none store
-        (subst (All (λ kind. MeetsKind store kind)) (sym (map-map kind_of (λ a. asked a) more)) met)))
+        (subst (All (λ kind. MeetsKind store kind)) (sym (map-map kind_of (λ a. asked a) more)) met))))
+
+    -- a narrowed survey doesn't look behind what is met nowhere within
+    pub surveyed_beyond : (span : Span) (plan : Plan R) (asks within : List Formed) (passed : ℕ) (old : List Refuted) → span.narrows ≡ true
+        → IsMetNowhere (all_asked within) → IsSurveyed ranks at family label span plan asks within passed old old
+    surveyed_beyond span plan asks within passed old narrows none = surveyed_none span plan asks within passed old (λ looks place low from.
+        inr (subst (λ t. IsBeyond t within (path_of plan place)) (sym narrows) (nowhere_more within (map (λ a. given a) (path_of plan place)) none)))
+
+    -- what is asked within is nothing to one that isn't narrowed
+    pub surveyed_wholly : (span : Span) (plan : Plan R) (asks within other : List Formed) (passed : ℕ) (old new : List Refuted) → span.narrows ≡ false
+        → IsSurveyed ranks at family label span plan asks within passed old new → IsSurveyed ranks at family label span plan asks other passed old new
+    surveyed_wholly span plan asks within other passed old new whole surveyed = record {
+      more = surveyed.more;
+      listed = surveyed.listed;
+      each = surveyed.each;
+      apart = surveyed.apart;
+      others = λ looks place low from aside. inl (not_beyond span.narrows within (path_of plan place) whole (surveyed.others looks place low from aside));
+    }
 
     -- ---- the label's own tree
 
@@ -222,10 +276,17 @@ module _ {R : Type 0} (ranks : Ranks R) where
               (systems_are alive within.0) within.3,
         )
 
-    pub reviewed : (first : ℕ) (collects : Bool) (refuted : List Refuted) → at.dead label ≡ false
-        → IsSurveyed ranks at family label first collects (family label) (rows_given (at.rows label)) 0 [] refuted
-        → IsReviewed ranks at family label first collects refuted
-    reviewed first collects refuted alive surveyed = record {
+    clear_is : at.dead label ≡ false → (span : Span) (within : List Formed) (place : ℕ) → Clear span (family label) (rows_given (at.rows label)) within place
+        → All (HasNoStore ranks) (systems at family label place) ⊎ IsBeyond span.narrows within (path_of (family label) place)
+    clear_is alive span within place (inl none) =
+        inl (moved_none (systems_within ranks at family label (family label) (rows_given (at.rows label)) place) (systems at family label place)
+        (systems_are alive place) none)
+    clear_is alive span within place (inr beyond) = inr beyond
+
+    pub reviewed : (span : Span) (within : List Formed) (refuted : List Refuted) → at.dead label ≡ false
+        → IsSurveyed ranks at family label span (family label) (rows_given (at.rows label)) within 0 [] refuted
+        → IsReviewed ranks at family label span within refuted
+    reviewed span within refuted alive surveyed = record {
       each = subst (All (IsFound ranks at family label)) (sym surveyed.listed)
           (All-weaker (IsFoundWithin ranks at family label (family label) (rows_given (at.rows label)) 0) (IsFound ranks at family label) (found_is alive)
           surveyed.more surveyed.each);
@@ -233,9 +294,7 @@ module _ {R : Type 0} (ranks : Ranks R) where
       others = λ looks place low from aside.
           let these : All (IsAside place) surveyed.more = subst (All (IsAside place)) surveyed.listed aside in
           let from_none : place ≡ 0 + place = omega arith in
-          moved_none (systems_within ranks at family label (family label) (rows_given (at.rows label)) place) (systems at family label place)
-          (systems_are alive place)
-          (surveyed.others looks place low (omega (arith, from)) (subst (λ n. All (IsAside n) surveyed.more) from_none these));
+          clear_is alive span within place (surveyed.others looks place low (omega (arith, from)) (subst (λ n. All (IsAside n) surveyed.more) from_none these));
     }
 
 -- nothing is in hand for nothing

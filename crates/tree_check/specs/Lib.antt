@@ -1,3 +1,5 @@
 pub mod Checking
 pub mod Surveys
 pub mod Rounds
+pub mod Telling
+pub mod Narrowing

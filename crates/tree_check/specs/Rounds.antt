@@ -1,5 +1,5 @@
 -- The rounds: refuted leaves are given up until none is left.
-use Rattle.std.specs.Prelude.{◌≡◌, ◌≢◌, ℕ, ◌+◌, ◌<◌, Bool, true, false, List, ◌++◌, length, All, Contains, slice_index_or, slice_set}
+use Rattle.std.specs.Prelude.{◌≡◌, ◌≢◌, ℕ, ◌+◌, ◌<◌, ◌≤◌, Bool, List, ◌++◌, length, All, Contains, slice_index_or, slice_set}
 use Rattle.std.specs.List.{sum_by}
 use Rattle.step_meaning.specs.Syntax.{statements}
 use Rattle.linear_cons.specs.declared.affine.Affine.{Affine}
@@ -43,20 +43,16 @@ module _ {R : Type 0} where
   without_refuted plans label refuted =
       slice_set plans label (with_leaf (trees_in plans label) refuted.leaf (top (cause_of refuted.finding.reason)))
 
-  -- at all labels but this one the trees are as before
-  abbrev pub IsSameElsewhere : ℕ → List (Plan R) → List (Plan R) → Type 0
-  IsSameElsewhere label old new = (other : ℕ) → other ≢ label → trees_in new other ≡ trees_in old other
-
   -- no arc leads from the label to the other, whichever outcome or value is picked
   pub record LeadsElsewhere (at : Setting R) (label other : ℕ) : Type 0 where
     pub every : Avoid (at.flow.arcs label) other
     pub outcomes : (outcome : Bool) → Avoid (at.flow.arcs_of label outcome) other
     pub values : (a : Affine) → Avoid (at.flow.arcs_with label a) other
 
-  -- the label isn't the other, and no arc leads from it there
-  pub record IsApart (at : Setting R) (label other : ℕ) : Type 0 where
-    pub own : label ≢ other
-    pub ahead : LeadsElsewhere at label other
+  -- from a number on no arc leads from the label to that of a drop
+  abbrev pub AreElsewhere : Setting R → ℕ → ℕ → List Dropped → Type 0
+  AreElsewhere at label from drops =
+      (number : ℕ) (d : Dropped) → from ≤ number → number < length drops → LeadsElsewhere at label (slice_index_or drops number d).label
 
 -- the setting that they make
 abbrev pub setting_on : {D R : Type 0} → Domain D → Premises D R → Setting R
@@ -76,7 +72,3 @@ module _ {R : Type 0} (ranks : Ranks R) (at : Setting R) where
   -- each leaf at the label is supported
   abbrev pub IsSupportedAt : Trees R → ℕ → Type 0
   IsSupportedAt family label = (place : ℕ) → place < leaves_of (family label) → All (HasNoStore ranks) (systems at family label place)
-
-  -- each label that is marked is supported
-  abbrev pub AreClean : Trees R → List Bool → Type 0
-  AreClean family marks = (label : ℕ) → slice_index_or marks label false ≡ true → IsSupportedAt family label

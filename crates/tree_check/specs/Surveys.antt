@@ -1,5 +1,6 @@
 -- The leaves of a label's tree, one after the other.
-use Rattle.std.specs.Prelude.{◌≡◌, ◌≢◌, ◌⊎◌, ℕ, ◌+◌, ◌<◌, ◌≤◌, Bool, true, List, [], ◌++◌, map, All, AllPairs, Option, None, Some}
+use Rattle.std.specs.Prelude.{◌≡◌, ◌≢◌, ◌⊎◌, ℕ, ◌+◌, ◌<◌, ◌≤◌, Bool, true, false, List, [], ◌++◌, map, All, AllPairs, Option, None, Some}
+use Rattle.linear_cons.specs.declared.affine.Affine.{Affine}
 use Rattle.decision_tree.specs.declared.rank.Rank.{Ghosts as Ranks}
 use Rattle.decision_tree.specs.Paths.{leaf_numbered, path_of}
 use Rattle.decision_tree.specs.Plans.{Plan, leaves_of}
@@ -7,12 +8,19 @@ use Rattle.tree_support.specs.Forming.{Formed, given}
 use Rattle.tree_support.specs.Setting.{Setting, Trees}
 use Rattle.tree_support.specs.Support.{HasNoStore}
 use Rattle.tree_support.specs.Systems.{System, of_leaf, systems}
+use Rattle.rows_in_hand.specs.Hands.{IsMetNowhere, all_asked}
 use Rattle.rows_in_hand.specs.Searches.{Finds}
 use Rattle.tree_check.specs.declared.survey.Refuted.{Refuted}
+use Rattle.tree_check.specs.declared.survey.Span.{Span}
 
 -- a survey goes on behind these leaves: it collects, or none was refuted yet
-abbrev pub LooksOn : Bool → List Refuted → Type 0
-LooksOn collects refuted = (collects ≡ true) ⊎ (refuted ≡ [])
+abbrev pub LooksOn : Span → List Refuted → Type 0
+LooksOn span refuted = (span.collects ≡ true) ⊎ (refuted ≡ [])
+
+-- a narrowed survey doesn't look there: no store meets the path with what is asked within
+abbrev pub IsBeyond : Bool → List Formed → List Affine → Type 0
+IsBeyond false within path = ⊥
+IsBeyond true within path = IsMetNowhere (all_asked (within ++ map (λ a. given a) path))
 
 -- the refuted leaf is another than the one with the number
 abbrev pub IsAside : ℕ → Refuted → Type 0
@@ -33,25 +41,25 @@ module _ {R : Type 0} (ranks : Ranks R) (at : Setting R) (family : Trees R) (lab
       (place : ℕ) × (refuted.leaf ≡ passed + place) × (place < leaves_of plan) × Finds ranks (systems_within plan asks place) refuted.finding
 
   -- The survey of a tree before which so many leaves were passed: it listed leaves with a reason against them, and where it goes on no store
-  -- meets a system of another from the first on.
-  pub record IsSurveyed (first : ℕ) (collects : Bool) (plan : Plan R) (asks : List Formed) (passed : ℕ) (old new : List Refuted) : Type 0 where
+  -- meets a system of another from the first on, unless it doesn't look there.
+  pub record IsSurveyed (span : Span) (plan : Plan R) (asks within : List Formed) (passed : ℕ) (old new : List Refuted) : Type 0 where
     pub more : List Refuted
     pub listed : new ≡ old ++ more
     pub each : All (IsFoundWithin plan asks passed) more
     pub apart : AreApart more
-    pub others : LooksOn collects new → (place : ℕ) → place < leaves_of plan → first ≤ passed + place → All (IsAside (passed + place)) more
-        → All (HasNoStore ranks) (systems_within plan asks place)
+    pub others : LooksOn span new → (place : ℕ) → place < leaves_of plan → span.first ≤ passed + place → All (IsAside (passed + place)) more
+        → All (HasNoStore ranks) (systems_within plan asks place) ⊎ IsBeyond span.narrows within (path_of plan place)
 
   -- there is a reason against the leaf of the label's own tree
   abbrev pub IsFound : Refuted → Type 0
   IsFound refuted = (refuted.leaf < leaves_of (family label)) × Finds ranks (systems at family label refuted.leaf) refuted.finding
 
   -- the same of the label's own tree
-  pub record IsReviewed (first : ℕ) (collects : Bool) (refuted : List Refuted) : Type 0 where
+  pub record IsReviewed (span : Span) (within : List Formed) (refuted : List Refuted) : Type 0 where
     pub each : All IsFound refuted
     pub apart : AreApart refuted
-    pub others : LooksOn collects refuted → (place : ℕ) → place < leaves_of (family label) → first ≤ place → All (IsAside place) refuted
-        → All (HasNoStore ranks) (systems at family label place)
+    pub others : LooksOn span refuted → (place : ℕ) → place < leaves_of (family label) → span.first ≤ place → All (IsAside place) refuted
+        → All (HasNoStore ranks) (systems at family label place) ⊎ IsBeyond span.narrows within (path_of (family label) place)
 
   -- the leaf is the first from a number on with a reason against it, or there is none
   abbrev pub IsFirst : ℕ → Option Refuted → Type 0

@@ -6,6 +6,7 @@
 
 mod checking;
 pub mod laws;
+mod narrow;
 mod rounds;
 mod survey;
 

@@ -1,27 +1,37 @@
 //! The rounds: refuted leaves are given up until none is left.
-ghost use Rattle.std.specs.Prelude.{◌≡◌, ℕ, ◌-◌, ◌^◌, ◌<◌, ◌++◌, ◌∷◌, [], true, false, length, map, slice_index_or, IfOk, OnOk, OnErr};
+ghost use Rattle.std.specs.Prelude.{◌≡◌, ◌⊎◌, ℕ, ◌-◌, ◌^◌, ◌<◌, ◌++◌, ◌∷◌, [], true, false, length, map, slice_index_or, All, Option, None, Some, IfOk, OnOk, OnErr};
 ghost use Rattle.step_meaning.specs.Syntax.{statements};
 ghost use Rattle.control_flow.specs.Labels.{all_labels};
+ghost use Rattle.ctl_formula.specs.Mirror.{ctl};
+ghost use Rattle.decision_tree.specs.Paths.{path_of};
 ghost use Rattle.decision_tree.specs.Plans.{leaves_of, plan_of};
+ghost use Rattle.tree_support.specs.declared.dropped.Dropped.{Dropped};
 ghost use Rattle.tree_support.specs.Elimination.{cause_of};
 ghost use Rattle.tree_support.specs.Setting.{trees_in};
 ghost use Rattle.tree_support.specs.Support.{IsSupported};
+ghost use Rattle.rows_in_hand.specs.Searches.{WhereAsked};
 ghost use Rattle.arc_search.specs.Moves.{HasPlace, IsMovesAt};
-ghost use Rattle.tree_check.specs.Rounds.{Advances, AreClean, IsApart, IsSameElsewhere, IsSupportedAt, LeadsElsewhere, dropped_by, setting_on};
-ghost use Rattle.tree_check.specs.Rounds.{without_refuted};
-ghost use Rattle.tree_check.specs.Surveys.{IsFirst, IsReviewed};
+ghost use Rattle.tree_check.specs.Narrowing.{HoldsPath, PicksNoValue, speaks_of_some};
+ghost use Rattle.tree_check.specs.Rounds.{Advances, AreElsewhere, IsSupportedAt, LeadsElsewhere, dropped_by, setting_on, without_refuted};
+ghost use Rattle.tree_check.specs.Surveys.{AreApart, IsFirst, IsFound, IsReviewed};
+ghost use Rattle.tree_check.specs.Telling.{AreCleared, AreTold, IsTold};
 
-use crate::survey::{Refuted, Survey};
-use arc_search::{Moves, target};
-use control_flow::Graph;
+use crate::narrow::{add_path, sets};
+use crate::survey::{Refuted, Span, Survey};
+use arc_search::{Moves, Way, target};
+use control_flow::{Choice, Graph};
 use ctl_formula::Formula;
 use decision_tree::{Cause, Family, Rank, Tree};
 use forward_inv::Inv;
-use leaf_search::{Part, Stand};
+use leaf_search::{Part, Stand, UNEDGED};
 use linear_cons::Row;
 use num_domain::NumDomain;
+use rows_in_hand::Hand;
 use std::alloc::{AllocError, Global};
 use tree_support::{Dropped, Reason};
+
+/// A tree that has so many leaves for each drop is rather looked at behind the drops, one by one, than surveyed.
+const LEAVES_TO_A_DROP: u64 = 8;
 
 /// What the leaves of a family are held against: a graph with its invariants, a formula, and the families of its operands.
 #[derive(Drop)]
@@ -47,146 +57,305 @@ impl<'a, D: NumDomain, R: Rank> Premises<'a, D, R> {
             (map plan_of trees.new) drops.new.items }
         ensures supported { OnOk result (IsSupported R.Rank.own (setting_on D.NumDomain.own self.now) (trees_in (map plan_of trees.new))) }
     {
-        let mut clean = unmarked(self.alloc, self.graph.labels())?;
-        self.settle_marked(trees, drops, &mut clean)?;
+        let mut told = untold(self.alloc, self.graph.labels())?;
+        self.settle_told(trees, drops, &mut told)?;
         Ok(())
     }
 
-    /// The same. A mark says that each leaf of the label is supported.
-    fn settle_marked(
+    /// The same. For each label it says of how many of the drops the label was told, whose leaves had no others against them then.
+    fn settle_told(
         &self,
         trees: &mut [Tree<R>],
         drops: &mut Vec<Dropped>,
-        clean: &mut [bool],
+        told: &mut [Option<usize>],
     ) -> Result<(), AllocError>
         requires trees { length trees.old ≡ length (all_labels (statements self.now.graph.now.body)) }
         requires states { length self.now.inv.now ≡ length (all_labels (statements self.now.graph.now.body)) }
         requires leaves { (label : ℕ) → leaves_of (trees_in (map plan_of trees.old) label) < 2 ^ 64 - 1 }
-        requires marks { length clean.old ≡ length (all_labels (statements self.now.graph.now.body)) }
-        requires clean { AreClean R.Rank.own (setting_on D.NumDomain.own self.now) (trees_in (map plan_of trees.old)) clean.old }
+        requires labels { length told.old ≡ length (all_labels (statements self.now.graph.now.body)) }
+        requires told { AreTold R.Rank.own (setting_on D.NumDomain.own self.now) (trees_in (map plan_of trees.old)) drops.old.items told.old }
         ensures advances { Advances R.Rank.own (setting_on D.NumDomain.own self.now) (map plan_of trees.old) drops.old.items
             (map plan_of trees.new) drops.new.items }
         ensures supported { OnOk result (IsSupported R.Rank.own (setting_on D.NumDomain.own self.now) (trees_in (map plan_of trees.new))) }
     {
         loop {
             let before = drops.len();
-            self.settle_each(trees, drops, clean)?;
+            self.settle_each(trees, drops, told)?;
             if drops.len() == before {
                 return Ok(());
             }
         }
     }
 
-    /// Goes through the labels that aren't marked, the greatest first, since edges mostly lead to greater ones.
+    /// Goes through the labels, the greatest first, since edges mostly lead to greater ones.
     fn settle_each(
         &self,
         trees: &mut [Tree<R>],
         drops: &mut Vec<Dropped>,
-        clean: &mut [bool],
+        told: &mut [Option<usize>],
     ) -> Result<(), AllocError>
         requires trees { length trees.old ≡ length (all_labels (statements self.now.graph.now.body)) }
         requires states { length self.now.inv.now ≡ length (all_labels (statements self.now.graph.now.body)) }
         requires leaves { (label : ℕ) → leaves_of (trees_in (map plan_of trees.old) label) < 2 ^ 64 - 1 }
-        requires marks { length clean.old ≡ length (all_labels (statements self.now.graph.now.body)) }
-        requires clean { AreClean R.Rank.own (setting_on D.NumDomain.own self.now) (trees_in (map plan_of trees.old)) clean.old }
+        requires labels { length told.old ≡ length (all_labels (statements self.now.graph.now.body)) }
+        requires told { AreTold R.Rank.own (setting_on D.NumDomain.own self.now) (trees_in (map plan_of trees.old)) drops.old.items told.old }
         ensures advances { Advances R.Rank.own (setting_on D.NumDomain.own self.now) (map plan_of trees.old) drops.old.items
             (map plan_of trees.new) drops.new.items }
-        ensures clean { OnOk result (AreClean R.Rank.own (setting_on D.NumDomain.own self.now)
-            (trees_in (map plan_of trees.new)) clean.new) }
+        ensures told { OnOk result (AreTold R.Rank.own (setting_on D.NumDomain.own self.now)
+            (trees_in (map plan_of trees.new)) drops.new.items told.new) }
         ensures supported { OnOk result (drops.new.items ≡ drops.old.items
             → IsSupported R.Rank.own (setting_on D.NumDomain.own self.now) (trees_in (map plan_of trees.new))) }
     {
         for label in (0..self.graph.labels()).rev() {
-            self.visit(label, trees, drops, clean)?;
+            self.visit(label, trees, drops, told)?;
         }
         Ok(())
     }
 
-    /// Goes through the leaves of a label that isn't marked. It is marked where nothing is given up; else each label loses its mark whose
-    /// systems read the tree at this one.
+    /// Tells a label of the drops that it wasn't told of yet. It is surveyed where it never was, where more of them matter to it than a
+    /// survey costs, and where its own tree matters to it.
     fn visit(
         &self,
         label: u32,
         trees: &mut [Tree<R>],
         drops: &mut Vec<Dropped>,
-        clean: &mut [bool],
+        told: &mut [Option<usize>],
     ) -> Result<(), AllocError>
         requires label { label < length (all_labels (statements self.now.graph.now.body)) }
         requires trees { length trees.old ≡ length (all_labels (statements self.now.graph.now.body)) }
         requires states { length self.now.inv.now ≡ length (all_labels (statements self.now.graph.now.body)) }
         requires leaves { (label : ℕ) → leaves_of (trees_in (map plan_of trees.old) label) < 2 ^ 64 - 1 }
-        requires marks { length clean.old ≡ length (all_labels (statements self.now.graph.now.body)) }
-        requires clean { AreClean R.Rank.own (setting_on D.NumDomain.own self.now) (trees_in (map plan_of trees.old)) clean.old }
+        requires labels { length told.old ≡ length (all_labels (statements self.now.graph.now.body)) }
+        requires told { AreTold R.Rank.own (setting_on D.NumDomain.own self.now) (trees_in (map plan_of trees.old)) drops.old.items told.old }
         ensures advances { Advances R.Rank.own (setting_on D.NumDomain.own self.now) (map plan_of trees.old) drops.old.items
             (map plan_of trees.new) drops.new.items }
-        ensures clean { OnOk result (AreClean R.Rank.own (setting_on D.NumDomain.own self.now)
-            (trees_in (map plan_of trees.new)) clean.new) }
+        ensures told { OnOk result (AreTold R.Rank.own (setting_on D.NumDomain.own self.now)
+            (trees_in (map plan_of trees.new)) drops.new.items told.new) }
         ensures supported { OnOk result (drops.new.items ≡ drops.old.items
             → IsSupportedAt R.Rank.own (setting_on D.NumDomain.own self.now) (trees_in (map plan_of trees.new)) label) }
     {
-        if clean[label as usize] {
+        let Some(from) = told[label as usize] else {
+            return self.survey(label, trees, drops, told);
+        };
+        let leading = self.leading(label, from, drops);
+        if leading == 0 {
+            told[label as usize] = Some(drops.len());
             return Ok(());
         }
-        let before = drops.len();
-        self.settle_label(label, trees, drops)?;
-        if drops.len() == before {
-            clean[label as usize] = true;
-            return Ok(());
+        if self.leads(label, label) || is_many(leading, &trees[label as usize]) {
+            return self.survey(label, trees, drops, told);
         }
-        self.disturb(label, clean);
+        let number = self.tell_each(label, from, trees, drops)?;
+        told[label as usize] = Some(number);
         Ok(())
     }
 
-    /// Takes their marks from the labels whose systems read the tree at this one.
-    fn disturb(&self, label: u32, clean: &mut [bool])
-        requires marks { length clean.old ≡ length (all_labels (statements self.now.graph.now.body)) }
-        ensures { (other : ℕ) → slice_index_or clean.new other false ≡ true
-            → (slice_index_or clean.old other false ≡ true) × IsApart (setting_on D.NumDomain.own self.now) other label }
+    /// How many of the drops from a number on are at labels to which an edge of this one leads.
+    fn leading(&self, label: u32, from: usize, drops: &[Dropped]) -> usize
+        requires label { label < length (all_labels (statements self.now.graph.now.body)) }
+        ensures { result ≡ 0 → AreElsewhere (setting_on D.NumDomain.own self.now) label from drops.now }
     {
-        for other in 0..self.graph.labels() {
-            if self.reads(other, label) {
-                clean[other as usize] = false;
+        let mut count = 0;
+        for number in from..drops.len() {
+            if self.leads(label, drops[number].label) {
+                count += 1;
             }
         }
+        count
     }
 
-    /// Whether the systems of a label read the tree at another: it is the same, or may be that an arc leads there.
-    fn reads(&self, label: u32, other: u32) -> bool
-        requires { label < length (all_labels (statements self.now.graph.now.body)) }
-        ensures { result ≡ false → IsApart (setting_on D.NumDomain.own self.now) label other }
+    /// Surveys a label. Where each of its leaves is supported then it was told of all drops.
+    fn survey(
+        &self,
+        label: u32,
+        trees: &mut [Tree<R>],
+        drops: &mut Vec<Dropped>,
+        told: &mut [Option<usize>],
+    ) -> Result<(), AllocError>
+        requires label { label < length (all_labels (statements self.now.graph.now.body)) }
+        requires trees { length trees.old ≡ length (all_labels (statements self.now.graph.now.body)) }
+        requires states { length self.now.inv.now ≡ length (all_labels (statements self.now.graph.now.body)) }
+        requires leaves { (label : ℕ) → leaves_of (trees_in (map plan_of trees.old) label) < 2 ^ 64 - 1 }
+        requires labels { length told.old ≡ length (all_labels (statements self.now.graph.now.body)) }
+        requires told { AreTold R.Rank.own (setting_on D.NumDomain.own self.now) (trees_in (map plan_of trees.old)) drops.old.items told.old }
+        ensures advances { Advances R.Rank.own (setting_on D.NumDomain.own self.now) (map plan_of trees.old) drops.old.items
+            (map plan_of trees.new) drops.new.items }
+        ensures told { OnOk result (AreTold R.Rank.own (setting_on D.NumDomain.own self.now)
+            (trees_in (map plan_of trees.new)) drops.new.items told.new) }
+        ensures supported { OnOk result (drops.new.items ≡ drops.old.items
+            → IsSupportedAt R.Rank.own (setting_on D.NumDomain.own self.now) (trees_in (map plan_of trees.new)) label) }
     {
-        label == other || self.leads(label, other)
+        if !self.settle_label(label, trees, drops)? {
+            told[label as usize] = None;
+            return Ok(());
+        }
+        told[label as usize] = Some(drops.len());
+        Ok(())
+    }
+
+    /// Tells a label of the drops from a number on, also of those that come by it, and answers how many these are.
+    fn tell_each(
+        &self,
+        label: u32,
+        from: usize,
+        trees: &mut [Tree<R>],
+        drops: &mut Vec<Dropped>,
+    ) -> Result<usize, AllocError>
+        requires label { label < length (all_labels (statements self.now.graph.now.body)) }
+        requires trees { length trees.old ≡ length (all_labels (statements self.now.graph.now.body)) }
+        requires states { length self.now.inv.now ≡ length (all_labels (statements self.now.graph.now.body)) }
+        requires leaves { (label : ℕ) → leaves_of (trees_in (map plan_of trees.old) label) < 2 ^ 64 - 1 }
+        requires elsewhere { LeadsElsewhere (setting_on D.NumDomain.own self.now) label label }
+        requires told { IsTold R.Rank.own (setting_on D.NumDomain.own self.now) (trees_in (map plan_of trees.old)) drops.old.items from label }
+        ensures advances { Advances R.Rank.own (setting_on D.NumDomain.own self.now) (map plan_of trees.old) drops.old.items
+            (map plan_of trees.new) drops.new.items }
+        ensures told { IfOk result (λ number. (number ≡ length drops.new.items)
+            × IsTold R.Rank.own (setting_on D.NumDomain.own self.now) (trees_in (map plan_of trees.new)) drops.new.items number label) }
+    {
+        let mut number = from;
+        while number < drops.len() {
+            let dropped = drops[number];
+            self.tell(label, &dropped, trees, drops)?;
+            number += 1;
+        }
+        Ok(number)
+    }
+
+    /// Tells a label of a drop: gives up the leaves that are refuted by what the drop made new.
+    fn tell(
+        &self,
+        label: u32,
+        dropped: &Dropped,
+        trees: &mut [Tree<R>],
+        drops: &mut Vec<Dropped>,
+    ) -> Result<(), AllocError>
+        requires label { label < length (all_labels (statements self.now.graph.now.body)) }
+        requires trees { length trees.old ≡ length (all_labels (statements self.now.graph.now.body)) }
+        requires states { length self.now.inv.now ≡ length (all_labels (statements self.now.graph.now.body)) }
+        requires leaves { (label : ℕ) → leaves_of (trees_in (map plan_of trees.old) label) < 2 ^ 64 - 1 }
+        requires elsewhere { LeadsElsewhere (setting_on D.NumDomain.own self.now) label label }
+        ensures advances { Advances R.Rank.own (setting_on D.NumDomain.own self.now) (map plan_of trees.old) drops.old.items
+            (map plan_of trees.new) drops.new.items }
+        ensures cleared { OnOk result (AreCleared R.Rank.own (setting_on D.NumDomain.own self.now)
+            (trees_in (map plan_of trees.new)) (Some dropped.now) label []) }
+    {
+        if !self.leads(label, dropped.label) {
+            return Ok(());
+        }
+        let state = self.inv.at(label);
+        if state.is_empty() {
+            return Ok(());
+        }
+        let rows = state.rows(self.alloc)?;
+        let moves = Moves::of(self.alloc, self.graph, label, &state.bounds())?;
+        self.renew(label, dropped, &moves, &rows, trees, drops)
+    }
+
+    /// The same for a label at which a store may be, with what is done there and what its invariant says, where an edge may lead to the drop.
+    fn renew(
+        &self,
+        label: u32,
+        dropped: &Dropped,
+        moves: &Moves,
+        rows: &[Row],
+        trees: &mut [Tree<R>],
+        drops: &mut Vec<Dropped>,
+    ) -> Result<(), AllocError>
+        requires label { label < length (all_labels (statements self.now.graph.now.body)) }
+        requires trees { length trees.old ≡ length (all_labels (statements self.now.graph.now.body)) }
+        requires leaves { (label : ℕ) → leaves_of (trees_in (map plan_of trees.old) label) < 2 ^ 64 - 1 }
+        requires elsewhere { LeadsElsewhere (setting_on D.NumDomain.own self.now) label label }
+        requires place { HasPlace moves.now }
+        requires alive { (setting_on D.NumDomain.own self.now).dead label ≡ false }
+        requires moves { IsMovesAt (setting_on D.NumDomain.own self.now) label moves.now }
+        requires rows { (setting_on D.NumDomain.own self.now).rows label ≡ rows.now }
+        ensures advances { Advances R.Rank.own (setting_on D.NumDomain.own self.now) (map plan_of trees.old) drops.old.items
+            (map plan_of trees.new) drops.new.items }
+        ensures cleared { OnOk result (AreCleared R.Rank.own (setting_on D.NumDomain.own self.now)
+            (trees_in (map plan_of trees.new)) (Some dropped.now) label []) }
+    {
+        let mut narrow = self.path_to(label, dropped, moves, trees)?;
+        let span = Span {
+            first: 0,
+            collects: true,
+            narrows: true,
+        };
+        let found = self.refuted(label, span, &mut narrow, moves, rows, trees)?;
+        self.give_up_each(label, &found, trees, drops)?;
+        Ok(())
+    }
+
+    /// The rows of the dropped leaf's path, moved back over what is done at the label. Without rows where a leaf of the label may put a
+    /// value of its own.
+    fn path_to(
+        &self,
+        label: u32,
+        dropped: &Dropped,
+        moves: &Moves,
+        trees: &[Tree<R>],
+    ) -> Result<Hand, AllocError>
+        requires label { label < length (all_labels (statements self.now.graph.now.body)) }
+        requires place { HasPlace moves.now }
+        requires moves { IsMovesAt (setting_on D.NumDomain.own self.now) label moves.now }
+        ensures { IfOk result (λ hand. HoldsPath (setting_on D.NumDomain.own self.now) label hand
+            (path_of (trees_in (map plan_of trees.now) dropped.now.label) dropped.now.leaf)) }
+    {
+        let mut hand = Hand::new(self.alloc);
+        if self.picks_values(label) {
+            return Ok(hand);
+        }
+        let Some(tree) = trees.get(dropped.label as usize) else {
+            return Ok(hand);
+        };
+        let way = Way {
+            edge: UNEDGED,
+            sets: sets(moves),
+            limit: None,
+        };
+        let mut left = dropped.leaf;
+        let _ = add_path(tree, &way, &mut left, &mut hand)?;
+        Ok(hand)
+    }
+
+    /// Whether a leaf of the label may put a value of its own: some successor is spoken of, and a value may be chosen.
+    fn picks_values(&self, label: u32) -> bool
+        requires label { label < length (all_labels (statements self.now.graph.now.body)) }
+        ensures { result ≡ false → PicksNoValue (setting_on D.NumDomain.own self.now) label }
+    {
+        match self.graph.choice(label) {
+            Choice::Range { lo: _, hi: _ } => is_existential(self.formula),
+            _ => false,
+        }
     }
 
     /// Whether an edge leads from a label to another.
     fn leads(&self, label: u32, other: u32) -> bool
-        requires { label < length (all_labels (statements self.now.graph.now.body)) }
+        requires label { label < length (all_labels (statements self.now.graph.now.body)) }
         ensures { result ≡ false → LeadsElsewhere (setting_on D.NumDomain.own self.now) label other }
     {
         let edges = self.graph.edges(label);
         target(&edges[0]) == other || target(&edges[1]) == other
     }
 
-    /// Goes once through the leaves at a label. Where nothing is given up, each is supported.
+    /// Goes once through the leaves at a label. True where each is supported then, as it is where nothing is given up.
     fn settle_label(
         &self,
         label: u32,
         trees: &mut [Tree<R>],
         drops: &mut Vec<Dropped>,
-    ) -> Result<(), AllocError>
+    ) -> Result<bool, AllocError>
         requires label { label < length (all_labels (statements self.now.graph.now.body)) }
         requires trees { length trees.old ≡ length (all_labels (statements self.now.graph.now.body)) }
         requires states { length self.now.inv.now ≡ length (all_labels (statements self.now.graph.now.body)) }
         requires leaves { (label : ℕ) → leaves_of (trees_in (map plan_of trees.old) label) < 2 ^ 64 - 1 }
         ensures advances { Advances R.Rank.own (setting_on D.NumDomain.own self.now) (map plan_of trees.old) drops.old.items
             (map plan_of trees.new) drops.new.items }
-        ensures elsewhere { IsSameElsewhere label (map plan_of trees.old) (map plan_of trees.new) }
-        ensures supported { OnOk result (drops.new.items ≡ drops.old.items
+        ensures supported { IfOk result (λ whole. (whole ≡ true) ⊎ (drops.new.items ≡ drops.old.items)
             → IsSupportedAt R.Rank.own (setting_on D.NumDomain.own self.now) (trees_in (map plan_of trees.new)) label) }
     {
         let state = self.inv.at(label);
         if state.is_empty() {
-            return Ok(());
+            return Ok(true);
         }
         let rows = state.rows(self.alloc)?;
         let moves = Moves::of(self.alloc, self.graph, label, &state.bounds())?;
@@ -201,7 +370,7 @@ impl<'a, D: NumDomain, R: Rank> Premises<'a, D, R> {
         rows: &[Row],
         trees: &mut [Tree<R>],
         drops: &mut Vec<Dropped>,
-    ) -> Result<(), AllocError>
+    ) -> Result<bool, AllocError>
         requires label { label < length (all_labels (statements self.now.graph.now.body)) }
         requires trees { length trees.old ≡ length (all_labels (statements self.now.graph.now.body)) }
         requires leaves { (label : ℕ) → leaves_of (trees_in (map plan_of trees.old) label) < 2 ^ 64 - 1 }
@@ -211,8 +380,7 @@ impl<'a, D: NumDomain, R: Rank> Premises<'a, D, R> {
         requires rows { (setting_on D.NumDomain.own self.now).rows label ≡ rows.now }
         ensures advances { Advances R.Rank.own (setting_on D.NumDomain.own self.now) (map plan_of trees.old) drops.old.items
             (map plan_of trees.new) drops.new.items }
-        ensures elsewhere { IsSameElsewhere label (map plan_of trees.old) (map plan_of trees.new) }
-        ensures supported { OnOk result (drops.new.items ≡ drops.old.items
+        ensures supported { IfOk result (λ whole. (whole ≡ true) ⊎ (drops.new.items ≡ drops.old.items)
             → IsSupportedAt R.Rank.own (setting_on D.NumDomain.own self.now) (trees_in (map plan_of trees.new)) label) }
     {
         if self.leads(label, label) {
@@ -229,7 +397,7 @@ impl<'a, D: NumDomain, R: Rank> Premises<'a, D, R> {
         rows: &[Row],
         trees: &mut [Tree<R>],
         drops: &mut Vec<Dropped>,
-    ) -> Result<(), AllocError>
+    ) -> Result<bool, AllocError>
         requires label { label < length (all_labels (statements self.now.graph.now.body)) }
         requires trees { length trees.old ≡ length (all_labels (statements self.now.graph.now.body)) }
         requires leaves { (label : ℕ) → leaves_of (trees_in (map plan_of trees.old) label) < 2 ^ 64 - 1 }
@@ -239,8 +407,7 @@ impl<'a, D: NumDomain, R: Rank> Premises<'a, D, R> {
         requires rows { (setting_on D.NumDomain.own self.now).rows label ≡ rows.now }
         ensures advances { Advances R.Rank.own (setting_on D.NumDomain.own self.now) (map plan_of trees.old) drops.old.items
             (map plan_of trees.new) drops.new.items }
-        ensures elsewhere { IsSameElsewhere label (map plan_of trees.old) (map plan_of trees.new) }
-        ensures supported { OnOk result (drops.new.items ≡ drops.old.items
+        ensures supported { IfOk result (λ whole. (whole ≡ true) ⊎ (drops.new.items ≡ drops.old.items)
             → IsSupportedAt R.Rank.own (setting_on D.NumDomain.own self.now) (trees_in (map plan_of trees.new)) label) }
     {
         let mut first = 0;
@@ -248,7 +415,7 @@ impl<'a, D: NumDomain, R: Rank> Premises<'a, D, R> {
             give_up(trees, label, &refuted, drops)?;
             first = refuted.leaf + 1;
         }
-        Ok(())
+        Ok(first == 0)
     }
 
     /// The same of a label whose systems don't read its own tree: one survey finds all the leaves to be given up.
@@ -259,7 +426,7 @@ impl<'a, D: NumDomain, R: Rank> Premises<'a, D, R> {
         rows: &[Row],
         trees: &mut [Tree<R>],
         drops: &mut Vec<Dropped>,
-    ) -> Result<(), AllocError>
+    ) -> Result<bool, AllocError>
         requires label { label < length (all_labels (statements self.now.graph.now.body)) }
         requires trees { length trees.old ≡ length (all_labels (statements self.now.graph.now.body)) }
         requires leaves { (label : ℕ) → leaves_of (trees_in (map plan_of trees.old) label) < 2 ^ 64 - 1 }
@@ -270,12 +437,18 @@ impl<'a, D: NumDomain, R: Rank> Premises<'a, D, R> {
         requires elsewhere { LeadsElsewhere (setting_on D.NumDomain.own self.now) label label }
         ensures advances { Advances R.Rank.own (setting_on D.NumDomain.own self.now) (map plan_of trees.old) drops.old.items
             (map plan_of trees.new) drops.new.items }
-        ensures elsewhere { IsSameElsewhere label (map plan_of trees.old) (map plan_of trees.new) }
-        ensures supported { OnOk result (drops.new.items ≡ drops.old.items
+        ensures supported { IfOk result (λ whole. (whole ≡ true) ⊎ (drops.new.items ≡ drops.old.items)
             → IsSupportedAt R.Rank.own (setting_on D.NumDomain.own self.now) (trees_in (map plan_of trees.new)) label) }
     {
-        let found = self.refuted(label, 0, true, moves, rows, trees)?;
-        self.give_up_each(label, &found, trees, drops)
+        let mut nothing = Hand::new(self.alloc);
+        let span = Span {
+            first: 0,
+            collects: true,
+            narrows: false,
+        };
+        let found = self.refuted(label, span, &mut nothing, moves, rows, trees)?;
+        self.give_up_each(label, &found, trees, drops)?;
+        Ok(true)
     }
 
     /// Gives up the leaves that a survey found.
@@ -288,12 +461,14 @@ impl<'a, D: NumDomain, R: Rank> Premises<'a, D, R> {
     ) -> Result<(), AllocError>
         requires label { label < length trees.old }
         requires elsewhere { LeadsElsewhere (setting_on D.NumDomain.own self.now) label label }
-        requires found { IsReviewed R.Rank.own (setting_on D.NumDomain.own self.now) (trees_in (map plan_of trees.old)) label 0 true found.now }
+        requires found { All (λ refuted. IsFound R.Rank.own (setting_on D.NumDomain.own self.now) (trees_in (map plan_of trees.old)) label refuted)
+            found.now }
+        requires apart { AreApart found.now }
         ensures advances { Advances R.Rank.own (setting_on D.NumDomain.own self.now) (map plan_of trees.old) drops.old.items
             (map plan_of trees.new) drops.new.items }
-        ensures elsewhere { IsSameElsewhere label (map plan_of trees.old) (map plan_of trees.new) }
-        ensures supported { OnOk result (IsSupportedAt R.Rank.own (setting_on D.NumDomain.own self.now)
-            (trees_in (map plan_of trees.new)) label) }
+        ensures cleared { OnOk result ((told : Option Dropped)
+            → AreCleared R.Rank.own (setting_on D.NumDomain.own self.now) (trees_in (map plan_of trees.old)) told label found.now
+            → AreCleared R.Rank.own (setting_on D.NumDomain.own self.now) (trees_in (map plan_of trees.new)) told label []) }
     {
         for refuted in found {
             give_up(trees, label, refuted, drops)?;
@@ -319,19 +494,25 @@ impl<'a, D: NumDomain, R: Rank> Premises<'a, D, R> {
         ensures { IfOk result (λ refuted.
             IsFirst R.Rank.own (setting_on D.NumDomain.own self.now) (trees_in (map plan_of trees.now)) label first refuted) }
     {
-        let refuted = self.refuted(label, first, false, moves, rows, trees)?;
+        let mut nothing = Hand::new(self.alloc);
+        let span = Span {
+            first,
+            collects: false,
+            narrows: false,
+        };
+        let refuted = self.refuted(label, span, &mut nothing, moves, rows, trees)?;
         match refuted.first() {
             Some(refuted) => Ok(Some(*refuted)),
             None => Ok(None),
         }
     }
 
-    /// The refuted leaves at the label from a number on: all of them, or the first.
+    /// The refuted leaves at the label among those that the survey looks at.
     fn refuted(
         &self,
         label: u32,
-        first: u64,
-        collects: bool,
+        span: Span,
+        narrow: &mut Hand,
         moves: &Moves,
         rows: &[Row],
         trees: &[Tree<R>],
@@ -342,8 +523,8 @@ impl<'a, D: NumDomain, R: Rank> Premises<'a, D, R> {
         requires alive { (setting_on D.NumDomain.own self.now).dead label ≡ false }
         requires moves { IsMovesAt (setting_on D.NumDomain.own self.now) label moves.now }
         requires rows { (setting_on D.NumDomain.own self.now).rows label ≡ rows.now }
-        ensures { IfOk result (λ refuted. IsReviewed R.Rank.own (setting_on D.NumDomain.own self.now) (trees_in (map plan_of trees.now))
-            label first collects refuted.items) }
+        ensures { IfOk result (λ refuted. WhereAsked narrow.old (λ within. IsReviewed R.Rank.own (setting_on D.NumDomain.own self.now)
+            (trees_in (map plan_of trees.now)) label span within refuted.items)) }
     {
         let survey = Survey {
             stand: Stand {
@@ -354,24 +535,55 @@ impl<'a, D: NumDomain, R: Rank> Premises<'a, D, R> {
                 family: trees,
                 parts: self.parts,
             },
-            first,
-            collects,
+            span,
         };
-        let refuted = survey.refuted(self.alloc, rows)?;
+        let refuted = survey.refuted(self.alloc, rows, narrow)?;
         Ok(refuted)
     }
 }
 
-/// So many labels without marks.
-fn unmarked(alloc: Global, labels: u32) -> Result<Vec<bool>, AllocError>
-    ensures labels { IfOk result (λ marks. length marks.items ≡ labels) }
-    ensures marks { IfOk result (λ marks. (label : ℕ) → slice_index_or marks.items label false ≡ false) }
+/// So many labels, none of which was told of anything.
+fn untold(alloc: Global, labels: u32) -> Result<Vec<Option<usize>>, AllocError>
+    ensures labels { IfOk result (λ told. length told.items ≡ labels) }
+    ensures told { IfOk result (λ told. (label : ℕ) → slice_index_or told.items label None ≡ None) }
 {
-    let mut marks = Vec::new(alloc);
+    let mut told = Vec::new(alloc);
     for _ in 0..labels {
-        marks.push(false)?;
+        told.push(None)?;
     }
-    Ok(marks)
+    Ok(told)
+}
+
+/// Whether to look behind so many drops one by one costs more than a survey of the tree.
+fn is_many<R: Rank>(drops: usize, tree: &Tree<R>) -> bool {
+    drops as u64 > tree.leaves() / LEAVES_TO_A_DROP
+}
+
+/// Whether the formula speaks of some successor.
+fn is_existential(formula: &Formula) -> bool
+    ensures { result ≡ speaks_of_some (ctl formula.now) }
+{
+    match formula {
+        Formula::Next { all, part: _ } => !*all,
+        Formula::Until {
+            all,
+            keep: _,
+            goal: _,
+        } => !*all,
+        Formula::Weak {
+            all,
+            keep: _,
+            goal: _,
+        } => !*all,
+        Formula::True
+        | Formula::False
+        | Formula::Exit
+        | Formula::NotExit
+        | Formula::Holds(_)
+        | Formula::Not(_)
+        | Formula::And(_, _)
+        | Formula::Or(_, _) => false,
+    }
 }
 
 /// Gives up the leaf and lists it. After want of memory nothing has changed.

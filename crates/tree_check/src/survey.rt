@@ -1,7 +1,7 @@
 //! The leaves of a label's tree, one after the other.
-ghost use Rattle.std.specs.Prelude.{◌≡◌, ◌+◌, ◌-◌, ◌^◌, ◌<◌, ◌≤◌, ◌++◌, ◌∷◌, [], true, false, IfOk, OnOk, map};
+ghost use Rattle.std.specs.Prelude.{◌≡◌, List, ◌+◌, ◌-◌, ◌^◌, ◌<◌, ◌≤◌, ◌++◌, ◌∷◌, [], true, false, IfOk, OnOk, map};
 ghost use Rattle.decision_tree.specs.Plans.{leaf, leaves_of, plan_of};
-ghost use Rattle.tree_support.specs.Forming.{given};
+ghost use Rattle.tree_support.specs.Forming.{Formed, given};
 ghost use Rattle.tree_support.specs.Setting.{trees_in};
 ghost use Rattle.rows_in_hand.specs.Hands.{IsMetNowhere, all_asked};
 ghost use Rattle.leaf_search.specs.Leaves.{WhereStood};
@@ -24,22 +24,35 @@ pub(crate) struct Refuted {
     pub(crate) finding: Finding,
 }
 
-/// A survey of the leaves of a label's tree from a number on: of all of them, or up to the first with a reason against it.
+/// Which leaves a survey looks at: those from a number on, all of them or up to the first with a reason against it, and where it is
+/// narrowed only those whose paths and the rows in a second hand may be met together.
+#[derive(Clone, Copy)]
+pub(crate) struct Span {
+    pub(crate) first: u64,
+    pub(crate) collects: bool,
+    pub(crate) narrows: bool,
+}
+
+/// A survey of the leaves of a label's tree.
 #[derive(Drop)]
 pub(crate) struct Survey<'a, R: Rank> {
     pub(crate) stand: Stand<'a, R>,
-    pub(crate) first: u64,
-    pub(crate) collects: bool,
+    pub(crate) span: Span,
 }
 
 impl<'a, R: Rank> Survey<'a, R> {
     /// The leaves with a reason against them, where the rows are what the label's invariant says.
-    pub(crate) fn refuted(&self, alloc: Global, rows: &[Row]) -> Result<Vec<Refuted>, AllocError>
+    pub(crate) fn refuted(
+        &self,
+        alloc: Global,
+        rows: &[Row],
+        narrow: &mut Hand,
+    ) -> Result<Vec<Refuted>, AllocError>
         requires place { HasPlace self.now.stand.moves.now }
         requires few { leaves_of (trees_in (map plan_of self.now.stand.family.now) self.now.stand.label) < 2 ^ 64 - 1 }
         ensures { IfOk result (λ refuted. WhereStood self.now.stand (λ at. at.dead self.now.stand.label ≡ false
-            → at.rows self.now.stand.label ≡ rows.now → IsReviewed R.Rank.own at (trees_in (map plan_of self.now.stand.family.now))
-            self.now.stand.label self.now.first self.now.collects refuted.items)) }
+            → at.rows self.now.stand.label ≡ rows.now → WhereAsked narrow.old (λ within.
+            IsReviewed R.Rank.own at (trees_in (map plan_of self.now.stand.family.now)) self.now.stand.label self.now.span within refuted.items))) }
     {
         let mut refuted = Vec::new(alloc);
         let Some(tree) = self.stand.family.get(self.stand.label as usize) else {
@@ -50,7 +63,7 @@ impl<'a, R: Rank> Survey<'a, R> {
             return Ok(refuted);
         }
         let mut passed = 0;
-        self.refute(tree, &mut passed, &mut hand, &mut refuted)?;
+        self.refute(tree, &mut passed, &mut hand, narrow, &mut refuted)?;
         Ok(refuted)
     }
 
@@ -61,20 +74,22 @@ impl<'a, R: Rank> Survey<'a, R> {
         tree: &Tree<R>,
         passed: &mut u64,
         hand: &mut Hand,
+        narrow: &mut Hand,
         refuted: &mut Vec<Refuted>,
     ) -> Result<(), AllocError>
         requires place { HasPlace self.now.stand.moves.now }
         requires few { passed.old + leaves_of (plan_of tree.now) < 2 ^ 64 - 1 }
         ensures same { OnOk result (IsSame hand.old hand.new) }
+        ensures narrow { OnOk result (IsSame narrow.old narrow.new) }
         ensures passed { OnOk result (passed.new ≡ passed.old + leaves_of (plan_of tree.now)) }
-        ensures surveyed { OnOk result (WhereStood self.now.stand (λ at. WhereAsked hand.old (λ asks.
-            IsSurveyed R.Rank.own at (trees_in (map plan_of self.now.stand.family.now)) self.now.stand.label self.now.first self.now.collects
-            (plan_of tree.now) asks passed.old refuted.old.items refuted.new.items))) }
+        ensures surveyed { OnOk result (WhereStood self.now.stand (λ at. WhereAsked hand.old (λ asks. WhereAsked narrow.old (λ within.
+            IsSurveyed R.Rank.own at (trees_in (map plan_of self.now.stand.family.now)) self.now.stand.label self.now.span
+            (plan_of tree.now) asks within passed.old refuted.old.items refuted.new.items)))) }
     {
         match tree {
             Tree::Node { row, yes, no } => {
-                self.refute_behind(row, true, yes, passed, hand, refuted)?;
-                self.refute_behind(row, false, no, passed, hand, refuted)?;
+                self.refute_behind(row, true, yes, passed, hand, narrow, refuted)?;
+                self.refute_behind(row, false, no, passed, hand, narrow, refuted)?;
                 Ok(())
             }
             Tree::Leaf { why, rank } => {
@@ -101,11 +116,11 @@ impl<'a, R: Rank> Survey<'a, R> {
     ) -> Result<(), AllocError>
         requires { HasPlace self.now.stand.moves.now }
         ensures same { OnOk result (IsSame hand.old hand.new) }
-        ensures surveyed { OnOk result (WhereStood self.now.stand (λ at. WhereAsked hand.old (λ asks.
-            IsSurveyed R.Rank.own at (trees_in (map plan_of self.now.stand.family.now)) self.now.stand.label self.now.first self.now.collects
-            (leaf why.now rank.now) asks number refuted.old.items refuted.new.items))) }
+        ensures surveyed { OnOk result (WhereStood self.now.stand (λ at. WhereAsked hand.old (λ asks. (within : List Formed)
+            → IsSurveyed R.Rank.own at (trees_in (map plan_of self.now.stand.family.now)) self.now.stand.label self.now.span
+            (leaf why.now rank.now) asks within number refuted.old.items refuted.new.items))) }
     {
-        if number < self.first {
+        if number < self.span.first {
             return Ok(());
         }
         if self.is_done(refuted) {
@@ -128,25 +143,25 @@ impl<'a, R: Rank> Survey<'a, R> {
 
     /// Whether no further leaf is looked at, since one was refuted and others aren't collected.
     fn is_done(&self, refuted: &[Refuted]) -> bool
-        ensures { result ≡ true → ¬ LooksOn self.now.collects refuted.now }
+        ensures { result ≡ true → ¬ LooksOn self.now.span refuted.now }
     {
-        !self.collects && !refuted.is_empty()
+        !self.span.collects && !refuted.is_empty()
     }
 
     /// Whether none of a side's leaves is looked at, where so many were passed before it.
     #[inline(never)]
     fn skips(&self, side: &Tree<R>, passed: u64, refuted: &[Refuted]) -> bool
         requires few { passed + leaves_of (plan_of side.now) < 2 ^ 64 - 1 }
-        ensures before { result ≡ true → LooksOn self.now.collects refuted.now → passed + leaves_of (plan_of side.now) ≤ self.now.first }
+        ensures before { result ≡ true → LooksOn self.now.span refuted.now → passed + leaves_of (plan_of side.now) ≤ self.now.span.first }
     {
         if self.is_done(refuted) {
             return true;
         }
-        if passed >= self.first {
+        if passed >= self.span.first {
             return false;
         }
         let after = passed + side.leaves();
-        after <= self.first
+        after <= self.span.first
     }
 
     /// Looks at the leaves of a side, behind the row where it holds and its complement where it doesn't. A side that is skipped is only
@@ -159,15 +174,18 @@ impl<'a, R: Rank> Survey<'a, R> {
         side: &Tree<R>,
         passed: &mut u64,
         hand: &mut Hand,
+        narrow: &mut Hand,
         refuted: &mut Vec<Refuted>,
     ) -> Result<(), AllocError>
         requires place { HasPlace self.now.stand.moves.now }
         requires few { passed.old + leaves_of (plan_of side.now) < 2 ^ 64 - 1 }
         ensures same { OnOk result (IsSame hand.old hand.new) }
+        ensures narrow { OnOk result (IsSame narrow.old narrow.new) }
         ensures passed { OnOk result (passed.new ≡ passed.old + leaves_of (plan_of side.now)) }
-        ensures surveyed { OnOk result (WhereStood self.now.stand (λ at. WhereAsked hand.old (λ asks.
-            IsSurveyed R.Rank.own at (trees_in (map plan_of self.now.stand.family.now)) self.now.stand.label self.now.first self.now.collects
-            (plan_of side.now) (asks ++ given (side_of row.now.affine holds) ∷ []) passed.old refuted.old.items refuted.new.items))) }
+        ensures surveyed { OnOk result (WhereStood self.now.stand (λ at. WhereAsked hand.old (λ asks. WhereAsked narrow.old (λ within.
+            IsSurveyed R.Rank.own at (trees_in (map plan_of self.now.stand.family.now)) self.now.stand.label self.now.span (plan_of side.now)
+            (asks ++ given (side_of row.now.affine holds) ∷ []) (within ++ given (side_of row.now.affine holds) ∷ [])
+            passed.old refuted.old.items refuted.new.items)))) }
     {
         if self.skips(side, *passed, refuted) {
             *passed += side.leaves();
@@ -178,8 +196,43 @@ impl<'a, R: Rank> Survey<'a, R> {
             *passed += side.leaves();
             return Ok(());
         }
-        self.refute(side, passed, hand, refuted)?;
+        self.refute_within(row, holds, side, passed, hand, narrow, refuted)?;
         hand.back(mark);
+        Ok(())
+    }
+
+    /// The same with the row in hand, and where the survey is narrowed behind it in the second hand too.
+    #[cycle(survey)]
+    fn refute_within(
+        &self,
+        row: &Row,
+        holds: bool,
+        side: &Tree<R>,
+        passed: &mut u64,
+        hand: &mut Hand,
+        narrow: &mut Hand,
+        refuted: &mut Vec<Refuted>,
+    ) -> Result<(), AllocError>
+        requires place { HasPlace self.now.stand.moves.now }
+        requires few { passed.old + leaves_of (plan_of side.now) < 2 ^ 64 - 1 }
+        ensures same { OnOk result (IsSame hand.old hand.new) }
+        ensures narrow { OnOk result (IsSame narrow.old narrow.new) }
+        ensures passed { OnOk result (passed.new ≡ passed.old + leaves_of (plan_of side.now)) }
+        ensures surveyed { OnOk result (WhereStood self.now.stand (λ at. WhereAsked hand.old (λ asks. WhereAsked narrow.old (λ within.
+            IsSurveyed R.Rank.own at (trees_in (map plan_of self.now.stand.family.now)) self.now.stand.label self.now.span (plan_of side.now)
+            asks (within ++ given (side_of row.now.affine holds) ∷ []) passed.old refuted.old.items refuted.new.items)))) }
+    {
+        if !self.span.narrows {
+            self.refute(side, passed, hand, narrow, refuted)?;
+            return Ok(());
+        }
+        let mark = narrow.mark();
+        if !self.enter(row, holds, narrow)? {
+            *passed += side.leaves();
+            return Ok(());
+        }
+        self.refute(side, passed, hand, narrow, refuted)?;
+        narrow.back(mark);
         Ok(())
     }
 

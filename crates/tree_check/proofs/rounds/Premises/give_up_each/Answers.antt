@@ -1,4 +1,4 @@
-use Rattle.std.proofs.Common.{◌<◌, arith, length, map, refl}
+use Rattle.std.proofs.Common.{◌<◌, arith, length, map}
 use Rattle.decision_tree.specs.Plans.{plan_of}
 use Rattle.tree_support.specs.Setting.{trees_in}
 use Rattle.tree_check.specs.Rounds.{setting_on}
@@ -9,7 +9,6 @@ use Rattle.tree_check.proofs.rounds.Premises.give_up_each.Goals as goal
 pub loop-refuted-init : goal.loop-refuted-init
 loop-refuted-init g c = (
   advances_none g.R.Rank (setting_on g.D.NumDomain c.args.self.now) (map plan_of c.args.trees.now) c.args.drops.now.items,
-  λ other apart. refl,
   left_first g.R.Rank (setting_on g.D.NumDomain c.args.self.now) c.args.label (trees_in (map plan_of c.args.trees.now)) c.args.found.now c.requires.found,
 )
 
@@ -19,10 +18,10 @@ loop-refuted-preserved g c =
     one_more g.R.Rank (setting_on g.D.NumDomain c.args.self.now) c.args.label c.requires.elsewhere (map plan_of c.args.trees.now)
     (map plan_of c.loop-refuted.trees) (map plan_of c.give_up.new.trees) c.args.drops.now.items c.loop-refuted.drops.items c.give_up.new.drops.items
     c.args.found.now c.loop-refuted.refuted-index _ (mapped_low c.args.trees.now c.args.label c.requires.label) low
-    (same_default c.args.found.now c.loop-refuted.refuted-index _ _ low) c.requires.found.apart c.loop-refuted.invariant.0 c.loop-refuted.invariant.1
-    c.loop-refuted.invariant.2 c.in_ok-give_up.ensures.dropped c.in_ok-give_up.ensures.given
+    (same_default c.args.found.now c.loop-refuted.refuted-index _ _ low) c.requires.apart c.loop-refuted.invariant.0
+    c.loop-refuted.invariant.1 c.in_ok-give_up.ensures.dropped c.in_ok-give_up.ensures.given
 
-pub returns-clause-supported : goal.returns-clause-supported
-returns-clause-supported g c =
-    left_none g.R.Rank (setting_on g.D.NumDomain c.args.self.now) c.args.label (trees_in (map plan_of c.loop-refuted.trees)) c.args.found.now
-    c.loop-refuted.refuted-index (omega arith) c.loop-refuted.invariant.2
+pub returns-clause-cleared : goal.returns-clause-cleared
+returns-clause-cleared g c told cleared =
+    left_none g.R.Rank (setting_on g.D.NumDomain c.args.self.now) c.args.label (trees_in (map plan_of c.args.trees.now))
+    (trees_in (map plan_of c.loop-refuted.trees)) c.args.found.now c.loop-refuted.refuted-index (omega arith) c.loop-refuted.invariant.1 told cleared

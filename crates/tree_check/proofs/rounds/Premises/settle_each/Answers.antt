@@ -20,7 +20,7 @@ loop-label-preserved g c = (
       c.loop-label.invariant.0 c.visit.ensures.advances,
   λ same. supported_more g.R.Rank (setting_on g.D.NumDomain c.args.self.now) (map plan_of c.args.trees.now) (map plan_of c.loop-label.trees) (map plan_of c.visit.new.trees) c.args.drops.now.items c.loop-label.drops.items c.visit.new.drops.items
       c.loop-label.label (c.loop-label.label - 1) (omega arith) c.loop-label.invariant.0 c.visit.ensures.advances same c.loop-label.invariant.1 c.in_ok-visit.ensures.supported,
-  c.in_ok-visit.ensures.clean,
+  c.in_ok-visit.ensures.told,
 )
 
 pub returns-clause-supported : goal.returns-clause-supported

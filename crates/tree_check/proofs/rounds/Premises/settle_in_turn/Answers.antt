@@ -1,8 +1,8 @@
-use Rattle.std.proofs.Common.{◌<◌, arith, map, subst, sym}
+use Rattle.std.proofs.Common.{◌<◌, arith, map, subst, sym, ⊎_elim}
+use Rattle.std.proofs.lemmas.Bool.{eqb-true}
 use Rattle.decision_tree.specs.Plans.{plan_of}
 use Rattle.tree_support.specs.Setting.{trees_in}
 use Rattle.tree_check.specs.Rounds.{dropped_by, setting_on}
-use Rattle.tree_check.proofs.Marking.{same_elsewhere}
 use Rattle.tree_check.proofs.Settling.{advances_more, fewer_defined, leaves_stay, mapped_low, not_same, supported_from_start}
 use Rattle.tree_check.proofs.rounds.Premises.settle_in_turn.Goals as goal
 
@@ -29,10 +29,10 @@ loop-refuted-preserved g c =
     let reviewed = rw c.in-Some.is at c.in_ok-refuted.ensures in (
       advances_more g.R.Rank (setting_on g.D.NumDomain c.args.self.now) (map plan_of c.args.trees.now) (map plan_of c.loop-refuted.trees) (map plan_of c.give_up.new.trees) c.args.drops.now.items c.loop-refuted.drops.items c.give_up.new.drops.items c.args.label c.in-Some.refuted c.loop-refuted.invariant.0 (mapped_low c.args.trees.now c.args.label (subst (λ n. c.args.label < n) (sym c.requires.trees) c.requires.label)) reviewed c.in_ok-give_up.ensures.dropped c.in_ok-give_up.ensures.given,
       λ same. absurd (not_same g.R.Rank (setting_on g.D.NumDomain c.args.self.now) c.args.drops.now.items c.loop-refuted.invariant.0.more c.loop-refuted.drops.items c.give_up.new.drops.items (dropped_by c.args.label c.in-Some.refuted) c.loop-refuted.invariant.0.listed c.in_ok-give_up.ensures.dropped same),
-      same_elsewhere c.args.label (map plan_of c.args.trees.now) (map plan_of c.loop-refuted.trees) (map plan_of c.give_up.new.trees) c.in-Some.refuted c.loop-refuted.invariant.2 c.in_ok-give_up.ensures.given,
     )
 
 pub returns-clause-supported : goal.returns-clause-supported
 returns-clause-supported g c is =
     let reviewed = rw c.in_default.is at c.in_ok-refuted.ensures in
-    supported_from_start g.R.Rank (setting_on g.D.NumDomain c.args.self.now) (trees_in (map plan_of c.loop-refuted.trees)) c.args.label c.loop-refuted.first (c.loop-refuted.invariant.1 is) reviewed
+    supported_from_start g.R.Rank (setting_on g.D.NumDomain c.args.self.now) (trees_in (map plan_of c.loop-refuted.trees)) c.args.label c.loop-refuted.first
+    (⊎_elim (λ start. eqb-true c.loop-refuted.first 0 start) (λ same. c.loop-refuted.invariant.1 same) is) reviewed

@@ -9,24 +9,24 @@ use Rattle.tree_check.proofs.Surveying.{held_empty, reviewed, surveyed_nowhere, 
 use Rattle.tree_check.proofs.survey.Survey.refuted.Goals as goal
 
 pub returns-then-not-branch : goal.returns-then-not-branch
-returns-then-not-branch g c at is_at alive rows_are =
+returns-then-not-branch g c at is_at alive rows_are within narrowed =
     let label = c.args.self.now.stand.label in
     let family = trees_in (map plan_of c.args.self.now.stand.family.now) in
     let none : IsMetNowhere (all_asked (rows_given c.args.rows.now)) = c.in_ok-add_rows.ensures.nowhere c.if-not-branch.true [] (held_empty c.new-hand.result.rows c.new-hand.result.wide c.new-hand.ensures.rows c.new-hand.ensures.wide) in
     let empty : c.new-refuted.result.items ≡ [] = search rules in
-    subst (IsReviewed g.R.Rank at family label c.args.self.now.first c.args.self.now.collects) (sym empty)
-    (reviewed g.R.Rank at family label c.args.self.now.first c.args.self.now.collects [] alive
-    (surveyed_nowhere g.R.Rank at family label c.args.self.now.first c.args.self.now.collects (family label) (rows_given (at.rows label)) 0 [] (rw rows_are none)))
+    subst (IsReviewed g.R.Rank at family label c.args.self.now.span within) (sym empty)
+    (reviewed g.R.Rank at family label c.args.self.now.span within [] alive
+    (surveyed_nowhere g.R.Rank at family label c.args.self.now.span (family label) (rows_given (at.rows label)) within 0 [] (rw rows_are none)))
 
 pub returns : goal.returns
-returns g c at is_at alive rows_are =
+returns g c at is_at alive rows_are within narrowed =
     let label = c.args.self.now.stand.label in
     let family = trees_in (map plan_of c.args.self.now.stand.family.now) in
     let held = c.in_ok-add_rows.ensures.held c.if-not-branch.false [] (held_empty c.new-hand.result.rows c.new-hand.result.wide c.new-hand.ensures.rows c.new-hand.ensures.wide) in
-    let surveyed = c.in_ok-refute.ensures.surveyed at is_at (rows_given c.args.rows.now) held in
+    let surveyed = c.in_ok-refute.ensures.surveyed at is_at (rows_given c.args.rows.now) held within narrowed in
     let is : family label ≡ plan_of c.in-Some.tree.now = tree_at c.args.self.now.stand.family.now label c.in-Some.tree.now (ltb-true label (length c.args.self.now.stand.family.now) (sym c.in-Some.ensures.lookup.0)) c.in-Some.ensures.lookup.1 in
     let empty : c.new-refuted.result.items ≡ [] = search rules in
     let from_none = subst
-    (λ old. IsSurveyed g.R.Rank at family label c.args.self.now.first c.args.self.now.collects (plan_of c.in-Some.tree.now) (rows_given c.args.rows.now) 0 old c.refute.new.refuted.items)
+    (λ old. IsSurveyed g.R.Rank at family label c.args.self.now.span (plan_of c.in-Some.tree.now) (rows_given c.args.rows.now) within 0 old c.refute.new.refuted.items)
     empty surveyed in
-    reviewed g.R.Rank at family label c.args.self.now.first c.args.self.now.collects c.refute.new.refuted.items alive (rw (is, rows_are) from_none)
+    reviewed g.R.Rank at family label c.args.self.now.span within c.refute.new.refuted.items alive (rw (is, rows_are) from_none)

@@ -1,0 +1,31 @@
+use Rattle.std.proofs.Common.{◌≡◌, length, map, subst, sym}
+use Rattle.std.proofs.lemmas.Bool.{ltb-true}
+use Rattle.decision_tree.specs.Paths.{path_of}
+use Rattle.decision_tree.specs.Plans.{plan_of}
+use Rattle.tree_support.specs.Setting.{trees_in}
+use Rattle.tree_support.specs.Systems.{moved_by}
+use Rattle.tree_check.specs.Narrowing.{HoldsAmong}
+use Rattle.tree_check.specs.Rounds.{setting_on}
+use Rattle.tree_check.proofs.Narrowing.{found_among, path_empty, path_held}
+use Rattle.tree_check.proofs.Settling.{plan_got}
+use Rattle.tree_check.proofs.Surveying.{held_empty}
+use Rattle.tree_check.proofs.rounds.Premises.path_to.Goals as goal
+
+pub returns-then-picks_values : goal.returns-then-picks_values
+returns-then-picks_values g c = path_empty (setting_on g.D.NumDomain c.args.self.now) c.args.label c.new-hand.result (path_of (trees_in (map plan_of c.args.trees.now) c.args.dropped.now.label) c.args.dropped.now.leaf) (held_empty c.new-hand.result.rows c.new-hand.result.wide c.new-hand.ensures.rows c.new-hand.ensures.wide)
+
+pub returns-in_default : goal.returns-in_default
+returns-in_default g c = path_empty (setting_on g.D.NumDomain c.args.self.now) c.args.label c.new-hand.result (path_of (trees_in (map plan_of c.args.trees.now) c.args.dropped.now.label) c.args.dropped.now.leaf) (held_empty c.new-hand.result.rows c.new-hand.result.wide c.new-hand.ensures.rows c.new-hand.ensures.wide)
+
+pub returns : goal.returns
+returns g c =
+    let at = setting_on g.D.NumDomain c.args.self.now in
+    let path = path_of (trees_in (map plan_of c.args.trees.now) c.args.dropped.now.label) c.args.dropped.now.leaf in
+    let empty = held_empty c.new-hand.result.rows c.new-hand.result.wide c.new-hand.ensures.rows c.new-hand.ensures.wide in
+    let held = found_among c.new-hand.result c.add_path.new.hand (map (moved_by c.sets.result) (path_of (plan_of c.in-Some.tree.now) c.args.dropped.now.leaf))
+    c.in_ok-add_path.field-0 empty c.in_ok-add_path.ensures.same c.in_ok-add_path.ensures.among in
+    let is : plan_of c.in-Some.tree.now ≡ trees_in (map plan_of c.args.trees.now) c.args.dropped.now.label = plan_got c.args.trees.now c.args.dropped.now.label c.in-Some.tree.now
+    (ltb-true c.args.dropped.now.label (length c.args.trees.now) (sym c.in-Some.ensures.lookup.0)) c.in-Some.ensures.lookup.1 in
+    path_held at c.args.label c.args.moves.now c.requires.moves (c.picks_values.ensures c.if-picks_values.false) c.add_path.new.hand path
+    (subst (λ s. HoldsAmong c.add_path.new.hand (map (moved_by s) path)) c.sets.ensures.sets
+    (subst (λ plan. HoldsAmong c.add_path.new.hand (map (moved_by c.sets.result) (path_of plan c.args.dropped.now.leaf))) is held))

@@ -1,0 +1,93 @@
+//! Where a leaf that was given up can be reached from: the rows of its path, moved back.
+ghost use Rattle.std.specs.Prelude.{◌≡◌, ◌+◌, ◌<◌, [], true, false, IfOk, IfSome, map};
+ghost use Rattle.decision_tree.specs.Paths.{path_of};
+ghost use Rattle.decision_tree.specs.Plans.{leaves_of, plan_of};
+ghost use Rattle.tree_support.specs.Systems.{moved_by};
+ghost use Rattle.rows_in_hand.specs.Searches.{Holds, IsSame};
+ghost use Rattle.arc_search.specs.Moves.{HasPlace};
+ghost use Rattle.tree_check.specs.Narrowing.{HoldsAmong, put_of, sets_of};
+
+use arc_search::{Moves, Way};
+use decision_tree::{Rank, Tree};
+use linear_cons::{Affine, Linear};
+use rows_in_hand::Hand;
+use std::alloc::AllocError;
+
+/// The place that is no variable's, where a value is kept while it is chosen.
+const CHOSEN_PLACE: u8 = 15;
+
+/// What the arcs of a label set: a place, to the value of a function.
+pub(crate) fn sets(moves: &Moves) -> Option<(u8, Affine)>
+    ensures sets { result ≡ sets_of moves.now }
+    ensures place { HasPlace moves.now → IfSome result (λ s. s.0 < 16) }
+{
+    match moves {
+        Moves::Assign {
+            place,
+            value,
+            next: _,
+        } => Some((*place, put(value))),
+        Moves::Pass { next: _ } => None,
+        Moves::Test {
+            yes: _,
+            no: _,
+            yes_rows: _,
+            no_rows: _,
+        } => None,
+    }
+}
+
+/// The function whose value is put: that of the form where nothing is left out of it, else a chosen value.
+fn put(value: &Linear) -> Affine
+    ensures { result ≡ put_of value.now }
+{
+    if value.lo == Some(0) && value.hi == Some(0) {
+        return value.affine;
+    }
+    Affine::var(CHOSEN_PLACE)
+}
+
+/// Adds the rows of the path to the leaf that `left` others come before, the last one first, and counts `left` down by each leaf that it
+/// passes. True where the leaf is one of the tree. A row that is opposed to one in hand is left out.
+#[cycle(path)]
+pub(crate) fn add_path<R: Rank>(
+    tree: &Tree<R>,
+    way: &Way<R>,
+    left: &mut u64,
+    hand: &mut Hand,
+) -> Result<bool, AllocError>
+    requires { IfSome way.now.sets (λ s. s.0 < 16) }
+    ensures count { IfOk result (λ found. found ≡ false → left.old ≡ left.new + leaves_of (plan_of tree.now)) }
+    ensures inside { IfOk result (λ found. found ≡ true → left.old < leaves_of (plan_of tree.now)) }
+    ensures same { IfOk result (λ found. found ≡ false → IsSame hand.old hand.new) }
+    ensures among { IfOk result (λ found. found ≡ true → Holds hand.old []
+        → HoldsAmong hand.new (map (moved_by way.now.sets) (path_of (plan_of tree.now) left.old))) }
+{
+    match tree {
+        Tree::Node { row, yes, no } => {
+            if add_path(yes, way, left, hand)? {
+                let _ = way.enter(row, true, hand)?;
+                return Ok(true);
+            }
+            if add_path(no, way, left, hand)? {
+                let _ = way.enter(row, false, hand)?;
+                return Ok(true);
+            }
+            Ok(false)
+        }
+        Tree::Bottom | Tree::Top(_) => Ok(is_next(left)),
+        Tree::Leaf { why: _, rank: _ } => Ok(is_next(left)),
+    }
+}
+
+/// Whether no leaf is left before the one that is looked for; else there is one fewer.
+fn is_next(left: &mut u64) -> bool
+    ensures next { result ≡ true → left.old ≡ 0 }
+    ensures later { result ≡ false → left.old ≡ left.new + 1 }
+{
+    if *left == 0 {
+        return true;
+    }
+    *left -= 1;
+    false
+}
