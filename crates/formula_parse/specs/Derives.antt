@@ -4,7 +4,7 @@ use Rattle.ctl_formula.specs.Formulas.{Ctl}
 use Rattle.ctl_formula.specs.Mirror.{ctl}
 use Rattle.ctl_formula.specs.declared.formula.Formula.{Formula}
 use Rattle.formula_syntax.specs.Trees.{Formula as Tree}
-use Rattle.formula_syntax.specs.Texts.{IsTextOf}
+use Rattle.formula_syntax.specs.Texts.{IsFormulaText}
 use Rattle.formula_parse.specs.Meanings.{formula_meaning}
 use Rattle.formula_parse.specs.Faults.{unknown_in, AllFit}
 
@@ -19,7 +19,7 @@ pub record StandsFor (names : List (List ℕ)) (tree : Tree) (f : Ctl) : Type 0 
 pub record IsFormulaOf (text : List ℕ) (names : List (List ℕ)) (f : Ctl) : Type 0 where
   pub short : length text ≤ 4096
   pub tree : Tree
-  pub spelled : IsTextOf text tree
+  pub spelled : IsFormulaText text tree
   pub stands : StandsFor names tree f
 
 abbrev pub DerivesFormula : List ℕ → List (List ℕ) → Formula → Type 0

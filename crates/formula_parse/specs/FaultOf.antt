@@ -5,7 +5,7 @@ use Rattle.source_lex.specs.Tokens.{TokensOf}
 use Rattle.source_lex.specs.Faults.{FirstFault as FirstLexFault}
 use Rattle.source_lex.specs.declared.token.Token.{Token}
 use Rattle.formula_syntax.specs.Trees.{Formula}
-use Rattle.formula_syntax.specs.Texts.{IsTextOf, HasFault, offset_in}
+use Rattle.formula_syntax.specs.Texts.{IsFormulaText, HasFault, offset_in}
 use Rattle.formula_parse.specs.Faults.{unknown_in, BreaksAt}
 use Rattle.formula_parse.specs.declared.fault.FormulaFault.{FormulaFault}
 use Rattle.formula_parse.specs.declared.fault.FormulaFault.TheVariants.{Lex, Expected, Unknown, NotAffine, Limit, Memory}
@@ -28,7 +28,7 @@ pub record FirstIsAtom (names : List (List ℕ)) (tree : Formula) (token : ℕ) 
 pub record HasNamesFault (text : List ℕ) (First : Formula → ℕ → Type 0) (at : ℕ) : Type 0 where
   pub short : length text ≤ 4096
   pub tree : Formula
-  pub spelled : IsTextOf text tree
+  pub spelled : IsFormulaText text tree
   pub tokens : List Token
   pub lexed : TokensOf text tokens
   pub token : ℕ

@@ -6,7 +6,7 @@ ghost use Rattle.ctl_formula.specs.Mirror.{ctl};
 ghost use Rattle.formula_syntax.specs.Mirror.{formula as formula_of};
 ghost use Rattle.formula_syntax.specs.Trees.{Formula as Concrete};
 ghost use Rattle.formula_parse.specs.Faults.{unknown_in, BreaksAt};
-ghost use Rattle.formula_syntax.specs.Texts.{IsTextOf, IsFaultOf as IsSyntaxFaultOf};
+ghost use Rattle.formula_syntax.specs.Texts.{IsFormulaText, IsFaultOf as IsSyntaxFaultOf};
 ghost use Rattle.formula_parse.specs.Derives.{DerivesFormula, StandsFor};
 ghost use Rattle.formula_parse.specs.FaultOf.{IsFaultOf};
 ghost use Rattle.normal_form.specs.Rows.{ComplementsFit, RowsAreOver};
@@ -68,7 +68,7 @@ fn meant(
     requires short { length text.now ≤ 4096 }
     requires few { length names.now ≤ 15 }
     requires lexed { TokensOf text.now tokens.now }
-    requires spelled { IsTextOf text.now (formula_of tree.now) }
+    requires spelled { IsFormulaText text.now (formula_of tree.now) }
     ensures formula { IfOk result (λ made. StandsFor names.now (formula_of tree.now) (ctl made)) }
     ensures fault { IfErr result (IsFaultOf text.now names.now) }
 {
@@ -90,7 +90,7 @@ fn meant(
 // The first of an unknown name, where there is one, and an atom that breaks its rule.
 fn first_fault(text: &[u8], tokens: &[Token], unknown: Option<usize>, broken: usize) -> FormulaFault
     requires short { length text.now ≤ 4096 }
-    ensures { (names : List (List ℕ)) (tree : Concrete) → TokensOf text.now tokens.now → IsTextOf text.now tree
+    ensures { (names : List (List ℕ)) (tree : Concrete) → TokensOf text.now tokens.now → IsFormulaText text.now tree
         → unknown ≡ unknown_in names tree → BreaksAt names tree broken → IsFaultOf text.now names result }
 {
     match unknown {

@@ -8,7 +8,7 @@ use Rattle.derivation.proofs.Faults.{spelled_has_no_fault, faults_agree}
 use Rattle.source_lex.proofs.Readings.{tokens_unique, fault_unique, tokens_or_fault}
 use Rattle.formula_syntax.specs.Trees.{Formula}
 use Rattle.formula_syntax.specs.declared.fault.SyntaxFault.TheVariants.{Lex, Broken, Memory}
-use Rattle.formula_syntax.specs.Texts.{formulas, offset_in, IsTextOf, HasFault}
+use Rattle.formula_syntax.specs.Texts.{formulas, offset_in, IsFormulaText, HasFault}
 use Rattle.formula_syntax.proofs.OneTree.{one_formula}
 use Rattle.formula_syntax.specs.Laws.{TreesAreUnique, FormulasHaveNoFault, FirstFaultsAgree}
 
@@ -19,7 +19,7 @@ trees_are_unique text tree other h k =
     one_formula other tree spelled.fits h.spelled.fits (sym spelled.spelled ∙ h.spelled.spelled)
 
 -- a program has no fault behind its tokens
-no_fault : (text : List ℕ) (tree : Formula) (rule : Rule) (at : ℕ) → IsTextOf text tree → HasFault text rule at → ⊥
+no_fault : (text : List ℕ) (tree : Formula) (rule : Rule) (at : ℕ) → IsFormulaText text tree → HasFault text rule at → ⊥
 no_fault text tree rule at h k =
     let same : h.tokens ≡ k.tokens = tokens_unique text 0 h.tokens k.tokens h.lexed k.lexed in
     spelled_has_no_fault formulas (words text k.tokens) _ rule tree k.fault

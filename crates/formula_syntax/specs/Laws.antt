@@ -3,11 +3,11 @@ use Rattle.std.specs.Prelude.{◌≡◌, ℕ, List, ⊤}
 use Rattle.formula_syntax.specs.Trees.{Formula}
 use Rattle.formula_syntax.specs.declared.fault.SyntaxFault.{SyntaxFault}
 use Rattle.formula_syntax.specs.declared.fault.SyntaxFault.TheVariants.{Memory}
-use Rattle.formula_syntax.specs.Texts.{IsTextOf, IsFaultOf}
+use Rattle.formula_syntax.specs.Texts.{IsFormulaText, IsFaultOf}
 
 -- a text is what at most one tree spells
 abbrev pub TreesAreUnique : Type 0
-TreesAreUnique = (text : List ℕ) (tree other : Formula) → IsTextOf text tree → IsTextOf text other → tree ≡ other
+TreesAreUnique = (text : List ℕ) (tree other : Formula) → IsFormulaText text tree → IsFormulaText text other → tree ≡ other
 
 -- it says nothing of the text
 abbrev pub IsMemory : SyntaxFault → Type 0
@@ -16,7 +16,7 @@ IsMemory _ = ⊥
 
 -- a text that is a formula has no fault
 abbrev pub FormulasHaveNoFault : Type 0
-FormulasHaveNoFault = (text : List ℕ) (tree : Formula) (fault : SyntaxFault) → IsTextOf text tree → IsFaultOf text fault → IsMemory fault
+FormulasHaveNoFault = (text : List ℕ) (tree : Formula) (fault : SyntaxFault) → IsFormulaText text tree → IsFaultOf text fault → IsMemory fault
 
 -- the same; of want of memory nothing is said
 abbrev pub IsSameFault : SyntaxFault → SyntaxFault → Type 0

@@ -18,7 +18,7 @@ abbrev pub formulas : Phrase
 formulas = record { Tree = Formula; pieces = λ tree. formula_pieces 0 tree [] }
 
 -- the text is what this tree spells
-pub record IsTextOf (text : List ℕ) (tree : Formula) : Type 0 where
+pub record IsFormulaText (text : List ℕ) (tree : Formula) : Type 0 where
   pub tokens : List Token
   pub lexed : TokensOf text tokens
   pub spelled : IsSpelledBy formulas (words text tokens) tree

@@ -6,7 +6,7 @@ ghost use Rattle.formula_syntax.specs.Words.{words, all_spelled, words_from};
 ghost use Rattle.source_lex.specs.Tokens.{TokensOf};
 ghost use Rattle.formula_syntax.specs.Mirror.{formula as formula_tree};
 ghost use Rattle.formula_syntax.specs.Failures.{IfFault};
-ghost use Rattle.formula_syntax.specs.Texts.{formulas, offset_in, IsTextOf, IsFaultOf};
+ghost use Rattle.formula_syntax.specs.Texts.{formulas, offset_in, IsFormulaText, IsFaultOf};
 
 use crate::fault::{Failure, Fault, SyntaxFault};
 use crate::lexeme::{Lexeme, lexemes};
@@ -31,7 +31,7 @@ pub struct Syntax {
 pub fn read_syntax(alloc: Global, text: &[u8]) -> Result<Syntax, SyntaxFault>
     requires { length text.now ≤ 4096 }
     ensures tokens { IfOk result (λ read. TokensOf text.now read.tokens.items) }
-    ensures syntax { IfOk result (λ read. IsTextOf text.now (formula_tree read.tree)) }
+    ensures syntax { IfOk result (λ read. IsFormulaText text.now (formula_tree read.tree)) }
     ensures fault { IfErr result (IsFaultOf text.now) }
 {
     let tokens = match lex(alloc, text) {

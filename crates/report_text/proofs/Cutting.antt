@@ -20,7 +20,7 @@ use Rattle.report_text.specs.declared.report.Stop.{Stop}
 use Rattle.report_text.specs.declared.report.Stop.TheVariants.{WideNumbers, TooManyNodes, NotPlain}
 use Rattle.linear_cons.specs.declared.affine.Affine.{Affine}
 use Rattle.line_text.specs.declared.claim.Claim.{Claim}
-use Rattle.report_text.specs.Printed.{AreExactTexts, AreTextsOf, IsReportText, IsTextOf, adviser_lines, cause_text, ended_lines, exact_part, explain_part, explained, report_lines, verdict_line}
+use Rattle.report_text.specs.Printed.{AreExactTexts, AreTextsOf, IsReportText, IsLineText, adviser_lines, cause_text, ended_lines, exact_part, explain_part, explained, report_lines, verdict_line}
 use Rattle.report_text.specs.Sections.{Role, start, exact_head, exact_line, proved_head, proved_line, unknown_head, unknown_line, explain_head, explain_line, verdict, goes_on, role_of, is_role, lines_after, lines_with, whole_lines, IsFrontOf, IsTextAmong, SaysOnly, explained_lines, header_lines, sections_of, sections_printed}
 
 -- ---- whole lines
@@ -389,7 +389,7 @@ module _ {names : List (List ℕ)} (known : KnownTexts names) where
   section_plain lines texts = All-weaker (IsTextAmong names lines) OpensNothing (λ text among. line_opens_nothing text (known.ending text _ _ among.text_is.spells)) texts
 
   zip_among : (lines part : List Line) (texts : List (List ℕ)) → ((line : Line) → Contains part line → Contains lines line) →
-      AllZip (λ line text. IsTextOf names line text) part texts → All (IsTextAmong names lines) texts
+      AllZip (λ line text. IsLineText names line text) part texts → All (IsTextAmong names lines) texts
   zip_among lines [] [] inside all = All-nil (IsTextAmong names lines)
   zip_among lines [] (text ∷ texts) inside all = absurd all
   zip_among lines (line ∷ part) [] inside all = absurd all

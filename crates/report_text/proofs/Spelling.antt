@@ -19,7 +19,7 @@ use Rattle.report_text.specs.declared.report.Header.{Header}
 use Rattle.report_text.specs.declared.report.Header.TheVariants.{Whole, Partial}
 use Rattle.report_text.specs.declared.report.Stop.{Stop}
 use Rattle.report_text.specs.declared.report.Report.{Report}
-use Rattle.report_text.specs.Printed.{AreInOrder, AreRowTexts, AreTextsOf, IsExactAdded, IsLineOver, IsReportText, IsSectionAdded, IsTextOf, adviser_lines, cause_text, ended_lines, exact_part, explain_part, row_texts, verdict_line}
+use Rattle.report_text.specs.Printed.{AreInOrder, AreRowTexts, AreTextsOf, IsExactAdded, IsLineOver, IsReportText, IsSectionAdded, IsLineText, adviser_lines, cause_text, ended_lines, exact_part, explain_part, row_texts, verdict_line}
 use Rattle.line_text.proofs.Joined.{bytes_more}
 
 -- ---- ended lines
@@ -113,7 +113,7 @@ row_over names rows i row low is over =
 -- the text of a line, from those of its rows and its claim
 pub line_spelled : (names : List (List ℕ)) (line : Line) (texts : List (List ℕ)) (empty text : List ℕ) →
     IsLineOver names line → AreRowTexts names line.rows texts → empty ≡ [] →
-    text ≡ empty ++ (joined texts ++ (codes ": " ++ claim_text names line.claim)) → IsTextOf names line text
+    text ≡ empty ++ (joined texts ++ (codes ": " ++ claim_text names line.claim)) → IsLineText names line text
 line_spelled names line texts empty text over rows nothing written = record {
   condition = rows.condition;
   same = rows.same;
@@ -138,17 +138,17 @@ zip_push R (a ∷ xs) (b ∷ ys) x y all here = (all.0, zip_push R xs ys x y all
 
 -- the text of one line more
 pub line_texts_more : (names : List (List ℕ)) (lines : List Line) (i : ℕ) (line : Line) (texts next : List (Vec ℕ)) (text : Vec ℕ) →
-    i < length lines → line ≡ get_or lines i line → AllZip (λ line text. IsTextOf names line text) (take i lines) (bytes_in texts) →
-    next ≡ texts ++ text ∷ [] → IsTextOf names line text.items →
-    AllZip (λ line text. IsTextOf names line text) (take (i + 1) lines) (bytes_in next)
+    i < length lines → line ≡ get_or lines i line → AllZip (λ line text. IsLineText names line text) (take i lines) (bytes_in texts) →
+    next ≡ texts ++ text ∷ [] → IsLineText names line text.items →
+    AllZip (λ line text. IsLineText names line text) (take (i + 1) lines) (bytes_in next)
 line_texts_more names lines i line texts next text low is so_far pushed made =
-    let R : Line → List ℕ → Type 0 = λ line text. IsTextOf names line text in
+    let R : Line → List ℕ → Type 0 = λ line text. IsLineText names line text in
     let bytes : bytes_in next ≡ bytes_in texts ++ text.items ∷ [] = ap (λ t. bytes_in t) pushed ∙ map-append (λ (v : Vec ℕ). v.items) texts (text ∷ []) in
     rw (take_snoc lines i line low is, bytes) (zip_push R (take i lines) (bytes_in texts) line text.items so_far made)
 
 -- the lines' texts were made and put in order
 pub lines_sorted : (names : List (List ℕ)) (lines : List Line) (made sorted : List (Vec ℕ)) →
-    AllZip (λ line text. IsTextOf names line text) lines (bytes_in made) → IsPermutation made sorted →
+    AllZip (λ line text. IsLineText names line text) lines (bytes_in made) → IsPermutation made sorted →
     IsSorted (λ (x y : Vec ℕ). slice_cmp nat_cmp x.items y.items) sorted → AreTextsOf names lines (bytes_in sorted)
 lines_sorted names lines made sorted each moved rises = record {
   unsorted = bytes_in made;
@@ -172,7 +172,7 @@ same_verdict (x ∷ xs) (y ∷ ys) long = refl
 
 verdict_is : (names : List (List ℕ)) (lines : List Line) (texts : List (List ℕ)) → AreTextsOf names lines texts →
     verdict_line lines ≡ verdict_line texts
-verdict_is names lines texts are = same_verdict lines texts (zip_length (λ line text. IsTextOf names line text) lines are.unsorted are.each ∙ sym (length_permutation are.unsorted texts are.same))
+verdict_is names lines texts are = same_verdict lines texts (zip_length (λ line text. IsLineText names line text) lines are.unsorted are.each ∙ sym (length_permutation are.unsorted texts are.same))
 
 -- ---- advisers
 

@@ -25,7 +25,7 @@ abbrev pub row_texts : List (List ℕ) → List Row → List (List ℕ)
 row_texts names rows = map (λ (row : Row). row_text names row.affine) rows
 
 -- The text is that of the line: its rows are put in the order of their bytes, and then it spells them and the claim.
-pub record IsTextOf (names : List (List ℕ)) (line : Line) (text : List ℕ) : Type 0 where
+pub record IsLineText (names : List (List ℕ)) (line : Line) (text : List ℕ) : Type 0 where
   pub condition : List Row
   pub same : IsPermutation line.rows condition
   pub sorted : AreInOrder (row_texts names condition)
@@ -34,7 +34,7 @@ pub record IsTextOf (names : List (List ℕ)) (line : Line) (text : List ℕ) : 
 -- The texts are those of the lines, each one once, in the order of their bytes.
 pub record AreTextsOf (names : List (List ℕ)) (lines : List Line) (texts : List (List ℕ)) : Type 0 where
   pub unsorted : List (List ℕ)
-  pub each : AllZip (λ line text. IsTextOf names line text) lines unsorted
+  pub each : AllZip (λ line text. IsLineText names line text) lines unsorted
   pub same : IsPermutation unsorted texts
   pub sorted : AreInOrder texts
 

@@ -6,7 +6,7 @@ use Rattle.report_text.specs.declared.line.Line.{Line}
 use Rattle.report_text.specs.declared.report.Explain.{Explain}
 use Rattle.report_text.specs.declared.report.Header.{Header}
 use Rattle.report_text.specs.declared.report.Report.{Report}
-use Rattle.report_text.specs.Printed.{IsTextOf, exact_part, explained, verdict_line}
+use Rattle.report_text.specs.Printed.{IsLineText, exact_part, explained, verdict_line}
 
 -- The whole lines of a text that goes on behind `begun`, the front of a line: each ends with a newline byte, which isn't a part of it.
 -- What stands behind the last newline byte is no whole line.
@@ -138,7 +138,7 @@ sections_printed header exact proved unknown explain = record {
 pub record IsTextAmong (names : List (List ℕ)) (lines : List Line) (text : List ℕ) : Type 0 where
   pub line : Line
   pub line_in : Contains lines line
-  pub text_is : IsTextOf names line text
+  pub text_is : IsLineText names line text
 
 -- each whole exact, proved or unknown line of a text is one of the report's lines of that section
 pub record SaysOnly (names : List (List ℕ)) (report : Report) (text : List ℕ) : Type 0 where

@@ -5,7 +5,7 @@ ghost use Rattle.line_text.specs.LineText.{functions_of};
 ghost use Rattle.line_text.specs.Names.{IsOver};
 ghost use Rattle.line_text.specs.Numeral.{numeral};
 ghost use Rattle.report_text.specs.Printed.{AreRowTexts, AreTextsOf, IsExactAdded, IsLineOver, IsReportOver, IsReportText, IsSectionAdded};
-ghost use Rattle.report_text.specs.Printed.{IsTextOf, adviser_lines, cause_text, ended_lines, explain_part, verdict_line};
+ghost use Rattle.report_text.specs.Printed.{IsLineText, adviser_lines, cause_text, ended_lines, explain_part, verdict_line};
 
 use crate::line::Line;
 use crate::line_list::Lines;
@@ -143,7 +143,7 @@ fn sorted_lines(alloc: Global, lines: &[Line], names: &Names) -> Result<Vec<Vec<
 /// The text of a line, with its rows in the order of their bytes.
 fn text_of(alloc: Global, line: &Line, names: &Names) -> Result<Vec<u8>, AllocError>
     requires { IsLineOver names.now line.now }
-    ensures { IfOk result (λ text. IsTextOf names.now line.now text.items) }
+    ensures { IfOk result (λ text. IsLineText names.now line.now text.items) }
 {
     let rows = sorted_rows(alloc, line.rows.items(), names)?;
     let mut text = Vec::new(alloc);

@@ -9,7 +9,7 @@ use Rattle.elaboration.specs.Faults.{fault as fault_at}
 use Rattle.elaboration.specs.Elaborates.{StandsFor, faults_of}
 use Rattle.source_parse.specs.declared.fault.ParseFault.TheVariants.{Lex, Expected, Unknown, Twice, Mixed, BadRange, Outside, ZeroDivisor, Limit, Memory}
 use Rattle.source_parse.specs.declared.fault.Which.TheVariants as Which
-use Rattle.source_parse.specs.Derives.{IsTextOf}
+use Rattle.source_parse.specs.Derives.{IsProgramText}
 use Rattle.source_parse.specs.Faults.{HasNamesFault}
 use Rattle.source_parse.specs.Laws.{TextsAreUnique, ProgramsHaveNoFault}
 
@@ -20,7 +20,7 @@ one_program unique text names others body other h k =
     (h.stands.declares ∙ sym there.declares, h.stands.means ∙ sym there.means)
 
 -- a program's tree has no fault of names, sorts, jumps and divisors
-named : TreesAreUnique → (text : List ℕ) (names : List (List ℕ)) (body : Statements) (rule : Rule) (at : ℕ) → IsTextOf text names body
+named : TreesAreUnique → (text : List ℕ) (names : List (List ℕ)) (body : Statements) (rule : Rule) (at : ℕ) → IsProgramText text names body
     → HasNamesFault text rule at → ⊥
 named unique text names body rule at h k =
     let none : faults_of k.tree ≡ [] = ap faults_of (unique text k.tree h.tree k.spelled h.spelled) ∙ h.stands.faultless in

@@ -14,7 +14,7 @@ use Rattle.source_syntax.specs.Spelling.{sign, leading, opening, optional_pieces
 use Rattle.elaboration.specs.Scopes.{Scope}
 use Rattle.elaboration.specs.Statements.{simple_meaning, optional_simple_walked, initialiser_walked, part_walked, parts_walked, declaration_walked, start_walked, optional_test, statement_walked, kind_walked, otherwise_walked, items_walked}
 use Rattle.elaboration.specs.Elaborates.{no_names}
-use Rattle.source_parse.specs.Derives.{IsTextOf}
+use Rattle.source_parse.specs.Derives.{IsProgramText}
 use Rattle.source_parse.proofs.Behind.{EndsWith, behind_optional, behind_action, behind_initialiser, behind_test, behind_void, behind_preludes}
 
 -- how many statements a list has, inner ones included
@@ -161,7 +161,7 @@ tokens_size text (one ∷ tokens) i le order within =
     let rest = tokens_size text tokens one.end first.inside order.1 (λ k d lt. within (suc k) d (omega arith)) in
     omega (arith, order.0, first.nonempty)
 
-pub program_size : (text : List ℕ) (names : List (List ℕ)) (body : syntax.Statements) → TokensAreInOrder → IsTextOf text names body
+pub program_size : (text : List ℕ) (names : List (List ℕ)) (body : syntax.Statements) → TokensAreInOrder → IsProgramText text names body
     → syntax.size_of body ≤ length text
 program_size text names body in_order h =
     let order = in_order text h.spelled.tokens h.spelled.lexed in

@@ -5,19 +5,19 @@ use Rattle.step_meaning.specs.declared.program.Program.{Program}
 use Rattle.source_lex.specs.declared.token.Token.{Token}
 use Rattle.source_lex.specs.Tokens.{TokensOf}
 use Rattle.concrete_syntax.specs.Trees.{Program as Tree}
-use Rattle.source_syntax.specs.Texts.{IsTextOf as IsSyntaxOf}
+use Rattle.source_syntax.specs.Texts.{IsTreeText as IsSyntaxOf}
 use Rattle.elaboration.specs.Elaborates.{StandsFor, program_offsets}
 
 -- the text is the program of these names and this body: its tokens are what some concrete tree spells, within the limits, and that tree has
 -- no fault of names, sorts, jumps and divisors and stands for them
-pub record IsTextOf (text : List ℕ) (names : List (List ℕ)) (body : Statements) : Type 0 where
+pub record IsProgramText (text : List ℕ) (names : List (List ℕ)) (body : Statements) : Type 0 where
   pub tree : Tree
   pub spelled : IsSyntaxOf text tree
   pub stands : StandsFor tree names body
 
 -- the text is this program
 abbrev pub Derives : List ℕ → Program → Type 0
-Derives text program = IsTextOf text program.names (statements program.body)
+Derives text program = IsProgramText text program.names (statements program.body)
 
 -- the text is a program, and these are the offsets at which its statements stand, in the order of the tree (`Offsets` of `step_meaning`)
 pub record HasOffsets (text offsets : List ℕ) : Type 0 where
@@ -29,4 +29,4 @@ pub record HasOffsets (text offsets : List ℕ) : Type 0 where
 
 -- the text is no program
 abbrev pub DerivesNone : List ℕ → Type 0
-DerivesNone text = (names : List (List ℕ)) (body : Statements) → ¬ IsTextOf text names body
+DerivesNone text = (names : List (List ℕ)) (body : Statements) → ¬ IsProgramText text names body

@@ -6,7 +6,7 @@ use Rattle.source_lex.specs.Faults.{FirstFault as FirstLexFault}
 use Rattle.source_lex.specs.declared.fault.LexFault.TheVariants.{BadByte, BigNumber, OpenComment, Memory as LexMemory}
 use Rattle.source_lex.specs.declared.token.Token.{Token}
 use Rattle.concrete_syntax.specs.Trees.{Program}
-use Rattle.source_syntax.specs.Texts.{HasFault as HasSyntaxFault, IsTextOf as IsSyntaxOf, offset_in}
+use Rattle.source_syntax.specs.Texts.{HasFault as HasSyntaxFault, IsTreeText as IsSyntaxOf, offset_in}
 use Rattle.elaboration.specs.declared.fault.Rule.{Rule}
 use Rattle.elaboration.specs.Elaborates.{HasFirstFault}
 use Rattle.elaboration.specs.Faults.{fault}

@@ -7,7 +7,7 @@ ghost use Rattle.step_meaning.specs.Offsets.{offsets};
 ghost use Rattle.step_meaning.specs.Syntax.{statements, size_of};
 ghost use Rattle.concrete_syntax.specs.Trees.{Program as Concrete};
 ghost use Rattle.elaboration.specs.Elaborates.{HasFirstFault, StandsFor, program_offsets};
-ghost use Rattle.source_syntax.specs.Texts.{IsTextOf as IsSyntaxOf, IsFaultOf as IsSyntaxFaultOf, offset_in};
+ghost use Rattle.source_syntax.specs.Texts.{IsTreeText as IsSyntaxOf, IsFaultOf as IsSyntaxFaultOf, offset_in};
 ghost use Rattle.source_parse.specs.Derives.{Derives, HasOffsets};
 ghost use Rattle.source_parse.specs.Faults.{IsFaultOf};
 

@@ -8,7 +8,7 @@ use Rattle.derivation.proofs.Faults.{spelled_has_no_fault, faults_agree}
 use Rattle.source_lex.proofs.Readings.{tokens_unique, fault_unique, tokens_or_fault}
 use Rattle.concrete_syntax.specs.Trees.{Program}
 use Rattle.source_syntax.specs.declared.fault.SyntaxFault.TheVariants.{Lex, Broken, Memory}
-use Rattle.source_syntax.specs.Texts.{programs, offset_in, IsTextOf, HasFault}
+use Rattle.source_syntax.specs.Texts.{programs, offset_in, IsTreeText, HasFault}
 use Rattle.source_syntax.proofs.OneTree.{one_program}
 use Rattle.source_syntax.specs.Laws.{TreesAreUnique, ProgramsHaveNoFault, FirstFaultsAgree}
 
@@ -19,7 +19,7 @@ trees_are_unique text tree other h k =
     one_program other tree spelled.fits h.spelled.fits (sym spelled.spelled ∙ h.spelled.spelled)
 
 -- a program has no fault behind its tokens
-no_fault : (text : List ℕ) (tree : Program) (rule : Rule) (at : ℕ) → IsTextOf text tree → HasFault text rule at → ⊥
+no_fault : (text : List ℕ) (tree : Program) (rule : Rule) (at : ℕ) → IsTreeText text tree → HasFault text rule at → ⊥
 no_fault text tree rule at h k =
     let same : h.tokens ≡ k.tokens = tokens_unique text 0 h.tokens k.tokens h.lexed k.lexed in
     spelled_has_no_fault programs (words text k.tokens) _ rule tree k.fault

@@ -3,11 +3,11 @@ use Rattle.std.specs.Prelude.{◌≡◌, ℕ, List, ⊤}
 use Rattle.concrete_syntax.specs.Trees.{Program}
 use Rattle.source_syntax.specs.declared.fault.SyntaxFault.{SyntaxFault}
 use Rattle.source_syntax.specs.declared.fault.SyntaxFault.TheVariants.{Memory}
-use Rattle.source_syntax.specs.Texts.{IsTextOf, IsFaultOf}
+use Rattle.source_syntax.specs.Texts.{IsTreeText, IsFaultOf}
 
 -- a text is what at most one tree spells
 abbrev pub TreesAreUnique : Type 0
-TreesAreUnique = (text : List ℕ) (tree other : Program) → IsTextOf text tree → IsTextOf text other → tree ≡ other
+TreesAreUnique = (text : List ℕ) (tree other : Program) → IsTreeText text tree → IsTreeText text other → tree ≡ other
 
 -- it says nothing of the text
 abbrev pub IsMemory : SyntaxFault → Type 0
@@ -16,7 +16,7 @@ IsMemory _ = ⊥
 
 -- a text that is a program has no fault
 abbrev pub ProgramsHaveNoFault : Type 0
-ProgramsHaveNoFault = (text : List ℕ) (tree : Program) (fault : SyntaxFault) → IsTextOf text tree → IsFaultOf text fault → IsMemory fault
+ProgramsHaveNoFault = (text : List ℕ) (tree : Program) (fault : SyntaxFault) → IsTreeText text tree → IsFaultOf text fault → IsMemory fault
 
 -- the same; of want of memory nothing is said
 abbrev pub IsSameFault : SyntaxFault → SyntaxFault → Type 0

@@ -18,7 +18,7 @@ abbrev pub programs : Phrase
 programs = record { Tree = Program; pieces = λ tree. program_pieces tree [] }
 
 -- the text is what this tree spells
-pub record IsTextOf (text : List ℕ) (tree : Program) : Type 0 where
+pub record IsTreeText (text : List ℕ) (tree : Program) : Type 0 where
   pub tokens : List Token
   pub lexed : TokensOf text tokens
   pub spelled : IsSpelledBy programs (words text tokens) tree

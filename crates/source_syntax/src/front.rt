@@ -7,7 +7,7 @@ ghost use Rattle.derivation.specs.Spelled.{all_spelled, words_from};
 ghost use Rattle.source_lex.specs.Tokens.{TokensOf};
 ghost use Rattle.concrete_syntax.specs.Mirror.{program as program_tree};
 ghost use Rattle.source_syntax.specs.Failures.{IfFault};
-ghost use Rattle.source_syntax.specs.Texts.{programs, offset_in, IsTextOf, IsFaultOf};
+ghost use Rattle.source_syntax.specs.Texts.{programs, offset_in, IsTreeText, IsFaultOf};
 
 use crate::fault::{Failure, Fault, SyntaxFault};
 use crate::program::program;
@@ -31,7 +31,7 @@ pub struct Syntax {
 pub fn read_syntax(alloc: Global, text: &[u8]) -> Result<Syntax, SyntaxFault>
     requires { length text.now ≤ 65536 }
     ensures tokens { IfOk result (λ read. TokensOf text.now read.tokens.items) }
-    ensures syntax { IfOk result (λ read. IsTextOf text.now (program_tree read.tree)) }
+    ensures syntax { IfOk result (λ read. IsTreeText text.now (program_tree read.tree)) }
     ensures fault { IfErr result (IsFaultOf text.now) }
 {
     let tokens = match lex(alloc, text) {

@@ -3,7 +3,7 @@ use Rattle.std.specs.List.{AllZip}
 use Rattle.std.proofs.lemmas.List.{take_all}
 use Rattle.report_text.specs.declared.line.Line.{Line}
 use Rattle.line_text.specs.Buffer.{bytes_in}
-use Rattle.report_text.specs.Printed.{IsTextOf}
+use Rattle.report_text.specs.Printed.{IsLineText}
 use Rattle.report_text.proofs.Spelling.{line_texts_more, lines_sorted}
 use Rattle.report_text.proofs.printing.sorted_lines.Goals as goal
 
@@ -12,5 +12,5 @@ loop-line-preserved c = line_texts_more _ _ _ c.line-item.result _ _ _ (omega ar
 
 pub returns : goal.returns
 returns c =
-    let all : AllZip (λ line text. IsTextOf c.args.names.now line text) c.args.lines.now (bytes_in c.loop-line.texts.items) = subst (λ (t : List Line). AllZip (λ line text. IsTextOf c.args.names.now line text) t (bytes_in c.loop-line.texts.items)) (take_all _ _ (omega arith)) c.loop-line.invariant in
+    let all : AllZip (λ line text. IsLineText c.args.names.now line text) c.args.lines.now (bytes_in c.loop-line.texts.items) = subst (λ (t : List Line). AllZip (λ line text. IsLineText c.args.names.now line text) t (bytes_in c.loop-line.texts.items)) (take_all _ _ (omega arith)) c.loop-line.invariant in
     lines_sorted _ _ _ _ all c.in_ok-sort.ensures.permutation c.in_ok-sort.ensures.sorted
