@@ -32,7 +32,7 @@ use Rattle.control_flow.proofs.LabelLaws.{entry_is_a_label}
 use Rattle.control_flow.proofs.Steps.{entry_is_start}
 use Rattle.backward_transfer.specs.AffineShapes.{tree_at}
 use Rattle.unroll.specs.Levels.{Claims, IsLevel, RanksCount, counted}
-use Rattle.unroll.specs.Measures.{IsLight}
+use Rattle.control_flow.specs.Measures.{IsLight}
 use Rattle.step_meaning.specs.Plain.{IsPlain}
 use Rattle.unroll.specs.Stopping.{IsCause}
 use Rattle.backward_transfer.proofs.Putting.{plan_at}

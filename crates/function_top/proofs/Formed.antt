@@ -2,7 +2,7 @@
 use Rattle.std.proofs.Common.{◌≡◌, ℕ, inl, inr, List, [], ◌∷◌, Option, Some, All, refl}
 use Rattle.std.proofs.lemmas.List.Elements.{All-cons, All-nil}
 use Rattle.step_meaning.specs.Syntax.{Statements}
-use Rattle.source_parse.specs.Derives.{IsTextOf}
+use Rattle.source_parse.specs.Derives.{IsProgramText}
 use Rattle.linear_solve.proofs.Lists.{all_of}
 use Rattle.line_text.specs.LineText.{functions_of}
 use Rattle.report_text.specs.declared.line.Line.{Line}
@@ -38,7 +38,7 @@ module _ (left : Option Bytes) where
   }
 
   module _ (names : List Bytes) (known : KnownLines names)
-      (own : (text : Bytes) (declared : List Bytes) (body : Statements) → left ≡ Some text → IsTextOf text declared body → names ≡ declared) where
+      (own : (text : Bytes) (declared : List Bytes) (body : Statements) → left ≡ Some text → IsProgramText text declared body → names ≡ declared) where
     spoken : (line : Line) → Prints (IsKnown left) frames names known.newline line
     spoken line text is =
         inl (record { names = names; says = record { condition = functions_of is.condition; claim = line.claim; spells = is.spells }; own = own })

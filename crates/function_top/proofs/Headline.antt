@@ -9,7 +9,7 @@ use Rattle.outside.specs.Sink.{AppendsFront}
 use Rattle.step_meaning.specs.Countdown.{IsCountdown}
 use Rattle.ctl_formula.specs.Formulas.{af_exit}
 use Rattle.ctl_rounds.specs.Asked.{RoseBy}
-use Rattle.source_parse.specs.Derives.{IsTextOf}
+use Rattle.source_parse.specs.Derives.{IsProgramText}
 use Rattle.source_parse.specs.Laws.{NamesAreDistinct, NamesAreNames, TextsAreUnique}
 use Rattle.linear_cons.specs.declared.affine.Affine.{Affine}
 use Rattle.linear_cons.specs.Functions.{complement_of}
@@ -33,12 +33,13 @@ use Rattle.function_top.specs.Call.{Call}
 use Rattle.function_top.specs.Due.{IsDueOn, IsPastLimits, IsReport, IsReportOn, IsWithinLimits}
 use Rattle.function_top.specs.Form.{HasKnownLines}
 use Rattle.function_top.specs.Found.{IsFound}
-use Rattle.function_top.specs.Meeting.{AreMetOnce}
+use Rattle.function_top.specs.Meeting.{AreMetOnce, CountsExactly}
 use Rattle.function_top.specs.Order.{Accepted}
 use Rattle.function_top.specs.Refusals.{usage_text}
 use Rattle.function_top.specs.Shown.{Shows}
 use Rattle.function_top.specs.Subject.{IsSubject, Subject}
 use Rattle.function_top.specs.Text.{IsRead}
+use Rattle.function_top.proofs.Counted.{counts_exactly}
 use Rattle.function_top.proofs.Formed.{fault_known, report_known}
 use Rattle.function_top.proofs.MetOnce.{met_once}
 use Rattle.function_top.proofs.Named.{program_names}
@@ -112,7 +113,7 @@ known_report known order left text read report turns bytes due =
     let subject = due.subject in
     report_known left subject.names (known.lines subject.names (program_names known.spelled known.distinct text subject.names subject.body due.is.program))
     (λ told declared other is own. (known.unique text subject.names declared subject.body other due.is.program
-    (subst (λ t. IsTextOf t declared other) (told_read left text told read is) own)).0)
+    (subst (λ t. IsProgramText t declared other) (told_read left text told read is) own)).0)
     due.found report bytes due.shows due.printed
 
 pub due_known : KnownTexts → (order : Order) (left : Option Bytes) (text : Bytes) → IsRead left text → (status : Status) (turns : ℕ) (bytes : Bytes)
@@ -149,6 +150,26 @@ due_met known order text subject Formula turns bytes h due is = absurd is
 due_met known order text subject ReadFault turns bytes h due is = absurd is
 due_met known order text subject WriteFault turns bytes h due is = absurd is
 due_met known order text subject NoMemory turns bytes h due is = absurd is
+
+-- its exact lines are met by the runs that they speak of
+counted_report : KnownTexts → (order : Order) (text : Bytes) (subject : Subject) (report : Report) (turns : ℕ) (bytes : Bytes) → IsSubject text subject
+    → IsReportOn order text report turns bytes → CountsExactly subject bytes
+counted_report known order text subject report turns bytes h due =
+    subst (λ (s : Subject). CountsExactly s bytes) (same_subject known text due.subject subject due.is h)
+    (counts_exactly due.subject
+    (known.lines due.subject.names (program_names known.spelled known.distinct text due.subject.names due.subject.body due.is.program))
+    known.ending order.delay due.found report bytes due.finds due.shows due.printed)
+
+pub due_counted : KnownTexts → (order : Order) (text : Bytes) (subject : Subject) (status : Status) (turns : ℕ) (bytes : Bytes) → IsSubject text subject
+    → IsDueOn order text status turns bytes → IsReport status → CountsExactly subject bytes
+due_counted known order text subject AllInputs turns bytes h due is = counted_report known order text subject due.0 turns bytes h due.1
+due_counted known order text subject SomeInputs turns bytes h due is = counted_report known order text subject due.0 turns bytes h due.1
+due_counted known order text subject Program turns bytes h due is = absurd is
+due_counted known order text subject Words turns bytes h due is = absurd is
+due_counted known order text subject Formula turns bytes h due is = absurd is
+due_counted known order text subject ReadFault turns bytes h due is = absurd is
+due_counted known order text subject WriteFault turns bytes h due is = absurd is
+due_counted known order text subject NoMemory turns bytes h due is = absurd is
 
 -- ---- what was written
 
@@ -262,7 +283,7 @@ not_refused order left told text subject turns bytes is read h limits (inl long,
     let over = long.long in
     omega (arith, fits, over)
 not_refused order left told text subject turns bytes is read h limits (inr (inl other), asked) =
-    other.none subject.names subject.body (subst (λ t. IsTextOf t subject.names subject.body) (told_read left text told read is) h.program)
+    other.none subject.names subject.body (subst (λ t. IsProgramText t subject.names subject.body) (told_read left text told read is) h.program)
 not_refused order left told text subject turns bytes is read h limits (inr (inr past), asked) =
     limits.graph bytes (subst (λ t. IsPastLimits t bytes) (sym (told_read left text told read is)) past)
 

@@ -13,5 +13,6 @@ pub mod Running
 pub mod Reported
 pub mod Once
 pub mod MetOnce
+pub mod Counted
 pub mod Choices
 mod Refusing

@@ -13,7 +13,7 @@ use Rattle.report_text.specs.Leaves.{NoneOf, OneOf}
 use Rattle.report_text.specs.declared.report.Header.{Header}
 use Rattle.report_text.specs.declared.report.Header.TheVariants.{Absent, Partial, Stopped, Whole}
 use Rattle.report_text.specs.declared.report.Report.{Report}
-use Rattle.report_text.specs.Printed.{AreExactTexts, AreTextsOf, IsReportText, IsTextOf}
+use Rattle.report_text.specs.Printed.{AreExactTexts, AreTextsOf, IsReportText, IsLineText}
 use Rattle.report_text.specs.Sections.{Sections}
 use Rattle.report_text.proofs.Cutting.{KnownTexts, report_sections}
 use Rattle.line_text.proofs.Words.{numeral_is_numeral}
@@ -31,7 +31,7 @@ module _ (names : List Bytes) (known : KnownLines names) (input : Store) where
   Met line = MeetsAll input line.rows
 
   -- a text is met where the line is of which it is the text
-  text_met : (line : Line) (text : Bytes) → IsTextOf names line text → Met line → IsMet names input text
+  text_met : (line : Line) (text : Bytes) → IsLineText names line text → Met line → IsMet names input text
   text_met line text is met = record {
     condition = functions_of is.condition;
     claim = line.claim;
@@ -39,19 +39,19 @@ module _ (names : List Bytes) (known : KnownLines names) (input : Store) where
     meets = rows_met line.rows is.condition input is.same met;
   }
 
-  line_met : (line : Line) (text : Bytes) → IsTextOf names line text → IsMet names input text → Met line
+  line_met : (line : Line) (text : Bytes) → IsLineText names line text → IsMet names input text → Met line
   line_met line text is met =
       let same = known.one text (functions_of is.condition) met.condition line.claim met.claim is.spells met.spells in
       condition_met line.rows is.condition input is.same (subst (MeetsCondition input) (sym same.0) met.meets)
 
-  none_met : (lines : List Line) (texts : List Bytes) → AllZip (λ line text. IsTextOf names line text) lines texts → NoneOf Met lines → AreUnmet names input texts
+  none_met : (lines : List Line) (texts : List Bytes) → AllZip (λ line text. IsLineText names line text) lines texts → NoneOf Met lines → AreUnmet names input texts
   none_met [] [] zipped none = All-nil (λ text. ¬ IsMet names input text)
   none_met [] (text ∷ texts) zipped none = absurd zipped
   none_met (line ∷ lines) [] zipped none = absurd zipped
   none_met (line ∷ lines) (text ∷ texts) zipped none =
       All-cons (λ text. ¬ IsMet names input text) text texts (λ met. none.0 (line_met line text zipped.0 met)) (none_met lines texts zipped.1 none.1)
 
-  one_met : (Is : Line → Type 0) (lines : List Line) (texts : List Bytes) → AllZip (λ line text. IsTextOf names line text) lines texts → OneOf Met Is lines
+  one_met : (Is : Line → Type 0) (lines : List Line) (texts : List Bytes) → AllZip (λ line text. IsLineText names line text) lines texts → OneOf Met Is lines
       → MeetsOne names input texts
   one_met Is [] [] zipped one = absurd one
   one_met Is [] (text ∷ texts) zipped one = absurd zipped
@@ -83,8 +83,8 @@ module _ (names : List Bytes) (known : KnownLines names) (input : Store) where
     unmet = one.unmet;
   }
 
-  zipped_both : (lines more : List Line) (texts rest : List Bytes) → AllZip (λ line text. IsTextOf names line text) lines texts
-      → AllZip (λ line text. IsTextOf names line text) more rest → AllZip (λ line text. IsTextOf names line text) (lines ++ more) (texts ++ rest)
+  zipped_both : (lines more : List Line) (texts rest : List Bytes) → AllZip (λ line text. IsLineText names line text) lines texts
+      → AllZip (λ line text. IsLineText names line text) more rest → AllZip (λ line text. IsLineText names line text) (lines ++ more) (texts ++ rest)
   zipped_both [] more [] rest first second = second
   zipped_both [] more (text ∷ texts) rest first second = absurd first
   zipped_both (line ∷ lines) more [] rest first second = absurd first

@@ -5,7 +5,7 @@ use Rattle.std.proofs.lemmas.List.Elements.{All-weaker}
 use Rattle.step_meaning.specs.Syntax.{Statements}
 use Rattle.source_lex.specs.Bytes.{is_letter, is_digit, is_name_byte}
 use Rattle.source_lex.specs.Spellings.{SpellsName}
-use Rattle.source_parse.specs.Derives.{IsTextOf}
+use Rattle.source_parse.specs.Derives.{IsProgramText}
 use Rattle.source_parse.specs.Laws.{NamesAreDistinct, NamesAreNames}
 use Rattle.line_text.specs.Names.{AreNames, IsName, begins_name}
 
@@ -24,7 +24,7 @@ spelled_name name is = record {
   each = All-weaker (λ byte. IsTrue (is_name_byte byte)) (λ byte. IsTrue (begins_name byte || is_ascii_digit byte)) name_byte name is.each;
 }
 
-pub program_names : NamesAreNames → NamesAreDistinct → (text : List ℕ) (names : List (List ℕ)) (body : Statements) → IsTextOf text names body → AreNames names
+pub program_names : NamesAreNames → NamesAreDistinct → (text : List ℕ) (names : List (List ℕ)) (body : Statements) → IsProgramText text names body → AreNames names
 program_names spelled distinct text names body is = record {
   each = All-weaker SpellsName IsName spelled_name names (spelled text names body is);
   distinct = distinct text names body is;

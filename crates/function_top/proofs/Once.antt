@@ -1,5 +1,5 @@
 -- How many lines of a report an input meets: exactly one of the proved and unknown ones, at most one of the exact part.
-use Rattle.std.proofs.Common.{◌≡◌, ◌⊎◌, Bool, true, false, cond, not, inl, inr, List, [], ◌∷◌, ◌++◌, filter, Option, sym, subst}
+use Rattle.std.proofs.Common.{◌≡◌, ◌⊎◌, Bool, true, false, cond, not, inl, inr, List, [], ◌∷◌, ◌++◌, filter, sym, subst}
 use Rattle.step_meaning.specs.Outcome.{Store}
 use Rattle.linear_cons.specs.Rows.{MeetsAll}
 use Rattle.decision_tree.specs.Evaluation.{eval}

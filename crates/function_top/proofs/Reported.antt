@@ -2,7 +2,7 @@
 use Rattle.std.proofs.Common.{◌≡◌, ◌≢◌, ℕ, ◌≤◌, ⊎_elim, List, [], length, refl, sym, subst, ◌∙◌}
 use Rattle.step_meaning.specs.declared.program.Program.{Program as Parsed}
 use Rattle.step_meaning.specs.Syntax.{statements}
-use Rattle.source_parse.specs.Derives.{IsTextOf}
+use Rattle.source_parse.specs.Derives.{IsProgramText}
 use Rattle.decision_tree.specs.Plans.{plan_of}
 use Rattle.report_text.specs.declared.report.Report.{Report}
 use Rattle.report_text.specs.Printed.{IsReportText}
@@ -17,7 +17,7 @@ use Rattle.function_top.specs.Subject.{subject_of}
 use Rattle.function_top.proofs.Headline.{whole_claims}
 
 module _ (order : Order) (text : List ℕ) (program : Parsed) (found : Found) (report : Report) (turns : ℕ) (bytes : List ℕ) (short : length text ≤ 65536)
-    (derived : IsTextOf text program.names (statements program.body)) (finds : IsFound order.delay (subject_of program) found)
+    (derived : IsProgramText text program.names (statements program.body)) (finds : IsFound order.delay (subject_of program) found)
     (asked : turns ≡ found.turns) (shows : Shows found report) (printed : IsReportText program.names report bytes) where
   on : IsReportOn order text report turns bytes
   on = record {

@@ -19,7 +19,7 @@ use Rattle.report_text.specs.declared.report.Header.TheVariants.{Absent, Partial
 use Rattle.report_text.specs.declared.report.Report.{Report}
 use Rattle.report_text.specs.declared.report.Stop.{Stop}
 use Rattle.report_text.specs.declared.report.Stop.TheVariants.{NotPlain, TooManyNodes, WideNumbers}
-use Rattle.report_text.specs.Printed.{AreExactTexts, AreTextsOf, IsReportText, IsTextOf, cause_text, ended_lines, exact_part, report_lines, verdict_line}
+use Rattle.report_text.specs.Printed.{AreExactTexts, AreTextsOf, IsReportText, IsLineText, cause_text, ended_lines, exact_part, report_lines, verdict_line}
 use Rattle.report_text.specs.Sections.{IsWholeLine, lines_after, whole_lines}
 use Rattle.report_text.proofs.Cutting.{whole_lines_are}
 
@@ -154,7 +154,7 @@ module _ (P : Bytes → Type 0) where
       (newline : (line : Bytes) (condition : List Affine) (claim : Claim) → Spells names line condition claim → Lacks line) where
     -- of whatever the line is printed as
     abbrev pub Prints : Line → Type 0
-    Prints line = (text : Bytes) → IsTextOf names line text → P text
+    Prints line = (text : Bytes) → IsLineText names line text → P text
 
     good_frame : (line : Bytes) → has_no_newline line ≡ true → P line → IsGood line
     good_frame line clean h = record { lacking = tested line clean; holds = h }
@@ -174,7 +174,7 @@ module _ (P : Bytes → Type 0) where
         (All-append IsGood proved (codes "unknown:" ∷ (unknown ++ (verdict_line unknown ∷ []))) first
         (All-cons IsGood (codes "unknown:") (unknown ++ (verdict_line unknown ∷ [])) (good_frame (codes "unknown:") refl frames.unknown) behind)))
 
-    good_zipped : (lines : List Line) (texts : List Bytes) → All Prints lines → AllZip (λ line text. IsTextOf names line text) lines texts
+    good_zipped : (lines : List Line) (texts : List Bytes) → All Prints lines → AllZip (λ line text. IsLineText names line text) lines texts
         → All IsGood texts
     good_zipped [] [] h zipped = All-nil IsGood
     good_zipped [] (text ∷ texts) h zipped = absurd zipped

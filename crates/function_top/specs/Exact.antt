@@ -11,7 +11,7 @@ use Rattle.decision_tree.specs.declared.affine_rank.AffineRank.{AffineRank}
 use Rattle.decision_tree.specs.declared.reason.Cause.{Cause}
 use Rattle.decision_tree.specs.declared.reason.Cause.TheVariants.{Given, Nodes, Point, Rows, Wide}
 use Rattle.unroll.specs.Levels.{Claims, RanksCount}
-use Rattle.unroll.specs.Measures.{IsHeavy, IsLight}
+use Rattle.control_flow.specs.Measures.{IsHeavy, IsLight}
 use Rattle.unroll.specs.Refusals.{IsWide}
 use Rattle.report_text.specs.declared.line.Line.{Line}
 use Rattle.report_text.specs.Leaves.{MeetsOneLine, NoneOf}

@@ -2,7 +2,7 @@
 -- a person would take for a claim escapes the headline.
 use Rattle.std.specs.Prelude.{◌≡◌, ◌⊎◌, ℕ, List, [], ◌++◌, Option, Some, Contains, codes}
 use Rattle.step_meaning.specs.Syntax.{Statements}
-use Rattle.source_parse.specs.Derives.{IsTextOf}
+use Rattle.source_parse.specs.Derives.{IsProgramText}
 use Rattle.linear_cons.specs.declared.affine.Affine.{Affine}
 use Rattle.line_text.specs.declared.claim.Claim.{Claim}
 use Rattle.line_text.specs.Spells.{Spells}
@@ -37,7 +37,7 @@ pub data IsRefusal : List ℕ → Type 0 where
 pub record IsClaimOn (left : Option (List ℕ)) (line : List ℕ) : Type 0 where
   pub names : List (List ℕ)
   pub says : IsClaim names line
-  pub own : (text : List ℕ) (declared : List (List ℕ)) (body : Statements) → left ≡ Some text → IsTextOf text declared body → names ≡ declared
+  pub own : (text : List ℕ) (declared : List (List ℕ)) (body : Statements) → left ≡ Some text → IsProgramText text declared body → names ≡ declared
 
 -- the line is one that the command may write
 abbrev pub IsKnown : Option (List ℕ) → List ℕ → Type 0

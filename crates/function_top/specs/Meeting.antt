@@ -1,10 +1,16 @@
 -- Which lines of a text an input meets.
-use Rattle.std.specs.Prelude.{◌⊎◌, ℕ, List, ◌∷◌, ◌++◌, All, IsPermutation}
+use Rattle.std.specs.Prelude.{◌≡◌, ◌⊎◌, ◌↔◌, ℕ, pos, List, ◌∷◌, ◌++◌, length, All, Contains, IsPermutation, Option}
 use Rattle.step_meaning.specs.Outcome.{Store}
+use Rattle.step_meaning.specs.Run.{IsInput}
 use Rattle.linear_cons.specs.declared.affine.Affine.{Affine}
 use Rattle.line_text.specs.declared.claim.Claim.{Claim}
+use Rattle.line_text.specs.declared.claim.Claim.TheVariants.{Exactly}
 use Rattle.line_text.specs.Spells.{MeetsCondition, Spells}
-use Rattle.report_text.specs.Sections.{sections_of}
+use Rattle.report_text.specs.declared.report.Stop.{Stop}
+use Rattle.report_text.specs.Sections.{header_lines, sections_of}
+use Rattle.function_top.specs.Exact.{EndsExactly}
+use Rattle.function_top.specs.Shown.{header_of}
+use Rattle.function_top.specs.Subject.{Subject}
 
 -- the line says something over the names under a condition that the input meets
 pub record IsMet (names : List (List ℕ)) (input : Store) (line : List ℕ) : Type 0 where
@@ -29,3 +35,22 @@ pub record MeetsOne (names : List (List ℕ)) (input : Store) (lines : List (Lis
 pub record AreMetOnce (names : List (List ℕ)) (text : List ℕ) : Type 0 where
   pub together : (input : Store) → MeetsOne names input ((sections_of text).proved ++ (sections_of text).unknown)
   pub exact : (input : Store) → AreUnmet names input (sections_of text).exact ⊎ MeetsOne names input (sections_of text).exact
+
+-- one of the lines says the claim over the names under a condition that the input meets
+pub record MeetsClaim (names : List (List ℕ)) (input : Store) (claim : Claim) (lines : List (List ℕ)) : Type 0 where
+  pub line : List ℕ
+  pub among : Contains lines line
+  pub condition : List Affine
+  pub spells : Spells names line condition claim
+  pub meets : MeetsCondition input condition
+
+-- by its header the exact part of the text allows so many tests of loops
+abbrev pub AllowsTests : List ℕ → ℕ → Type 0
+AllowsTests text tests = (stop : Option Stop) × ((sections_of text).header ≡ header_lines (header_of tests stop))
+
+-- An input meets a line `exactly n steps` of the text's exact part exactly where every run from it ends with at most as many tests of a loop as
+-- the part allows, and the longest has n steps.
+abbrev pub CountsExactly : Subject → List ℕ → Type 0
+CountsExactly subject text =
+    (tests : ℕ) → AllowsTests text tests → (input : Store) → IsInput (length subject.names) input → (n : ℕ)
+    → MeetsClaim subject.names input (Exactly (pos n)) (sections_of text).exact ↔ EndsExactly subject.body tests input n

@@ -3,7 +3,7 @@ use Rattle.std.specs.Prelude.{◌≡◌, ℕ, List}
 use Rattle.step_meaning.specs.declared.program.Program.{Program}
 use Rattle.step_meaning.specs.Syntax.{Statements, statements}
 use Rattle.ctl_formula.specs.Formulas.{Ctl, af_exit}
-use Rattle.source_parse.specs.Derives.{IsTextOf}
+use Rattle.source_parse.specs.Derives.{IsProgramText}
 
 -- a program, by its names and its body, and a formula
 pub record Subject : Type 0 where
@@ -17,5 +17,5 @@ subject_of program = record { names = program.names; body = statements program.b
 
 -- of a text the program is analysed that it is, with that formula
 pub record IsSubject (text : List ℕ) (subject : Subject) : Type 0 where
-  pub program : IsTextOf text subject.names subject.body
+  pub program : IsProgramText text subject.names subject.body
   pub formula : subject.formula ≡ af_exit

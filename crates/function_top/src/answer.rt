@@ -7,7 +7,7 @@ ghost use Rattle.function_top.specs.declared.order.Order.{Order};
 ghost use Rattle.function_top.specs.Due.{IsDueOn, IsDueOnProgram, IsReport};
 ghost use Rattle.function_top.specs.Form.{HasKnownLines};
 ghost use Rattle.function_top.specs.Headline.{IsTrueText};
-ghost use Rattle.function_top.specs.Meeting.{AreMetOnce};
+ghost use Rattle.function_top.specs.Meeting.{AreMetOnce, CountsExactly};
 ghost use Rattle.function_top.specs.Refusals.{fault_text};
 ghost use Rattle.function_top.specs.Subject.{IsSubject, Subject};
 
@@ -48,6 +48,8 @@ pub fn report_on(
     ensures form { IfOk result (λ due. HasKnownLines (Some text.now) due.bytes.items) }
     ensures lines { IfOk result (λ due. IsReport due.status → (subject : Subject) → IsSubject text.now subject
         → AreMetOnce subject.names due.bytes.items) }
+    ensures counts { IfOk result (λ due. IsReport due.status → (subject : Subject) → IsSubject text.now subject
+        → CountsExactly subject due.bytes.items) }
     ensures asked { (times : ℕ) × (times ≤ 8) × RoseBy (λ adviser. asked_of adviser) times advisers.old.items advisers.new.items
         × IfOk result (λ due. due.turns ≡ times) }
 {

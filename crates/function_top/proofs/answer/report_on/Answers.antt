@@ -1,5 +1,5 @@
 use Rattle.std.proofs.Common.{Some, refl}
-use Rattle.function_top.proofs.Headline.{KnownTexts, due_known, due_met, due_true, known_texts}
+use Rattle.function_top.proofs.Headline.{KnownTexts, due_counted, due_known, due_met, due_true, known_texts}
 use Rattle.function_top.proofs.answer.report_on.Given as given
 use Rattle.function_top.proofs.answer.report_on.Goals as goal
 
@@ -21,4 +21,9 @@ returns-clause-form g c =
 pub returns-clause-lines : goal.returns-clause-lines
 returns-clause-lines g c report subject is =
     due_met (known g c) c.args.order.now c.args.text.now subject c.in_ok-due.due.status c.in_ok-due.due.turns c.in_ok-due.due.bytes.items is
+    c.in_ok-due.ensures.due report
+
+pub returns-clause-counts : goal.returns-clause-counts
+returns-clause-counts g c report subject is =
+    due_counted (known g c) c.args.order.now c.args.text.now subject c.in_ok-due.due.status c.in_ok-due.due.turns c.in_ok-due.due.bytes.items is
     c.in_ok-due.ensures.due report

@@ -9,7 +9,7 @@ use Rattle.decision_tree.specs.declared.affine_rank.AffineRank.{AffineRank}
 use Rattle.decision_tree.specs.declared.family.Family.{Family}
 use Rattle.backward_transfer.specs.AffineShapes.{tree_at}
 use Rattle.unroll.specs.Levels.{IsLevel}
-use Rattle.unroll.specs.Measures.{IsLight}
+use Rattle.control_flow.specs.Measures.{IsLight}
 use Rattle.unroll.specs.Stopping.{IsCause, IsMade}
 use Rattle.report_text.specs.declared.report.Stop.TheVariants.{WideNumbers}
 use Rattle.function_top.specs.Exact.{IsExact, IsUnmade}
