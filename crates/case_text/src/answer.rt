@@ -38,7 +38,11 @@ impl Answer {
     }
 
     pub fn push(&mut self, text: &str) {
-        if self.is_cut || self.text.extend_from_slice(text.as_bytes()).is_err() {
+        self.push_bytes(text.as_bytes());
+    }
+
+    pub fn push_bytes(&mut self, bytes: &[u8]) {
+        if self.is_cut || self.text.extend_from_slice(bytes).is_err() {
             self.is_cut = true;
         }
     }

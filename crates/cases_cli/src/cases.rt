@@ -1,5 +1,5 @@
 //! The cases of a file.
-use case_text::{Answer, Words, spaced};
+use case_text::{Answer, Words, read_text, spaced};
 use std::alloc::{AllocError, Global};
 use std::io::{self, Write};
 
@@ -103,7 +103,7 @@ fn try_case<W: Write>(
     Ok(Outcome::Other)
 }
 
-/// The answer of the call, or why the line says no call. A formula stands in its line as it is, while of other calls the words are told apart.
+/// The answer of the call, or why the line says no call. The text of a formula stands in its line as it is, while other texts are made of pieces.
 fn answer_of(alloc: Global, call: &str) -> Result<Result<Vec<u8>, &'static str>, AllocError> {
     if let Some(answer) = formula_cases::answer(alloc, call)? {
         return Ok(Ok(answer));
@@ -121,16 +121,58 @@ fn push_answer(
     call: &str,
     answer: &mut Answer,
 ) -> Result<Option<&'static str>, AllocError> {
-    let line = spaced(alloc, call)?;
+    let (front, text) = match call.split_once("\"") {
+        Some((front, _)) => {
+            let pieces = call.strip_prefix(front).unwrap_or("");
+            let Some(text) = read_text(alloc, pieces)? else {
+                return Ok(Some("no text"));
+            };
+            (front, Some(text))
+        }
+        None => (call, None),
+    };
+    let line = spaced(alloc, front)?;
     let words: Vec<&str> = line.as_str().split_whitespace().collect(alloc)?;
     let mut words = Words::of(&words);
     let name = words.take();
-    if domain_cases::answers(alloc, name, &mut words, answer)?
-        || tree_cases::answers(alloc, name, &mut words, answer)?
-        || check_cases::answers(alloc, name, &mut words, answer)?
-        || form_cases::answers(alloc, name, &mut words, answer)?
-    {
-        return Ok(words.fault());
-    }
-    Ok(Some("no such call"))
+    let is_call = match &text {
+        Some(text) => is_answered_of(alloc, name, &mut words, text, answer)?,
+        None => is_answered(alloc, name, &mut words, answer)?,
+    };
+    Ok(if is_call {
+        words.fault()
+    } else {
+        Some("no such call")
+    })
+}
+
+/// Makes the call of that name and writes its answer; false where none has the name.
+fn is_answered(
+    alloc: Global,
+    name: &str,
+    words: &mut Words<'_>,
+    answer: &mut Answer,
+) -> Result<bool, AllocError> {
+    Ok(
+        domain_cases::answers(alloc, name, words, answer)?
+            || tree_cases::answers(alloc, name, words, answer)?
+            || check_cases::answers(alloc, name, words, answer)?
+            || form_cases::answers(alloc, name, words, answer)?
+            || text_cases::written(alloc, name, words, answer)?,
+    )
+}
+
+/// The same for the calls that end with a text.
+fn is_answered_of(
+    alloc: Global,
+    name: &str,
+    words: &mut Words<'_>,
+    text: &[u8],
+    answer: &mut Answer,
+) -> Result<bool, AllocError> {
+    Ok(
+        text_cases::answers(alloc, name, words, text, answer)?
+            || formula_cases::answers(alloc, name, text, answer)?
+            || program_cases::answers(alloc, name, words, text, answer)?,
+    )
 }

@@ -1,7 +1,7 @@
 //! The call `check F over ITEMS with TREES claims TREES`, the check of a family for the formula F over the program with these items in its `main`, with boxes
 //! as its invariants. Behind each `with` stands the family of an operand, and behind `claims` the one that is checked. TREES is `at N T` for the tree of the
 //! label N, and `all T` for that of each label; nothing is claimed where none stands. The answer is which leaves are given up, one after the other, and
-//! behind `leaves` the trees that lost some.
+//! behind `leaves` the trees that lost some. `first` in place of `check` answers the leaf that is given up first alone, and the kind of its reason.
 ghost use Rattle.std.specs.Prelude.{ℕ, ◌-◌, ◌<◌, ◌^◌, IsTrue, map};
 ghost use Rattle.decision_tree.specs.Plans.{leaves_of, plan_of};
 ghost use Rattle.tree_support.specs.Setting.{trees_in};
@@ -31,22 +31,24 @@ pub fn answers(
     words: &mut Words<'_>,
     answer: &mut Answer,
 ) -> Result<bool, AllocError> {
-    if name != "check" {
+    let asks_first = name == "first";
+    if name != "check" && !asks_first {
         return Ok(false);
     }
     let formula = read_formula(alloc, words)?;
     words.expect("over");
     if let Some(graph) = read_graph(alloc, words)? {
-        push_check(alloc, &graph, &formula, words, answer)?;
+        push_check(alloc, &graph, &formula, asks_first, words, answer)?;
     }
     Ok(true)
 }
 
-/// Reads the families, and writes what the check does.
+/// Reads the families, and writes what the check does, or which leaf it gives up first.
 fn push_check(
     alloc: Global,
     graph: &Graph,
     formula: &Formula,
+    asks_first: bool,
     words: &mut Words<'_>,
     answer: &mut Answer,
 ) -> Result<(), AllocError> {
@@ -63,8 +65,12 @@ fn push_check(
         trees: TreeList::of(trees),
     };
     let drops = check(alloc, graph, &inv, formula, &operands, &mut family)?;
-    push_drops(&drops, answer);
-    push_changed(family.trees.items(), &drops, answer);
+    if asks_first {
+        push_first(&drops, answer);
+    } else {
+        push_drops(&drops, answer);
+        push_changed(family.trees.items(), &drops, answer);
+    }
     Ok(())
 }
 
@@ -87,15 +93,33 @@ fn push_drops(drops: &[Dropped], answer: &mut Answer) {
     }
     for drop in drops {
         answer.part("\n");
-        answer.push("gives up ");
-        answer.push_number(i128::from(drop.leaf));
-        answer.push(" at ");
-        answer.push_number(i128::from(drop.label));
-        answer.push(if drop.edge == UNEDGED { "" } else { " over " });
-        answer.push(word_of(drop.edge));
-        answer.push(" for ");
+        push_place(drop, answer);
         push_reason(&drop.reason, answer);
     }
+}
+
+/// Writes which leaf is given up, before its reason.
+fn push_place(drop: &Dropped, answer: &mut Answer) {
+    answer.push("gives up ");
+    answer.push_number(i128::from(drop.leaf));
+    answer.push(" at ");
+    answer.push_number(i128::from(drop.label));
+    answer.push(if drop.edge == UNEDGED { "" } else { " over " });
+    answer.push(word_of(drop.edge));
+    answer.push(" for ");
+}
+
+/// Writes which leaf is given up first, and the kind of its reason.
+fn push_first(drops: &[Dropped], answer: &mut Answer) {
+    let Some(drop) = drops.first() else {
+        return answer.push("nothing is given up");
+    };
+    push_place(drop, answer);
+    answer.push(match drop.reason {
+        Reason::Point { .. } => "a point",
+        Reason::Wide(_) => "a wide number",
+        Reason::Rows { .. } => "rows",
+    });
 }
 
 /// The word of an edge: the first or the second of its label.

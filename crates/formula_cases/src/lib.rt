@@ -1,13 +1,17 @@
 //! Calls on formulas, as lines say them: `formula NAMES "TEXT"` reads the text over these names and prints the formula, and `normal NAMES "TEXT"`
-//! prints its normal form. A fault is answered as its number and its offset, as `4 at 8`.
+//! prints its normal form. A fault is answered as its number and its offset, as `4 at 8`. Of a text that is made of pieces `reads` says whether it is a formula
+//! over no names or has a fault, and `normalises` whether it has a normal form.
 //!
-//! It is for programs that are told in lines what to do. The front door: `answer`.
+//! It is for programs that are told in lines what to do. The front door: `answer` for the first two calls, and `answers` for the others.
 #![tactic(auto)]
 
 ghost use Rattle.std.specs.Prelude.{◌≤◌, length};
 
+mod limits;
+
 use formula_parse::{FormulaFault, normal, read_formula};
 use formula_text::print;
+pub use limits::answers;
 use std::alloc::{AllocError, Global};
 use step_meaning::Names;
 

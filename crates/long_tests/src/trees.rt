@@ -180,6 +180,28 @@ const DOWN_ONE_SIDE: [(&str, &str); 15] = [
     ),
 ];
 
+/// What the check of a family gives up first, which has a line at the end of a program of two steps. A store is at each leaf of the line, whose own leaves
+/// stand, since the program has ended there. The rank 0 of each is less than 1.
+const CHECKED: [(&str, &str); 4] = [
+    (
+        "first all true until exit over int x; ; ; with all atom 0 with at 0 end 0 claims at 0 line yes 32767 x - k + 32767 >= 0 beside end 0 then end 0 at 1 step 2 at 2 step 1",
+        "nothing is given up",
+    ),
+    (
+        "first all true until exit over int x; ; ; with all atom 0 with at 0 end 0 claims at 0 line no 32767 x - k + 1 >= 0 beside end 0 then end 0 at 1 step 2 at 2 step 1",
+        "nothing is given up",
+    ),
+    // A store comes to the last leaf of all, behind the 32,767 rows.
+    (
+        "first all true until exit over int x; ; ; with all atom 0 with at 0 end 0 claims at 0 line yes 32767 x - k + 32767 >= 0 beside end 0 then nothing at 1 step 2 at 2 step 1",
+        "gives up 0 at 2 over the first edge for a point",
+    ),
+    (
+        "first all true until exit over int x; ; ; with all atom 0 with at 0 end 0 claims at 0 line no 32767 x - k + 1 >= 0 beside end 0 then nothing at 1 step 2 at 2 step 1",
+        "gives up 0 at 2 over the first edge for a point",
+    ),
+];
+
 /// Writes what the call answers, or tells why the line says no call.
 fn push_answer(
     alloc: Global,
@@ -190,7 +212,9 @@ fn push_answer(
     let words: Vec<&str> = line.as_str().split_whitespace().collect(alloc)?;
     let mut words = Words::of(&words);
     let name = words.take();
-    if !tree_cases::answers(alloc, name, &mut words, answer)? {
+    if !tree_cases::answers(alloc, name, &mut words, answer)?
+        && !check_cases::answers(alloc, name, &mut words, answer)?
+    {
         return Ok(Some("no such call"));
     }
     Ok(words.fault())
@@ -228,6 +252,14 @@ fn lines_down_either_side(rt: HostRuntime) -> Result<(), Fail> {
 #[test]
 fn lines_down_one_side(rt: HostRuntime) -> Result<(), Fail> {
     for (call, wanted) in DOWN_ONE_SIDE {
+        stands(&rt, call, wanted)?;
+    }
+    Ok(())
+}
+
+#[test]
+fn lines_that_are_checked(rt: HostRuntime) -> Result<(), Fail> {
+    for (call, wanted) in CHECKED {
         stands(&rt, call, wanted)?;
     }
     Ok(())

@@ -1,5 +1,0 @@
-use Rattle.std.specs.Prelude.{length}
-use Rattle.formula_tests.proofs.limits.printed.Goals as goal
-
-pub print-requires-clause-over : goal.print-requires-clause-over
-print-requires-clause-over c = c.in_ok-normal.ensures.variables (length c.args.names.now) c.in_ok-formula.ensures.variables
