@@ -21,6 +21,8 @@ CALLS = [
     (["--domain", "octagons"], "int main() { int x, y; y = ?; x = ?; if (x >= y) if (y >= 3) if (x < 3) while (?) ; }", 0,
      "exact: not a plain program\nproved:\nalways: within 5 steps\nunknown:\nverdict: all inputs\n"),
     ([], "int main() { @ }", 3, "program: 1 at 13\n"),
+    ([], "int main() { int x; " + "x = 0; " * 1000 + "while (x > 0) x = x - 1; }", 0,
+     "exact, 2 tests:\nalways: exactly 1001 steps\nproved:\nalways: within 1001 steps\nunknown:\nverdict: all inputs\n"),
 ]
 
 
@@ -38,7 +40,7 @@ def main():
             wrong.append(f"examples/{program.name}: another report or status")
     for words, text, status, written in CALLS:
         if run(words, text.encode()) != (status, written.encode()):
-            wrong.append(f"{' '.join(words)} on {text}: another answer or status")
+            wrong.append(f"{' '.join(words)} on {text[:60]}: another answer or status")
     print("\n".join(wrong), end="\n" if wrong else "")
     return 1 if wrong else 0
 

@@ -4,14 +4,17 @@
 - docs/ARCHITECTURE.md has the layers of crates.txt, each with its crates in their order, and names at each crate exactly the crates of the repository that it
   stands on.
 - Each word in backquotes that looks like a name of the code occurs in the code.
-- Each program under examples/ stands in docs/EXAMPLES.md with its report, as the files have them, and so does each that README.md shows.
+- Each program under examples/ stands in docs/EXAMPLES.md with its report, as the files have them, and in the table on top of that page; README.md shows
+  programs as the files have them too.
+- Behind the dash of each claim in docs/PROOFS.md stand functions and clauses: each function is one of the code, and each clause stands at a function that the claim
+  names before it, or is a field of a record in that function's contract. Where a claim names no function, the clause is one of the heading's crates.
 """
 import re
 import sys
 from pathlib import Path
 
 TOP = Path(__file__).resolve().parent.parent
-PAGES = ["README.md"] + [f"docs/{name}.md" for name in ("ARCHITECTURE", "DECISIONS", "DOMAINS", "EXAMPLES", "FORMULAS", "GLOSSARY", "LANGUAGE", "PROOFS", "REPORT", "WORKING")]
+PAGES = ["README.md"] + [f"docs/{name}.md" for name in ("ARCHITECTURE", "DECISIONS", "DOMAINS", "EXAMPLES", "FORMULAS", "GLOSSARY", "LANGUAGE", "PROOFS", "RELATED", "REPORT", "WORKING")]
 # Words of the toolchain and of the command line, which the code doesn't spell.
 ELSEWHERE = {"Answers", "Invariants", "IfErr", "IfOk", "IfSome", "MatchOption", "OnErr", "OnOk", "abbrev", "always", "certificate", "const", "continue", "enum",
              "extern", "function", "indexmap", "main", "noexec", "num_traits", "result", "start_io", "thiserror", "typedef", "unfoldable", "verdict"}
@@ -88,6 +91,14 @@ def unknown_names():
                         yield f"{page}:{number}: `{word}` is nowhere in the code"
 
 
+def row_of(program, report):
+    """An example's row in the table on top: its name, its first comment, and for which inputs the report has a bound."""
+    comment = re.search(r"/\* (.*?) \*/", program.read_text(), re.DOTALL)
+    says = " ".join(comment.group(1).split()) if comment else "Nothing is done."
+    verdict = report.read_text().splitlines()[-1].removeprefix("verdict: ")
+    return f"| {program.name} | {says} | {verdict} |"
+
+
 def missing_examples():
     """Programs and reports that the page of examples doesn't show as the files have them."""
     page = (TOP / "docs/EXAMPLES.md").read_text()
@@ -97,6 +108,8 @@ def missing_examples():
             yield f"examples/{program.name} has no report"
         elif f"```c\n{program.read_text()}```\n\n```\n{report.read_text()}```\n" not in page:
             yield f"docs/EXAMPLES.md doesn't show {program.name} with its report"
+        elif row_of(program, report) not in page:
+            yield f"docs/EXAMPLES.md has not the row: {row_of(program, report)}"
 
 
 def stale_examples():
@@ -109,8 +122,60 @@ def stale_examples():
             yield f"README.md doesn't show {name}.c with its report"
 
 
+def contracts():
+    """For each function by its name the clauses at functions of that name, and the words of their contracts; for each crate the names of its functions."""
+    clauses, words, owned = {}, {}, {}
+    for file in (TOP / "crates").glob("*/src/**/*.rt"):
+        parts = re.split(r"\bfn (\w+)", file.read_text())
+        for name, rest in zip(parts[1::2], parts[2::2]):
+            clauses.setdefault(name, set()).update(re.findall(r"(?:ensures|requires) (\w+) \{", rest))
+            words.setdefault(name, set()).update(re.findall(r"\b[A-Z]\w+", rest))
+            owned.setdefault(file.relative_to(TOP / "crates").parts[0], set()).add(name)
+    return clauses, words, owned
+
+
+def fields():
+    """The fields of each record of specs/."""
+    found = {}
+    for file in (TOP / "crates").glob("*/specs/**/*.antt"):
+        for name, body in re.findall(r"(?m)^ *pub record (\w+)[^\n]*(?:\n  [^\n]*where)?\n((?:(?: {2,}[^\n]*)?\n)+)", file.read_text()):
+            found.setdefault(name, set()).update(re.findall(r"(?m)^ +pub (\w+) :", body))
+    return found
+
+
+def missing_clauses():
+    """What docs/PROOFS.md names behind the dash of a claim and the code hasn't at that place."""
+    clauses, words, owned = contracts()
+    records = fields()
+    defined = {name for file in (TOP / "crates").glob("*/specs/**/*.antt") for name in re.findall(r"(?:abbrev|unfoldable) pub (\w+)", file.read_text())}
+    heads = []
+    for entry in re.split(r"\n(?=- |\n|#)", (TOP / "docs/PROOFS.md").read_text()):
+        text = " ".join(entry.split())
+        if text.startswith("## "):
+            heads = re.findall(r"`(\w+)", text)
+        if not text.startswith("- ") or " — " not in text:
+            continue
+        named = text.rpartition(" — ")[2]
+        inside = set(re.findall(r"[A-Z]\w+", named))
+
+        def at(functions):
+            """The clauses at the functions, with the fields of the records in their contracts and of those that the claim names."""
+            seen = inside.union(*(words[name] for name in functions))
+            return set().union(*(clauses[name] for name in functions), *(records.get(name, ()) for name in seen))
+
+        functions, heading = set(), set().union(*(owned.get(head, ()) for head in heads))
+        for word in re.findall(r"`([^`]+)`", re.sub(r"\([^()]*\)", "", named)):
+            last = re.split(r"::", word)[-1].strip()
+            if not re.fullmatch(r"[a-z]\w*", last) or last in owned or last == "laws":
+                continue
+            if last in clauses and last not in at(functions):
+                functions.add(last)
+            elif last not in at(functions or heading) and last not in defined:
+                yield f"docs/PROOFS.md: `{word}` is no function, and no clause where it is named: {text[:80]}.."
+
+
 def main():
-    faults = [*wrong_layers(), *wrong_rows(), *unknown_names(), *missing_examples(), *stale_examples()]
+    faults = [*wrong_layers(), *wrong_rows(), *unknown_names(), *missing_examples(), *stale_examples(), *missing_clauses()]
     for fault in faults:
         print(fault)
     return 1 if faults else 0
