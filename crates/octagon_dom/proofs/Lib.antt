@@ -3,6 +3,15 @@ pub mod EndSums
 pub mod Members
 pub mod Lowering
 pub mod Voids
+pub mod Ways
+pub mod Shortened
+pub mod Twins
+pub mod Closures
+pub mod RowClosures
+pub mod Passing
+pub mod Passes
+pub mod Moves
+pub mod Sizes
 pub mod TermLaws
 pub mod StatedLaws
 pub mod Assigned

@@ -12,16 +12,17 @@ use Rattle.linear_cons.proofs.KnownEnds.{known_end}
 use Rattle.num_domain.specs.declared.bound.Bound.{Bound}
 use Rattle.octagon_dom.specs.Assignments.{ComesFromAssigned, HasModerateBounds, IsModerate, IsStepOf, above_terms, below_terms}
 use Rattle.octagon_dom.specs.Cells.{AreCellsOf, IsBelow, cell, exchanged, flipped, negative_end, rise, shifted, signed, sum_end, turned}
+use Rattle.octagon_dom.specs.Closure.{CanMove}
 use Rattle.octagon_dom.specs.Terms.{AreTwoTerms, IsOneTerm}
 use Rattle.octagon_dom.specs.Laws.Members.{below_of_cells, bound_apart, bound_same, signed_negative, signed_own, signed_turned}
 use Rattle.octagon_dom.proofs.Assigned.{one_value}
 use Rattle.octagon_dom.proofs.Exchanging.{exchanged_low, exchanged_twice, signed_exchanged}
 use Rattle.octagon_dom.proofs.Members.{matrix_of_below, number_here, signed_down, signed_other, signed_up}
 
-two_fit : (a b : ℤ) → IsModerate a → IsModerate b → Fits128 (a +ℤ b)
+pub two_fit : (a b : ℤ) → IsModerate a → IsModerate b → Fits128 (a +ℤ b)
 two_fit a b one two = omega (arith, ints)
 
-three_fit : (a b c : ℤ) → IsModerate a → IsModerate b → IsModerate c → Fits128 (a +ℤ b +ℤ c)
+pub three_fit : (a b c : ℤ) → IsModerate a → IsModerate b → IsModerate c → Fits128 (a +ℤ b +ℤ c)
 three_fit a b c one two three = omega (arith, ints)
 
 -- ---- a place shifted by one number
@@ -90,7 +91,7 @@ module _ (store : List ℤ) (place : ℕ) (step : ℤ) (long : length store ≡ 
 -- ---- a place whose number became the negative
 
 module _ (place : ℕ) (old new : List (Bound ℤ)) (are : AreCellsOf (flipped old place) new) where
-  apart_too : (i j : ℕ) → i ≢ j → exchanged place i ≢ exchanged place j
+  pub apart_too : (i j : ℕ) → i ≢ j → exchanged place i ≢ exchanged place j
   apart_too i j apart is = apart (sym (exchanged_twice place i) ∙ ap (exchanged place) is ∙ exchanged_twice place j)
 
   pub flipped_moderate : HasModerateBounds old → HasModerateBounds new
@@ -134,6 +135,24 @@ module _ (place : ℕ) (value : Linear) (step : IsStepOf place value) where
   step_below =
       ap (λ e. negative_end (sum_end (Some value.affine.constant) e)) step.lower
       ∙ ap negative_end (known_end by (step_fits by step.step)) ∙ known_end (neg_ℤ by) (step_fits (neg_ℤ by) (turned_small by step.step))
+
+  -- a step is a move that can be made
+  pub step_can : (up down : Option ℤ) (cells : List (Bound ℤ)) → up ≡ above_terms value → down ≡ below_terms value → HasModerateBounds cells
+      → CanMove cells up down
+  step_can up down cells above under bounds = record {
+    bounds = bounds;
+    above = λ z is.
+        let there : Some by ≡ Some z = sym (above ∙ step_above) ∙ is in
+        let same : by ≡ z = cc in
+        subst IsModerate same step.step;
+    below = λ z is.
+        let there : Some (neg_ℤ by) ≡ Some z = sym (under ∙ step_below) ∙ is in
+        let same : neg_ℤ by ≡ z = cc in
+        subst IsModerate same (turned_small by step.step);
+    between =
+        let none : by +ℤ neg_ℤ by ≡ pos 0 = omega (arith, ints) in
+        rw (above ∙ step_above, under ∙ step_below, none) refl;
+  }
 
   step_covers : (store : List ℤ) (z terms : ℤ) → value_at value.affine store ≡ terms +ℤ value.affine.constant → z ≡ terms +ℤ by
       → Covers value store z

@@ -9,7 +9,10 @@ use Rattle.linear_cons.specs.Functions.{coefficient, value_at, without}
 use Rattle.linear_cons.specs.Numbers.{Fits128, number_at}
 use Rattle.linear_cons.proofs.EndLaws.{exactly_covers, up_to_end, up_to_greatest}
 use Rattle.linear_cons.proofs.Forms.{form_apart}
-use Rattle.linear_cons.proofs.KnownEnds.{known_end}
+use Rattle.linear_cons.proofs.KnownEnds.{known_end, when_not, when_so}
+use Rattle.linear_cons.proofs.Places.{eqb_apart}
+use Rattle.std.proofs.Common.{◌≢◌, eqb, ⊎_elim}
+use Rattle.std.proofs.lemmas.Bool.Decides.{eqb_tells}
 use Rattle.linear_cons.proofs.Ring.{mul_le, mul_neg, neg_mul}
 use Rattle.linear_cons.proofs.Sums.{value_is}
 use Rattle.num_domain.specs.declared.bound.Bound.{Bound}
@@ -21,12 +24,18 @@ use Rattle.octagon_dom.specs.Stated.{IsHalfSized, IsImpliedBy, IsRefining, IsSta
 use Rattle.octagon_dom.specs.Terms.{AreTwoTerms, IsOneTerm}
 use Rattle.octagon_dom.specs.Laws.Members.{signed_even, signed_odd, signed_turned, turned_apart, turned_low, turned_place}
 
-exact_is : (z w : ℤ) → exact_end z ≡ Some w → w ≡ z
+pub exact_is : (z w : ℤ) → exact_end z ≡ Some w → w ≡ z
 exact_is z w is = chosen (fits z) is
   where
     chosen : (t : Bool) → cond t (Some z) None ≡ Some w → w ≡ z
     chosen true is = cc
     chosen false is = absurd (cc)
+
+eqb_one : (i j : ℕ) → i ≡ j → eqb i j ≡ true
+eqb_one i j is = ⊎_elim
+    (λ (same : (eqb i j ≡ true) × (i ≡ j)). same.0)
+    (λ (apart : (eqb i j ≡ false) × (i ≢ j)). absurd (apart.1 is))
+    (eqb_tells i j)
 
 pub one_stated : (row : Row) (term high : ℕ) (step : Bound ℤ) → high ≡ turned term
     → some_end step ≡ exact_end (row.affine.constant +ℤ row.affine.constant) → IsOneTerm 16 row.affine term
@@ -50,6 +59,23 @@ one_stated row term high step is sum one = record {
       let most : (signed store high -ℤ signed store term) ≤ℤ c = rw there at holds in
       omega (arith, ints);
   fits = λ half. (row.affine.constant +ℤ row.affine.constant, sum ∙ known_end _ (double half));
+  most = row.affine.constant +ℤ row.affine.constant;
+  sized = omega (arith, ints);
+  states = record {
+    from = rw is (turned_low term low);
+    to = low;
+    apart = rw is (turned_apart term);
+    line = λ store.
+        let value = value_is row.affine.coef row.affine.constant store in
+        let products = one.sum store in
+        let other = ap (signed store) is ∙ signed_turned store term in
+        let place : high / 2 ≡ term / 2 = ap (λ i. i / 2) is ∙ turned_place term in
+        let twice = when_so (eqb (high / 2) (term / 2)) (value_at row.affine store +ℤ value_at row.affine store) (value_at row.affine store)
+        (eqb_one (high / 2) (term / 2) place) in
+        sym (twice ∙ (omega (arith, ints)));
+  };
+  known = λ end there. exact_is _ end (sym sum ∙ there);
+  told = λ fit. sum ∙ known_end _ fit;
 }
   where
     low : term < 32
@@ -78,6 +104,25 @@ two_stated row first second high is two = record {
       let other = ap (signed store) is ∙ signed_turned store second in
       omega (arith, ints);
   fits = λ half. (row.affine.constant, refl);
+  most = row.affine.constant;
+  sized = omega (arith, ints);
+  states = record {
+    from = rw is (turned_low second (let h = two.inside in omega arith));
+    to = let h = two.inside in let o = two.ordered in omega arith;
+    apart = λ same. let o = two.ordered in let p = turned_place second in let also : turned second ≡ first = sym is ∙ same in
+        let q : turned second / 2 ≡ first / 2 = ap (λ i. i / 2) also in omega arith;
+    line = λ store.
+        let value = value_is row.affine.coef row.affine.constant store in
+        let products = two.sum store in
+        let other = ap (signed store) is ∙ signed_turned store second in
+        let place : high / 2 ≡ second / 2 = ap (λ i. i / 2) is ∙ turned_place second in
+        let ordered = two.ordered in
+        let once = when_not (eqb (high / 2) (first / 2)) (value_at row.affine store +ℤ value_at row.affine store) (value_at row.affine store)
+        (eqb_apart (high / 2) (first / 2) (λ same. omega arith)) in
+        sym (once ∙ (omega (arith, ints)));
+  };
+  known = λ end there. cc;
+  told = λ fit. refl;
 }
 
 -- ---- implied bounds

@@ -1,6 +1,6 @@
 -- A cell that contradicts its opposite.
-use Rattle.std.proofs.Common.{◌≡◌, ℕ, zero, suc, ◌+◌, ◌/◌, ◌%◌, ◌<◌, ◌≤◌, ℤ, true, false, ◌||◌, List, arith, refl, add-one}
-use Rattle.std.proofs.Common.{⊎_elim}
+use Rattle.std.proofs.Common.{◌≡◌, ℕ, zero, suc, ◌+◌, ◌*◌, ◌/◌, ◌%◌, ◌<◌, ◌≤◌, ℤ, Bool, true, false, ◌||◌, List, arith, refl, add-one}
+use Rattle.std.proofs.Common.{⊎_elim, subst, sym}
 use Rattle.std.proofs.lemmas.Bool.{cases_lt}
 use Rattle.num_domain.specs.declared.bound.Bound.{Bound}
 use Rattle.octagon_dom.specs.Cells.{bound, is_negative, void_below}
@@ -21,3 +21,52 @@ void_later n (suc m) cells few is = ⊎_elim
     (λ (less : n < suc m). rw (void_later n m cells (omega arith) is) refl)
     (λ (from : suc m ≤ n). let same : n ≡ suc m = omega arith in rw same at is)
     (cases_lt n (suc m))
+
+either_false : (a b : Bool) → (a || b) ≡ false → (a ≡ false) × (b ≡ false)
+either_false true b is = absurd (cc)
+either_false false b is = (refl, is)
+
+-- where no cell contradicts its opposite, no two opposite bounds sum below 0
+below_none : (n : ℕ) (cells : List (Bound ℤ)) → void_below n cells ≡ false → (k : ℕ) → k < n
+    → is_negative (bound cells (k / 32) (k % 32)) (bound cells (k % 32) (k / 32)) ≡ false
+unfolding void_below
+below_none zero cells is k low = absurd (omega arith)
+below_none (suc n) cells is k low =
+    let both = either_false (void_below n cells) _ is in
+    ⊎_elim
+    (λ (less : k < n). below_none n cells both.0 k less)
+    (λ (from : n ≤ k). let same : k ≡ n = omega arith in
+    subst (λ k. is_negative (bound cells (k / 32) (k % 32)) (bound cells (k % 32) (k / 32)) ≡ false) (sym same) both.1)
+    (cases_lt k n)
+
+pub no_negative : (cells : List (Bound ℤ)) → void_below 1024 cells ≡ false → (i j : ℕ) → i < 32 → j < 32
+    → is_negative (bound cells i j) (bound cells j i) ≡ false
+no_negative cells is i j low also =
+    let row : (32 * i + j) / 32 ≡ i = omega arith in
+    let column : (32 * i + j) % 32 ≡ j = omega arith in
+    let here = below_none 1024 cells is (32 * i + j) (omega arith) in
+    subst (λ a. is_negative (bound cells a j) (bound cells j a) ≡ false) row
+    (subst (λ b. is_negative (bound cells ((32 * i + j) / 32) b) (bound cells b ((32 * i + j) / 32)) ≡ false) column here)
+
+-- the two bounds that do
+pub record IsNegative (cells : List (Bound ℤ)) : Type 0 where
+  pub i : ℕ
+  pub j : ℕ
+  pub low : i < 32
+  pub also : j < 32
+  pub is : is_negative (bound cells i j) (bound cells j i) ≡ true
+
+pub some_negative : (n : ℕ) (cells : List (Bound ℤ)) → n ≤ 1024 → void_below n cells ≡ true → IsNegative cells
+unfolding void_below
+some_negative zero cells few is = absurd (cc)
+some_negative (suc n) cells few is = chosen (void_below n cells) refl (λ before. some_negative n cells (omega arith) before)
+  where
+    chosen : (t : Bool) → void_below n cells ≡ t → (void_below n cells ≡ true → IsNegative cells) → IsNegative cells
+    chosen true before more = more before
+    chosen false before more = record {
+      i = n / 32;
+      j = n % 32;
+      low = omega arith;
+      also = omega arith;
+      is = rw before at is;
+    }

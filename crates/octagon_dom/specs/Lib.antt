@@ -1,4 +1,5 @@
 pub mod Cells
+pub mod Closure
 pub mod Stated
 pub mod Terms
 pub mod Assignments

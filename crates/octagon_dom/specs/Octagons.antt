@@ -1,7 +1,8 @@
 -- Octagons: the stores below a matrix of bounds, its ends and its rows.
-use Rattle.std.specs.Prelude.{◌≡◌, ℕ, zero, suc, ◌+◌, ◌*◌, ◌/◌, ◌%◌, ◌<◌, ◌==◌, ◌&&◌, ℤ, pos, negsuc, neg_ℤ, ◌-ℤ◌, Bool, true, false, not}
+use Rattle.std.specs.Prelude.{◌≡◌, ℕ, zero, suc, ◌+◌, ◌*◌, ◌/◌, ◌%◌, ◌^◌, ◌<◌, ◌≤◌, ◌==◌, ◌&&◌, ℤ, pos, negsuc, neg_ℤ, ◌-ℤ◌, Bool, true, false, not}
 use Rattle.std.specs.Prelude.{nat_le, List, [], ◌∷◌, ◌++◌}
-use Rattle.std.specs.Prelude.{map, Option, None, Some, if◌then◌else◌}
+use Rattle.std.specs.Prelude.{unsigned_abs, map, Option, None, Some, if◌then◌else◌}
+use Rattle.std.specs.Int.{int_max}
 use Rattle.std.specs.List.{range_with_len}
 use Rattle.linear_cons.specs.declared.affine.Affine.{Affine}
 use Rattle.linear_cons.specs.declared.bounds.Bounds.{Bounds}
@@ -10,10 +11,12 @@ use Rattle.linear_cons.specs.declared.row.Row.{Row}
 use Rattle.linear_cons.specs.Bounds.{IsUpTo}
 use Rattle.linear_cons.specs.Numbers.{at_places, floor_by}
 use Rattle.num_domain.specs.declared.bound.Bound.{Bound}
+use Rattle.num_domain.specs.Ends.{both_ends}
 use Rattle.num_domain.specs.Lines.{rows_of_lines}
 use Rattle.octagon_dom.specs.declared.octagon.Octagon.{Octagon}
 use Rattle.octagon_dom.specs.Assignments.{ComesFromAssigned, HasModerateBounds, IsStepOf}
-use Rattle.octagon_dom.specs.Cells.{AreCellsOf, IsBelow, bound, is_void, joined, least_end, signed, turned, widened}
+use Rattle.octagon_dom.specs.Cells.{AreCellsOf, IsBelow, Matrix, bound, is_void, least_end, signed, turned, widened}
+use Rattle.octagon_dom.specs.Closure.{AreSized, ClosesRow, IsClosed, PassesThenCloses}
 use Rattle.octagon_dom.specs.Stated.{IsHalfSized}
 use Rattle.octagon_dom.specs.Terms.{IsOctagonal}
 
@@ -84,14 +87,52 @@ rows_of set = rows_of_cells set.cells.items
 abbrev pub KeepsToEnds : List (Bound ℤ) → List ℤ → Type 0
 KeepsToEnds cells store = (i : ℕ) → i < 32 → IsUpTo (bound cells i (turned i)) (signed store i -ℤ signed store (turned i))
 
--- each bound is the greater of the two: of closed bounds that is the least octagon round both
-abbrev pub IsHull : Octagon → Octagon → Octagon → Type 0
-IsHull own other hull = AreCellsOf (joined own.cells.items other.cells.items) hull.cells.items
+-- the octagon's bounds
+abbrev pub matrix_of : Octagon → Matrix
+matrix_of set = bound set.cells.items
 
--- that, for closed octagons that are not seen to be empty
+-- no way over a third signed place is shorter than a bound
+abbrev pub IsClosedOctagon : Octagon → Type 0
+IsClosedOctagon set = IsClosed (matrix_of set)
+
+-- it carries the mark that nothing is left to close, or doesn't
+abbrev pub IsMarked : Octagon → Type 0
+IsMarked set = set.closed ≡ true
+
+abbrev pub IsUnmarked : Octagon → Type 0
+IsUnmarked set = set.closed ≡ false
+
+abbrev pub HasSameMark : Octagon → Octagon → Type 0
+HasSameMark old new = new.closed ≡ old.closed
+
+-- both have the same bounds
+abbrev pub AreSameBounds : Octagon → Octagon → Type 0
+AreSameBounds old new = (i j : ℕ) → i < 32 → j < 32 → matrix_of new i j ≡ matrix_of old i j
+
+-- a row of at most two variables with coefficients 1 and -1 is met exactly, and the new octagon is closed
+abbrev pub MeetsClosed : Row → Octagon → Octagon → Type 0
+MeetsClosed row old new = IsOctagonal row.affine → ClosesRow row old.cells.items new.cells.items
+
+-- where the mark is missing all signed places are passed before such a row is met
+abbrev pub PassesUnmarked : Row → Octagon → Octagon → Type 0
+PassesUnmarked row old new = IsUnmarked old → IsOctagonal row.affine → PassesThenCloses row old.cells.items new.cells.items
+
+-- the mark stays where such a row is met that has a constant of at most 2^122 in size, and each bound is at most 2^123
+abbrev pub StaysMarked : Row → Octagon → Octagon → Type 0
+StaysMarked row old new =
+    IsMarked old → AreSized (2 ^ 123) old.cells.items → IsOctagonal row.affine → unsigned_abs row.affine.constant ≤ 2 ^ 122 → IsMarked new
+
+-- each bound is the greater of the two
+abbrev pub IsHull : Octagon → Octagon → Octagon → Type 0
+IsHull own other hull = (i j : ℕ) → i < 32 → j < 32 → matrix_of hull i j ≡ both_ends int_max (matrix_of own i j) (matrix_of other i j)
+
+-- that, for closed octagons: it is the least octagon round both
 abbrev pub HullsClosed : Octagon → Octagon → Octagon → Type 0
-HullsClosed own other hull =
-    own.closed ≡ true → other.closed ≡ true → is_empty_octagon own ≡ false → is_empty_octagon other ≡ false → IsHull own other hull
+HullsClosed own other hull = IsClosedOctagon own → IsClosedOctagon other → IsHull own other hull
+
+-- of two octagons that are not seen to be empty the new one carries no mark
+abbrev pub UnmarksFilled : Octagon → Octagon → Octagon → Type 0
+UnmarksFilled own newer wide = is_empty_octagon own ≡ false → is_empty_octagon newer ≡ false → IsUnmarked wide
 
 -- an own bound that the newer one doesn't pass stays, and every other one is dropped
 abbrev pub IsWidening : Octagon → Octagon → Octagon → Type 0
@@ -110,4 +151,8 @@ pub record StatesBound (row : Row) : Type 0 where
 -- a closed octagon with moderate bounds moves with its place: its members after `x = x + c` or `x = -x + c` come from those before
 abbrev pub MovesClosed : ℕ → Linear → Octagon → Octagon → Type 0
 MovesClosed place value old new =
-    old.closed ≡ true → HasModerateBounds old.cells.items → IsStepOf place value → ComesFromAssigned place value (Has old) (Has new)
+    IsClosedOctagon old → HasModerateBounds old.cells.items → IsStepOf place value → ComesFromAssigned place value (Has old) (Has new)
+
+-- so does its mark
+abbrev pub MovesMarked : ℕ → Linear → Octagon → Octagon → Type 0
+MovesMarked place value old new = IsMarked old → HasModerateBounds old.cells.items → IsStepOf place value → IsMarked new

@@ -1,10 +1,11 @@
 -- The bounds that rows state.
-use Rattle.std.specs.Prelude.{◌≡◌, ◌≢◌, ℕ, ◌+◌, ◌*◌, ◌-◌, ◌^◌, ◌<◌, ℤ, pos, negsuc, ◌+ℤ◌, ◌-ℤ◌, ◌*ℤ◌, ◌≤ℤ◌, ◌<ℤ◌, List, length, Some, int_lt}
+use Rattle.std.specs.Prelude.{◌≡◌, ◌≢◌, ◌==◌, ℕ, ◌+◌, ◌*◌, ◌-◌, ◌/◌, ◌^◌, ◌<◌, ◌≤◌, ℤ, pos, negsuc, ◌+ℤ◌, ◌-ℤ◌, ◌*ℤ◌, ◌≤ℤ◌, ◌<ℤ◌, List, length, Some, int_lt, unsigned_abs}
 use Rattle.std.specs.Prelude.{if◌then◌else◌}
 use Rattle.linear_cons.specs.declared.bounds.Bounds.{Bounds}
 use Rattle.linear_cons.specs.declared.row.Row.{Row}
 use Rattle.linear_cons.specs.Bounds.{IsUpTo, LiesIn}
-use Rattle.linear_cons.specs.Numbers.{number_at}
+use Rattle.linear_cons.specs.Functions.{value_at}
+use Rattle.linear_cons.specs.Numbers.{Fits128, number_at}
 use Rattle.linear_cons.specs.Rows.{Meets, MeetsAll}
 use Rattle.num_domain.specs.declared.bound.Bound.{Bound}
 use Rattle.num_domain.specs.Ends.{some_end}
@@ -44,12 +45,28 @@ abbrev pub MeetsStated : Row → List (Bound ℤ) → Type 0
 MeetsStated row cells =
     IsOctagonal row.affine → IsHalfSized row.affine.constant → (store : List ℤ) → IsBelow cells store → Meets store row
 
+-- the number, twice where both signed places are those of one place
+abbrev pub doubled : ℕ → ℕ → ℤ → ℤ
+doubled i j z = if i / 2 == j / 2 then z +ℤ z else z
+
+-- the row states the upper bound c on the signed place i less j: its function is c + j - i, which is twice it where it has one variable
+pub record StatesAt (row : Row) (i j : ℕ) (c : ℤ) : Type 0 where
+  pub from : i < 32
+  pub to : j < 32
+  pub apart : i ≢ j
+  pub line : (store : List ℤ) → c +ℤ signed store j -ℤ signed store i ≡ doubled i j (value_at row.affine store)
+
 -- the row states the bound: the stores that meet the row are those that keep to the bound, if its number fits
 pub record IsStatedBy (row : Row) (stated : Stated) : Type 0 where
   pub between : IsBetweenTwo stated
   pub keeps : (store : List ℤ) → Meets store row → HoldsIn stated store
   pub exact : (c : ℤ) → some_end stated.step ≡ Some c → (store : List ℤ) → HoldsIn stated store → Meets store row
   pub fits : IsHalfSized row.affine.constant → (c : ℤ) × (some_end stated.step ≡ Some c)
+  pub most : ℤ
+  pub sized : unsigned_abs most ≤ 2 * unsigned_abs row.affine.constant
+  pub states : StatesAt row stated.high stated.low most
+  pub known : (end : ℤ) → some_end stated.step ≡ Some end → end ≡ most
+  pub told : Fits128 most → some_end stated.step ≡ Some most
 
 -- the signed place that has the sign of the factor
 abbrev pub signed_place : ℤ → ℕ → ℕ

@@ -1,6 +1,8 @@
 //! The matrix of bounds on differences of signed places, in one flat list of cells.
-ghost use Rattle.std.specs.Prelude.{◌≡◌, ℕ, ◌<◌, length};
+ghost use Rattle.std.specs.Prelude.{◌≡◌, ◌↔◌, ℕ, ◌<◌, IsTrue, length};
 ghost use Rattle.num_domain.specs.Ends.{some_end};
+ghost use Rattle.octagon_dom.specs.Assignments.{HasModerateBounds};
+ghost use Rattle.octagon_dom.specs.Closure.{IsModerateAt, IsModerateEnd, SumsFit};
 ghost use Rattle.octagon_dom.specs.Cells.{AreCellsOf, bound, cell, is_negative, is_void, least_end, sum_end, tightened, turned};
 
 use num_domain::Bound;
@@ -10,6 +12,9 @@ pub(crate) const SIGNED: usize = 32;
 
 /// One bound for each pair of signed places.
 pub(crate) const CELLS: usize = 1024;
+
+/// The greatest size of a number of which three sum to one that fits.
+const MODERATE: u128 = 1 << 125;
 
 /// The other signed place of the same place.
 pub(crate) fn turned(i: usize) -> usize
@@ -52,13 +57,62 @@ pub(crate) fn least(left: Bound<i128>, right: Bound<i128>) -> Bound<i128>
 }
 
 /// True exactly where the two ends sum below 0.
-fn is_negative(left: Bound<i128>, right: Bound<i128>) -> bool
+pub(crate) fn is_negative(left: Bound<i128>, right: Bound<i128>) -> bool
     ensures { result ≡ is_negative (some_end left) (some_end right) }
 {
     match (left, right) {
         (Bound::At(left), Bound::At(right)) => left <= !right,
         _ => false,
     }
+}
+
+/// True exactly where both are.
+pub(crate) fn both(one: bool, other: bool) -> bool
+    ensures all { IsTrue one → IsTrue other → IsTrue result }
+    ensures one { IsTrue result → IsTrue one }
+    ensures other { IsTrue result → IsTrue other }
+{
+    one && other
+}
+
+/// True exactly where the end is missing or its number is at most 2^125 in size.
+pub(crate) fn is_moderate(end: Bound<i128>) -> bool
+    ensures only { IsTrue result → IsModerateEnd (some_end end) }
+    ensures each { IsModerateEnd (some_end end) → IsTrue result }
+{
+    match end {
+        Bound::At(number) => number.unsigned_abs() <= MODERATE,
+        Bound::Without => true,
+    }
+}
+
+/// True exactly where each bound from and to the signed place is moderate.
+fn is_moderate_at(cells: &[Bound<i128>], i: usize) -> bool
+    requires long { length cells.now ≡ 1024 }
+    requires inside { i < 32 }
+    ensures { IsTrue result ↔ IsModerateAt (bound cells.now) i }
+{
+    for a in 0..SIGNED {
+        let from = is_moderate(at(cells, a, i));
+        let to = is_moderate(at(cells, i, a));
+        if !both(from, to) {
+            return false;
+        }
+    }
+    true
+}
+
+/// True exactly where each bound is moderate.
+pub(crate) fn are_moderate(cells: &[Bound<i128>]) -> bool
+    requires { length cells.now ≡ 1024 }
+    ensures { IsTrue result ↔ HasModerateBounds cells.now }
+{
+    for i in 0..SIGNED {
+        if !is_moderate_at(cells, i) {
+            return false;
+        }
+    }
+    true
 }
 
 /// The bounds of each signed place less `i`, and a step after that.
@@ -90,7 +144,7 @@ fn line(cells: &[Bound<i128>], j: usize) -> [Bound<i128>; 32]
 }
 
 /// Makes each cell the smaller of itself and the way over a new bound on `i` less `j`.
-pub(crate) fn tighten(cells: &mut [Bound<i128>], i: usize, j: usize, step: Bound<i128>)
+fn tighten(cells: &mut [Bound<i128>], i: usize, j: usize, step: Bound<i128>)
     requires long { length cells.old ≡ 1024 }
     requires row { i < 32 }
     requires column { j < 32 }
@@ -102,6 +156,22 @@ pub(crate) fn tighten(cells: &mut [Bound<i128>], i: usize, j: usize, step: Bound
         let way = sum(into[k / SIGNED], out[k % SIGNED]);
         cells[k] = least(cells[k], way);
     }
+}
+
+/// Does so, and is true only where no sum leaves 128 bits.
+pub(crate) fn shorten(cells: &mut [Bound<i128>], i: usize, j: usize, step: Bound<i128>) -> bool
+    requires long { length cells.old ≡ 1024 }
+    requires row { i < 32 }
+    requires column { j < 32 }
+    ensures cells { AreCellsOf (tightened cells.old i j (some_end step)) cells.new }
+    ensures whole { IsTrue result → SumsFit (bound cells.old) i j (some_end step) }
+    ensures moderate { IsModerateEnd (some_end step) → IsModerateAt (bound cells.old) i → IsModerateAt (bound cells.old) j → IsTrue result }
+{
+    let here = is_moderate_at(cells, i);
+    let there = is_moderate_at(cells, j);
+    let moderate = is_moderate(step);
+    tighten(cells, i, j, step);
+    both(moderate, both(here, there))
 }
 
 /// True exactly where some cell contradicts its opposite.

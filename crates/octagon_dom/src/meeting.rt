@@ -4,9 +4,10 @@ ghost use Rattle.linear_cons.specs.Bounds.{IsUpTo};
 ghost use Rattle.linear_cons.specs.Rows.{Meets};
 ghost use Rattle.num_domain.specs.Ends.{some_end};
 ghost use Rattle.octagon_dom.specs.Cells.{IsBelow, IsWithin, signed};
+ghost use Rattle.octagon_dom.specs.Closure.{KeepsClosed};
 ghost use Rattle.octagon_dom.specs.Stated.{AreMet, MeetsStated};
 
-use crate::cells::{SIGNED, at, is_void, least, turned};
+use crate::cells::{SIGNED, at, both, is_void, least, turned};
 use crate::closing::{close, meet};
 use crate::ends::bounds_of;
 use crate::stated::stated_by;
@@ -17,19 +18,23 @@ use num_domain::{Bound, ends_imply};
 const MANY: usize = 12;
 
 /// Adds what each row states or asks for, as one after the other does. Bounds that exclude each other are left as they were entered.
-pub(crate) fn meet_all(cells: &mut [Bound<i128>], rows: &[Row])
+/// True only where no sum left 128 bits.
+pub(crate) fn meet_all(cells: &mut [Bound<i128>], rows: &[Row]) -> bool
     requires { length cells.old ≡ 1024 }
     ensures met { AreMet rows.now cells.old cells.new }
     ensures stated { All (λ row. MeetsStated row cells.new) rows.now }
+    ensures whole { IsTrue result → KeepsClosed cells.old cells.new }
 {
-    if rows.len() >= MANY {
-        enter_all(cells, rows);
-        if is_void(cells) {
-            return;
-        }
-        close(cells);
+    if rows.len() < MANY {
+        return meet_each(cells, rows);
     }
-    meet_each(cells, rows);
+    enter_all(cells, rows);
+    if is_void(cells) {
+        return true;
+    }
+    let closed = close(cells);
+    let whole = meet_each(cells, rows);
+    both(closed, whole)
 }
 
 /// True only where each store below the cells meets the row: by one cell where the row states a bound, and else by the ends.
@@ -53,29 +58,34 @@ fn is_within(end: Bound<i128>, most: Bound<i128>) -> bool
     }
 }
 
-/// Adds what each row states or asks for, one after the other.
-fn meet_each(cells: &mut [Bound<i128>], rows: &[Row])
+/// Adds what each row states or asks for, one after the other. True only where no sum left 128 bits.
+fn meet_each(cells: &mut [Bound<i128>], rows: &[Row]) -> bool
     requires { length cells.old ≡ 1024 }
     ensures met { AreMet rows.now cells.old cells.new }
     ensures stated { All (λ row. MeetsStated row cells.new) rows.now }
+    ensures whole { IsTrue result → KeepsClosed cells.old cells.new }
 {
+    let mut whole = true;
     for row in rows {
-        meet_unimplied(cells, row);
+        let fits = meet_unimplied(cells, row);
+        whole = both(whole, fits);
     }
+    whole
 }
 
-/// Adds what the row states or asks for, unless the cells imply it.
-fn meet_unimplied(cells: &mut [Bound<i128>], row: &Row)
+/// Adds what the row states or asks for, unless the cells imply it. True only where no sum left 128 bits.
+fn meet_unimplied(cells: &mut [Bound<i128>], row: &Row) -> bool
     requires { length cells.old ≡ 1024 }
     ensures long { length cells.new ≡ 1024 }
     ensures keeps { (store : List ℤ) → IsBelow cells.old store → Meets store row.now → IsBelow cells.new store }
     ensures inside { (store : List ℤ) → IsBelow cells.new store → IsBelow cells.old store }
     ensures stated { MeetsStated row.now cells.new }
+    ensures whole { IsTrue result → KeepsClosed cells.old cells.new }
 {
     if imply(cells, row) {
-        return;
+        return true;
     }
-    meet(cells, row);
+    meet(cells, row)
 }
 
 /// Lowers the cells of the bounds that the rows state to them. They aren't closed then.

@@ -1,7 +1,8 @@
 //! Octagons of stores.
-ghost use Rattle.std.specs.Prelude.{◌≡◌, length};
+ghost use Rattle.std.specs.Prelude.{◌≡◌, true, length};
+ghost use Rattle.octagon_dom.specs.Closure.{IsClosedOrVoid};
 
-use crate::cells::{CELLS, is_void};
+use crate::cells::{CELLS, both, is_void};
 use crate::closing::{close, meet};
 use crate::ends::bounds_of;
 use crate::listing::rows_of;
@@ -13,24 +14,30 @@ use num_domain::{Bound, NumDomain};
 use std::alloc::{AllocError, Global};
 
 /// The stores that keep to an upper bound on each sum and difference of two places, and on twice each
-/// place and its negative; every bound may be missing.
+/// place and its negative; every bound may be missing. The mark `closed` says that no way over a third
+/// signed place is shorter than a bound, unless two bounds contradict each other.
 #[derive(Drop)]
 pub struct Octagon {
     cells: Vec<Bound<i128>>,
     closed: bool,
     ghost size: { length cells.items ≡ 1024 },
+    ghost mark: { closed ≡ true → IsClosedOrVoid cells.items },
 }
 
 impl Octagon {
     ghost use Rattle.std.specs.Prelude.{◌≡◌, ◌<◌, All, IsTrue, true, IfOk};
+    ghost use Rattle.octagon_dom.specs.Closure.{ArePassed};
     ghost use Rattle.num_domain.specs.Domain.{AllMeet, HasEvery, IsMeet, KeepsAssigned, KeepsMeeting, KeepsMeetingAll, SameMembers, Within};
     ghost use Rattle.octagon_dom.specs.Assignments.{IsSimpleBeside, SetsValue};
-    ghost use Rattle.octagon_dom.specs.Octagons.{Has, HullsClosed, MovesClosed, StatesBound, WidensFilled, bounds_of, is_empty_octagon};
+    ghost use Rattle.octagon_dom.specs.Octagons.{AreSameBounds, Has, HasSameMark, HullsClosed, IsClosedOctagon, IsMarked, IsUnmarked, MeetsClosed};
+    ghost use Rattle.octagon_dom.specs.Octagons.{MovesClosed, MovesMarked, PassesUnmarked, StatesBound, StaysMarked, UnmarksFilled, WidensFilled};
+    ghost use Rattle.octagon_dom.specs.Octagons.{bounds_of, is_empty_octagon};
 
     /// No bound at all.
     fn whole(alloc: Global) -> Result<Octagon, AllocError>
         ensures every { IfOk result (λ all. HasEvery (Has all)) }
-        ensures closed { IfOk result (λ all. all.closed ≡ true) }
+        ensures closed { IfOk result IsClosedOctagon }
+        ensures marked { IfOk result IsMarked }
     {
         let cells = vec![in alloc; Bound::Without; CELLS]?;
         Ok(Octagon {
@@ -46,15 +53,16 @@ impl Octagon {
         is_void(&self.cells)
     }
 
-    /// Closes the bounds if they are not yet closed.
+    /// Closes the bounds if the mark is missing.
     fn close_up(&mut self)
         ensures same { SameMembers (Has self.old) (Has self.new) }
         ensures kept { self.old.closed ≡ true → self.new ≡ self.old }
-        ensures closed { self.new.closed ≡ true }
+        ensures stays { IsClosedOctagon self.old → AreSameBounds self.old self.new }
+        ensures passes { IsUnmarked self.old → ArePassed self.old.cells.items 32 self.new.cells.items }
     {
         if !self.closed {
-            close(self.cells.as_mut_slice());
-            self.closed = true;
+            let whole = close(self.cells.as_mut_slice());
+            self.closed = whole;
         }
     }
 
@@ -63,10 +71,13 @@ impl Octagon {
         ensures keeps { KeepsMeeting row.now (Has self.old) (Has self.new) }
         ensures inside { Within (Has self.new) (Has self.old) }
         ensures exact { StatesBound row.now → IsMeet row.now (Has self.old) (Has self.new) }
-        ensures closed { self.new.closed ≡ true }
+        ensures closed { MeetsClosed row.now self.old self.new }
+        ensures passes { PassesUnmarked row.now self.old self.new }
+        ensures marked { StaysMarked row.now self.old self.new }
     {
         self.close_up();
-        meet(self.cells.as_mut_slice(), row);
+        let whole = meet(self.cells.as_mut_slice(), row);
+        self.closed = both(self.closed, whole);
     }
 
     /// Adds what each row states.
@@ -76,7 +87,8 @@ impl Octagon {
         ensures stated { All (λ row. StatesBound row → AllMeet row (Has self.new)) rows.now }
     {
         self.close_up();
-        meet_all(self.cells.as_mut_slice(), rows);
+        let whole = meet_all(self.cells.as_mut_slice(), rows);
+        self.closed = both(self.closed, whole);
     }
 
     /// True only where each member meets the row.
@@ -99,6 +111,7 @@ impl Octagon {
         ensures own { Within (Has self.old) (Has self.new) }
         ensures others { Within (Has other.now) (Has self.new) }
         ensures hull { HullsClosed self.old other.now self.new }
+        ensures closed { IsClosedOctagon self.old → IsClosedOctagon other.now → IsClosedOctagon self.new }
     {
         if other.has_none() {
             return;
@@ -109,6 +122,7 @@ impl Octagon {
             return;
         }
         join(self.cells.as_mut_slice(), &other.cells);
+        self.closed = both(self.closed, other.closed);
     }
 
     /// The members of both, without each bound that the newer one passes.
@@ -116,6 +130,7 @@ impl Octagon {
         ensures own { Within (Has self.old) (Has self.new) }
         ensures others { Within (Has newer.now) (Has self.new) }
         ensures widening { WidensFilled self.old newer.now self.new }
+        ensures unmarks { UnmarksFilled self.old newer.now self.new }
     {
         if newer.has_none() {
             return;
@@ -134,13 +149,14 @@ impl Octagon {
         ensures keeps { KeepsAssigned place value.now (Has self.old) (Has self.new) }
         ensures sets { IsSimpleBeside place value.now → SetsValue value.now place (Has self.new) }
         ensures moves { MovesClosed place value.now self.old self.new }
-        ensures closed { self.new.closed ≡ true }
+        ensures marked { MovesMarked place value.now self.old self.new }
     {
         self.close_up();
         if self.has_none() {
             return;
         }
-        set(self.cells.as_mut_slice(), place as usize, value);
+        let whole = set(self.cells.as_mut_slice(), place as usize, value);
+        self.closed = both(self.closed, whole);
     }
 
     /// The ends at each place.
@@ -152,7 +168,8 @@ impl Octagon {
 
     /// A value with the same bounds.
     fn twin(&self, alloc: Global) -> Result<Octagon, AllocError>
-        ensures { IfOk result (λ twin. twin.cells.items ≡ self.now.cells.items) }
+        ensures same { IfOk result (λ twin. twin.cells.items ≡ self.now.cells.items) }
+        ensures marked { IfOk result (HasSameMark self.now) }
     {
         let cells = Vec::from_slice(alloc, &self.cells)?;
         Ok(Octagon {
@@ -169,8 +186,9 @@ impl NumDomain for Octagon {
     ghost use Rattle.num_domain.specs.Domain.{AllMeet, HasEvery, IsMeet, IsPlain, IsStore, IsUnchanged, KeepsAssigned, KeepsMeeting};
     ghost use Rattle.num_domain.specs.Domain.{KeepsMeetingAll, SameMembers, Within};
     ghost use Rattle.octagon_dom.specs.Assignments.{IsSimpleBeside, SetsValue};
-    ghost use Rattle.octagon_dom.specs.Octagons.{Has, HullsClosed, KeepsToEnds, MovesClosed, StatesBound, WidensFilled, bounds_of, is_empty_octagon};
-    ghost use Rattle.octagon_dom.specs.Octagons.{rows_of};
+    ghost use Rattle.octagon_dom.specs.Octagons.{AreSameBounds, Has, HasSameMark, HullsClosed, IsClosedOctagon, IsMarked, KeepsToEnds, MeetsClosed, MovesClosed};
+    ghost use Rattle.octagon_dom.specs.Octagons.{MovesMarked, PassesUnmarked, StatesBound, StaysMarked, UnmarksFilled, WidensFilled, bounds_of};
+    ghost use Rattle.octagon_dom.specs.Octagons.{is_empty_octagon, rows_of};
     ghost use Rattle.octagon_dom.specs.Laws.Rows.{bounds_lie, empty_none, rows_met};
 
     ghost has = { Has };
@@ -183,7 +201,8 @@ impl NumDomain for Octagon {
 
     fn top(alloc: Global) -> Result<Octagon, AllocError>
         ensures every { IfOk result (λ all. HasEvery (Has all)) }
-        ensures closed { IfOk result (λ all. all.closed ≡ true) }
+        ensures closed { IfOk result IsClosedOctagon }
+        ensures marked { IfOk result IsMarked }
     {
         Octagon::whole(alloc)
     }
@@ -196,7 +215,9 @@ impl NumDomain for Octagon {
         ensures plain { IfOk result (λ _. (place : ℕ) → IsPlain row.now place → AllMeet row.now (Has self.new)) }
         ensures exact { IfOk result (λ _. StatesBound row.now → IsMeet row.now (Has self.old) (Has self.new)) }
         ensures inside { IfOk result (λ _. Within (Has self.new) (Has self.old)) }
-        ensures closed { IfOk result (λ _. self.new.closed ≡ true) }
+        ensures closed { IfOk result (λ _. MeetsClosed row.now self.old self.new) }
+        ensures passes { IfOk result (λ _. PassesUnmarked row.now self.old self.new) }
+        ensures marked { IfOk result (λ _. StaysMarked row.now self.old self.new) }
         ensures total { IsOk result }
         ensures err { OnErr result (IsUnchanged Has is_empty_octagon rows_of bounds_of self.old self.new) }
     {
@@ -222,6 +243,7 @@ impl NumDomain for Octagon {
         ensures own { IfOk result (λ _. Within (Has self.old) (Has self.new)) }
         ensures others { IfOk result (λ _. Within (Has other.now) (Has self.new)) }
         ensures hull { IfOk result (λ _. HullsClosed self.old other.now self.new) }
+        ensures closed { IfOk result (λ _. IsClosedOctagon self.old → IsClosedOctagon other.now → IsClosedOctagon self.new) }
         ensures err { OnErr result (IsUnchanged Has is_empty_octagon rows_of bounds_of self.old self.new) }
     {
         if other.closed {
@@ -240,6 +262,7 @@ impl NumDomain for Octagon {
         ensures own { IfOk result (λ _. Within (Has self.old) (Has self.new)) }
         ensures newer { IfOk result (λ _. Within (Has newer.now) (Has self.new)) }
         ensures widening { IfOk result (λ _. WidensFilled self.old newer.now self.new) }
+        ensures unmarks { IfOk result (λ _. UnmarksFilled self.old newer.now self.new) }
         ensures total { IsOk result }
         ensures err { OnErr result (IsUnchanged Has is_empty_octagon rows_of bounds_of self.old self.new) }
     {
@@ -257,7 +280,7 @@ impl NumDomain for Octagon {
         ensures keeps { IfOk result (λ _. KeepsAssigned place value.now (Has self.old) (Has self.new)) }
         ensures sets { IfOk result (λ _. IsSimpleBeside place value.now → SetsValue value.now place (Has self.new)) }
         ensures moves { IfOk result (λ _. MovesClosed place value.now self.old self.new) }
-        ensures closed { IfOk result (λ _. self.new.closed ≡ true) }
+        ensures marked { IfOk result (λ _. MovesMarked place value.now self.old self.new) }
         ensures total { IsOk result }
         ensures err { OnErr result (IsUnchanged Has is_empty_octagon rows_of bounds_of self.old self.new) }
     {
@@ -291,7 +314,11 @@ impl NumDomain for Octagon {
         self.ends()
     }
 
-    fn copy(&self, alloc: Global) -> Result<Octagon, AllocError> {
+    fn copy(&self, alloc: Global) -> Result<Octagon, AllocError>
+        ensures answer { IfOk result (λ twin. SameMembers (Has self.now) (Has twin)) }
+        ensures same { IfOk result (AreSameBounds self.now) }
+        ensures marked { IfOk result (HasSameMark self.now) }
+    {
         self.twin(alloc)
     }
 

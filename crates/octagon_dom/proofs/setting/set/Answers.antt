@@ -11,3 +11,11 @@ returns-in-Two-clause-moves c bounds step = elim c.in-Two.is [
   | inr other ↦ absurd (subst (AreTermsBelow 16 c.args.value.now.affine) other c.terms_of.ensures
       (unit_octagonal c.args.value.now.affine c.args.place step.unit step.alone))
 ]
+
+pub returns-in-Two-clause-moderate : goal.returns-in-Two-clause-moderate
+returns-in-Two-clause-moderate c bounds step = elim c.in-Two.is [
+  | inl two ↦ absurd (step_two c.args.place c.args.value.now step two.0 two.1
+      (subst (AreTermsBelow 16 c.args.value.now.affine) two.2 c.terms_of.ensures))
+  | inr other ↦ absurd (subst (AreTermsBelow 16 c.args.value.now.affine) other c.terms_of.ensures
+      (unit_octagonal c.args.value.now.affine c.args.place step.unit step.alone))
+]

@@ -12,7 +12,7 @@ use Rattle.octagon_dom.proofs.setting.set_between.Goals as goal
 pub returns-clause-keeps : goal.returns-clause-keeps
 returns-clause-keeps c store z is below above under =
     let place = c.args.place in
-    let moved = shifted_keeps store place z is c.requires.inside None None c.args.cells.now c.shift.new.cells c.shift.ensures tt tt below in
+    let moved = shifted_keeps store place z is c.requires.inside None None c.args.cells.now c.shift-moved.new.cells c.shift-moved.ensures.moved tt tt below in
     let up = signed_up store place z is c.requires.inside in
     let down = signed_down store place z is c.requires.inside in
     let twice = subst (λ end. IsUpTo end (z +ℤ z)) (sym c.sum.ensures) (up_to_sum (some_end c.args.up)
@@ -23,8 +23,8 @@ returns-clause-keeps c store z is below above under =
     rw (up, down) (omega (arith, ints)) in
     let second : neg_ℤ z +ℤ neg_ℤ z ≡ signed (set store place z) (2 * place + 1) -ℤ signed (set store place z) (2 * place) =
     rw (up, down) (omega (arith, ints)) in
-    c.state-2.ensures.keeps (set store place z)
-    (c.state.ensures.keeps (set store place z) moved (up_to_same (some_end c.sum.result) _ _ first twice))
+    c.state-lower.ensures.keeps (set store place z)
+    (c.state-upper.ensures.keeps (set store place z) moved (up_to_same (some_end c.sum.result) _ _ first twice))
     (up_to_same (some_end c.sum-2.result) _ _ second turned)
 
 pub returns-clause-upper : goal.returns-clause-upper
@@ -33,11 +33,17 @@ returns-clause-upper c store below =
     let other = signed_negative store c.args.place in
     subst (λ end. IsUpTo end (number_at store c.args.place +ℤ number_at store c.args.place)) c.sum.ensures
     (up_to_same (some_end c.sum.result) _ _ (rw (own, other) (omega (arith, ints)))
-    (c.state.ensures.met store (c.state-2.ensures.inside store below)))
+    (c.state-upper.ensures.met store (c.state-lower.ensures.inside store below)))
 
 pub returns-clause-lower : goal.returns-clause-lower
 returns-clause-lower c store below =
     let own = signed_own store c.args.place in
     let other = signed_negative store c.args.place in
     subst (λ end. IsUpTo end (neg_ℤ (number_at store c.args.place) +ℤ neg_ℤ (number_at store c.args.place))) c.sum-2.ensures
-    (up_to_same (some_end c.sum-2.result) _ _ (rw (own, other) (omega (arith, ints))) (c.state-2.ensures.met store below))
+    (up_to_same (some_end c.sum-2.result) _ _ (rw (own, other) (omega (arith, ints))) (c.state-lower.ensures.met store below))
+
+pub returns-clause-whole : goal.returns-clause-whole
+returns-clause-whole c is closed =
+    let moved = c.shift-moved.ensures.whole (c.both-2.ensures.one is) closed in
+    let states = c.both-2.ensures.other is in
+    c.state-lower.ensures.whole (c.both.ensures.other states) (c.state-upper.ensures.whole (c.both.ensures.one states) (λ filled. moved.ways))

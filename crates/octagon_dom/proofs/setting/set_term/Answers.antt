@@ -8,7 +8,8 @@ use Rattle.octagon_dom.specs.Laws.Members.{signed_negative, signed_own}
 use Rattle.octagon_dom.proofs.Assigned.{assigned_down, assigned_up, covers_of, one_value}
 use Rattle.octagon_dom.proofs.Exchanging.{flipped_keeps}
 use Rattle.octagon_dom.proofs.Members.{number_here, shifted_keeps}
-use Rattle.octagon_dom.proofs.Moved.{flipped_moderate, own_moves, turned_moves}
+use Rattle.octagon_dom.proofs.Moves.{flipped_closed}
+use Rattle.octagon_dom.proofs.Moved.{flipped_moderate, own_moves, step_can, turned_moves}
 use Rattle.octagon_dom.proofs.setting.set_term.Goals as goal
 use Rattle.octagon_dom.proofs.setting.set_term.Goals.{After-below-down}
 
@@ -42,7 +43,7 @@ returns-then-term-place-2-clause-keeps c store z is below covers =
     let own : signed store c.args.term ≡ number_at store c.args.place = ap (signed store) c.if-term-place-2.true
     ∙ signed_own store c.args.place in
     shifted_keeps store c.args.place z is c.requires.inside (some_end c.above-up.result) (some_end c.below-down.result) c.args.cells.now
-    c.shift.new.cells c.shift.ensures
+    c.shift.new.cells c.shift.ensures.moved
     (up_to_same (some_end c.above-up.result) _ _ (rw own refl) (above here store z covers))
     (up_to_same (some_end c.below-down.result) _ _ (rw own refl) (under here store z covers)) below
 
@@ -60,7 +61,7 @@ returns-else-term-place-2-clause-keeps c store z is below covers =
     subst (IsBelow c.shift-else-term-place-2.new.cells) (set-set store c.args.place (neg_ℤ (number_at store c.args.place)) z)
     (shifted_keeps (set store c.args.place (neg_ℤ (number_at store c.args.place))) c.args.place z long c.requires.inside
     (some_end c.above-up.result)
-    (some_end c.below-down.result) c.flip.new.cells c.shift-else-term-place-2.new.cells c.shift-else-term-place-2.ensures
+    (some_end c.below-down.result) c.flip.new.cells c.shift-else-term-place-2.new.cells c.shift-else-term-place-2.ensures.moved
     (up_to_same (some_end c.above-up.result) _ _ (rw (turned, number) refl) (above here store z covers))
     (up_to_same (some_end c.below-down.result) _ _ (rw (turned, number) refl) (under here store z covers)) flipped)
 
@@ -70,7 +71,7 @@ returns-then-term-place-clause-moves c here = absurd (c.if-term-place.true here)
 pub returns-then-term-place-2-clause-moves : goal.returns-then-term-place-2-clause-moves
 returns-then-term-place-2-clause-moves c here bounds step =
     own_moves c.args.place c.args.value.now step c.args.term (some_end c.above-up.result) (some_end c.below-down.result) c.args.cells.now
-    c.shift.new.cells c.requires.inside c.requires.one c.above-up.ensures c.below-down.ensures c.shift.ensures bounds c.if-term-place-2.true
+    c.shift.new.cells c.requires.inside c.requires.one c.above-up.ensures c.below-down.ensures c.shift.ensures.moved bounds c.if-term-place-2.true
 
 pub returns-else-term-place-2-clause-moves : goal.returns-else-term-place-2-clause-moves
 returns-else-term-place-2-clause-moves c here bounds step =
@@ -79,5 +80,25 @@ returns-else-term-place-2-clause-moves c here bounds step =
     let odd : c.args.term ≡ 2 * c.args.place + 1 = omega arith in
     turned_moves c.args.place c.args.value.now step c.args.term (some_end c.above-up.result) (some_end c.below-down.result) c.flip.new.cells
     c.shift-else-term-place-2.new.cells c.requires.inside c.requires.one c.above-up.ensures c.below-down.ensures
-    c.shift-else-term-place-2.ensures (flipped_moderate c.args.place c.args.cells.now c.flip.new.cells c.flip.ensures bounds)
+    c.shift-else-term-place-2.ensures.moved (flipped_moderate c.args.place c.args.cells.now c.flip.new.cells c.flip.ensures bounds)
     c.args.cells.now c.flip.ensures odd
+
+pub returns-then-term-place-2-clause-whole : goal.returns-then-term-place-2-clause-whole
+returns-then-term-place-2-clause-whole c is closed filled = (c.shift.ensures.whole is closed).ways
+
+pub returns-else-term-place-2-clause-whole : goal.returns-else-term-place-2-clause-whole
+returns-else-term-place-2-clause-whole c is closed filled =
+    (c.shift-else-term-place-2.ensures.whole is (flipped_closed c.args.place c.args.cells.now c.flip.new.cells c.flip.ensures closed)).ways
+
+pub returns-then-term-place-clause-moderate : goal.returns-then-term-place-clause-moderate
+returns-then-term-place-clause-moderate c here = absurd (c.if-term-place.true here)
+
+pub returns-then-term-place-2-clause-moderate : goal.returns-then-term-place-2-clause-moderate
+returns-then-term-place-2-clause-moderate c here bounds step = c.shift.ensures.moderate
+    (step_can c.args.place c.args.value.now step (some_end c.above-up.result) (some_end c.below-down.result) c.args.cells.now
+    c.above-up.ensures c.below-down.ensures bounds)
+
+pub returns-else-term-place-2-clause-moderate : goal.returns-else-term-place-2-clause-moderate
+returns-else-term-place-2-clause-moderate c here bounds step = c.shift-else-term-place-2.ensures.moderate
+    (step_can c.args.place c.args.value.now step (some_end c.above-up.result) (some_end c.below-down.result) c.flip.new.cells
+    c.above-up.ensures c.below-down.ensures (flipped_moderate c.args.place c.args.cells.now c.flip.new.cells c.flip.ensures bounds))
