@@ -1,5 +1,6 @@
 pub mod Making
 pub mod Standing
+pub mod PickedLeaves
 pub mod Throughout
 pub mod Trying
 pub mod Putting

@@ -15,7 +15,9 @@ use Rattle.decision_tree.specs.declared.reason.Why.{Why}
 use Rattle.tree_unify.specs.Shapes.{trimmed}
 use Rattle.tree_unify.proofs.Asking.{trimmed_leaf}
 use Rattle.tree_unify.proofs.Meeting.{eval_is_end, eval_met, eval_missed, meets_or_not, node_eval}
-use Rattle.backward_transfer.specs.Steps.{asked, assigned, step_to, stepped}
+use Rattle.decision_tree.specs.declared.reason.Pick.{Pick}
+use Rattle.decision_tree.specs.declared.reason.Pick.TheVariants.{All as EveryState}
+use Rattle.backward_transfer.specs.Steps.{asked, assigned, assigned_by, step_to, stepped, stepped_by}
 
 module _ {R : Type 0} (same : R → R → Bool) (alike : (rank other : R) → IsTrue (same rank other) ↔ (rank ≡ other)) where
   -- where a constraint is asked stands the side that the store is on
@@ -30,15 +32,28 @@ module _ {R : Type 0} (same : R → R → Bool) (alike : (rank other : R) → Is
   asked_missed (Kept row) this that store missed = node_eval same alike row this that store ∙ eval_missed row this that store missed
 
   module _ (one_more : R → R) where
-    pub step_eval : (plan : Plan R) (store : List ℤ) → eval (stepped same one_more plan) store ≡ stepped same one_more (eval plan store)
-    step_eval bottom store = refl
-    step_eval (top cause) store = refl
-    step_eval (leaf why rank) store = refl
-    step_eval (branch row this that) store =
-        node_eval same alike row (stepped same one_more this) (stepped same one_more that) store ∙ ⊎_elim
-        (λ met. eval_met row (stepped same one_more this) (stepped same one_more that) store met ∙ step_eval this store ∙ ap (stepped same one_more) (sym (eval_met row this that store met)))
-        (λ missed. eval_missed row (stepped same one_more this) (stepped same one_more that) store missed ∙ step_eval that store ∙ ap (stepped same one_more) (sym (eval_missed row this that store missed)))
+    -- the step of a tree is that of the leaf at which a store stands
+    pub step_by_eval : (pick : Pick) (plan : Plan R) (store : List ℤ) → eval (stepped_by same one_more pick plan) store ≡ stepped_by same one_more pick (eval plan store)
+    step_by_eval pick bottom store = refl
+    step_by_eval pick (top cause) store = refl
+    step_by_eval pick (leaf why rank) store = refl
+    step_by_eval pick (branch row this that) store =
+        node_eval same alike row (stepped_by same one_more pick this) (stepped_by same one_more pick that) store ∙ ⊎_elim
+        (λ met. eval_met row (stepped_by same one_more pick this) (stepped_by same one_more pick that) store met ∙ step_by_eval pick this store
+        ∙ ap (stepped_by same one_more pick) (sym (eval_met row this that store met)))
+        (λ missed. eval_missed row (stepped_by same one_more pick this) (stepped_by same one_more pick that) store missed ∙ step_by_eval pick that store
+        ∙ ap (stepped_by same one_more pick) (sym (eval_missed row this that store missed)))
         (meets_or_not row store)
+
+    pub step_eval : (plan : Plan R) (store : List ℤ) → eval (stepped same one_more plan) store ≡ stepped same one_more (eval plan store)
+    step_eval plan store = step_by_eval EveryState plan store
+
+    -- one more step changes nothing of whether something is claimed
+    pub step_same : (pick : Pick) (end : Plan R) → IsEnd end → is_defined (stepped_by same one_more pick end) ≡ is_defined end
+    step_same pick bottom ends = refl
+    step_same pick (top cause) ends = refl
+    step_same pick (leaf why rank) ends = refl
+    step_same pick (branch row this that) ends = absurd ends
 
     pub step_undefined : (end : Plan R) → IsEnd end → is_defined end ≡ false → stepped same one_more end ≡ end
     step_undefined bottom ends none = refl
@@ -68,17 +83,24 @@ module _ {R : Type 0} (same : R → R → Bool) (alike : (rank other : R) → Is
       moved_missed : (row : Row) → (Meets after row → ⊥) → MeetsKind store (row_kind_of (substituted row.affine place by)) → ⊥
       moved_missed row missed met = missed (rw (moved_value row) at ((row_meets (substituted row.affine place by) store).0 met))
 
-      assign_eval : (plan : Plan R) → eval (assigned same put one_more place by plan) store ≡ assigned same put one_more place by (eval plan after)
-      assign_eval bottom = refl
-      assign_eval (top cause) = refl
-      assign_eval (leaf why rank) = refl
-      assign_eval (branch row this that) =
+      -- a function put into a tree is put into the leaf at which the store behind the assignment stands
+      pub assign_by_eval : (pick : Pick) (plan : Plan R)
+          → eval (assigned_by same put one_more pick place by plan) store ≡ assigned_by same put one_more pick place by (eval plan after)
+      assign_by_eval pick bottom = refl
+      assign_by_eval pick (top cause) = refl
+      assign_by_eval pick (leaf why rank) = refl
+      assign_by_eval pick (branch row this that) =
           ⊎_elim
-          (λ met. asked_met (row_kind_of (substituted row.affine place by)) (assigned same put one_more place by this) (assigned same put one_more place by that) store (moved_met row met)
-          ∙ assign_eval this ∙ ap (assigned same put one_more place by) (sym (eval_met row this that after met)))
-          (λ missed. asked_missed (row_kind_of (substituted row.affine place by)) (assigned same put one_more place by this) (assigned same put one_more place by that) store (moved_missed row missed)
-          ∙ assign_eval that ∙ ap (assigned same put one_more place by) (sym (eval_missed row this that after missed)))
+          (λ met. asked_met (row_kind_of (substituted row.affine place by)) (assigned_by same put one_more pick place by this)
+          (assigned_by same put one_more pick place by that) store (moved_met row met)
+          ∙ assign_by_eval pick this ∙ ap (assigned_by same put one_more pick place by) (sym (eval_met row this that after met)))
+          (λ missed. asked_missed (row_kind_of (substituted row.affine place by)) (assigned_by same put one_more pick place by this)
+          (assigned_by same put one_more pick place by that) store (moved_missed row missed)
+          ∙ assign_by_eval pick that ∙ ap (assigned_by same put one_more pick place by) (sym (eval_missed row this that after missed)))
           (meets_or_not row after)
+
+      assign_eval : (plan : Plan R) → eval (assigned same put one_more place by plan) store ≡ assigned same put one_more place by (eval plan after)
+      assign_eval plan = assign_by_eval EveryState plan
 
       assign_undefined : (end : Plan R) → IsEnd end → is_defined end ≡ false → assigned same put one_more place by end ≡ end
       assign_undefined bottom ends none = refl

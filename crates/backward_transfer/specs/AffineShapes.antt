@@ -1,5 +1,5 @@
 -- The trees of labels, of affine ranks, and the shapes of those before a step.
-use Rattle.std.specs.Prelude.{ℕ, Bool, List, [], map, slice_index_or}
+use Rattle.std.specs.Prelude.{ℕ, ℤ, Bool, List, [], Option, map, slice_index_or}
 use Rattle.linear_cons.specs.declared.affine.Affine.{Affine}
 use Rattle.linear_cons.specs.declared.bounds.Linear.{Linear}
 use Rattle.linear_cons.specs.declared.row.Row.{Row}
@@ -10,9 +10,12 @@ use Rattle.decision_tree.specs.declared.affine_rank.AffineRank.{AffineRank}
 use Rattle.decision_tree.specs.declared.rank.Rank.{Ghosts as Ranks}
 use Rattle.decision_tree.specs.declared.tree.Tree.{Tree}
 use Rattle.tree_unify.specs.Shapes.{TrimFits, trimmed}
+use Rattle.backward_transfer.specs.Chosen.{with_some}
+use Rattle.backward_transfer.specs.Picks.{picked}
 use Rattle.backward_transfer.specs.Ranges.{ranged}
 use Rattle.backward_transfer.specs.Steps.{assigned, stepped}
 use Rattle.backward_transfer.specs.Tests.{tested}
+use Rattle.backward_transfer.specs.Values.{tried_values}
 
 -- the plans of a list of trees, and the tree of the label
 abbrev pub plans : List (Tree AffineRank) → List (Plan AffineRank)
@@ -41,6 +44,15 @@ stepped_shape plan = stepped same_rank affine_ranks.one_more plan
 
 abbrev pub tested_shape : Plan AffineRank → Plan AffineRank → List (List Row) → List (List Row) → Plan AffineRank
 tested_shape this that holds fails = tested same_rank affine_ranks.where_greater affine_ranks.greater_fits affine_ranks.one_more this that holds fails
+
+-- before a free test and the assignment of a number of a range, of which an outcome or a value is picked
+abbrev pub picked_shape : Plan AffineRank → Plan AffineRank → Plan AffineRank
+picked_shape this that = picked same_rank affine_ranks.where_greater affine_ranks.greater_fits affine_ranks.one_more this that
+
+abbrev pub chosen_shape : Option ℤ → Option ℤ → ℕ → Plan AffineRank → Plan AffineRank
+chosen_shape lo hi x plan =
+    with_some same_rank affine_ranks.where_greater affine_ranks.greater_fits affine_ranks.substituted affine_ranks.one_more lo hi x plan
+    (tried_values lo hi x plan)
 
 -- trimmed, and where the complements that this forms fit
 abbrev pub cut : Plan AffineRank → Plan AffineRank

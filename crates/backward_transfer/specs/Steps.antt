@@ -1,5 +1,5 @@
 -- The shapes of trees moved back over an assignment and over a step that changes nothing, before they are trimmed, and beside each where
--- the functions and ranks that it forms fit.
+-- the functions and ranks that it forms fit. Each defined leaf says of which next states it speaks.
 use Rattle.std.specs.Prelude.{ℕ, Bool, ⊤}
 use Rattle.linear_cons.specs.Functions.{SubstitutionFits, substituted}
 use Rattle.linear_cons.specs.Rows.{row_kind_of}
@@ -8,12 +8,16 @@ use Rattle.linear_cons.specs.declared.row.RowKind.{RowKind}
 use Rattle.linear_cons.specs.declared.row.RowKind.TheVariants.{Always, Never, Row as Kept}
 use Rattle.decision_tree.specs.Nodes.{node}
 use Rattle.decision_tree.specs.Plans.{Plan, branch, leaf}
+use Rattle.decision_tree.specs.declared.reason.Pick.{Pick}
 use Rattle.decision_tree.specs.declared.reason.Pick.TheVariants.{All as EveryState}
 use Rattle.decision_tree.specs.declared.reason.Why.TheVariants.{Step}
 
--- a leaf of that rank, for every next state
+-- a leaf of that rank, for the next states that are picked, or for every one
+abbrev pub step_by : {R : Type 0} → Pick → R → Plan R
+step_by pick rank = leaf (Step pick) rank
+
 abbrev pub step_to : {R : Type 0} → R → Plan R
-step_to rank = leaf (Step EveryState) rank
+step_to rank = step_by EveryState rank
 
 -- the constraint asked: one that always or never holds is decided at once
 abbrev pub asked : {R : Type 0} → (R → R → Bool) → RowKind → Plan R → Plan R → Plan R
@@ -28,11 +32,15 @@ AskedFits Never This That = That
 AskedFits (Kept row) This That = This × That
 
 module _ {R : Type 0} (same : R → R → Bool) (one_more : R → R) where
-  -- one more step at each leaf that is defined
+  -- one more step at each leaf that is defined, for the next states that are picked
+  abbrev pub stepped_by : Pick → Plan R → Plan R
+  stepped_by pick (branch row this that) = node same row (stepped_by pick this) (stepped_by pick that)
+  stepped_by pick (leaf why rank) = step_by pick (one_more rank)
+  stepped_by pick end = end
+
+  -- for every one
   abbrev pub stepped : Plan R → Plan R
-  stepped (branch row this that) = node same row (stepped this) (stepped that)
-  stepped (leaf why rank) = step_to (one_more rank)
-  stepped end = end
+  stepped plan = stepped_by EveryState plan
 
 -- each rank that it forms fits
 abbrev pub StepFits : {R : Type 0} → (R → Type 0) → Plan R → Type 0
@@ -41,12 +49,17 @@ StepFits more_fits (leaf why rank) = more_fits rank
 StepFits more_fits end = ⊤
 
 module _ {R : Type 0} (same : R → R → Bool) (put : R → ℕ → Affine → R) (one_more : R → R) where
-  -- a function put in for the variable at a place, in rows and ranks, and one more step at each leaf that is defined
+  -- a function put in for the variable at a place, in rows and ranks, and one more step at each leaf that is defined, for the next states
+  -- that are picked
+  abbrev pub assigned_by : Pick → ℕ → Affine → Plan R → Plan R
+  assigned_by pick place by (branch row this that) =
+      asked same (row_kind_of (substituted row.affine place by)) (assigned_by pick place by this) (assigned_by pick place by that)
+  assigned_by pick place by (leaf why rank) = step_by pick (one_more (put rank place by))
+  assigned_by pick place by end = end
+
+  -- for every one
   abbrev pub assigned : ℕ → Affine → Plan R → Plan R
-  assigned place by (branch row this that) =
-      asked same (row_kind_of (substituted row.affine place by)) (assigned place by this) (assigned place by that)
-  assigned place by (leaf why rank) = step_to (one_more (put rank place by))
-  assigned place by end = end
+  assigned place by plan = assigned_by EveryState place by plan
 
 module _ {R : Type 0} (put : R → ℕ → Affine → R) (put_fits : R → ℕ → Affine → Type 0) (more_fits : R → Type 0) where
   -- each function and each rank that it forms fits

@@ -7,10 +7,10 @@ ghost use Rattle.linear_cons.specs.declared.exact.Wide.{Wide};
 ghost use Rattle.decision_tree.specs.Plans.{plan_of, size_of};
 ghost use Rattle.tree_unify.specs.Shapes.{TrimFits, trimmed};
 ghost use Rattle.tree_unify.specs.declared.fault.TreeFault.TheVariants.{Full as TooFull, Wide as TooWide};
-ghost use Rattle.backward_transfer.specs.Steps.{AssignFits, assigned, step_to};
+ghost use Rattle.backward_transfer.specs.Steps.{AssignFits, assigned, assigned_by, step_by};
 
 use crate::stepping::step_leaf;
-use decision_tree::{Rank, Tree};
+use decision_tree::{Pick, Rank, Tree};
 use linear_cons::{Affine, Row, RowKind};
 use std::alloc::Global;
 use tree_unify::{Stopped, TreeFault, Walk, trim};
@@ -41,28 +41,29 @@ pub fn back_assign<R: Rank>(
     ensures operands { (w : Wide) → result ≡ Err (TooWide w) → IsOutside w }
 {
     let mut walk = Walk::new(alloc);
-    match put(alloc, &mut walk, tree, place, value) {
+    match put(alloc, &mut walk, &Pick::All, tree, place, value) {
         Ok(moved) => trim(alloc, &moved, &[]),
         Err(_) => Err(walk.fault),
     }
 }
 
-/// The tree with the function put in for the variable, and one more step at each defined leaf; the walk
-/// knows the size.
-fn put<R: Rank>(
+/// The tree with the function put in for the variable, and one more step at each defined leaf, for the next
+/// states that are picked; the walk knows the size.
+pub(crate) fn put<R: Rank>(
     alloc: Global,
     walk: &mut Walk,
+    pick: &Pick,
     tree: &Tree<R>,
     place: u8,
     by: &Affine,
 ) -> Result<Box<Tree<R>>, Stopped>
     requires { place < 16 }
-    ensures tree { IfOk result (λ made. plan_of made.value ≡ assigned R.eq R.substituted R.one_more place by.now (plan_of tree.now)) }
+    ensures tree { IfOk result (λ made. plan_of made.value ≡ assigned_by R.eq R.substituted R.one_more pick.now place by.now (plan_of tree.now)) }
     ensures size { IfOk result (λ made. walk.new.size ≡ size_of (plan_of made.value)) }
     ensures small { OnOk result (walk.new.size ≤ 65536) }
     ensures fits { OnOk result (AssignFits R.substituted R.subst_fits R.add_one_fits place by.now (plan_of tree.now)) }
     ensures full { OnErr result ((count : ℕ) → walk.new.fault ≡ TooFull count
-        → (65536 < count) × (65536 < size_of (assigned R.eq R.substituted R.one_more place by.now (plan_of tree.now)))) }
+        → (65536 < count) × (65536 < size_of (assigned_by R.eq R.substituted R.one_more pick.now place by.now (plan_of tree.now)))) }
     ensures wide { OnErr result ((w : Wide) → walk.new.fault ≡ TooWide w
         → AssignFits R.substituted R.subst_fits R.add_one_fits place by.now (plan_of tree.now) → ⊥) }
     ensures operands { OnErr result ((w : Wide) → walk.new.fault ≡ TooWide w → IsOutside w) }
@@ -70,16 +71,16 @@ fn put<R: Rank>(
     match tree {
         Tree::Bottom => walk.copied(alloc, tree),
         Tree::Top(_) => walk.copied(alloc, tree),
-        Tree::Leaf { why: _, rank } => put_leaf(alloc, walk, rank, place, by),
+        Tree::Leaf { why: _, rank } => put_leaf(alloc, walk, pick, rank, place, by),
         Tree::Node { row, yes, no } => {
             let kind = put_row(alloc, walk, row, place, by)?;
             match &*kind {
-                RowKind::Always => put(alloc, walk, yes, place, by),
-                RowKind::Never => put(alloc, walk, no, place, by),
+                RowKind::Always => put(alloc, walk, pick, yes, place, by),
+                RowKind::Never => put(alloc, walk, pick, no, place, by),
                 RowKind::Row(row) => {
-                    let first = put(alloc, walk, yes, place, by)?;
+                    let first = put(alloc, walk, pick, yes, place, by)?;
                     let size = walk.size;
-                    match put(alloc, walk, no, place, by) {
+                    match put(alloc, walk, pick, no, place, by) {
                         Ok(other) => walk.join_sides(alloc, row, first, other, size),
                         Err(stopped) => {
                             Tree::discard(first);
@@ -118,17 +119,19 @@ fn put_row(
     }
 }
 
-/// A leaf of the rank with the function put in and one more, for every next state; its size is known.
+/// A leaf of the rank with the function put in and one more, for the next states that are picked; its size
+/// is known.
 #[inline(never)]
 fn put_leaf<R: Rank>(
     alloc: Global,
     walk: &mut Walk,
+    pick: &Pick,
     rank: &R,
     place: u8,
     by: &Affine,
 ) -> Result<Box<Tree<R>>, Stopped>
     requires { place < 16 }
-    ensures tree { IfOk result (λ made. plan_of made.value ≡ step_to (R.one_more (R.substituted rank.now place by.now))) }
+    ensures tree { IfOk result (λ made. plan_of made.value ≡ step_by pick.now (R.one_more (R.substituted rank.now place by.now))) }
     ensures size { OnOk result (walk.new.size ≡ 1) }
     ensures fits { OnOk result (R.subst_fits rank.now place by.now × R.add_one_fits (R.substituted rank.now place by.now)) }
     ensures full { OnErr result ((count : ℕ) → walk.new.fault ≡ TooFull count → ⊥) }
@@ -137,7 +140,7 @@ fn put_leaf<R: Rank>(
     ensures operands { OnErr result ((w : Wide) → walk.new.fault ≡ TooWide w → IsOutside w) }
 {
     match rank.subst(place, by) {
-        Ok(moved) => step_leaf(alloc, walk, &moved),
+        Ok(moved) => step_leaf(alloc, walk, pick, &moved),
         Err(wide) => Err(walk.stop(TreeFault::Wide(wide))),
     }
 }

@@ -1,5 +1,5 @@
 //! Laws of the shapes, each the contract of a function that does nothing.
-ghost use Rattle.std.specs.Prelude.{◌≡◌, ◌⊎◌, ℕ, ◌<◌, ℤ, List, [], false, length, slice_set};
+ghost use Rattle.std.specs.Prelude.{◌≡◌, ◌⊎◌, ℕ, ◌<◌, ℤ, List, [], Option, false, length, slice_set};
 ghost use Rattle.linear_cons.specs.Bounds.{Covers};
 ghost use Rattle.linear_cons.specs.Functions.{value_at};
 ghost use Rattle.linear_cons.specs.declared.affine.Affine.{Affine};
@@ -10,14 +10,18 @@ ghost use Rattle.decision_tree.specs.Evaluation.{eval};
 ghost use Rattle.decision_tree.specs.Plans.{Plan, bottom, is_defined, leaf};
 ghost use Rattle.decision_tree.specs.declared.reason.Why.{Why};
 ghost use Rattle.tree_unify.specs.Shapes.{trimmed};
+ghost use Rattle.decision_tree.specs.declared.reason.Pick.TheVariants.{No, Yes};
+ghost use Rattle.backward_transfer.specs.Chosen.{LeadsToClaim, with_some};
 ghost use Rattle.backward_transfer.specs.Mentions.{IsAtMost, IsWithout};
+ghost use Rattle.backward_transfer.specs.Picks.{picked};
 ghost use Rattle.backward_transfer.specs.Ranges.{later_of, ranged};
-ghost use Rattle.backward_transfer.specs.Steps.{assigned, step_to, stepped};
+ghost use Rattle.backward_transfer.specs.Steps.{assigned, step_by, step_to, stepped};
 ghost use Rattle.backward_transfer.specs.Tests.{tested};
+ghost use Rattle.backward_transfer.specs.Values.{tried_values};
 
 use decision_tree::Rank;
 use decision_tree::laws::nothing_in_the_range_exceeds_the_greatest;
-use tree_unify::laws::later_has_the_greater_rank;
+use tree_unify::laws::{either_has_the_first_defined_leaf, later_has_the_greater_rank};
 
 /// Before a step that changes nothing stands at each store the leaf of the tree behind it, with a step
 /// more where that is defined.
@@ -63,6 +67,31 @@ pub fn a_range_elsewhere_is_a_step<R: Rank>()
     ensures { (plan : Plan R) (place : ℕ) (range : Linear) → IsWithout R.trend place plan
         → ranged R.eq R.where_greater R.greater_fits R.trend R.substituted R.one_more place range plan ≡ stepped R.eq R.one_more plan }
 {}
+
+/// Before the assignment of a number of a range of which one is picked: each claim is of a value that lies in the
+/// range and leads to a claim, whose rank it has with one step more.
+pub fn a_picked_value_leads_to_a_claim<R: Rank>()
+    ensures { (plan : Plan R) (place : ℕ) (lo hi : Option ℤ) (store : List ℤ) (why : Why) (rank : R) → place < 16 → length store ≡ 16
+        → eval (trimmed R.eq [] (with_some R.eq R.where_greater R.greater_fits R.substituted R.one_more lo hi place plan
+        (tried_values lo hi place plan))) store ≡ leaf why rank
+        → LeadsToClaim R.substituted R.one_more lo hi place plan store why rank }
+{
+    either_has_the_first_defined_leaf::<R>();
+}
+
+/// Before a free test of which one outcome is picked stands the claim behind the outcome that holds, with one step
+/// more, and where there is none that behind the one that fails; where neither tree claims anything none does.
+pub fn a_picked_outcome_is_the_first_that_claims<R: Rank>()
+    ensures holds { (this that : Plan R) (store : List ℤ) (why : Why) (rank : R) → eval this store ≡ leaf why rank
+        → eval (trimmed R.eq [] (picked R.eq R.where_greater R.greater_fits R.one_more this that)) store ≡ step_by Yes (R.one_more rank) }
+    ensures fails { (this that : Plan R) (store : List ℤ) (why : Why) (rank : R) → is_defined (eval this store) ≡ false
+        → eval that store ≡ leaf why rank
+        → eval (trimmed R.eq [] (picked R.eq R.where_greater R.greater_fits R.one_more this that)) store ≡ step_by No (R.one_more rank) }
+    ensures neither { (this that : Plan R) (store : List ℤ) → is_defined (eval this store) ≡ false → is_defined (eval that store) ≡ false
+        → is_defined (eval (trimmed R.eq [] (picked R.eq R.where_greater R.greater_fits R.one_more this that)) store) ≡ false }
+{
+    either_has_the_first_defined_leaf::<R>();
+}
 
 /// Before a test stands, at a store that meets a conjunction of the test and none of its failure, the leaf
 /// of the tree behind the test that holds, with one more step; at one that meets the failure alone that of the

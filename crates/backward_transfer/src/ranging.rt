@@ -16,7 +16,7 @@ ghost use Rattle.backward_transfer.specs.Ranges.{RowAtFits, fails_at, holds_at};
 ghost use Rattle.backward_transfer.specs.Ranges.{fails_throughout, holds_throughout, later_of, negated, ranged, row_at, step_to_greatest};
 
 use crate::stepping::{none, step_leaf};
-use decision_tree::{Rank, Tree};
+use decision_tree::{Pick, Rank, Tree};
 use linear_cons::{Linear, Row, RowKind, Wide};
 use std::alloc::Global;
 use tree_unify::{Stopped, TreeFault, Walk, later, trim};
@@ -241,7 +241,7 @@ fn spread_leaf<R: Rank>(
     ensures operands { OnErr result ((w : Wide) → walk.new.fault ≡ TooWide w → IsOutside w) }
 {
     match rank.greatest(place, range) {
-        Ok(Some(greatest)) => step_leaf(alloc, walk, &greatest),
+        Ok(Some(greatest)) => step_leaf(alloc, walk, &Pick::All, &greatest),
         Ok(None) => none(alloc, walk),
         Err(wide) => Err(walk.stop(TreeFault::Wide(wide))),
     }

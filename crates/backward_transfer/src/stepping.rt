@@ -5,7 +5,7 @@ ghost use Rattle.linear_cons.specs.declared.exact.Wide.{Wide};
 ghost use Rattle.decision_tree.specs.Plans.{bottom, plan_of, size_of};
 ghost use Rattle.tree_unify.specs.Shapes.{TrimFits, trimmed};
 ghost use Rattle.tree_unify.specs.declared.fault.TreeFault.TheVariants.{Full as TooFull, Wide as TooWide};
-ghost use Rattle.backward_transfer.specs.Steps.{StepFits, step_to, stepped};
+ghost use Rattle.backward_transfer.specs.Steps.{StepFits, step_by, stepped, stepped_by};
 
 use decision_tree::{Pick, Rank, Tree, Why};
 use std::alloc::Global;
@@ -28,36 +28,38 @@ pub fn back_skip<R: Rank>(alloc: Global, tree: &Tree<R>) -> Result<Tree<R>, Tree
     ensures operands { (w : Wide) → result ≡ Err (TooWide w) → IsOutside w }
 {
     let mut walk = Walk::new(alloc);
-    match step(alloc, &mut walk, tree) {
+    match step(alloc, &mut walk, &Pick::All, tree) {
         Ok(moved) => trim(alloc, &moved, &[]),
         Err(_) => Err(walk.fault),
     }
 }
 
-/// The tree with one more step at each defined leaf; the walk knows the size.
+/// The tree with one more step at each defined leaf, for the next states that are picked; the walk knows
+/// the size.
 pub(crate) fn step<R: Rank>(
     alloc: Global,
     walk: &mut Walk,
+    pick: &Pick,
     tree: &Tree<R>,
 ) -> Result<Box<Tree<R>>, Stopped>
-    ensures tree { IfOk result (λ made. plan_of made.value ≡ stepped R.eq R.one_more (plan_of tree.now)) }
+    ensures tree { IfOk result (λ made. plan_of made.value ≡ stepped_by R.eq R.one_more pick.now (plan_of tree.now)) }
     ensures size { IfOk result (λ made. walk.new.size ≡ size_of (plan_of made.value)) }
     ensures small { OnOk result (walk.new.size ≤ 65536) }
     ensures trail { OnOk result (walk.new.trail ≡ walk.old.trail) }
     ensures fits { OnOk result (StepFits R.add_one_fits (plan_of tree.now)) }
     ensures full { OnErr result ((count : ℕ) → walk.new.fault ≡ TooFull count
-        → (65536 < count) × (65536 < size_of (stepped R.eq R.one_more (plan_of tree.now)))) }
+        → (65536 < count) × (65536 < size_of (stepped_by R.eq R.one_more pick.now (plan_of tree.now)))) }
     ensures wide { OnErr result ((w : Wide) → walk.new.fault ≡ TooWide w → StepFits R.add_one_fits (plan_of tree.now) → ⊥) }
     ensures operands { OnErr result ((w : Wide) → walk.new.fault ≡ TooWide w → IsOutside w) }
 {
     match tree {
         Tree::Bottom => walk.copied(alloc, tree),
         Tree::Top(_) => walk.copied(alloc, tree),
-        Tree::Leaf { why: _, rank } => step_leaf(alloc, walk, rank),
+        Tree::Leaf { why: _, rank } => step_leaf(alloc, walk, pick, rank),
         Tree::Node { row, yes, no } => {
-            let first = step(alloc, walk, yes)?;
+            let first = step(alloc, walk, pick, yes)?;
             let size = walk.size;
-            match step(alloc, walk, no) {
+            match step(alloc, walk, pick, no) {
                 Ok(other) => walk.join_sides(alloc, row, first, other, size),
                 Err(stopped) => {
                     Tree::discard(first);
@@ -68,14 +70,15 @@ pub(crate) fn step<R: Rank>(
     }
 }
 
-/// A leaf of the rank with one more, for every next state; its size is known.
+/// A leaf of the rank with one more, for the next states that are picked; its size is known.
 #[inline(never)]
 pub(crate) fn step_leaf<R: Rank>(
     alloc: Global,
     walk: &mut Walk,
+    pick: &Pick,
     rank: &R,
 ) -> Result<Box<Tree<R>>, Stopped>
-    ensures tree { IfOk result (λ made. plan_of made.value ≡ step_to (R.one_more rank.now)) }
+    ensures tree { IfOk result (λ made. plan_of made.value ≡ step_by pick.now (R.one_more rank.now)) }
     ensures size { OnOk result (walk.new.size ≡ 1) }
     ensures trail { OnOk result (walk.new.trail ≡ walk.old.trail) }
     ensures fits { OnOk result (R.add_one_fits rank.now) }
@@ -87,7 +90,7 @@ pub(crate) fn step_leaf<R: Rank>(
         Ok(more) => more,
         Err(wide) => return Err(walk.stop(TreeFault::Wide(wide))),
     };
-    match Tree::boxed_leaf(alloc, &Why::Step(Pick::All), &more) {
+    match Tree::boxed_leaf(alloc, &Why::Step(*pick), &more) {
         Ok(leaf) => {
             walk.size = 1;
             Ok(leaf)

@@ -11,7 +11,7 @@ ghost use Rattle.backward_transfer.specs.Tests.{settled_tree, tested, tried_tree
 
 use crate::ranging::join_later;
 use crate::stepping::{none, step};
-use decision_tree::{Rank, Trail, Tree};
+use decision_tree::{Pick, Rank, Trail, Tree};
 use linear_cons::{Row, Rows};
 use std::alloc::{AllocError, Global};
 use tree_unify::{Stopped, TreeFault, Walk, trim};
@@ -237,8 +237,8 @@ impl<'a, R: Rank> Test<'a, R> {
     {
         match (holds, fails) {
             (true, true) => self.take_both(alloc, walk),
-            (true, false) => step(alloc, walk, self.yes),
-            (false, true) => step(alloc, walk, self.no),
+            (true, false) => step(alloc, walk, &Pick::All, self.yes),
+            (false, true) => step(alloc, walk, &Pick::All, self.no),
             (false, false) => none(alloc, walk),
         }
     }
@@ -264,7 +264,7 @@ impl<'a, R: Rank> Test<'a, R> {
         ensures operands { OnErr result ((w : Wide) → walk.new.fault ≡ TooWide w → IsOutside w) }
     {
         let both = join_later(alloc, walk, self.yes, self.no)?;
-        step(alloc, walk, &both)
+        step(alloc, walk, &Pick::All, &both)
     }
 }
 
