@@ -1,3 +1,5 @@
-mod Passing
+pub mod Passing
 mod Onward
 mod Reading
+mod Trimming
+mod Stepping

@@ -22,26 +22,26 @@ targets ends End is P nought each = (nought, nought)
 targets ends Dead is P nought each = (nought, nought)
 targets ends (Pass to) is P nought each = absurd is
 targets ends (Assign place value to) is P nought each = absurd is
-targets ends (Choose place range to) is P nought each = absurd is
-targets ends (Test is_head holds fails to other) is P nought each = absurd is
+targets ends (Choose place range choice to) is P nought each = absurd is
+targets ends (Test is_head choice holds fails to other) is P nought each = absurd is
 targets (assigns x e next) End is P nought each = absurd is
 targets (assigns x e next) Dead is P nought each = (nought, nought)
 targets (assigns x e next) (Pass to) is P nought each = absurd is
 targets (assigns x e next) (Assign place value to) is P nought each = let there = subst P (sym is.1) each in (there, there)
-targets (assigns x e next) (Choose place range to) is P nought each = let there = subst P (sym is.1) each in (there, there)
-targets (assigns x e next) (Test is_head holds fails to other) is P nought each = absurd is
+targets (assigns x e next) (Choose place range choice to) is P nought each = let there = subst P (sym is.1) each in (there, there)
+targets (assigns x e next) (Test is_head choice holds fails to other) is P nought each = absurd is
 targets (passes next) End is P nought each = absurd is
 targets (passes next) Dead is P nought each = (nought, nought)
 targets (passes next) (Pass to) is P nought each = let there = subst P (sym is) each in (there, there)
 targets (passes next) (Assign place value to) is P nought each = absurd is
-targets (passes next) (Choose place range to) is P nought each = absurd is
-targets (passes next) (Test is_head holds fails to other) is P nought each = absurd is
+targets (passes next) (Choose place range choice to) is P nought each = absurd is
+targets (passes next) (Test is_head choice holds fails to other) is P nought each = absurd is
 targets (tests head c then_to else_to) End is P nought each = absurd is
 targets (tests head c then_to else_to) Dead is P nought each = (nought, nought)
 targets (tests head c then_to else_to) (Pass to) is P nought each = absurd is
 targets (tests head c then_to else_to) (Assign place value to) is P nought each = absurd is
-targets (tests head c then_to else_to) (Choose place range to) is P nought each = absurd is
-targets (tests head c then_to else_to) (Test is_head holds fails to other) is P nought each = (subst P (sym is.1) each.0, subst P (sym is.2) each.1)
+targets (tests head c then_to else_to) (Choose place range choice to) is P nought each = absurd is
+targets (tests head c then_to else_to) (Test is_head choice holds fails to other) is P nought each = (subst P (sym is.1) each.0, subst P (sym is.2) each.1)
 
 below_each : (n : ℕ) (done : Done) → LeadsBelow n done → Each done (λ k. k < n)
 below_each n ends below = tt
@@ -55,19 +55,19 @@ given_head done Dead is head = refl
 given_head ends action is head = absurd (cc)
 given_head (assigns x e next) action is head = absurd (cc)
 given_head (passes next) action is head = absurd (cc)
-given_head (tests mark c then_to else_to) (Test is_head holds fails to other) is head = is.0 ∙ head
+given_head (tests mark c then_to else_to) (Test is_head choice holds fails to other) is head = is.0 ∙ head
 given_head (tests mark c then_to else_to) End is head = absurd is
 given_head (tests mark c then_to else_to) (Pass to) is head = absurd is
 given_head (tests mark c then_to else_to) (Assign place value to) is head = absurd is
-given_head (tests mark c then_to else_to) (Choose place range to) is head = absurd is
+given_head (tests mark c then_to else_to) (Choose place range choice to) is head = absurd is
 
 given_end : (action : Action) → IsDone ends action → is_given action ≡ true
 given_end End is = refl
 given_end Dead is = refl
 given_end (Pass to) is = absurd is
 given_end (Assign place value to) is = absurd is
-given_end (Choose place range to) is = absurd is
-given_end (Test is_head holds fails to other) is = absurd is
+given_end (Choose place range choice to) is = absurd is
+given_end (Test is_head choice holds fails to other) is = absurd is
 
 -- what leads on leads behind its label, where its tree isn't given
 behind_each : (body : Statements) (label : ℕ) (done : Done) (action : Action) → IsDone done action → is_given action ≡ false → LeadsOn body label done

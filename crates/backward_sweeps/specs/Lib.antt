@@ -1,2 +1,6 @@
 pub mod Doing
+pub mod Moving
+pub mod Picking
+pub mod Before
+pub mod Claiming
 pub mod Remaking

@@ -7,7 +7,7 @@ ghost use Rattle.backward_sweeps.specs.Doing.{AreDone, AreOnward, IsDone};
 
 use crate::place::Place;
 use control_flow::laws::{edges_lead_onward, edges_lead_to_labels};
-use control_flow::{Edge, Graph};
+use control_flow::{Choice, Edge, Graph};
 use forward_inv::Inv;
 use linear_cons::{Affine, Linear, Rows};
 use linear_forms::{linearise, spread};
@@ -31,20 +31,38 @@ pub enum Action {
         value: Affine,
         to: u32,
     },
-    /// The variable at the place becomes some number of the range.
+    /// The variable at the place becomes some number of the range, which a claim about some run may choose.
     Choose {
         place: Place,
         range: Linear,
+        choice: Choice,
         to: u32,
     },
-    /// A test, with the conjunctions of rows for its outcomes.
+    /// A test, with the conjunctions of rows for its outcomes, and whether a claim about some run may choose one.
     Test {
         is_head: bool,
+        choice: Choice,
         holds: Vec<Rows>,
         fails: Vec<Rows>,
         yes: u32,
         no: u32,
     },
+}
+
+impl Action {
+    ghost use Rattle.std.specs.Prelude.{◌≡◌};
+    ghost use Rattle.backward_sweeps.specs.Doing.{choice_in};
+
+    /// What a claim about some run may choose here.
+    pub fn choice(&self) -> Choice
+        ensures { result ≡ choice_in self.now }
+    {
+        match self {
+            Action::Choose { choice, .. } => *choice,
+            Action::Test { choice, .. } => *choice,
+            _ => Choice::None,
+        }
+    }
 }
 
 /// What is done at each label, worked out over the bounds of the set at the label. The only error is want of memory.
@@ -107,7 +125,12 @@ fn step<D: NumDomain>(graph: &Graph, label: u32, set: &D, to: u32) -> Action
             to,
         }
     } else {
-        Action::Choose { place, range, to }
+        Action::Choose {
+            place,
+            range,
+            choice: graph.choice(label),
+            to,
+        }
     }
 }
 
@@ -130,6 +153,7 @@ fn test<D: NumDomain>(
     let bounds = set.bounds();
     Ok(Action::Test {
         is_head: graph.is_head(label),
+        choice: graph.choice(label),
         holds: spread(alloc, test, true, &bounds)?,
         fails: spread(alloc, test, false, &bounds)?,
         yes: yes.to,

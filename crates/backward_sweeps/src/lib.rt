@@ -1,18 +1,27 @@
-//! Sweeps backward over the labels of a program, which propose a family of trees for the claim that every run ends.
+//! Sweeps backward over the labels of a program, which propose a family of trees for an until or a weak until.
 //!
 //! They only propose: what is printed is what the check leaves of them. Each pass over the labels makes a tree of those behind it, and so it
 //! is said of programs without loops; nothing is promised of what widening makes. It stands on `backward_transfer` for the step from a
 //! label's successors to the label, on `tree_widening` and `tree_unify` at the heads of loops, and on `forward_inv` for what is known where.
-//! The front door: `swept`; `begun` and `follow` are one pass.
+//! The front door: `swept` for an until and `kept` for a weak until, of `Operands`; `moved_back` is one step, `begun` and `follow` are one
+//! pass; `taken_over` takes claims over from another part.
 #![tactic(auto)]
 
 mod action;
+mod claiming;
 mod moving;
+mod operands;
 mod pass;
 mod place;
+mod remaking;
+mod starting;
 mod sweep;
 
 pub use action::{Action, actions};
+pub use claiming::taken_over;
+pub use moving::{at_once, moved_back};
+pub use operands::Operands;
 pub use pass::{begun, follow};
 pub use place::Place;
-pub use sweep::swept;
+pub use remaking::{given_up, tree_at};
+pub use sweep::{kept, swept};

@@ -1,72 +1,85 @@
-//! The tree of a label by those of the labels that follow.
+//! The tree before what is done at a label, by those of the labels that follow.
 ghost use Rattle.std.specs.Prelude.{◌≡◌, ℕ, Err, IfOk, length};
 ghost use Rattle.linear_cons.specs.Exact.{IsOutside};
 ghost use Rattle.linear_cons.specs.declared.exact.Wide.{Wide};
-ghost use Rattle.decision_tree.specs.Plans.{plan_of, top};
-ghost use Rattle.decision_tree.specs.declared.reason.Cause.TheVariants.{Nodes, Wide as WideNumber};
-ghost use Rattle.tree_unify.specs.declared.fault.TreeFault.TheVariants.{Full as TooFull, Memory, Wide as TooWide};
+ghost use Rattle.decision_tree.specs.Plans.{plan_of};
+ghost use Rattle.tree_unify.specs.declared.fault.TreeFault.TheVariants.{Full as TooFull, Wide as TooWide};
 ghost use Rattle.backward_transfer.specs.AffineShapes.{plans, tree_at};
 ghost use Rattle.backward_sweeps.specs.Doing.{LeadsWithin, first_target, second_target};
-ghost use Rattle.backward_sweeps.specs.Remaking.{BeforeFits, IsBeforeSmall, IsMade, IsRemadeSmall, RemadeFits, at_once, before};
+ghost use Rattle.backward_sweeps.specs.Before.{BeforeFits, IsBeforeSmall, before};
+ghost use Rattle.backward_sweeps.specs.Moving.{AllFit, AreAllSmall, at_once, before_all};
+ghost use Rattle.backward_sweeps.specs.Picking.{AreOutcomesSmall, AreSomeSmall, AreValuesSmall, OutcomesFit, SomeFit, ValuesFit};
+ghost use Rattle.backward_sweeps.specs.Picking.{before_outcome, before_some, before_value};
 
 use crate::action::Action;
-use backward_transfer::{back_assign, back_range, back_skip, back_test};
-use decision_tree::{AffineRank, Cause, Tree, Why};
+use backward_transfer::{back_assign, back_pick, back_range, back_skip, back_some, back_test};
+use control_flow::Choice;
+use decision_tree::{AffineRank, Tree, Why};
 use linear_cons::Affine;
-use std::alloc::{AllocError, Global};
-use tree_unify::{TreeFault, either};
+use std::alloc::Global;
+use tree_unify::TreeFault;
 
-/// The tree of a label at which this is done, with the trees of all labels given: what the trees behind the action claim, before it. The
-/// cause of what is undefined isn't kept. `Full` comes only where a tree that is formed on the way would have more than 65,536 nodes, `Wide`
-/// only where a function, a rank, a difference of ranks or a complement has a number outside `i128`. `Memory` says nothing.
-pub(crate) fn remade(
+/// The tree before what is done at a label, with the trees of all labels given, for all next states or, where `all` is false, for some: then
+/// the outcome of a free test and the number of a range are picked, and all else is as for all. `Full` comes only where a tree that is formed
+/// on the way would have more than 65,536 nodes, `Wide` only where a function, a rank, a difference of ranks or a complement has a number
+/// outside `i128`. `Memory` says nothing.
+pub fn moved_back(
     alloc: Global,
+    all: bool,
     action: &Action,
     trees: &[Tree<AffineRank>],
 ) -> Result<Tree<AffineRank>, TreeFault>
     requires { LeadsWithin (length trees.now) action.now }
-    ensures tree { IfOk result (λ tree. IsMade action.now (plans trees.now) (plan_of tree)) }
-    ensures full { (count : ℕ) → result ≡ Err (TooFull count)
-        → IsRemadeSmall action.now (tree_at (plans trees.now) (first_target action.now)) (tree_at (plans trees.now) (second_target action.now))
-        → ⊥ }
-    ensures wide { (w : Wide) → result ≡ Err (TooWide w)
-        → RemadeFits action.now (tree_at (plans trees.now) (first_target action.now)) (tree_at (plans trees.now) (second_target action.now))
-        → ⊥ }
-    ensures operands { (w : Wide) → result ≡ Err (TooWide w) → IsOutside w }
-{
-    let moved = moved_back(alloc, action, trees)?;
-    either(alloc, &Tree::Bottom, &moved)
-}
-
-/// The tree before what is done at a label, with the trees of all labels given.
-fn moved_back(
-    alloc: Global,
-    action: &Action,
-    trees: &[Tree<AffineRank>],
-) -> Result<Tree<AffineRank>, TreeFault>
-    requires { LeadsWithin (length trees.now) action.now }
-    ensures tree { IfOk result (λ tree. plan_of tree ≡ before action.now
+    ensures tree { IfOk result (λ tree. plan_of tree ≡ before all action.now
         (tree_at (plans trees.now) (first_target action.now)) (tree_at (plans trees.now) (second_target action.now))) }
     ensures full { (count : ℕ) → result ≡ Err (TooFull count)
-        → IsBeforeSmall action.now (tree_at (plans trees.now) (first_target action.now)) (tree_at (plans trees.now) (second_target action.now))
+        → IsBeforeSmall all action.now (tree_at (plans trees.now) (first_target action.now))
+        (tree_at (plans trees.now) (second_target action.now)) → ⊥ }
+    ensures wide { (w : Wide) → result ≡ Err (TooWide w)
+        → BeforeFits all action.now (tree_at (plans trees.now) (first_target action.now))
+        (tree_at (plans trees.now) (second_target action.now)) → ⊥ }
+    ensures operands { (w : Wide) → result ≡ Err (TooWide w) → IsOutside w }
+{
+    if all {
+        for_all(alloc, action, trees)
+    } else {
+        for_some(alloc, action, trees)
+    }
+}
+
+/// The tree before what is done, for all next states.
+fn for_all(
+    alloc: Global,
+    action: &Action,
+    trees: &[Tree<AffineRank>],
+) -> Result<Tree<AffineRank>, TreeFault>
+    requires { LeadsWithin (length trees.now) action.now }
+    ensures tree { IfOk result (λ tree. plan_of tree ≡ before_all action.now
+        (tree_at (plans trees.now) (first_target action.now)) (tree_at (plans trees.now) (second_target action.now))) }
+    ensures full { (count : ℕ) → result ≡ Err (TooFull count)
+        → AreAllSmall action.now (tree_at (plans trees.now) (first_target action.now)) (tree_at (plans trees.now) (second_target action.now))
         → ⊥ }
     ensures wide { (w : Wide) → result ≡ Err (TooWide w)
-        → BeforeFits action.now (tree_at (plans trees.now) (first_target action.now)) (tree_at (plans trees.now) (second_target action.now))
+        → AllFit action.now (tree_at (plans trees.now) (first_target action.now)) (tree_at (plans trees.now) (second_target action.now))
         → ⊥ }
     ensures operands { (w : Wide) → result ≡ Err (TooWide w) → IsOutside w }
 {
     match action {
-        Action::End => Ok(at_once(Why::Now)),
+        Action::End => Ok(Tree::Bottom),
         Action::Dead => Ok(at_once(Why::Dead)),
         Action::Pass { to } => back_skip(alloc, &trees[*to as usize]),
         Action::Assign { place, value, to } => {
             back_assign(alloc, &trees[*to as usize], place.number, value)
         }
-        Action::Choose { place, range, to } => {
-            back_range(alloc, &trees[*to as usize], place.number, range)
-        }
+        Action::Choose {
+            place,
+            range,
+            choice: _,
+            to,
+        } => back_range(alloc, &trees[*to as usize], place.number, range),
         Action::Test {
             is_head: _,
+            choice: _,
             holds,
             fails,
             yes,
@@ -81,23 +94,92 @@ fn moved_back(
     }
 }
 
-/// What a label has for a tree that can't be made: no claim, with the cause. The only error is want of memory.
-pub(crate) fn given_up(fault: TreeFault) -> Result<Tree<AffineRank>, AllocError>
-    ensures full { (count : ℕ) → fault ≡ TooFull count → IfOk result (λ tree. (n : ℕ) × (plan_of tree ≡ top (Nodes n))) }
-    ensures wide { (w : Wide) → fault ≡ TooWide w → IfOk result (λ tree. plan_of tree ≡ top (WideNumber w)) }
-    ensures memory { (error : AllocError) → fault ≡ Memory error → IfOk result (λ tree. ⊥) }
+/// The tree before what is done, for some next state: where it may be chosen it is picked, and else it is as for all.
+fn for_some(
+    alloc: Global,
+    action: &Action,
+    trees: &[Tree<AffineRank>],
+) -> Result<Tree<AffineRank>, TreeFault>
+    requires { LeadsWithin (length trees.now) action.now }
+    ensures tree { IfOk result (λ tree. plan_of tree ≡ before_some action.now
+        (tree_at (plans trees.now) (first_target action.now)) (tree_at (plans trees.now) (second_target action.now))) }
+    ensures full { (count : ℕ) → result ≡ Err (TooFull count)
+        → AreSomeSmall action.now (tree_at (plans trees.now) (first_target action.now)) (tree_at (plans trees.now) (second_target action.now))
+        → ⊥ }
+    ensures wide { (w : Wide) → result ≡ Err (TooWide w)
+        → SomeFit action.now (tree_at (plans trees.now) (first_target action.now)) (tree_at (plans trees.now) (second_target action.now))
+        → ⊥ }
+    ensures operands { (w : Wide) → result ≡ Err (TooWide w) → IsOutside w }
 {
-    match fault {
-        TreeFault::Full { count } => Ok(Tree::Top(Cause::Nodes {
-            count: u32::try_from(count).unwrap_or(u32::MAX),
-        })),
-        TreeFault::Wide(wide) => Ok(Tree::Top(Cause::Wide(wide))),
-        TreeFault::Memory(error) => Err(error),
+    match action.choice() {
+        Choice::None => for_all(alloc, action, trees),
+        Choice::Branch => with_outcome(alloc, action, trees),
+        Choice::Range { lo, hi } => with_value(alloc, action, lo, hi, trees),
     }
 }
 
-/// The claim that a run ends here.
-pub(crate) fn at_once(why: Why) -> Tree<AffineRank>
+/// The tree before a test of which one outcome is picked, and before anything else as for all next states.
+fn with_outcome(
+    alloc: Global,
+    action: &Action,
+    trees: &[Tree<AffineRank>],
+) -> Result<Tree<AffineRank>, TreeFault>
+    requires { LeadsWithin (length trees.now) action.now }
+    ensures tree { IfOk result (λ tree. plan_of tree ≡ before_outcome action.now
+        (tree_at (plans trees.now) (first_target action.now)) (tree_at (plans trees.now) (second_target action.now))) }
+    ensures full { (count : ℕ) → result ≡ Err (TooFull count)
+        → AreOutcomesSmall action.now (tree_at (plans trees.now) (first_target action.now))
+        (tree_at (plans trees.now) (second_target action.now)) → ⊥ }
+    ensures wide { (w : Wide) → result ≡ Err (TooWide w)
+        → OutcomesFit action.now (tree_at (plans trees.now) (first_target action.now))
+        (tree_at (plans trees.now) (second_target action.now)) → ⊥ }
+    ensures operands { (w : Wide) → result ≡ Err (TooWide w) → IsOutside w }
+{
+    match action {
+        Action::Test {
+            is_head: _,
+            choice: _,
+            holds: _,
+            fails: _,
+            yes,
+            no,
+        } => back_pick(alloc, &trees[*yes as usize], &trees[*no as usize]),
+        _ => for_all(alloc, action, trees),
+    }
+}
+
+/// The tree before the assignment of a number of a range of which one is picked, and before anything else as for all next states.
+fn with_value(
+    alloc: Global,
+    action: &Action,
+    lo: Option<i64>,
+    hi: Option<i64>,
+    trees: &[Tree<AffineRank>],
+) -> Result<Tree<AffineRank>, TreeFault>
+    requires { LeadsWithin (length trees.now) action.now }
+    ensures tree { IfOk result (λ tree. plan_of tree ≡ before_value lo hi action.now
+        (tree_at (plans trees.now) (first_target action.now)) (tree_at (plans trees.now) (second_target action.now))) }
+    ensures full { (count : ℕ) → result ≡ Err (TooFull count)
+        → AreValuesSmall lo hi action.now (tree_at (plans trees.now) (first_target action.now))
+        (tree_at (plans trees.now) (second_target action.now)) → ⊥ }
+    ensures wide { (w : Wide) → result ≡ Err (TooWide w)
+        → ValuesFit lo hi action.now (tree_at (plans trees.now) (first_target action.now))
+        (tree_at (plans trees.now) (second_target action.now)) → ⊥ }
+    ensures operands { (w : Wide) → result ≡ Err (TooWide w) → IsOutside w }
+{
+    match action {
+        Action::Choose {
+            place,
+            range: _,
+            choice: _,
+            to,
+        } => back_some(alloc, &trees[*to as usize], place.number, lo, hi),
+        _ => for_all(alloc, action, trees),
+    }
+}
+
+/// A claim of rank 0 for the reason.
+pub fn at_once(why: Why) -> Tree<AffineRank>
     ensures { plan_of result ≡ at_once why }
 {
     let rank = AffineRank {

@@ -2,26 +2,30 @@
 ghost use Rattle.std.specs.Prelude.{◌≡◌, ◌&&◌, suc, ◌<◌, ◌≤◌, Bool, false, true, IfOk, OnOk, length};
 ghost use Rattle.decision_tree.specs.Plans.{plan_of};
 ghost use Rattle.backward_transfer.specs.AffineShapes.{plans, tree_at};
-ghost use Rattle.backward_sweeps.specs.Doing.{AreOnward, action_in, is_given};
-ghost use Rattle.backward_sweeps.specs.Remaking.{AreGiven, AreKept, AreRemadeFrom, given_for};
+ghost use Rattle.backward_sweeps.specs.Doing.{AreOnward, action_in, is_given, is_idle};
+ghost use Rattle.backward_sweeps.specs.Remaking.{AreGiven, AreKept, AreRemadeFrom, given_for, goal_at, parts_of};
 
 use crate::action::Action;
-use crate::moving::{at_once, given_up, remade};
+use crate::moving::at_once;
+use crate::operands::Operands;
+use crate::remaking::{given_up, remade};
 use decision_tree::{AffineRank, Tree, Why};
 use std::alloc::{AllocError, Global};
 
-/// The trees before a pass: at the test of a loop the one at hand, the claim that a run ends where nothing is done, and elsewhere none.
+/// The trees before a pass: at the test of a loop the one at hand, what the goal claims where nothing is done, and elsewhere no claim. The
+/// only error is want of memory.
 pub fn begun(
     alloc: Global,
     actions: &[Action],
+    operands: &Operands<'_>,
     heads: &[Tree<AffineRank>],
 ) -> Result<Vec<Tree<AffineRank>>, AllocError>
     ensures labels { IfOk result (λ trees. length trees.items ≡ length actions.now) }
-    ensures given { IfOk result (λ trees. AreGiven actions.now (plans heads.now) (plans trees.items)) }
+    ensures given { IfOk result (λ trees. AreGiven (parts_of operands.now) actions.now (plans heads.now) (plans trees.items)) }
 {
     let mut trees = Vec::with_capacity(alloc, actions.len())?;
     for label in 0..actions.len() {
-        let tree = given(alloc, &actions[label], heads, label)?;
+        let tree = given(alloc, &actions[label], operands, heads, label)?;
         trees.push(tree)?;
     }
     Ok(trees)
@@ -31,13 +35,15 @@ pub fn begun(
 fn given(
     alloc: Global,
     action: &Action,
+    operands: &Operands<'_>,
     heads: &[Tree<AffineRank>],
     label: usize,
 ) -> Result<Tree<AffineRank>, AllocError>
-    ensures { is_given action.now ≡ true → IfOk result (λ tree. plan_of tree ≡ given_for action.now (tree_at (plans heads.now) label)) }
+    ensures { is_given action.now ≡ true
+        → IfOk result (λ tree. plan_of tree ≡ given_for (goal_at (parts_of operands.now) label) action.now (tree_at (plans heads.now) label)) }
 {
     match action {
-        Action::End => Ok(at_once(Why::Now)),
+        Action::End => copied(alloc, operands.goal, label),
         Action::Dead => Ok(at_once(Why::Dead)),
         Action::Test { is_head: true, .. } => copied(alloc, heads, label),
         _ => Ok(Tree::Bottom),
@@ -63,19 +69,20 @@ fn copied(
 pub fn follow(
     alloc: Global,
     actions: &[Action],
+    operands: &Operands<'_>,
     trees: &mut [Tree<AffineRank>],
 ) -> Result<bool, AllocError>
     requires few { length actions.now ≤ 1024 }
     requires onward { AreOnward actions.now }
     requires labels { length trees.old ≡ length actions.now }
     ensures labels { length trees.new ≡ length trees.old }
-    ensures given { OnOk result (AreKept actions.now (plans trees.old) (plans trees.new)) }
-    ensures remade { IfOk result (λ all. AreRemadeFrom 0 all actions.now (plans trees.new)) }
+    ensures given { OnOk result (AreKept is_given actions.now (plans trees.old) (plans trees.new)) }
+    ensures remade { IfOk result (λ all. AreRemadeFrom 0 all (parts_of operands.now) actions.now (plans trees.new)) }
 {
     let mut all = true;
     for label in (0..actions.len() as u32).rev() {
         if !is_given(&actions[label as usize]) {
-            all = remake(alloc, actions, label, trees)? && all;
+            all = remake(alloc, actions, operands, label, trees)? && all;
         }
     }
     Ok(all)
@@ -85,6 +92,7 @@ pub fn follow(
 fn remake(
     alloc: Global,
     actions: &[Action],
+    operands: &Operands<'_>,
     label: u32,
     trees: &mut [Tree<AffineRank>],
 ) -> Result<bool, AllocError>
@@ -93,12 +101,12 @@ fn remake(
     requires onward { AreOnward actions.now }
     requires labels { length trees.old ≡ length actions.now }
     ensures labels { length trees.new ≡ length trees.old }
-    ensures given { OnOk result (AreKept actions.now (plans trees.old) (plans trees.new)) }
-    ensures remade { (all : Bool) → AreRemadeFrom (suc label) all actions.now (plans trees.old)
-        → IfOk result (λ made. AreRemadeFrom label (made && all) actions.now (plans trees.new)) }
+    ensures given { OnOk result (AreKept is_given actions.now (plans trees.old) (plans trees.new)) }
+    ensures remade { (all : Bool) → AreRemadeFrom (suc label) all (parts_of operands.now) actions.now (plans trees.old)
+        → IfOk result (λ made. AreRemadeFrom label (made && all) (parts_of operands.now) actions.now (plans trees.new)) }
 {
     let place = label as usize;
-    match remade(alloc, &actions[place], trees) {
+    match remade(alloc, operands, label, &actions[place], trees) {
         Ok(tree) => {
             trees[place] = tree;
             Ok(true)
@@ -111,12 +119,22 @@ fn remake(
 }
 
 /// Whether the tree of the label isn't made of those of its successors: nothing is done there, or it is the test of a loop.
-pub(crate) fn is_given(action: &Action) -> bool
+fn is_given(action: &Action) -> bool
     ensures { result ≡ is_given action.now }
 {
     match action {
-        Action::End | Action::Dead => true,
         Action::Test { is_head, .. } => *is_head,
-        Action::Pass { .. } | Action::Assign { .. } | Action::Choose { .. } => false,
+        _ => is_idle(action),
+    }
+}
+
+/// Whether nothing is done at the label.
+pub(crate) fn is_idle(action: &Action) -> bool
+    ensures { result ≡ is_idle action.now }
+{
+    match action {
+        Action::End | Action::Dead => true,
+        Action::Pass { .. } | Action::Assign { .. } | Action::Choose { .. } | Action::Test { .. } =>
+            false,
     }
 }

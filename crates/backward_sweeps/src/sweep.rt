@@ -1,11 +1,14 @@
 //! Sweeps over the labels.
-ghost use Rattle.std.specs.Prelude.{◌≡◌, ◌<◌, ◌≤◌, [], false, IfOk, length};
-ghost use Rattle.backward_sweeps.specs.Doing.{AreOnward, HasNoHead, is_head};
-ghost use Rattle.backward_sweeps.specs.Remaking.{AreGiven, AreRemadeFrom};
+ghost use Rattle.std.specs.Prelude.{◌≡◌, ◌<◌, ◌≤◌, [], false, IfOk, OnOk, length};
+ghost use Rattle.backward_transfer.specs.AffineShapes.{plans};
+ghost use Rattle.backward_sweeps.specs.Doing.{AreOnward, HasNoHead, LeadsWithin, is_head, is_idle};
+ghost use Rattle.backward_sweeps.specs.Remaking.{AreEndsGiven, AreEndsStarted, AreKept, AreRemadeFrom, parts_of};
 
 use crate::action::Action;
-use crate::moving::{given_up, remade};
-use crate::pass::{begun, follow};
+use crate::operands::Operands;
+use crate::pass::{begun, follow, is_idle};
+use crate::remaking::{given_up, remade};
+use crate::starting::started;
 use decision_tree::{AffineRank, Tree, TreeList};
 use forward_inv::Inv;
 use num_domain::NumDomain;
@@ -16,68 +19,118 @@ use tree_widening::widen;
 /// The most sweeps.
 const SWEEPS: u32 = 32;
 
-/// Trees for the labels, at which this is done, proposed for the claim that every run ends: in each sweep, from the greatest label to the first,
-/// a label's tree is made from those of its successors, and from sweep `max(delay, 1) + 1` on that of a loop's head is widened and
-/// pruned. The sweeps end where one changes nothing, and at the latest after 32. A label at which no run comes claims that it ends at
-/// once, and one whose tree can't be made, since a number passes 128 bits or the nodes 65,536, claims nothing. The only error is want of
-/// memory.
+/// Trees for the labels, at which this is done, proposed for an until of these operands: in each sweep, from the greatest label to the
+/// first, a label's tree is made from those of its successors, and from sweep `max(delay, 1) + 1` on that of a loop's head is widened and
+/// pruned. The sweeps end where one changes nothing, and at the latest after 32. At the end the goal has to hold; a label at which no run
+/// comes claims everything, and one whose tree can't be made, since a number passes 128 bits or the nodes 65,536, claims nothing. The only
+/// error is want of memory.
 pub fn swept<D: NumDomain>(
     alloc: Global,
     inv: &Inv<D>,
     actions: &[Action],
+    operands: &Operands<'_>,
     delay: u32,
 ) -> Result<TreeList<AffineRank>, AllocError>
     requires states { length inv.now ≡ length actions.now }
     requires few { length actions.now ≤ 1024 }
     requires onward { AreOnward actions.now }
     ensures labels { IfOk result (λ trees. length trees ≡ length actions.now) }
-    ensures given { HasNoHead actions.now → IfOk result (λ trees. AreGiven actions.now [] trees) }
-    ensures remade { HasNoHead actions.now → IfOk result (λ trees. AreRemadeFrom 0 false actions.now trees) }
+    ensures given { IfOk result (λ trees. AreEndsGiven (parts_of operands.now) actions.now trees) }
+    ensures remade { HasNoHead actions.now → IfOk result (λ trees. AreRemadeFrom 0 false (parts_of operands.now) actions.now trees) }
 {
-    let mut trees = begun(alloc, actions, &[])?;
+    let mut trees = begun(alloc, actions, operands, &[])?;
     if !has_head(actions) {
-        follow(alloc, actions, &mut trees)?;
+        follow(alloc, actions, operands, &mut trees)?;
         return Ok(TreeList::of(trees));
     }
-    let mut changed = vec![in alloc; true; actions.len()]?;
-    let widened_from = delay.max(1).saturating_add(1);
-    for number in 1..=SWEEPS {
-        let sweep = Sweep {
-            alloc,
-            actions,
-            inv,
-            turn: Turn {
-                number,
-                widened_from,
-            },
-        };
-        if !sweep.run(&mut trees, &mut changed)? {
-            break;
-        }
-    }
+    let sweeps = Sweeps {
+        alloc,
+        actions,
+        inv,
+        operands,
+        count: SWEEPS,
+        widened_from: Some(delay.max(1).saturating_add(1)),
+    };
+    sweeps.run(&mut trees)?;
     Ok(TreeList::of(trees))
 }
 
-/// The number of a sweep, and that of the first that widens.
-#[derive(Clone, Copy, PartialEq, Eq, Debug)]
-struct Turn {
-    number: u32,
-    widened_from: u32,
+/// Trees for the labels, at which this is done, proposed for a weak until of these operands. At first a label claims what the goal does, or
+/// else that what is to be kept is kept behind each step; then `max(delay, 1)` sweeps follow, in which a label's tree is made from those of
+/// its successors, or as many as change something. Nothing is widened. What is claimed at first is kept at the end; a label at which no run
+/// comes claims everything, and one whose tree can't be made, since a number passes 128 bits or the nodes 65,536, claims nothing. The only
+/// error is want of memory.
+pub fn kept<D: NumDomain>(
+    alloc: Global,
+    inv: &Inv<D>,
+    actions: &[Action],
+    operands: &Operands<'_>,
+    delay: u32,
+) -> Result<TreeList<AffineRank>, AllocError>
+    requires states { length inv.now ≡ length actions.now }
+    requires few { length actions.now ≤ 1024 }
+    requires onward { AreOnward actions.now }
+    ensures labels { IfOk result (λ trees. length trees ≡ length actions.now) }
+    ensures started { IfOk result (λ trees. AreEndsStarted (parts_of operands.now) actions.now trees) }
+    ensures remade { HasNoHead actions.now → IfOk result (λ trees. AreRemadeFrom 0 false (parts_of operands.now) actions.now trees) }
+{
+    let mut trees = started(alloc, actions, operands)?;
+    if !has_head(actions) {
+        follow(alloc, actions, operands, &mut trees)?;
+        return Ok(TreeList::of(trees));
+    }
+    let sweeps = Sweeps {
+        alloc,
+        actions,
+        inv,
+        operands,
+        count: delay.max(1),
+        widened_from: None,
+    };
+    sweeps.run(&mut trees)?;
+    Ok(TreeList::of(trees))
 }
 
-/// A sweep over the labels.
+/// Sweeps over the labels.
 #[derive(Drop)]
-struct Sweep<'a, D: NumDomain> {
+struct Sweeps<'a, D: NumDomain> {
     alloc: Global,
     actions: &'a [Action],
     inv: &'a Inv<D>,
-    turn: Turn,
+    operands: &'a Operands<'a>,
+    /// How many there are at most.
+    count: u32,
+    /// The number of the first that widens, if one does.
+    widened_from: Option<u32>,
 }
 
-impl<'a, D: NumDomain> Sweep<'a, D> {
+impl<'a, D: NumDomain> Sweeps<'a, D> {
+    /// Makes the trees anew, sweep after sweep, until one changes nothing or there were as many as may be.
+    fn run(&self, trees: &mut [Tree<AffineRank>]) -> Result<(), AllocError>
+        requires states { length self.now.inv.now ≡ length self.now.actions.now }
+        requires few { length self.now.actions.now ≤ 1024 }
+        requires onward { AreOnward self.now.actions.now }
+        requires trees { length trees.old ≡ length self.now.actions.now }
+        ensures trees { length trees.new ≡ length trees.old }
+        ensures ends { OnOk result (AreKept is_idle self.now.actions.now (plans trees.old) (plans trees.new)) }
+    {
+        let mut changed = vec![in self.alloc; true; self.actions.len()]?;
+        for number in 1..=self.count {
+            if !self.sweep(number, trees, &mut changed)? {
+                break;
+            }
+        }
+        Ok(())
+    }
+
     /// Makes the trees anew, the greatest label first; true where one differs from what it was. A flag of `changed` says whether the tree
     /// at its place differed when it was made last.
-    fn run(&self, trees: &mut [Tree<AffineRank>], changed: &mut [bool]) -> Result<bool, AllocError>
+    fn sweep(
+        &self,
+        number: u32,
+        trees: &mut [Tree<AffineRank>],
+        changed: &mut [bool],
+    ) -> Result<bool, AllocError>
         requires states { length self.now.inv.now ≡ length self.now.actions.now }
         requires few { length self.now.actions.now ≤ 1024 }
         requires onward { AreOnward self.now.actions.now }
@@ -85,10 +138,11 @@ impl<'a, D: NumDomain> Sweep<'a, D> {
         requires flags { length changed.old ≡ length self.now.actions.now }
         ensures trees { length trees.new ≡ length trees.old }
         ensures flags { length changed.new ≡ length changed.old }
+        ensures ends { OnOk result (AreKept is_idle self.now.actions.now (plans trees.old) (plans trees.new)) }
     {
         let mut any = false;
         for label in (0..self.actions.len() as u32).rev() {
-            let differs = self.is_due(label, changed) && self.remake(label, trees)?;
+            let differs = self.is_due(number, label, changed) && self.remake(number, label, trees)?;
             changed[label as usize] = differs;
             any = any || differs;
         }
@@ -96,48 +150,83 @@ impl<'a, D: NumDomain> Sweep<'a, D> {
     }
 
     /// Whether the tree of the label may differ from what it was: that of a successor did, or it was or begins to be widened.
-    fn is_due(&self, label: u32, changed: &[bool]) -> bool
+    fn is_due(&self, number: u32, label: u32, changed: &[bool]) -> bool
         requires within { label < length self.now.actions.now }
         requires flags { length changed.now ≡ length self.now.actions.now }
     {
-        if self.turn.number == 1 {
-            return true;
-        }
         match &self.actions[label as usize] {
             Action::End | Action::Dead => false,
-            Action::Pass { to } => is_set(changed, *to),
-            Action::Assign { to, .. } | Action::Choose { to, .. } => is_set(changed, *to),
+            Action::Pass { to } => number == 1 || is_set(changed, *to),
+            Action::Assign { to, .. } | Action::Choose { to, .. } => {
+                number == 1 || is_set(changed, *to)
+            }
             Action::Test {
                 is_head,
                 yes,
                 no,
                 ..
             } => {
-                is_set(changed, *yes)
+                number == 1
+                    || is_set(changed, *yes)
                     || is_set(changed, *no)
-                    || *is_head
-                        && (changed[label as usize] || self.turn.number == self.turn.widened_from)
+                    || *is_head && self.is_widening(number, changed[label as usize])
             }
         }
     }
 
-    /// Makes the tree of the label anew; true where it differs from what it was.
-    fn remake(&self, label: u32, trees: &mut [Tree<AffineRank>]) -> Result<bool, AllocError>
+    /// Whether the tree of a loop's head may differ since it is widened, where it was changed when it was made last or not.
+    fn is_widening(&self, number: u32, was_changed: bool) -> bool {
+        match self.widened_from {
+            Some(first) => was_changed || number == first,
+            None => false,
+        }
+    }
+
+    /// Makes the tree of the label anew, where something is done there; true where it differs from what it was.
+    fn remake(
+        &self,
+        number: u32,
+        label: u32,
+        trees: &mut [Tree<AffineRank>],
+    ) -> Result<bool, AllocError>
         requires label { label < length self.now.actions.now }
         requires onward { AreOnward self.now.actions.now }
         requires states { length self.now.inv.now ≡ length self.now.actions.now }
         requires trees { length trees.old ≡ length self.now.actions.now }
-        ensures { length trees.new ≡ length trees.old }
+        ensures labels { length trees.new ≡ length trees.old }
+        ensures ends { OnOk result (AreKept is_idle self.now.actions.now (plans trees.old) (plans trees.new)) }
     {
         let action = &self.actions[label as usize];
-        let mut made = or_given_up(remade(self.alloc, action, trees))?;
-        if is_head(action) && self.turn.number >= self.turn.widened_from {
-            let set = self.inv.at(label);
-            made = or_given_up(widened(self.alloc, &trees[label as usize], &made, set))?;
+        if is_idle(action) {
+            return Ok(false);
         }
+        let made = self.made(number, label, action, trees)?;
         let differs = made != trees[label as usize];
         trees[label as usize] = made;
         Ok(differs)
+    }
+
+    /// The new tree of the label, at which this is done.
+    fn made(
+        &self,
+        number: u32,
+        label: u32,
+        action: &Action,
+        trees: &[Tree<AffineRank>],
+    ) -> Result<Tree<AffineRank>, AllocError>
+        requires label { label < length self.now.actions.now }
+        requires leads { LeadsWithin (length trees.now) action.now }
+        requires states { length self.now.inv.now ≡ length self.now.actions.now }
+        requires trees { length trees.now ≡ length self.now.actions.now }
+    {
+        let made = or_given_up(remade(self.alloc, self.operands, label, action, trees))?;
+        match self.widened_from {
+            Some(first) if is_head(action) && number >= first => {
+                let set = self.inv.at(label);
+                or_given_up(widened(self.alloc, &trees[label as usize], &made, set))
+            }
+            _ => Ok(made),
+        }
     }
 }
 

@@ -2,27 +2,28 @@
 ghost use Rattle.std.specs.Prelude.{◌≡◌, ℕ, ◌<◌, ◌≤◌, true, IfOk, IfSome, length};
 ghost use Rattle.backward_transfer.specs.AffineShapes.{plans, tree_at};
 ghost use Rattle.backward_sweeps.specs.Doing.{AreOnward, action_in, is_given};
-ghost use Rattle.backward_sweeps.specs.Remaking.{AreMade, given_for};
+ghost use Rattle.backward_sweeps.specs.Remaking.{AreMade, given_for, goal_at, parts_of};
 
 use crate::body::Body;
 use crate::raising::raised;
 use advice::Hint;
-use backward_sweeps::{Action, begun, follow};
+use backward_sweeps::{Action, Operands, begun, follow};
 use control_flow::Graph;
 use decision_tree::{AffineRank, Tree, TreeList};
 use linear_cons::Affine;
 use std::alloc::{AllocError, Global};
 use tree_unify::{TreeFault, trim};
 
-/// The trees that a hint proposes in place of those at hand, one for each label: at the test of its loop, where all its rows are met, what
-/// the tree behind the loop claims, later by the cost of a turn for each of its turns and by the last test, and elsewhere the tree at hand;
-/// the trees at other loops' tests as they are; and at each other label what follows from these. Nothing where the hint is not on a loop
+/// The trees that a hint proposes in place of those at hand for an until of these operands, one for each label: at the test of its loop, where
+/// all its rows are met, what the tree behind the loop claims, later by the cost of a turn for each of its turns and by the last test, and
+/// elsewhere the tree at hand; the trees at other loops' tests as they are; and at each other label what follows from these. Nothing where the hint is not on a loop
 /// without a loop in its body, speaks of a place past the variables, or leads to a number past 128 bits or to a tree of too many nodes. The
 /// only error is want of memory.
 pub fn proposal(
     alloc: Global,
     graph: &Graph,
     actions: &[Action],
+    operands: &Operands<'_>,
     trees: &[Tree<AffineRank>],
     variables: u32,
     hint: &Hint,
@@ -32,8 +33,8 @@ pub fn proposal(
     ensures labels { IfOk result (λ found. IfSome found (λ made. length made ≡ length actions.now)) }
     ensures given { IfOk result (λ found. IfSome found (λ made. (label : ℕ) → (label ≡ hint.now.label → ⊥) → label < length actions.now
         → is_given (action_in actions.now label) ≡ true
-        → tree_at made label ≡ given_for (action_in actions.now label) (tree_at (plans trees.now) label))) }
-    ensures follows { IfOk result (λ found. IfSome found (λ made. AreMade actions.now made)) }
+        → tree_at made label ≡ given_for (goal_at (parts_of operands.now) label) (action_in actions.now label) (tree_at (plans trees.now) label))) }
+    ensures follows { IfOk result (λ found. IfSome found (λ made. AreMade (parts_of operands.now) actions.now made)) }
 {
     if !is_over(hint, variables) {
         return Ok(None);
@@ -45,7 +46,7 @@ pub fn proposal(
         return Ok(None);
     }
     match at_head(alloc, trees, &body, hint) {
-        Ok(head) => followed(alloc, actions, trees, hint.label, head),
+        Ok(head) => followed(alloc, actions, operands, trees, hint.label, head),
         Err(TreeFault::Memory(error)) => Err(error),
         Err(TreeFault::Full { .. } | TreeFault::Wide(_)) => Ok(None),
     }
@@ -102,6 +103,7 @@ fn at_head(
 fn followed(
     alloc: Global,
     actions: &[Action],
+    operands: &Operands<'_>,
     trees: &[Tree<AffineRank>],
     label: u32,
     head: Tree<AffineRank>,
@@ -111,12 +113,12 @@ fn followed(
     ensures labels { IfOk result (λ found. IfSome found (λ made. length made ≡ length actions.now)) }
     ensures given { IfOk result (λ found. IfSome found (λ made. (other : ℕ) → (other ≡ label → ⊥) → other < length actions.now
         → is_given (action_in actions.now other) ≡ true
-        → tree_at made other ≡ given_for (action_in actions.now other) (tree_at (plans trees.now) other))) }
-    ensures follows { IfOk result (λ found. IfSome found (λ made. AreMade actions.now made)) }
+        → tree_at made other ≡ given_for (goal_at (parts_of operands.now) other) (action_in actions.now other) (tree_at (plans trees.now) other))) }
+    ensures follows { IfOk result (λ found. IfSome found (λ made. AreMade (parts_of operands.now) actions.now made)) }
 {
-    let mut made = begun(alloc, actions, trees)?;
+    let mut made = begun(alloc, actions, operands, trees)?;
     put(actions, &mut made, label, head);
-    if follow(alloc, actions, &mut made)? {
+    if follow(alloc, actions, operands, &mut made)? {
         Ok(Some(TreeList::of(made)))
     } else {
         Ok(None)

@@ -9,6 +9,7 @@
 //! - `unreached` has the labels that no store comes to, as octagons see it.
 //! - `kept at ENDS at ENDS ..` has the ends that the edges keep of those guessed at the labels from 0 on.
 //! - `swept X Y and X Y ..` is how many steps the sweeps claim for these x and y.
+//! - `proposed FORMULA` has the trees that are proposed for the formula and its parts. Behind it `at N` asks for the tree of that label alone.
 //! - `facts` has the facts about the loops' tests.
 //! - `proposal N where R and R turns F claims X Y and X Y ..` is how many steps the trees that this hint proposes claim at the label N.
 //!
@@ -17,6 +18,7 @@
 
 mod candidates;
 mod claims;
+mod formulas;
 mod graphs;
 mod invariants;
 mod levels;
@@ -94,6 +96,7 @@ fn of_sets(
         "unreached" => invariants::push_unreached(alloc, graph, answer)?,
         "kept" => invariants::push_kept(alloc, variables, graph, words, answer)?,
         "swept" => loops::push_swept(alloc, graph, words, answer)?,
+        "proposed" => formulas::push_proposed(alloc, graph, words, answer)?,
         "facts" => loops::push_facts(alloc, variables, graph, answer)?,
         "proposal" => loops::push_proposal(alloc, variables, graph, words, answer)?,
         _ => return Ok(false),

@@ -1,18 +1,23 @@
 //! What sweeps claim, facts of loops, and what hints propose.
+ghost use Rattle.std.specs.Prelude.{◌≡◌, ◌≤◌, length};
+ghost use Rattle.backward_sweeps.specs.Doing.{AreOnward};
+
 use crate::claims::push_claims;
 use advice::{FactKind, Hint, LoopFact};
-use backward_sweeps::{actions, swept};
+use backward_sweeps::{Action, actions, swept};
 use case_text::{Answer, Words, read_function, read_rows};
 use control_flow::Graph;
+use ctl_formula::Formula;
 use decision_tree::{AffineRank, TreeList};
 use forward_inv::{Inv, invariants};
 use interval_dom::Boxes;
 use linear_cons::Row;
 use loop_facts::{Facts, holds_under, proposal};
+use part_trees::{Claims, proposed};
 use std::alloc::{AllocError, Global};
 
 /// How many sweeps are made before trees are widened.
-const DELAY: u32 = 2;
+pub(crate) const DELAY: u32 = 2;
 
 /// Adds what the trees of the sweeps claim at the entry.
 pub fn push_swept(
@@ -23,12 +28,24 @@ pub fn push_swept(
 ) -> Result<(), AllocError> {
     let inv: Inv<Boxes> = invariants(alloc, graph)?;
     let actions = actions(alloc, graph, &inv)?;
-    let trees = swept(alloc, &inv, &actions, DELAY)?;
+    let claims = claims_of_end(alloc, &inv, &actions)?;
+    let trees = swept(alloc, &inv, &actions, &claims.operands(true), DELAY)?;
     match trees.items().get(graph.entry() as usize) {
         Some(tree) => push_claims(tree, words, answer),
         None => words.fail("no tree at the entry"),
     }
     Ok(())
+}
+
+/// What the claim that every run ends is made of.
+fn claims_of_end(alloc: Global, inv: &Inv<Boxes>, actions: &[Action]) -> Result<Claims, AllocError>
+    requires states { length inv.now ≡ length actions.now }
+    requires few { length actions.now ≤ 1024 }
+    requires onward { AreOnward actions.now }
+{
+    let keep = proposed(alloc, inv, actions, &Formula::True, &[], DELAY)?;
+    let goal = proposed(alloc, inv, actions, &Formula::Exit, &[], DELAY)?;
+    Claims::of_trees(alloc, keep.items(), goal.items())
 }
 
 /// Adds the facts about the tests of loops, each in a line.
@@ -75,7 +92,7 @@ pub fn push_proposal(
     answer: &mut Answer,
 ) -> Result<(), AllocError> {
     let hint = read_hint(alloc, words)?;
-    let Some(trees) = proposed(alloc, variables, graph, &hint)? else {
+    let Some(trees) = hinted(alloc, variables, graph, &hint)? else {
         answer.push("none");
         return Ok(());
     };
@@ -92,7 +109,7 @@ pub fn push_proposal(
 }
 
 /// The trees that the hint proposes in place of those of the sweeps.
-fn proposed(
+fn hinted(
     alloc: Global,
     variables: u8,
     graph: &Graph,
@@ -100,11 +117,14 @@ fn proposed(
 ) -> Result<Option<TreeList<AffineRank>>, AllocError> {
     let inv: Inv<Boxes> = invariants(alloc, graph)?;
     let actions = actions(alloc, graph, &inv)?;
-    let swept = swept(alloc, &inv, &actions, DELAY)?;
+    let claims = claims_of_end(alloc, &inv, &actions)?;
+    let operands = claims.operands(true);
+    let swept = swept(alloc, &inv, &actions, &operands, DELAY)?;
     proposal(
         alloc,
         graph,
         &actions,
+        &operands,
         swept.items(),
         u32::from(variables),
         hint,

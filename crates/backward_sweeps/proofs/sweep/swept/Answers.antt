@@ -1,8 +1,37 @@
-use Rattle.std.proofs.Common.{false}
+use Rattle.std.proofs.Common.{◌≡◌, false, length, sym, ap, subst, ◌∙◌, []}
+use Rattle.decision_tree.specs.declared.affine_rank.AffineRank.{AffineRank}
+use Rattle.decision_tree.specs.declared.tree.Tree.{Tree}
+use Rattle.std.proofs.Common.{List}
+use Rattle.backward_transfer.specs.AffineShapes.{plans}
+use Rattle.backward_transfer.proofs.Putting.{written_back}
+use Rattle.backward_sweeps.specs.Doing.{is_idle}
+use Rattle.backward_sweeps.specs.Remaking.{AreEndsGiven, AreKept, AreRemadeFrom, parts_of}
+use Rattle.backward_sweeps.proofs.Passing.{ends_given, still_remade}
+use Rattle.backward_sweeps.proofs.sweep.swept.Given as given
 use Rattle.backward_sweeps.proofs.sweep.swept.Goals as goal
 
-pub returns-clause-given : goal.returns-clause-given
-returns-clause-given g c free label low given = let none = c.has_head.ensures free in let some = c.if-not-has_head.false in absurd (cc)
+-- the trees of the pass are answered
+passed : (g : given.Over) (c : goal.After-of g) → c.of.result ≡ plans c.follow.new.trees
+passed g c =
+    let long : c.in_ok-trees.trees.len ≡ length c.follow.new.trees = sym c.deref_mut.ensures.len ∙ sym c.in_ok-follow.ensures.labels in
+    c.of.ensures ∙ ap plans (written_back c.in_ok-trees.trees.len c.follow.new.trees _ long)
 
-pub returns-clause-remade : goal.returns-clause-remade
-returns-clause-remade g c free label least low open_there = let none = c.has_head.ensures free in let some = c.if-not-has_head.false in absurd (cc)
+-- and so are those of the sweeps
+swept_on : (g : given.Over) (c : goal.After-of-2 g) → c.of-2.result ≡ plans c.run.new.trees
+swept_on g c =
+    let long : c.in_ok-trees.trees.len ≡ length c.run.new.trees = sym c.deref_mut-2.ensures.len ∙ sym c.run.ensures.trees in
+    c.of-2.ensures ∙ ap plans (written_back c.in_ok-trees.trees.len c.run.new.trees _ long)
+
+pub returns-then-not-has_head-clause-remade : goal.returns-then-not-has_head-clause-remade
+returns-then-not-has_head-clause-remade g c free =
+    let parts = parts_of c.args.operands.now in
+    subst (λ t. AreRemadeFrom 0 false parts c.args.actions.now t) (sym (passed g c))
+    (still_remade 0 c.in_ok-follow.field-0 parts c.args.actions.now (plans c.follow.new.trees) c.in_ok-follow.ensures.remade)
+
+pub returns-clause-given : goal.returns-clause-given
+returns-clause-given g c =
+    let parts = parts_of c.args.operands.now in
+    let actions = c.args.actions.now in
+    subst (λ t. AreEndsGiven parts actions t) (sym (swept_on g c))
+    (ends_given parts actions [] (plans c.in_ok-trees.trees.items) (plans c.run.new.trees) c.in_ok-trees.ensures.given
+    (subst (λ (list : List (Tree AffineRank)). AreKept is_idle actions (plans list) (plans c.run.new.trees)) c.deref_mut-2.ensures.value c.in_ok-run.ensures.ends))

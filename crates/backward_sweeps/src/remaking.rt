@@ -1,0 +1,98 @@
+//! The tree of a label by those of the labels that follow.
+ghost use Rattle.std.specs.Prelude.{◌≡◌, ℕ, Err, IfOk, length};
+ghost use Rattle.linear_cons.specs.Exact.{IsOutside};
+ghost use Rattle.linear_cons.specs.declared.exact.Wide.{Wide};
+ghost use Rattle.decision_tree.specs.Plans.{bottom, plan_of, top};
+ghost use Rattle.decision_tree.specs.declared.reason.Cause.TheVariants.{Nodes, Wide as WideNumber};
+ghost use Rattle.tree_unify.specs.declared.fault.TreeFault.TheVariants.{Full as TooFull, Memory, Wide as TooWide};
+ghost use Rattle.backward_transfer.specs.AffineShapes.{cut, plans, tree_at};
+ghost use Rattle.backward_sweeps.specs.Doing.{LeadsWithin, first_target, second_target};
+ghost use Rattle.backward_sweeps.specs.Remaking.{IsMade, IsMadeSmall, IsRemadeSmall, MadeFits, RemadeFits, made, parts_of};
+
+use crate::action::Action;
+use crate::moving::moved_back;
+use crate::operands::Operands;
+use decision_tree::{AffineRank, Cause, Tree};
+use std::alloc::{AllocError, Global};
+use tree_unify::{TreeFault, both, either};
+
+/// The tree of a label at which this is done, with the trees of all labels given: what the goal claims there, or else what the trees behind
+/// the action claim before it, where it is to be kept. `Full` comes only where a tree that is formed on the way would have more than 65,536
+/// nodes, `Wide` only where a function, a rank, a difference of ranks or a complement has a number outside `i128`. `Memory` says nothing.
+pub(crate) fn remade(
+    alloc: Global,
+    operands: &Operands<'_>,
+    label: u32,
+    action: &Action,
+    trees: &[Tree<AffineRank>],
+) -> Result<Tree<AffineRank>, TreeFault>
+    requires { LeadsWithin (length trees.now) action.now }
+    ensures tree { IfOk result (λ tree. IsMade (parts_of operands.now) label action.now (plans trees.now) (plan_of tree)) }
+    ensures full { (count : ℕ) → result ≡ Err (TooFull count)
+        → IsRemadeSmall (parts_of operands.now) label action.now (tree_at (plans trees.now) (first_target action.now))
+        (tree_at (plans trees.now) (second_target action.now)) → ⊥ }
+    ensures wide { (w : Wide) → result ≡ Err (TooWide w)
+        → RemadeFits (parts_of operands.now) label action.now (tree_at (plans trees.now) (first_target action.now))
+        (tree_at (plans trees.now) (second_target action.now)) → ⊥ }
+    ensures operands { (w : Wide) → result ≡ Err (TooWide w) → IsOutside w }
+{
+    let none = Tree::Bottom;
+    let moved = moved_back(alloc, operands.all, action, trees)?;
+    made(
+        alloc,
+        tree_at(operands.goal, label, &none),
+        tree_at(operands.keep, label, &none),
+        &moved,
+    )
+}
+
+/// What is claimed now, or else what a step claims where it is to be kept. A tree that one leaf keeps everywhere is only trimmed by that, and
+/// the step's tree is trimmed.
+fn made(
+    alloc: Global,
+    now: &Tree<AffineRank>,
+    keep: &Tree<AffineRank>,
+    step: &Tree<AffineRank>,
+) -> Result<Tree<AffineRank>, TreeFault>
+    requires { cut (plan_of step.now) ≡ plan_of step.now }
+    ensures tree { IfOk result (λ tree. plan_of tree ≡ made (plan_of now.now) (plan_of keep.now) (plan_of step.now)) }
+    ensures full { (count : ℕ) → result ≡ Err (TooFull count) → IsMadeSmall (plan_of now.now) (plan_of keep.now) (plan_of step.now) → ⊥ }
+    ensures wide { (w : Wide) → result ≡ Err (TooWide w) → MadeFits (plan_of now.now) (plan_of keep.now) (plan_of step.now) → ⊥ }
+    ensures operands { (w : Wide) → result ≡ Err (TooWide w) → IsOutside w }
+{
+    if let Tree::Leaf { .. } = keep {
+        return either(alloc, now, step);
+    }
+    let kept = both(alloc, keep, step)?;
+    either(alloc, now, &kept)
+}
+
+/// The tree at the label, or, where the slice ends before, `none`, which claims nothing.
+pub fn tree_at<'a>(
+    trees: &'a [Tree<AffineRank>],
+    label: u32,
+    none: &'a Tree<AffineRank>,
+) -> &'a Tree<AffineRank>
+    requires { plan_of none.now ≡ bottom }
+    ensures { plan_of result.now ≡ tree_at (plans trees.now) label }
+{
+    match trees.get(label as usize) {
+        Some(tree) => tree,
+        None => none,
+    }
+}
+
+/// What a label has for a tree that can't be made: no claim, with the cause. The only error is want of memory.
+pub fn given_up(fault: TreeFault) -> Result<Tree<AffineRank>, AllocError>
+    ensures full { (count : ℕ) → fault ≡ TooFull count → IfOk result (λ tree. (n : ℕ) × (plan_of tree ≡ top (Nodes n))) }
+    ensures wide { (w : Wide) → fault ≡ TooWide w → IfOk result (λ tree. plan_of tree ≡ top (WideNumber w)) }
+    ensures memory { (error : AllocError) → fault ≡ Memory error → IfOk result (λ tree. ⊥) }
+{
+    match fault {
+        TreeFault::Full { count } => Ok(Tree::Top(Cause::Nodes {
+            count: u32::try_from(count).unwrap_or(u32::MAX),
+        })),
+        TreeFault::Wide(wide) => Ok(Tree::Top(Cause::Wide(wide))),
+        TreeFault::Memory(error) => Err(error),
+    }
+}

@@ -1,0 +1,17 @@
+use Rattle.std.proofs.Common.{false, IfOk, subst, ◌∙◌}
+use Rattle.backward_transfer.specs.AffineShapes.{plans}
+use Rattle.backward_sweeps.specs.Doing.{HasNoHead}
+use Rattle.backward_sweeps.specs.Remaking.{AreEndsStarted, AreRemadeFrom, parts_of}
+use Rattle.part_trees.specs.Proposed.{until_of}
+use Rattle.part_trees.proofs.Making.{same_parts, with_premise}
+use Rattle.part_trees.proofs.proposing.weak.Goals as goal
+
+pub returns-clause-kept : goal.returns-clause-kept
+returns-clause-kept g c =
+    let actions = c.args.actions.now in
+    let own = parts_of c.operands.result in
+    subst (λ parts. IfOk c.kept.result (λ trees. AreEndsStarted parts actions trees × (HasNoHead actions → AreRemadeFrom 0 false parts actions trees)))
+    (same_parts own (until_of c.args.all (plans c.args.keep.now) (plans c.args.goal.now)) c.operands.ensures.all
+    (c.operands.ensures.goal ∙ c.in_ok-claims.ensures.goal) (c.operands.ensures.keep ∙ c.in_ok-claims.ensures.keep))
+    (with_premise c.kept.result (λ trees. AreEndsStarted own actions trees) (λ trees. AreRemadeFrom 0 false own actions trees) (HasNoHead actions)
+    c.kept.ensures.started c.kept.ensures.remade)

@@ -1,0 +1,74 @@
+//! Trees that are made of those of the parts at the same label.
+ghost use Rattle.std.specs.Prelude.{◌≡◌, ◌≤◌, IfOk, length};
+ghost use Rattle.decision_tree.specs.Plans.{plan_of};
+ghost use Rattle.backward_transfer.specs.AffineShapes.{plans};
+ghost use Rattle.part_trees.specs.Local.{AreLocal, IsLocal, IsReached};
+
+use crate::atoms::of_kind;
+use crate::joining::{conjunction, disjunction};
+use backward_sweeps::{Action, at_once, tree_at};
+use ctl_formula::Formula;
+use decision_tree::{AffineRank, Tree, Why};
+use std::alloc::{AllocError, Global};
+
+/// The trees of an atom, the end, a conjunction or a disjunction of parts that have these; of other formulas there are no claims. One that
+/// can't be made claims nothing. The only error is want of memory.
+pub(crate) fn locals(
+    alloc: Global,
+    actions: &[Action],
+    formula: &Formula,
+    first: &[Tree<AffineRank>],
+    second: &[Tree<AffineRank>],
+) -> Result<Vec<Tree<AffineRank>>, AllocError>
+    requires few { length actions.now ≤ 1024 }
+    ensures labels { IfOk result (λ trees. length trees.items ≡ length actions.now) }
+    ensures locals { IfOk result (λ trees. AreLocal formula.now actions.now (plans first.now) (plans second.now) (plans trees.items)) }
+{
+    let none = Tree::Bottom;
+    let mut trees = Vec::with_capacity(alloc, actions.len())?;
+    for label in 0..actions.len() as u32 {
+        let this = tree_at(first, label, &none);
+        let that = tree_at(second, label, &none);
+        let tree = local(alloc, &actions[label as usize], formula, this, that)?;
+        trees.push(tree)?;
+    }
+    Ok(trees)
+}
+
+/// The tree of a label at which this is done, by those of the parts there.
+fn local(
+    alloc: Global,
+    action: &Action,
+    formula: &Formula,
+    first: &Tree<AffineRank>,
+    second: &Tree<AffineRank>,
+) -> Result<Tree<AffineRank>, AllocError>
+    ensures { IfOk result (λ tree. IsLocal formula.now action.now (plan_of first.now) (plan_of second.now) (plan_of tree)) }
+{
+    match action {
+        Action::Dead => Ok(at_once(Why::Dead)),
+        Action::End => reached(alloc, true, formula, first, second),
+        _ => reached(alloc, false, formula, first, second),
+    }
+}
+
+/// The tree of a label to which runs come, by whether it is the end.
+fn reached(
+    alloc: Global,
+    is_end: bool,
+    formula: &Formula,
+    first: &Tree<AffineRank>,
+    second: &Tree<AffineRank>,
+) -> Result<Tree<AffineRank>, AllocError>
+    ensures { IfOk result (λ tree. IsReached formula.now is_end (plan_of first.now) (plan_of second.now) (plan_of tree)) }
+{
+    match formula {
+        Formula::True => Ok(at_once(Why::Atom)),
+        Formula::Exit if is_end => Ok(at_once(Why::End)),
+        Formula::NotExit if !is_end => Ok(at_once(Why::Atom)),
+        Formula::Holds(kind) => of_kind(alloc, kind),
+        Formula::And(..) => conjunction(alloc, first, second),
+        Formula::Or(..) => disjunction(alloc, first, second),
+        _ => Ok(Tree::Bottom),
+    }
+}
