@@ -1,46 +1,49 @@
 -- How a certificate is found, family by family.
-use Rattle.std.proofs.Common.{◌≡◌, ℕ, ◌<◌, ◌≤◌, Option, None, List, [], ◌∷◌, ◌++◌, length, refl, sym, subst, arith}
-use Rattle.std.proofs.lemmas.List.Elements.{All-map, All-nil, All-push}
+use Rattle.std.proofs.Common.{◌≡◌, ℕ, ◌<◌, ◌≤◌, Option, None, List, [], ◌∷◌, ◌++◌, All, length, sym, subst, ◌∙◌, arith}
+use Rattle.std.proofs.lemmas.List.Elements.{All-map, All-push}
 use Rattle.step_meaning.specs.declared.program.Program.{Program}
 use Rattle.step_meaning.specs.Syntax.{Statements, size_of, statements}
 use Rattle.control_flow.specs.Labels.{all_labels, entry_of}
 use Rattle.control_flow.proofs.LabelLaws.{count_of_labels}
 use Rattle.count_down.specs.Blocking.{IsGround}
 use Rattle.count_down.proofs.Leads.{all_weaken}
-use Rattle.ctl_formula.specs.Formulas.{af_exit}
+use Rattle.ctl_formula.specs.Formulas.{Ctl}
+use Rattle.ctl_formula.specs.Mirror.{ctl}
 use Rattle.ctl_formula.specs.Parts.{number_from}
+use Rattle.decision_tree.specs.Extent.{IsWhole}
 use Rattle.decision_tree.specs.declared.affine_rank.AffineRank.{AffineRank}
 use Rattle.decision_tree.specs.declared.family.Family.{Family}
 use Rattle.decision_tree.specs.Plans.{Plan}
+use Rattle.num_domain.specs.declared.domain.NumDomain.{Ghosts as Domain}
 use Rattle.tree_check.specs.Checking.{families_of}
 use Rattle.tree_support.specs.Certificates.{IsShown, affine_ranks, operands_from}
 use Rattle.tree_support.specs.declared.dropped.Dropped.{Dropped}
 use Rattle.tree_support.specs.Elimination.{Eliminates}
-use Rattle.tree_support.specs.Setting.{Setting, trees_in}
+use Rattle.tree_support.specs.Setting.{Setting, Trees, trees_in}
 use Rattle.tree_support.specs.Told.{Told}
-use Rattle.ctl_rounds.specs.Certified.{Certifies, IsFamilyFor, trees_of}
+use Rattle.smaller_parts.specs.Families.{AreNumberedFrom, IsFamilyFor, trees_of}
+use Rattle.smaller_parts.specs.Knowing.{told_on}
+use Rattle.smaller_parts.specs.Showing.{AreAt, all_of}
+use Rattle.smaller_parts.proofs.Placing.{own_places}
+use Rattle.ctl_rounds.specs.Certified.{Certifies}
 use Rattle.ctl_rounds.specs.Covers.{Extends}
-use Rattle.ctl_rounds.specs.Finding.{AreFoundSoFar, IsTop}
-use Rattle.ctl_rounds.specs.Parts.{AreParts}
+use Rattle.ctl_rounds.specs.Finding.{AreFoundSoFar, IsSubject, IsTop}
+use Rattle.ctl_rounds.specs.declared.subject.Subject.{Subject}
 use Rattle.ctl_rounds.proofs.CoverLaws.{covers_more}
-use Rattle.ctl_rounds.proofs.Showing.{PartsShow, parts_show, truth_whole}
 
 -- a graph has fewer than 1,024 labels besides the end
 pub short : (body : Statements) (labels : ℕ) → labels ≡ length (all_labels body) → labels ≤ 1024 → size_of body < 1024
 short body labels own few = let count = count_of_labels body in omega (arith, count, own, few)
 
--- and at least that of the end
-pub some_labels : (body : Statements) (labels : ℕ) → labels ≡ length (all_labels body) → 0 < labels
-some_labels body labels own = let count = count_of_labels body in omega (arith, count, own)
-
 -- where a candidate of a program with a graph is checked
-pub grounded : (program : Program) (parts : List (Family AffineRank)) (labels : ℕ) → AreParts labels parts
-    → labels ≡ length (all_labels (statements program.body)) → labels ≤ 1024 → IsGround (length program.names) program.body (families_of parts)
-grounded program parts labels are own most = record {
+pub grounded : (program : Program) (operands : List (Family AffineRank)) (labels : ℕ)
+    → ((label : ℕ) → label < labels → IsWhole (families_of operands 0 label))
+    → labels ≡ length (all_labels (statements program.body)) → labels ≤ 1024 → IsGround (length program.names) program.body (families_of operands)
+grounded program operands labels whole own most = record {
   few_variables = program.valid.few;
   sorted = program.valid.well_sorted;
   few_labels = short (statements program.body) labels own most;
-  whole = λ label low. truth_whole labels parts are label (subst (λ n. label < n) (sym own) low);
+  whole = λ label low. whole label (subst (λ n. label < n) (sym own) low);
 }
 
 -- where nothing was dropped no tree has changed
@@ -48,38 +51,48 @@ pub unchanged : (at : Setting AffineRank) (old new : List (Plan AffineRank)) (dr
     → Eliminates affine_ranks at (trees_in old) drops (trees_in new) → (label : ℕ) → trees_in new label ≡ trees_in old label
 unchanged at old new drops none legal = subst (λ d. Eliminates affine_ranks at (trees_in old) d (trees_in new)) none legal
 
-module _ (vars : ℕ) (body : Statements) (told : Told) (parts : List (Family AffineRank)) where
-  abbrev Top : Family AffineRank → Type 0
-  Top family = IsTop vars body told af_exit parts family
+module _ {D : Type 0} (domain : Domain D) (subject : Subject D) where
+  abbrev body : Statements
+  body = statements subject.premises.now.program.now.body
 
-  -- nothing yet
-  pub none_found : AreFoundSoFar vars body told af_exit parts [] None
-  none_found = record { families = All-nil Top; firsts = refl }
+  abbrev formula : Ctl
+  formula = ctl subject.formula.now
+
+  abbrev told : Told
+  told = told_on domain subject.premises.now
+
+  abbrev Top : Family AffineRank → Type 0
+  Top family = IsTop domain subject family
 
   -- one more, with the cover that it makes
   pub added : (tops : List (Family AffineRank)) (family : Family AffineRank) (old new : Option (Plan AffineRank))
-      → AreFoundSoFar vars body told af_exit parts tops old → Top family → Extends old (trees_in family.trees (entry_of body)) new
-      → AreFoundSoFar vars body told af_exit parts (tops ++ family ∷ []) new
+      → AreFoundSoFar domain subject tops old → Top family → Extends old (trees_in family.trees (entry_of body)) new
+      → AreFoundSoFar domain subject (tops ++ family ∷ []) new
   added tops family old new found own last = record {
     families = All-push Top tops family found.families own;
     firsts = covers_more body family old new last None tops found.firsts;
   }
 
-  -- what was found, over the families of the smaller parts
-  pub certified : (labels : ℕ) → labels ≡ length (all_labels body) → AreParts labels parts → (tops : List (Family AffineRank)) (cover : Option (Plan AffineRank))
-      → AreFoundSoFar vars body told af_exit parts tops cover → 0 < length tops → Certifies vars body told af_exit parts tops
-  certified labels own are tops cover found some =
-      let show : PartsShow vars body told parts = parts_show vars body told labels own (some_labels body labels own) parts are in record {
+  -- what was found, over the families of the smaller parts in the order of their numbers
+  pub certified : IsSubject domain subject → (parts : List (Family AffineRank)) → parts ≡ all_of subject.smaller.now
+      → (tops : List (Family AffineRank)) (cover : Option (Plan AffineRank)) → AreFoundSoFar domain subject tops cover → 0 < length tops
+      → Certifies (length subject.premises.now.program.now.names) body told formula parts tops
+  certified is parts are tops cover found some =
+      let families : ℕ → Trees AffineRank = families_of parts in
+      let smaller = is.smaller in
+      let at : AreAt families 0 (all_of subject.smaller.now) = subst (AreAt families 0) are (own_places parts) in
+      let operands : families_of subject.smaller.now.operands.items ≡ operands_from families 0 formula = smaller.operands families at in
+      let Shown : Family AffineRank → Type 0 = λ family. IsShown body told formula (operands_from families 0 formula) (trees_of family) in
+      let each = smaller.each_part in record {
         some = some;
         shown = record {
-          smaller = show.shown;
-          whole = All-map (IsShown body told af_exit (operands_from (families_of parts) 0 af_exit)) trees_of tops
-              (all_weaken Top (λ family. IsShown body told af_exit (operands_from (families_of parts) 0 af_exit) (trees_of family)) tops
-              (λ family top. top.shown) found.families);
+          smaller = smaller.shown families at;
+          whole = All-map (IsShown body told formula (operands_from families 0 formula)) trees_of tops
+              (all_weaken Top Shown tops (λ family top. subst (λ shown. IsShown body told formula shown (trees_of family)) operands top.shown) found.families);
         };
-        each_part = show.two;
-        part_numbers = show.numbers;
-        top_numbers = all_weaken Top (λ family. family.part ≡ number_from 0 af_exit) tops (λ family top. top.number) found.families;
-        smaller = show.fit;
-        whole = all_weaken Top (IsFamilyFor vars body) tops (λ family top. top.fits) found.families;
+        each_part = subst (λ list. length list ≡ number_from 0 formula) (sym are) (omega (arith, each));
+        part_numbers = subst (AreNumberedFrom 0) (sym are) smaller.part_numbers;
+        top_numbers = all_weaken Top (λ family. family.part ≡ number_from 0 formula) tops (λ family top. top.number ∙ smaller.number) found.families;
+        smaller = subst (All (IsFamilyFor (length subject.premises.now.program.now.names) body)) (sym are) smaller.fit;
+        whole = all_weaken Top (IsFamilyFor (length subject.premises.now.program.now.names) body) tops (λ family top. top.fits) found.families;
       }

@@ -1,9 +1,6 @@
-pub mod Parts
 pub mod Covers
 pub mod Bounds
 pub mod Certified
 pub mod Finding
-pub mod Fitting
 pub mod Asked
-pub mod Subjects
 pub mod Growing

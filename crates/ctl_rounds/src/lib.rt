@@ -1,20 +1,19 @@
-//! The analysis: for each label of a program trees that bound the runs from there.
+//! The analysis: for a formula and each label of a program trees that claim where the formula holds, and the trees for its smaller parts that
+//! bear them out.
 //!
-//! A countdown program has a candidate; of any other program sweeps propose a family, and then advisers do. Whoever proposes it, what is
-//! answered is what the check leaves of it. It stands on `count_down`, `backward_sweeps`, `loop_facts` and `advice` for proposals, on
-//! `tree_check` for the check, and on the laws of `tree_support`. The front door: `analyse`, which answers a `Certificate`, `cover`, the first
-//! claim of its families for each input, and `laws`, which says why the cover is true.
+//! The families of the smaller parts come from `smaller_parts`. For `AF exit` a countdown program has a candidate (`count_down`); for any
+//! other formula or program a family of the whole is proposed, and for an `A[f U g]` the advisers' hints propose more (`loop_facts`, `advice`).
+//! Whoever proposes it, what is answered is what the check leaves of it. The front door: `analyse`, which answers a `Certificate`, `cover`, the
+//! first claim of its families for each input, and `laws`, which says why the cover is true.
 #![tactic(auto)]
 
 mod analysis;
 mod certificate;
-mod checking;
 mod covering;
-mod fitting;
 mod found;
 pub mod laws;
-mod parts;
 mod rounds;
+mod subject;
 
 pub use analysis::analyse;
 pub use certificate::Certificate;

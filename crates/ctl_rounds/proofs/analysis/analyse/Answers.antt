@@ -1,25 +1,56 @@
-use Rattle.std.proofs.Common.{rules, arith, ◌∙◌}
+use Rattle.std.proofs.Common.{◌≡◌, inl, inr, option_map, rules, subst, ap, sym, ◌∙◌, arith}
+use Rattle.step_meaning.specs.Syntax.{statements}
+use Rattle.decision_tree.specs.Extent.{IsWhole}
+use Rattle.decision_tree.specs.Plans.{plan_of, rank_of}
+use Rattle.ctl_rounds.specs.Covers.{IsCover, claims_of}
 use Rattle.ctl_rounds.proofs.Asking.{unasked}
+use Rattle.ctl_rounds.proofs.CoverLaws.{is_the_cover}
 use Rattle.ctl_rounds.proofs.analysis.analyse.Goals as goal
 
-pub returns-in_err-parts-clause-asked : goal.returns-in_err-parts-clause-asked
-returns-in_err-parts-clause-asked g c =
+pub returns-in_err-actions-clause-asked : goal.returns-in_err-actions-clause-asked
+returns-in_err-actions-clause-asked g c =
+    (0, omega (arith), unasked (λ adviser. (goal.Adviser-dyn g (adviser.vtable, adviser.value)).asked_of adviser.value) c.args.advisers.now.items, search rules)
+
+pub returns-in_err-smaller-clause-asked : goal.returns-in_err-smaller-clause-asked
+returns-in_err-smaller-clause-asked g c =
     (0, omega (arith), unasked (λ adviser. (goal.Adviser-dyn g (adviser.vtable, adviser.value)).asked_of adviser.value) c.args.advisers.now.items, search rules)
 
 pub returns-clause-certified : goal.returns-clause-certified
 returns-clause-certified g c =
-    rw (c.requires.formula, c.certificate.ensures.parts, c.certificate.ensures.tops) (rw c.deref.ensures.value at c.in_ok-found.ensures.certified)
-
-pub returns-clause-turns : goal.returns-clause-turns
-returns-clause-turns g c = rw (c.certificate.ensures.tops, c.certificate.ensures.turns) c.in_ok-found.ensures.turns
-
-pub returns-clause-countdown : goal.returns-clause-countdown
-returns-clause-countdown g c = λ counted. rw c.certificate.ensures.tops (c.in_ok-found.ensures.countdown counted)
-
-pub returns-clause-loopless : goal.returns-clause-loopless
-returns-clause-loopless g c = λ free. rw c.certificate.ensures.tops (c.in_ok-found.ensures.loopless free)
+    rw (c.certificate.ensures.parts, c.certificate.ensures.tops, c.in_ok-parts.ensures) c.in_ok-found.ensures.certified
 
 pub returns-clause-asked : goal.returns-clause-asked
 returns-clause-asked g c =
     let asked = c.in_ok-found.ensures.asked in
     (asked.0, asked.1, asked.2, c.certificate.ensures.turns ∙ asked.3)
+
+pub returns-clause-turns : goal.returns-clause-turns
+returns-clause-turns g c = λ advised cover is.
+    let found = c.in_ok-found.found in
+    let body = statements c.args.program.now.body in
+    let same : claims_of (option_map plan_of found.cover) ≡ cover =
+    is_the_cover body found.tops.items (option_map plan_of found.cover) cover c.in_ok-found.ensures.covers
+    (subst (λ tops. IsCover body tops cover) c.certificate.ensures.tops is) in
+    elim (c.in_ok-found.ensures.turns advised) [
+      | inl whole ↦ inl (subst IsWhole same whole)
+      | inr turns ↦ inr (c.certificate.ensures.turns ∙ turns)
+    ]
+
+pub returns-clause-countdown : goal.returns-clause-countdown
+returns-clause-countdown g c = λ formula counted cover is.
+    let found = c.in_ok-found.found in
+    let body = statements c.args.program.now.body in
+    subst IsWhole
+    (is_the_cover body found.tops.items (option_map plan_of found.cover) cover c.in_ok-found.ensures.covers
+    (subst (λ tops. IsCover body tops cover) c.certificate.ensures.tops is))
+    (c.in_ok-found.ensures.countdown formula counted)
+
+pub returns-clause-loopless : goal.returns-clause-loopless
+returns-clause-loopless g c = λ formula free cover is.
+    let found = c.in_ok-found.found in
+    let body = statements c.args.program.now.body in
+    sym
+    (ap rank_of
+    (is_the_cover body found.tops.items (option_map plan_of found.cover) cover c.in_ok-found.ensures.covers
+    (subst (λ tops. IsCover body tops cover) c.certificate.ensures.tops is)))
+    ∙ c.in_ok-found.ensures.loopless formula free

@@ -1,11 +1,17 @@
-use Rattle.std.proofs.Common.{◌≡◌, ◌<◌, length, sym, ap, ◌∙◌, arith}
-use Rattle.std.proofs.lemmas.List.{length-map}
+use Rattle.std.proofs.Common.{◌≡◌, ℕ, ◌<◌, List, length, map, get_or, sym, ap, ◌∙◌, arith}
+use Rattle.std.proofs.lemmas.List.{get_or-map, length-map}
 use Rattle.step_meaning.specs.Syntax.{statements}
 use Rattle.control_flow.specs.Labels.{entry_of}
-use Rattle.decision_tree.specs.Plans.{plan_of}
+use Rattle.decision_tree.specs.declared.affine_rank.AffineRank.{AffineRank}
+use Rattle.decision_tree.specs.declared.tree.Tree.{Tree}
+use Rattle.decision_tree.specs.Plans.{bottom, plan_of}
 use Rattle.tree_support.specs.Setting.{trees_in}
-use Rattle.ctl_rounds.proofs.Fit.{plan_at}
 use Rattle.ctl_rounds.proofs.covering.tree_at_entry.Goals as goal
+
+-- the plan of a tree of a list is at its index among the plans
+plan_at : (list : List (Tree AffineRank)) (i : ℕ) (tree : Tree AffineRank) → i < length list → tree ≡ get_or list i tree
+    → trees_in (map plan_of list) i ≡ plan_of tree
+plan_at list i tree low is = get_or-map plan_of list i tree bottom low ∙ ap plan_of (sym is)
 
 pub bounds-items-entry : goal.bounds-items-entry
 bounds-items-entry c =

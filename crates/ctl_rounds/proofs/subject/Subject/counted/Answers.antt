@@ -1,0 +1,84 @@
+use Rattle.std.proofs.Common.{◌≡◌, ◌<◌, None, List, [], ◌∷◌, ◌++◌, length, option_map, ap, subst, sym, ◌∙◌, arith}
+use Rattle.step_meaning.specs.Syntax.{statements}
+use Rattle.control_flow.specs.Labels.{entry_of}
+use Rattle.ctl_formula.specs.Formulas.{af_exit}
+use Rattle.decision_tree.specs.Extent.{IsWhole}
+use Rattle.decision_tree.specs.Plans.{plan_of, rank_of}
+use Rattle.tree_check.specs.Checking.{families_of}
+use Rattle.tree_support.specs.Certificates.{affine_ranks}
+use Rattle.tree_support.specs.declared.dropped.Dropped.{Dropped}
+use Rattle.tree_support.specs.Elimination.{Eliminates}
+use Rattle.tree_support.specs.Setting.{trees_in}
+use Rattle.tree_support.specs.Told.{setting_of}
+use Rattle.smaller_parts.specs.Knowing.{told_on}
+use Rattle.smaller_parts.proofs.Fit.{all_fit}
+use Rattle.ctl_rounds.specs.Covers.{Covers, MayBegin, at_entry, claims_of}
+use Rattle.ctl_rounds.proofs.Certifying.{grounded, short, unchanged}
+use Rattle.ctl_rounds.proofs.CoverLaws.{begins, nodes_of}
+use Rattle.ctl_rounds.proofs.subject.Subject.counted.Given as given
+use Rattle.ctl_rounds.proofs.subject.Subject.counted.Goals as goal
+
+pub checked-requires-clause-fit : goal.checked-requires-clause-fit
+checked-requires-clause-fit g c =
+    let program = c.args.self.now.premises.now.program.now in
+    let body = statements program.body in
+    let vars = length program.names in
+    let valid = program.valid in
+    let trees = c.args.family.trees in
+    let premises = c.requires.subject.premises in
+    let few_labels = short body c.args.self.now.premises.now.labels premises.labels premises.few in
+    let law = c.candidates_are_over_the_variables.ensures in
+    all_fit vars trees (λ label. record {
+      over = law.over vars body trees valid.few valid.well_sorted few_labels c.requires.candidate label;
+      complements = law.complements vars body trees valid.few valid.well_sorted few_labels c.requires.candidate label;
+      leaves = let few = law.leaves vars body trees valid.few valid.well_sorted few_labels c.requires.candidate label in omega (arith, few);
+    })
+
+-- there is one family
+tops_are : (g : given.Over) (c : goal.In_ok-keep g) → c.keep.new.found.tops.items ≡ c.in_ok-family.family ∷ []
+tops_are g c = c.in_ok-keep.ensures.tops ∙ ap (λ list. list ++ c.in_ok-family.family ∷ []) c.none-found.ensures.tops
+
+-- what it claims is the tree at the entry, of which nothing was dropped
+claims_are : (g : given.Over) (c : goal.In_ok-keep g)
+    → claims_of (option_map plan_of c.keep.new.found.cover)
+    ≡ trees_in c.args.family.trees (entry_of (statements c.args.self.now.premises.now.program.now.body))
+claims_are g c =
+    let subject = c.args.self.now in
+    let program = subject.premises.now.program.now in
+    let body = statements program.body in
+    let vars = length program.names in
+    let valid = program.valid in
+    let told = told_on g.D.NumDomain subject.premises.now in
+    let operands = subject.smaller.now.operands.items in
+    let families = families_of operands in
+    let old = c.args.family.trees in
+    let new = c.in_ok-family.family.trees in
+    let premises = c.requires.subject.premises in
+    let eliminated = c.in_ok-family.ensures.legal in
+    let drops : List Dropped = eliminated.0 in
+    let legal : Eliminates affine_ranks (setting_of body told af_exit families) (trees_in old) drops (trees_in new) =
+    subst (λ f. Eliminates affine_ranks (setting_of body told f families) (trees_in old) drops (trees_in new)) c.requires.formula eliminated.1 in
+    let ground = grounded program operands subject.premises.now.labels (c.requires.subject.smaller.keeps c.requires.formula) premises.labels premises.few in
+    let kept : drops ≡ [] =
+    c.candidates_are_kept.ensures.kept vars program.body told families old ground c.requires.candidate drops (trees_in new) legal in
+    let same = unchanged (setting_of body told af_exit families) old new drops kept legal (entry_of body) in
+    let few_labels = short body subject.premises.now.labels premises.labels premises.few in
+    let law = c.candidates_are_over_the_variables.ensures in
+    let leaves = law.leaves vars body old valid.few valid.well_sorted few_labels c.requires.candidate (entry_of body) in
+    let nodes = nodes_of (trees_in old (entry_of body)) in
+    let may : MayBegin (trees_in new (entry_of body)) =
+    subst MayBegin (sym same)
+    (omega (arith, leaves, nodes), law.complements vars body old valid.few valid.well_sorted few_labels c.requires.candidate (entry_of body)) in
+    let firsts = subst (λ list. Covers None (at_entry body list) (option_map plan_of c.keep.new.found.cover)) (tops_are g c) c.in_ok-keep.ensures.found.firsts in
+    begins (trees_in new (entry_of body)) firsts.0 (option_map plan_of c.keep.new.found.cover) may firsts.1 firsts.2 ∙ same
+
+pub returns-clause-whole : goal.returns-clause-whole
+returns-clause-whole g c = subst IsWhole (sym (claims_are g c)) c.requires.entry
+
+pub returns-clause-loopless : goal.returns-clause-loopless
+returns-clause-loopless g c = λ free. ap rank_of (claims_are g c)
+    ∙ c.loopless_candidates_promise_the_most_steps.ensures c.args.family.trees (statements c.args.self.now.premises.now.program.now.body) free
+    c.requires.candidate
+
+pub returns-clause-some : goal.returns-clause-some
+returns-clause-some g c = subst (λ list. 0 < length list) (sym (tops_are g c)) (omega arith)

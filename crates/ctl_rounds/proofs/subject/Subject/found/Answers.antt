@@ -1,0 +1,42 @@
+use Rattle.std.proofs.Common.{option_map, refl, rules, arith}
+use Rattle.decision_tree.specs.Plans.{plan_of}
+use Rattle.smaller_parts.specs.Showing.{all_of}
+use Rattle.ctl_rounds.proofs.Asking.{unasked}
+use Rattle.ctl_rounds.proofs.Certifying.{certified}
+use Rattle.ctl_rounds.proofs.subject.Subject.found.Goals as goal
+
+pub returns-in_err-family-clause-asked : goal.returns-in_err-family-clause-asked
+returns-in_err-family-clause-asked g c =
+    (0, omega (arith), unasked (λ adviser. (goal.Adviser-dyn g (adviser.vtable, adviser.value)).asked_of adviser.value) c.args.advisers.now.items, search rules)
+
+pub returns-in_err-counted-in-Some-clause-asked : goal.returns-in_err-counted-in-Some-clause-asked
+returns-in_err-counted-in-Some-clause-asked g c =
+    (0, omega (arith), unasked (λ adviser. (goal.Adviser-dyn g (adviser.vtable, adviser.value)).asked_of adviser.value) c.args.advisers.now.items, search rules)
+
+pub returns-in_ok-counted-in-Some-clause-asked : goal.returns-in_ok-counted-in-Some-clause-asked
+returns-in_ok-counted-in-Some-clause-asked g c = (
+  0,
+  omega (arith),
+  unasked (λ adviser. (goal.Adviser-dyn g (adviser.vtable, adviser.value)).asked_of adviser.value) c.args.advisers.now.items,
+  c.in_ok-counted-in-Some.ensures.turns,
+)
+
+pub returns-in_ok-counted-in-Some-clause-certified : goal.returns-in_ok-counted-in-Some-clause-certified
+returns-in_ok-counted-in-Some-clause-certified g c =
+    let subject = c.args.self.now in
+    let found = c.in_ok-counted-in-Some.field-0 in
+    certified g.D.NumDomain subject c.requires.subject (all_of subject.smaller.now) refl found.tops.items (option_map plan_of found.cover)
+    c.in_ok-counted-in-Some.ensures.found c.in_ok-counted-in-Some.ensures.some
+
+pub returns-in_ok-counted-in-Some-clause-covers : goal.returns-in_ok-counted-in-Some-clause-covers
+returns-in_ok-counted-in-Some-clause-covers g c = c.in_ok-counted-in-Some.ensures.found.firsts
+
+pub returns-in_ok-sought-in-None-clause-certified : goal.returns-in_ok-sought-in-None-clause-certified
+returns-in_ok-sought-in-None-clause-certified g c =
+    let subject = c.args.self.now in
+    let found = c.in_ok-sought-in-None.field-0 in
+    certified g.D.NumDomain subject c.requires.subject (all_of subject.smaller.now) refl found.tops.items (option_map plan_of found.cover)
+    c.in_ok-sought-in-None.ensures.found c.in_ok-sought-in-None.ensures.some
+
+pub returns-in_ok-sought-in-None-clause-covers : goal.returns-in_ok-sought-in-None-clause-covers
+returns-in_ok-sought-in-None-clause-covers g c = c.in_ok-sought-in-None.ensures.found.firsts

@@ -1,0 +1,5 @@
+pub mod Kept
+pub mod Fit
+pub mod KnownShown
+pub mod Placing
+pub mod Combining

@@ -1,0 +1,24 @@
+-- Families of trees for a program, and their numbers.
+use Rattle.std.specs.Prelude.{◌≡◌, ℕ, suc, List, [], ◌∷◌, length, ⊤}
+use Rattle.step_meaning.specs.Syntax.{Statements}
+use Rattle.control_flow.specs.Labels.{all_labels}
+use Rattle.decision_tree.specs.Extent.{ComplementsFit, IsTreeOver}
+use Rattle.decision_tree.specs.declared.affine_rank.AffineRank.{AffineRank}
+use Rattle.decision_tree.specs.declared.family.Family.{Family}
+use Rattle.tree_support.specs.Setting.{Trees, trees_in}
+
+-- the trees of a family by their labels
+abbrev pub trees_of : Family AffineRank → Trees AffineRank
+trees_of family = trees_in family.trees
+
+-- the families have these numbers one after the other
+abbrev pub AreNumberedFrom : ℕ → List (Family AffineRank) → Type 0
+AreNumberedFrom k [] = ⊤
+AreNumberedFrom k (family ∷ more) = (family.part ≡ k) × AreNumberedFrom (suc k) more
+
+-- The family has a tree for each label of a program of `vars` variables with this body; its rows, ranks and picks speak of the variables
+-- alone, and the complements of the rows fit 128 bits.
+pub record IsFamilyFor (vars : ℕ) (body : Statements) (family : Family AffineRank) : Type 0 where
+  pub labels : length family.trees ≡ length (all_labels body)
+  pub over : (label : ℕ) → IsTreeOver vars (trees_of family label)
+  pub complements : (label : ℕ) → ComplementsFit (trees_of family label)
