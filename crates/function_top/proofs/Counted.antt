@@ -22,11 +22,12 @@ use Rattle.report_text.specs.Printed.{AreExactTexts, AreTextsOf, IsReportText, I
 use Rattle.report_text.specs.Sections.{Sections, header_lines}
 use Rattle.report_text.proofs.Cutting.{KnownTexts, report_sections}
 use Rattle.function_top.specs.declared.found.Exact.{Exact}
-use Rattle.function_top.specs.declared.found.Exact.TheVariants.{Made, Unmade}
+use Rattle.function_top.specs.declared.found.Exact.TheVariants.{Made, Unasked, Unmade}
 use Rattle.function_top.specs.declared.found.Found.{Found}
 use Rattle.function_top.specs.Exact.{EndsExactly, IsExact, MeetsLine}
-use Rattle.function_top.specs.Found.{IsFound}
+use Rattle.function_top.specs.Found.{IsExactPart, IsFound}
 use Rattle.function_top.specs.Meeting.{CountsExactly, MeetsClaim}
+use Rattle.function_top.specs.Order.{Task}
 use Rattle.function_top.specs.Shown.{Shows, ShowsExact, header_of}
 use Rattle.function_top.specs.Subject.{Subject}
 use Rattle.function_top.proofs.Conditions.{condition_met, rows_met}
@@ -126,6 +127,10 @@ made_texts : (names : List Bytes) (tests : ℕ) (stop : Option Stop) (lines : Li
 made_texts names tests None lines texts are = are
 made_texts names tests (Some cause) lines texts are = are
 
+-- no header names any
+no_header : (n : ℕ) (stop : Option Stop) → [] ≡ header_lines (header_of n stop) → ⊥
+no_header n stop same = let clash : 0 ≡ 1 = ap length (same ∙ header_is n stop) in omega (arith, clash)
+
 -- ---- the exact part of a text
 
 module _ (subject : Subject) (known : KnownLines subject.names) (delay tests : ℕ) (stop : Option Stop) (input : Store)
@@ -134,6 +139,7 @@ module _ (subject : Subject) (known : KnownLines subject.names) (delay tests : �
       → ShowsExact exact header lines → AreExactTexts subject.names header lines texts
       → header_lines header ≡ header_lines (header_of tests stop)
       → MeetsClaim subject.names input (Exactly (pos n)) texts ↔ EndsExactly subject.body tests input n
+  exact_counted Unasked header lines is shows are named = absurd is
   exact_counted (Unmade cause) header lines is shows are named =
       absurd (no_tests cause tests stop (ap header_lines (sym shows.0) ∙ named))
   exact_counted (Made made why tree) header lines is shows are named =
@@ -147,9 +153,17 @@ module _ (subject : Subject) (known : KnownLines subject.names) (delay tests : �
         (λ ends. text_met subject.names known input (Exactly (pos n)) lines texts printed (both.1 ends)),
       )
 
-pub counts_exactly : (subject : Subject) → KnownLines subject.names → EndAsLines → (delay : ℕ) (found : Found) (report : Report) (text : Bytes)
-    → IsFound delay subject found → Shows found report → IsReportText subject.names report text → CountsExactly subject text
-counts_exactly subject known ending delay found report text finds shows printed tests allows input is_input n =
+  part_counted : (asked : Option Bytes) (exact : Exact) (header : Header) (lines : List Line) → IsExactPart asked subject delay exact
+      → ShowsExact exact header lines → AreExactTexts subject.names header lines texts
+      → header_lines header ≡ header_lines (header_of tests stop)
+      → MeetsClaim subject.names input (Exactly (pos n)) texts ↔ EndsExactly subject.body tests input n
+  part_counted None exact header lines is shows are named = exact_counted exact header lines is shows are named
+  part_counted (Some formula) exact header lines is shows are named =
+      absurd (no_header tests stop (ap header_lines (sym (subst (λ e. ShowsExact e header lines) is shows).0) ∙ named))
+
+pub counts_exactly : (subject : Subject) → KnownLines subject.names → EndAsLines → (task : Task) (found : Found) (report : Report) (text : Bytes)
+    → IsFound task subject found → Shows found report → IsReportText subject.names report text → CountsExactly subject text
+counts_exactly subject known ending task found report text finds shows printed tests allows input is_input n =
     let texts : KnownTexts subject.names = record {
       newline = known.newline;
       ending = λ line condition claim. ending subject.names line condition claim;
@@ -157,5 +171,5 @@ counts_exactly subject known ending delay found report text finds shows printed 
     } in
     let cut = report_sections texts report text printed in
     subst (λ (s : Sections). MeetsClaim subject.names input (Exactly (pos n)) s.exact ↔ EndsExactly subject.body tests input n) (sym cut)
-    (exact_counted subject known delay tests allows.0 input is_input n printed.exact found.exact report.header report.exact finds.exact shows.exact
-    printed.exact_are (sym (ap (λ (s : Sections). s.header) cut) ∙ allows.1))
+    (part_counted subject known task.delay tests allows.0 input is_input n printed.exact task.formula found.exact report.header report.exact finds.exact
+    shows.exact printed.exact_are (sym (ap (λ (s : Sections). s.header) cut) ∙ allows.1))

@@ -37,9 +37,13 @@ use Rattle.step_meaning.specs.Plain.{IsPlain}
 use Rattle.unroll.specs.Stopping.{IsCause}
 use Rattle.backward_transfer.proofs.Putting.{plan_at}
 use Rattle.unroll.proofs.LevelLaws.{Alike, alike_back, longest_alike, tests_alike}
-use Rattle.function_top.specs.declared.found.Exact.TheVariants.{Made}
+use Rattle.report_text.specs.declared.report.Stop.{Stop}
+use Rattle.function_top.specs.declared.found.Exact.{Exact as Known}
+use Rattle.function_top.specs.declared.found.Exact.TheVariants.{Made, Unasked}
 use Rattle.function_top.specs.Exact.{EndsExactly, IsExact, IsExactTree, IsUnmade, MeetsLine, stop_of}
+use Rattle.function_top.specs.Found.{IsExactPart}
 use Rattle.function_top.specs.Printable.{IsPrintable}
+use Rattle.function_top.specs.Subject.{Subject}
 use Rattle.function_top.proofs.OnlyMet.{met_is_one}
 
 -- the leaf at a store has a rank that is a number of steps, if it has one
@@ -200,6 +204,13 @@ none_by (Some a) none = absurd (none a refl)
 pub some_stop : {A : Type 0} (stopped : Option Cause) (family : Option A) → (stopped ≡ None → IsSome family) → family ≡ None → IsSome stopped
 some_stop None family whole none = absurd (let there = subst IsSome none (whole refl) in cc)
 some_stop (Some cause) family whole none = refl
+
+-- an exact part with a level is one of a program about which no formula is asked
+pub made_exact : (asked : Option (List ℕ)) (subject : Subject) (delay : ℕ) (exact : Known) (tests : ℕ) (stop : Option Stop) (tree : Tree AffineRank)
+    → IsExactPart asked subject delay exact → exact ≡ Made tests stop tree
+    → IsExact (length subject.names) subject.body delay (Made tests stop tree)
+made_exact None subject delay exact tests stop tree part is = subst (IsExact (length subject.names) subject.body delay) is part
+made_exact (Some text) subject delay exact tests stop tree part is = let clash : Unasked ≡ Made tests stop tree = sym part ∙ is in absurd (cc)
 
 -- what printing asks of the tree
 pub ranks_constant : (plan : Plan AffineRank) → RanksCount plan → HasConstantRanks plan

@@ -1,5 +1,5 @@
 -- Each line that the command writes has one of the known forms.
-use Rattle.std.proofs.Common.{◌≡◌, ℕ, inl, inr, List, [], ◌∷◌, Option, Some, All, refl}
+use Rattle.std.proofs.Common.{◌≡◌, ℕ, inl, inr, List, [], ◌∷◌, Option, Some, All, codes, refl}
 use Rattle.std.proofs.lemmas.List.Elements.{All-cons, All-nil}
 use Rattle.step_meaning.specs.Syntax.{Statements}
 use Rattle.source_parse.specs.Derives.{IsProgramText}
@@ -10,20 +10,25 @@ use Rattle.report_text.specs.declared.report.Report.{Report}
 use Rattle.report_text.specs.declared.report.Header.{Header}
 use Rattle.report_text.specs.Printed.{IsReportText, exact_part}
 use Rattle.function_top.specs.declared.found.Found.{Found}
-use Rattle.function_top.specs.Form.{IsKnown, exact_head, proved_head, unknown_head, all_verdict, some_verdict, words, program}
-use Rattle.function_top.specs.Refusals.{fault_line, fault_text, usage_line, usage_text}
+use Rattle.function_top.specs.Form.{IsKnown, exact_head, proved_head, unknown_head, all_verdict, some_verdict, words, program, formula}
+use Rattle.function_top.specs.Refusals.{fault_line, formula_text, program_text, usage_line, usage_text}
 use Rattle.function_top.specs.Shown.{Shows}
-use Rattle.function_top.proofs.Truth.{KnownLines, fault_lacks, usage_lacks}
+use Rattle.function_top.proofs.Truth.{KnownLines, fault_lacks, formula_lacks, program_lacks, usage_lacks}
 use Rattle.function_top.proofs.Written.{Bytes, EachWhole, Frames, Prints, one_good, report_holds}
 
 module _ (left : Option Bytes) where
   pub usage_known : EachWhole (IsKnown left) usage_text
   usage_known = one_good (IsKnown left) usage_line usage_text usage_lacks (inr (inr words)) refl
 
-  pub fault_known : (number offset : ℕ) → EachWhole (IsKnown left) (fault_text number offset)
-  fault_known number offset =
-      one_good (IsKnown left) (fault_line number offset) (fault_text number offset) (fault_lacks number offset)
-      (inr (inr (program number offset))) refl
+  pub program_known : (number offset : ℕ) → EachWhole (IsKnown left) (program_text number offset)
+  program_known number offset =
+      one_good (IsKnown left) (fault_line (codes "program") number offset) (program_text number offset)
+      (fault_lacks (codes "program") number offset program_lacks) (inr (inr (program number offset))) refl
+
+  pub formula_known : (number offset : ℕ) → EachWhole (IsKnown left) (formula_text number offset)
+  formula_known number offset =
+      one_good (IsKnown left) (fault_line (codes "formula") number offset) (formula_text number offset)
+      (fault_lacks (codes "formula") number offset formula_lacks) (inr (inr (formula number offset))) refl
 
   header_known : (header : Header) → All (IsKnown left) (exact_part header [])
   header_known header = all_of (IsKnown left) (exact_part header []) (λ line member. inr (inl (exact_head header line member)))

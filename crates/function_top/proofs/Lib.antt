@@ -4,12 +4,13 @@ pub mod OnlyMet
 pub mod Conditions
 pub mod ExactLines
 pub mod Truth
-pub mod Bounding
+pub mod Claiming
 pub mod Formed
 pub mod Named
 pub mod Over
 pub mod Headline
 pub mod Running
+pub mod Reading
 pub mod Reported
 pub mod Once
 pub mod MetOnce

@@ -6,13 +6,13 @@ use Rattle.decision_tree.specs.Evaluation.{eval}
 use Rattle.decision_tree.specs.Plans.{plan_of}
 use Rattle.line_text.specs.declared.claim.Claim.{Claim}
 use Rattle.report_text.specs.declared.line.Line.{Line}
-use Rattle.report_text.specs.declared.line.Top.TheVariants.{Bound, Exact as Counted}
+use Rattle.report_text.specs.declared.line.Top.TheVariants.{Exact as Counted}
 use Rattle.report_text.specs.declared.report.Header.{Header}
 use Rattle.report_text.specs.declared.report.Report.{Report}
 use Rattle.report_text.specs.Leaves.{MeetsOneLine, NoneOf, OneOf, claim_at, claiming, is_unknown}
 use Rattle.report_text.proofs.Standing.{one_line_met, parted_line_met}
 use Rattle.function_top.specs.declared.found.Exact.{Exact}
-use Rattle.function_top.specs.declared.found.Exact.TheVariants.{Made, Unmade}
+use Rattle.function_top.specs.declared.found.Exact.TheVariants.{Made, Unasked, Unmade}
 use Rattle.function_top.specs.declared.found.Found.{Found}
 use Rattle.function_top.specs.Exact.{MeetsAtMostOneLine}
 use Rattle.function_top.specs.Shown.{Shows, ShowsExact}
@@ -20,11 +20,11 @@ use Rattle.function_top.specs.Shown.{Shows, ShowsExact}
 pub one_line : (found : Found) (report : Report) → Shows found report → (input : Store)
     → (claim : Claim) × MeetsOneLine input claim (report.proved ++ report.unknown)
 one_line found report shows input =
-    let claim = claim_at Bound (eval (plan_of found.cover) input) in (
+    let claim = claim_at found.claims (eval (plan_of found.cover) input) in (
       claim,
       subst (λ proved. MeetsOneLine input claim (proved ++ report.unknown)) (sym shows.proved)
           (subst (λ unknown. MeetsOneLine input claim (claiming shows.lines ++ unknown)) (sym shows.unknown)
-          (parted_line_met input claim shows.lines (one_line_met Bound input (plan_of found.cover) shows.lines shows.lines_of))),
+          (parted_line_met input claim shows.lines (one_line_met found.claims input (plan_of found.cover) shows.lines shows.lines_of))),
     )
 
 -- of a list of which exactly one is met at most one is met of what is kept
@@ -55,6 +55,7 @@ module _ {X : Type 0} (Met Is : X → Type 0) where
     at_most_left (x ∷ xs) (inr later) = behind (keep x) x (filter keep xs) later.0 (at_most_left xs later.1)
 
 at_most_shown : (exact : Exact) (header : Header) (lines : List Line) → ShowsExact exact header lines → (input : Store) → MeetsAtMostOneLine input lines
+at_most_shown Unasked header lines shows input = subst (MeetsAtMostOneLine input) (sym shows.1) (inl tt)
 at_most_shown (Unmade stop) header lines shows input = subst (MeetsAtMostOneLine input) (sym shows.1) (inl tt)
 at_most_shown (Made tests stop tree) header lines shows input =
     let all = shows.1.0 in

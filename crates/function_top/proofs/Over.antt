@@ -26,7 +26,7 @@ use Rattle.report_text.specs.declared.report.Header.{Header}
 use Rattle.report_text.specs.Leaves.{AreLines, AreLinesOf, IsLineOf, claim_of, is_unknown, leaves_below, none, skipped, stands}
 use Rattle.report_text.specs.Printed.{IsLineOver}
 use Rattle.function_top.specs.declared.found.Exact.{Exact as Known}
-use Rattle.function_top.specs.declared.found.Exact.TheVariants.{Made, Unmade}
+use Rattle.function_top.specs.declared.found.Exact.TheVariants.{Made, Unasked, Unmade}
 use Rattle.function_top.specs.Printable.{IsExactPrintable}
 use Rattle.function_top.specs.Shown.{ShowsExact}
 
@@ -96,6 +96,7 @@ module _ (names : List (List ℕ)) (few : length names ≤ 15) where
   -- so are those of an exact part
   pub exact_over : (exact : Known) (header : Header) (lines : List Line) → IsExactPrintable (length names) exact → ShowsExact exact header lines
       → All (IsLineOver names) lines
+  exact_over Unasked header lines printable shows = subst (All (IsLineOver names)) (sym shows.1) (All-nil (IsLineOver names))
   exact_over (Unmade stop) header lines printable shows = subst (All (IsLineOver names)) (sym shows.1) (All-nil (IsLineOver names))
   exact_over (Made tests stop tree) header lines printable shows =
       subst (All (IsLineOver names)) (sym shows.1.2)

@@ -1,5 +1,5 @@
 -- What the command writes is true, line by line.
-use Rattle.std.proofs.Common.{◌≡◌, ℕ, not, List, [], ◌∷◌, ◌++◌, length, All, Contains, codes, refl, sym, ap, ◌∙◌, subst, arith, append_assoc}
+use Rattle.std.proofs.Common.{◌≡◌, ℕ, not, List, [], ◌∷◌, ◌++◌, length, All, Contains, Option, None, Some, codes, refl, sym, ap, ◌∙◌, subst, arith, append_assoc}
 use Rattle.std.proofs.lemmas.List.Elements.{All-cons, All-filter, All-nil}
 use Rattle.step_meaning.specs.Outcome.{Store}
 use Rattle.step_meaning.specs.Run.{IsInput, start}
@@ -16,7 +16,7 @@ use Rattle.line_text.specs.Spells.{EndsAsLine, Spells}
 use Rattle.line_text.proofs.Words.{numeral_is_numeral}
 use Rattle.report_text.specs.declared.line.Line.{Line}
 use Rattle.report_text.specs.declared.line.Top.{Top}
-use Rattle.report_text.specs.declared.line.Top.TheVariants.{Bound, Exact as Counted}
+use Rattle.report_text.specs.declared.line.Top.TheVariants.{Exact as Counted}
 use Rattle.report_text.specs.declared.report.Header.{Header}
 use Rattle.report_text.specs.declared.report.Header.TheVariants.{Absent, Partial, Stopped, Whole}
 use Rattle.report_text.specs.declared.report.Stop.{Stop}
@@ -26,10 +26,11 @@ use Rattle.report_text.specs.Leaves.{AreLinesOf, claim_at, is_unknown}
 use Rattle.report_text.specs.Printed.{IsReportText, cause_text, exact_part}
 use Rattle.report_text.proofs.Standing.{one_line_met}
 use Rattle.function_top.specs.declared.found.Exact.{Exact}
-use Rattle.function_top.specs.declared.found.Exact.TheVariants.{Made, Unmade}
+use Rattle.function_top.specs.declared.found.Exact.TheVariants.{Made, Unasked, Unmade}
 use Rattle.function_top.specs.declared.found.Found.{Found}
 use Rattle.function_top.specs.Exact.{IsExact, IsExactTree}
-use Rattle.function_top.specs.Found.{IsFound, IsTrueTree}
+use Rattle.function_top.specs.Found.{IsExactPart, IsFound, IsTrueTree}
+use Rattle.function_top.specs.Order.{Task}
 use Rattle.function_top.specs.Refusals.{fault_line, fault_text, usage_line, usage_text}
 use Rattle.function_top.specs.Shown.{Shows, ShowsExact}
 use Rattle.function_top.specs.Subject.{Subject}
@@ -55,17 +56,27 @@ EndAsLines = (names : List Bytes) (line : Bytes) (condition : List Affine) (clai
 pub usage_lacks : Lacks usage_line
 usage_lacks = tested usage_line refl
 
-abbrev fault_front : ℕ → Bytes
-fault_front number = codes "program: " ++ (numeral number ++ codes " at ")
+module _ (what : Bytes) (number offset : ℕ) where
+  fault_front : Bytes
+  fault_front = what ++ (codes ": " ++ (numeral number ++ codes " at "))
 
-fault_is : (number offset : ℕ) → fault_line number offset ≡ fault_front number ++ numeral offset
-fault_is number offset = simp append_assoc
+  fault_is : fault_line what number offset ≡ fault_front ++ numeral offset
+  unfolding fault_front
+  fault_is = simp append_assoc
 
-pub fault_lacks : (number offset : ℕ) → Lacks (fault_line number offset)
-fault_lacks number offset =
-    both_lack (codes "program: ") (numeral number ++ (codes " at " ++ numeral offset)) (tested (codes "program: ") refl)
-    (both_lack (numeral number) (codes " at " ++ numeral offset) (digits_lack (numeral number) (numeral_is_numeral number).1)
-    (both_lack (codes " at ") (numeral offset) (tested (codes " at ") refl) (digits_lack (numeral offset) (numeral_is_numeral offset).1)))
+  pub fault_lacks : Lacks what → Lacks (fault_line what number offset)
+  fault_lacks clean =
+      both_lack what (codes ": " ++ (numeral number ++ (codes " at " ++ numeral offset))) clean
+      (both_lack (codes ": ") (numeral number ++ (codes " at " ++ numeral offset)) (tested (codes ": ") refl)
+      (both_lack (numeral number) (codes " at " ++ numeral offset) (digits_lack (numeral number) (numeral_is_numeral number).1)
+      (both_lack (codes " at ") (numeral offset) (tested (codes " at ") refl) (digits_lack (numeral offset) (numeral_is_numeral offset).1))))
+
+-- what has a fault
+pub program_lacks : Lacks (codes "program")
+program_lacks = tested (codes "program") refl
+
+pub formula_lacks : Lacks (codes "formula")
+formula_lacks = tested (codes "formula") refl
 
 -- whatever the line says over the names is true of the subject
 abbrev pub SaysTrue : Subject → Bytes → Type 0
@@ -81,12 +92,13 @@ module _ (subject : Subject) (ending : EndAsLines) where
       one_good (SaysTrue subject) usage_line usage_text usage_lacks
       (silent usage_line (other_last usage_line (λ e. omega arith) (λ e. omega arith) (λ e. omega arith))) refl
 
-  pub fault_true : (number offset : ℕ) → EachWhole (SaysTrue subject) (fault_text number offset)
-  fault_true number offset =
+  pub fault_true : (what : Bytes) → Lacks what → (number offset : ℕ) → EachWhole (SaysTrue subject) (fault_text what number offset)
+  fault_true what clean number offset =
       let digits = numeral_is_numeral offset in
-      one_good (SaysTrue subject) (fault_line number offset) (fault_text number offset) (fault_lacks number offset)
-      (silent (fault_line number offset)
-      (subst (λ line. EndsAsLine line → ⊥) (sym (fault_is number offset)) (digit_last (fault_front number) (numeral offset) digits.0 digits.1)))
+      one_good (SaysTrue subject) (fault_line what number offset) (fault_text what number offset) (fault_lacks what number offset clean)
+      (silent (fault_line what number offset)
+      (subst (λ line. EndsAsLine line → ⊥) (sym (fault_is what number offset))
+      (digit_last (fault_front what number offset) (numeral offset) digits.0 digits.1)))
       refl
 
   stop_silent : (cause : Stop) → SaysTrue subject (stopped_line cause)
@@ -165,6 +177,7 @@ module _ (subject : Subject) (ending : EndAsLines) where
 
     exact_lines_true : (delay : ℕ) (exact : Exact) (header : Header) (lines : List Line) → IsExact (length subject.names) subject.body delay exact
         → ShowsExact exact header lines → All Printed lines
+    exact_lines_true delay Unasked header lines is shows = absurd is
     exact_lines_true delay (Unmade stop) header lines is shows = subst (All Printed) (sym shows.1) (All-nil Printed)
     exact_lines_true delay (Made tests stop tree) header lines is shows =
         let all = shows.1.0 in
@@ -172,12 +185,18 @@ module _ (subject : Subject) (ending : EndAsLines) where
         (All-filter (λ line. not (is_unknown line.claim)) Printed all
         (all_of Printed all (line_true Counted (plan_of tree) all (exact_true tests (plan_of tree) is.2) shows.1.1)))
 
-    pub report_true : (delay : ℕ) (found : Found) (report : Report) (text : Bytes) → IsFound delay subject found → Shows found report
+    part_lines_true : (asked : Option Bytes) (delay : ℕ) (exact : Exact) (header : Header) (lines : List Line) → IsExactPart asked subject delay exact
+        → ShowsExact exact header lines → All Printed lines
+    part_lines_true None delay exact header lines is shows = exact_lines_true delay exact header lines is shows
+    part_lines_true (Some text) delay exact header lines is shows =
+        subst (All Printed) (sym (subst (λ e. ShowsExact e header lines) is shows).1) (All-nil Printed)
+
+    pub report_true : (task : Task) (found : Found) (report : Report) (text : Bytes) → IsFound task subject found → Shows found report
         → IsReportText subject.names report text → EachWhole (SaysTrue subject) text
-    report_true delay found report text finds shows printed =
-        let all = all_of Printed shows.lines (line_true Bound (plan_of found.cover) shows.lines finds.holds shows.lines_of) in
+    report_true task found report text finds shows printed =
+        let all = all_of Printed shows.lines (line_true found.claims (plan_of found.cover) shows.lines finds.holds shows.lines_of) in
         report_holds (SaysTrue subject) frames subject.names known.newline report text shows.unexplained
-        (exact_lines_true delay found.exact report.header report.exact finds.exact shows.exact)
+        (part_lines_true task.formula task.delay found.exact report.header report.exact finds.exact shows.exact)
         (subst (All Printed) (sym shows.proved) (All-filter (λ line. not (is_unknown line.claim)) Printed shows.lines all))
         (subst (All Printed) (sym shows.unknown) (All-filter (λ line. is_unknown line.claim) Printed shows.lines all))
         printed

@@ -18,7 +18,7 @@ use Rattle.report_text.specs.Leaves.{MeetsOneLine, NoneOf}
 use Rattle.report_text.specs.declared.report.Stop.{Stop}
 use Rattle.report_text.specs.declared.report.Stop.TheVariants.{NotPlain, TooManyNodes, WideNumbers}
 use Rattle.function_top.specs.declared.found.Exact.{Exact}
-use Rattle.function_top.specs.declared.found.Exact.TheVariants.{Made, Unmade}
+use Rattle.function_top.specs.declared.found.Exact.TheVariants.{Made, Unasked, Unmade}
 
 -- every run from the input ends with at most so many tests of a loop, and the longest has n steps
 pub record EndsExactly (body : Statements) (tests : ℕ) (input : Store) (n : ℕ) : Type 0 where
@@ -62,6 +62,7 @@ AreTests body delay tests (Some stop) = (tests < delay) × IsStopAt body (suc te
 
 -- What is known exactly of a program of so many variables: why nothing is; or a level, whose tree at the entry is exact.
 abbrev pub IsExact : ℕ → Statements → ℕ → Exact → Type 0
+IsExact vars body delay Unasked = ⊥
 IsExact vars body delay (Unmade stop) = IsUnmade body stop
 IsExact vars body delay (Made tests stop tree) = IsPlain body × AreTests body delay tests stop × IsExactTree vars body tests (plan_of tree)
 

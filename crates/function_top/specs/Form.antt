@@ -31,7 +31,8 @@ pub data IsFrame : List ℕ → Type 0 where
 -- the line is that of refused words, or of a fault
 pub data IsRefusal : List ℕ → Type 0 where
   words : IsRefusal usage_line
-  program : (number offset : ℕ) → IsRefusal (fault_line number offset)
+  program : (number offset : ℕ) → IsRefusal (fault_line (codes "program") number offset)
+  formula : (number offset : ℕ) → IsRefusal (fault_line (codes "formula") number offset)
 
 -- the line says something over some names; where the source told the text of a program, over that program's names
 pub record IsClaimOn (left : Option (List ℕ)) (line : List ℕ) : Type 0 where

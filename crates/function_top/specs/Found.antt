@@ -1,5 +1,5 @@
 -- What the analysis finds of a subject, before any of it is text.
-use Rattle.std.specs.Prelude.{◌≡◌, ◌⊎◌, ◌≤◌, ℕ, pos, length, Some}
+use Rattle.std.specs.Prelude.{◌≡◌, ◌⊎◌, ◌≤◌, ℕ, pos, List, length, Option, None, Some}
 use Rattle.step_meaning.specs.Outcome.{Store}
 use Rattle.step_meaning.specs.Run.{IsInput, start}
 use Rattle.step_meaning.specs.Countdown.{IsCountdown}
@@ -11,28 +11,56 @@ use Rattle.decision_tree.specs.Extent.{IsWhole}
 use Rattle.decision_tree.specs.Plans.{Plan, plan_of, rank_of}
 use Rattle.count_down.specs.Candidates.{last_steps}
 use Rattle.count_down.specs.Trees.{ranked}
-use Rattle.ctl_formula.specs.Formulas.{af_exit}
+use Rattle.ctl_formula.specs.Formulas.{Ctl, truth, falsity, exit, not_exit, always, never, least, negation, both, either, next, until, weak, af_exit, normal}
+use Rattle.ctl_rounds.specs.Asked.{IsAdvised}
 use Rattle.report_text.specs.declared.line.Top.{Top}
-use Rattle.report_text.specs.declared.line.Top.TheVariants.{Bound}
+use Rattle.report_text.specs.declared.line.Top.TheVariants.{Bound, Plain}
 use Rattle.report_text.specs.Leaves.{claim_at}
+use Rattle.function_top.specs.declared.found.Exact.{Exact}
+use Rattle.function_top.specs.declared.found.Exact.TheVariants.{Unasked}
 use Rattle.function_top.specs.declared.found.Found.{Found}
 use Rattle.function_top.specs.Exact.{IsExact}
+use Rattle.function_top.specs.Order.{Task}
 use Rattle.function_top.specs.Subject.{Subject}
 use Rattle.function_top.specs.TrueLine.{IsTrueAt}
+
+-- what is claimed of a formula with this normal form: that it holds within so many steps where it is an until, and else that it holds
+abbrev pub claims_for : Ctl → Top
+claims_for truth = Plain
+claims_for falsity = Plain
+claims_for exit = Plain
+claims_for not_exit = Plain
+claims_for always = Plain
+claims_for never = Plain
+claims_for (least a) = Plain
+claims_for (negation f) = Plain
+claims_for (both f g) = Plain
+claims_for (either f g) = Plain
+claims_for (next all f) = Plain
+claims_for (until all keep goal) = Bound
+claims_for (weak all keep goal) = Plain
 
 -- what the tree's leaf claims where an input stands is true of the input
 abbrev pub IsTrueTree : Subject → Top → Plan AffineRank → Type 0
 IsTrueTree subject claims tree =
     (input : Store) → IsInput (length subject.names) input → IsTrueAt subject.formula (claim_at claims (eval tree input)) input (start subject.body input)
 
--- Truth: what the trees claim is true; the exact part is that of as many tests as the delay. Strength: as long as a leaf of the cover is
--- undefined the advisers are asked, eight times at most. Where the formula is `AF exit`, the cover of a countdown program has no undefined
+-- Where no formula is asked about this is known exactly of the subject's program, for as many tests as the delay; and where one is, nothing is
+-- known exactly.
+abbrev pub IsExactPart : Option (List ℕ) → Subject → ℕ → Exact → Type 0
+IsExactPart None subject delay exact = IsExact (length subject.names) subject.body delay exact
+IsExactPart (Some text) subject delay exact = exact ≡ Unasked
+
+-- Truth: what the trees claim is true. Strength: where the normal form of the formula is a whole `A[f U g]` the advisers are asked as long as a
+-- leaf of the cover is undefined, eight times at most, and else never. Where it is `AF exit`, the cover of a countdown program has no undefined
 -- leaf, and that of a program without loops is one leaf, which promises the most steps of a path.
-pub record IsFound (delay : ℕ) (subject : Subject) (found : Found) : Type 0 where
-  pub exact : IsExact (length subject.names) subject.body delay found.exact
-  pub holds : IsTrueTree subject Bound (plan_of found.cover)
-  pub countdown : subject.formula ≡ af_exit → IsCountdown subject.body → IsWhole (plan_of found.cover)
-  pub loopless : subject.formula ≡ af_exit → HasNoLoop subject.body
+pub record IsFound (task : Task) (subject : Subject) (found : Found) : Type 0 where
+  pub exact : IsExactPart task.formula subject task.delay found.exact
+  pub claims : found.claims ≡ claims_for (normal subject.formula)
+  pub holds : IsTrueTree subject found.claims (plan_of found.cover)
+  pub countdown : normal subject.formula ≡ af_exit → IsCountdown subject.body → IsWhole (plan_of found.cover)
+  pub loopless : normal subject.formula ≡ af_exit → HasNoLoop subject.body
       → rank_of (plan_of found.cover) ≡ Some (ranked (constant_of (pos (last_steps subject.body))))
   pub few : found.turns ≤ 8
-  pub insists : IsWhole (plan_of found.cover) ⊎ (found.turns ≡ 8)
+  pub insists : IsAdvised (normal subject.formula) → IsWhole (plan_of found.cover) ⊎ (found.turns ≡ 8)
+  pub spares : ¬ IsAdvised (normal subject.formula) → found.turns ≡ 0

@@ -3,6 +3,7 @@ pub mod Choosing
 pub mod Call
 pub mod Text
 pub mod Subject
+pub mod Asking
 pub mod TrueLine
 pub mod Headline
 pub mod Refusals

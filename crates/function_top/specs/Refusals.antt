@@ -9,9 +9,16 @@ usage_line = codes "usage: function [--ctl TEXT] [--domain boxes|octagons|polyhe
 abbrev pub usage_text : List ℕ
 usage_text = usage_line ++ 10 ∷ []
 
--- the line of a fault of a program: its number and its offset
-abbrev pub fault_line : ℕ → ℕ → List ℕ
-fault_line number offset = codes "program: " ++ (numeral number ++ (codes " at " ++ numeral offset))
+-- the line of a fault: what has it, a program or a formula, its number and its offset
+abbrev pub fault_line : List ℕ → ℕ → ℕ → List ℕ
+fault_line what number offset = what ++ (codes ": " ++ (numeral number ++ (codes " at " ++ numeral offset)))
 
-abbrev pub fault_text : ℕ → ℕ → List ℕ
-fault_text number offset = fault_line number offset ++ 10 ∷ []
+abbrev pub fault_text : List ℕ → ℕ → ℕ → List ℕ
+fault_text what number offset = fault_line what number offset ++ 10 ∷ []
+
+-- those of a program and of a formula
+abbrev pub program_text : ℕ → ℕ → List ℕ
+program_text number offset = fault_text (codes "program") number offset
+
+abbrev pub formula_text : ℕ → ℕ → List ℕ
+formula_text number offset = fault_text (codes "formula") number offset

@@ -1,9 +1,11 @@
 -- What is analysed.
-use Rattle.std.specs.Prelude.{◌≡◌, ℕ, List}
+use Rattle.std.specs.Prelude.{◌≡◌, ℕ, List, Option, None, Some}
 use Rattle.step_meaning.specs.declared.program.Program.{Program}
 use Rattle.step_meaning.specs.Syntax.{Statements, statements}
 use Rattle.ctl_formula.specs.Formulas.{Ctl, af_exit}
+use Rattle.formula_parse.specs.Derives.{IsFormulaOf}
 use Rattle.source_parse.specs.Derives.{IsProgramText}
+use Rattle.function_top.specs.Order.{Task}
 
 -- a program, by its names and its body, and a formula
 pub record Subject : Type 0 where
@@ -11,11 +13,16 @@ pub record Subject : Type 0 where
   pub body : Statements
   pub formula : Ctl
 
--- a program with the formula that each run ends
-abbrev pub subject_of : Program → Subject
-subject_of program = record { names = program.names; body = statements program.body; formula = af_exit }
+-- a program with a formula
+abbrev pub subject_of : Program → Ctl → Subject
+subject_of program formula = record { names = program.names; body = statements program.body; formula = formula }
 
--- of a text the program is analysed that it is, with that formula
-pub record IsSubject (text : List ℕ) (subject : Subject) : Type 0 where
+-- over the names the text, where one is asked about, is this formula; where none is, it is `AF exit`, that each run ends
+abbrev pub IsFormulaAsked : List (List ℕ) → Option (List ℕ) → Ctl → Type 0
+IsFormulaAsked names None formula = formula ≡ af_exit
+IsFormulaAsked names (Some text) formula = IsFormulaOf text names formula
+
+-- of a text the program is analysed that it is, with the formula that is asked about
+pub record IsSubject (task : Task) (text : List ℕ) (subject : Subject) : Type 0 where
   pub program : IsProgramText text subject.names subject.body
-  pub formula : subject.formula ≡ af_exit
+  pub formula : IsFormulaAsked subject.names task.formula subject.formula

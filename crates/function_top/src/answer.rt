@@ -1,23 +1,29 @@
 //! From a text to what is to be written for it.
 
-ghost use Rattle.std.specs.Prelude.{◌≡◌, ◌≤◌, ◌<◌, ◌^◌, ℕ, List, All, IfOk, Some, length};
-ghost use Rattle.step_meaning.specs.Syntax.{statements};
+ghost use Rattle.std.specs.Prelude.{◌≡◌, ◌≤◌, ◌<◌, ◌^◌, ℕ, List, [], All, IfOk, Some, length};
+ghost use Rattle.step_meaning.specs.Syntax.{size_of, statements};
+ghost use Rattle.control_flow.specs.Faults.{wide_offsets};
+ghost use Rattle.ctl_formula.specs.Mirror.{ctl};
 ghost use Rattle.ctl_rounds.specs.Asked.{RoseBy};
-ghost use Rattle.function_top.specs.declared.order.Order.{Order};
+ghost use Rattle.function_top.specs.Asking.{IsNormalAsked};
 ghost use Rattle.function_top.specs.Due.{IsDueOn, IsDueOnProgram, IsReport};
 ghost use Rattle.function_top.specs.Form.{HasKnownLines};
 ghost use Rattle.function_top.specs.Headline.{IsTrueText};
 ghost use Rattle.function_top.specs.Meeting.{AreMetOnce, CountsExactly};
-ghost use Rattle.function_top.specs.Refusals.{fault_text};
+ghost use Rattle.function_top.specs.Order.{Task, task_of};
+ghost use Rattle.function_top.specs.Refusals.{formula_text, program_text};
 ghost use Rattle.function_top.specs.Subject.{IsSubject, Subject};
 
 use crate::due::Due;
 use crate::finding::find;
+use crate::formula::formula_asked;
 use crate::order::{Domain, Order};
 use crate::report::{fault as fault_line, report};
 use crate::status::Status;
 use advice::Adviser;
 use control_flow::{FlowFault, Graph};
+use ctl_formula::Formula;
+use formula_parse::{a_formula_has_no_fault, a_text_is_one_formula};
 use interval_dom::Boxes;
 use line_text::laws::{a_line_spells_at_most_one_claim, lines_have_their_own_form};
 use num_domain::NumDomain;
@@ -30,12 +36,13 @@ use source_parse::{
 use std::alloc::{AllocError, Global};
 use step_meaning::Program;
 
-/// What is to be written for a text by what an order asks: the report on the program that the text is, or the line of its first fault. It
-/// reads and writes nothing, so whoever embeds the analyser begins here.
+/// What is to be written for a text by what an order asks: the report on the program that the text is, or the line of its first fault, or of
+/// that of the formula that is asked about. It reads and writes nothing, so whoever embeds the analyser begins here.
 ///
 /// `advisers` are shown facts about loops, and may hint at what bounds one: each equally often and at most eight times, and eight times
-/// where the report has an unknown line. Nothing is assumed of what they hint; each was asked at most 2^32 times before. The only error is
-/// want of memory; the advisers may have been asked by then.
+/// where the report has an unknown line and the normal form of the formula is a whole `A[f U g]`, as that of `AF exit` is; where it is no such
+/// formula they aren't asked. Nothing is assumed of what they hint; each was asked at most 2^32 times before. The only error is want of memory;
+/// the advisers may have been asked by then.
 pub fn report_on(
     alloc: Global,
     order: &Order,
@@ -43,17 +50,19 @@ pub fn report_on(
     advisers: &mut Vec<Box<dyn Adviser>>,
 ) -> Result<Due, AllocError>
     requires patient { All (λ adviser. asked_of adviser ≤ 2 ^ 32) advisers.old.items }
-    ensures due { IfOk result (λ due. IsDueOn order.now text.now due.status due.turns due.bytes.items) }
-    ensures headline { IfOk result (λ due. (subject : Subject) → IsSubject text.now subject → IsTrueText subject due.bytes.items) }
+    ensures due { IfOk result (λ due. IsDueOn (task_of order.now) text.now due.status due.turns due.bytes.items) }
+    ensures headline { IfOk result (λ due. (subject : Subject) → IsSubject (task_of order.now) text.now subject
+        → IsTrueText subject due.bytes.items) }
     ensures form { IfOk result (λ due. HasKnownLines (Some text.now) due.bytes.items) }
-    ensures lines { IfOk result (λ due. IsReport due.status → (subject : Subject) → IsSubject text.now subject
+    ensures lines { IfOk result (λ due. IsReport due.status → (subject : Subject) → IsSubject (task_of order.now) text.now subject
         → AreMetOnce subject.names due.bytes.items) }
-    ensures counts { IfOk result (λ due. IsReport due.status → (subject : Subject) → IsSubject text.now subject
+    ensures counts { IfOk result (λ due. IsReport due.status → (subject : Subject) → IsSubject (task_of order.now) text.now subject
         → CountsExactly subject due.bytes.items) }
     ensures asked { (times : ℕ) × (times ≤ 8) × RoseBy (λ adviser. asked_of adviser) times advisers.old.items advisers.new.items
         × IfOk result (λ due. due.turns ≡ times) }
 {
     a_text_is_one_program();
+    a_text_is_one_formula();
     names_are_spelled_as_names();
     names_are_distinct();
     lines_have_their_own_form();
@@ -70,7 +79,7 @@ fn due_on(
     advisers: &mut Vec<Box<dyn Adviser>>,
 ) -> Result<Due, AllocError>
     requires patient { All (λ adviser. asked_of adviser ≤ 2 ^ 32) advisers.old.items }
-    ensures due { IfOk result (λ due. IsDueOn order.now text.now due.status due.turns due.bytes.items) }
+    ensures due { IfOk result (λ due. IsDueOn (task_of order.now) text.now due.status due.turns due.bytes.items) }
     ensures asked { (times : ℕ) × (times ≤ 8) × RoseBy (λ adviser. asked_of adviser) times advisers.old.items advisers.new.items
         × IfOk result (λ due. due.turns ≡ times) }
 {
@@ -81,7 +90,7 @@ fn due_on(
     match parse(alloc, text) {
         Ok(program) => Ok(due_on_program(alloc, order, &program, advisers)?),
         Err(fault) => match fault.numbered() {
-            Some((number, offset)) => Ok(refused(alloc, number, offset)?),
+            Some((number, offset)) => Ok(no_program(alloc, number, offset)?),
             None => Err(AllocError),
         },
     }
@@ -95,20 +104,20 @@ fn due_on_program(
     advisers: &mut Vec<Box<dyn Adviser>>,
 ) -> Result<Due, AllocError>
     requires patient { All (λ adviser. asked_of adviser ≤ 2 ^ 32) advisers.old.items }
-    ensures due { IfOk result (λ due. IsDueOnProgram order.now program.now due.status due.turns due.bytes.items) }
+    ensures due { IfOk result (λ due. IsDueOnProgram (task_of order.now) program.now due.status due.turns due.bytes.items) }
     ensures asked { (times : ℕ) × (times ≤ 8) × RoseBy (λ adviser. asked_of adviser) times advisers.old.items advisers.new.items
         × IfOk result (λ due. due.turns ≡ times) }
 {
     match Graph::of(alloc, program) {
-        Ok(graph) => Ok(reported(alloc, order, &graph, program, advisers)?),
-        Err(FlowFault::Labels { at, count: _ }) => Ok(refused(alloc, 12, at)?),
-        Err(FlowFault::Conjunctions { at, count: _ }) => Ok(refused(alloc, 13, at)?),
+        Ok(graph) => Ok(due_on_graph(alloc, order, &graph, program, advisers)?),
+        Err(FlowFault::Labels { at, count: _ }) => Ok(no_program(alloc, 12, at)?),
+        Err(FlowFault::Conjunctions { at, count: _ }) => Ok(no_program(alloc, 13, at)?),
         Err(FlowFault::Memory(error)) => Err(error),
     }
 }
 
-// The report on a program with its graph, over the sets that the order names.
-fn reported(
+// What is to be written for a program with its graph: the line of the fault of the formula that is asked about, or a report.
+fn due_on_graph(
     alloc: Global,
     order: &Order,
     graph: &Graph,
@@ -117,15 +126,44 @@ fn reported(
 ) -> Result<Due, AllocError>
     requires names { graph.now.names ≡ program.now.names }
     requires body { statements graph.now.body ≡ statements program.now.body }
+    requires labels { size_of (statements program.now.body) < 1024 }
+    requires conjunctions { wide_offsets program.now.body ≡ [] }
     requires patient { All (λ adviser. asked_of adviser ≤ 2 ^ 32) advisers.old.items }
-    ensures due { IfOk result (λ due. IsDueOnProgram order.now program.now due.status due.turns due.bytes.items) }
+    ensures due { IfOk result (λ due. IsDueOnProgram (task_of order.now) program.now due.status due.turns due.bytes.items) }
+    ensures asked { (times : ℕ) × (times ≤ 8) × RoseBy (λ adviser. asked_of adviser) times advisers.old.items advisers.new.items
+        × IfOk result (λ due. due.turns ≡ times) }
+{
+    a_formula_has_no_fault();
+    match formula_asked(alloc, order.formula, &program.names) {
+        Ok(formula) => Ok(reported(alloc, order, &formula, graph, program, advisers)?),
+        Err(fault) => match fault.numbered() {
+            Some((number, offset)) => Ok(no_formula(alloc, number, offset)?),
+            None => Err(AllocError),
+        },
+    }
+}
+
+// The report on a program with its graph and on a formula in normal form, over the sets that the order names.
+fn reported(
+    alloc: Global,
+    order: &Order,
+    formula: &Formula,
+    graph: &Graph,
+    program: &Program,
+    advisers: &mut Vec<Box<dyn Adviser>>,
+) -> Result<Due, AllocError>
+    requires names { graph.now.names ≡ program.now.names }
+    requires body { statements graph.now.body ≡ statements program.now.body }
+    requires formula { IsNormalAsked program.now.names (task_of order.now).formula (ctl formula.now) }
+    requires patient { All (λ adviser. asked_of adviser ≤ 2 ^ 32) advisers.old.items }
+    ensures due { IfOk result (λ due. IsDueOnProgram (task_of order.now) program.now due.status due.turns due.bytes.items) }
     ensures asked { (times : ℕ) × (times ≤ 8) × RoseBy (λ adviser. asked_of adviser) times advisers.old.items advisers.new.items
         × IfOk result (λ due. due.turns ≡ times) }
 {
     match order.domain {
-        Domain::Boxes => analysed::<Boxes>(alloc, order, graph, program, advisers),
-        Domain::Octagons => analysed::<Octagon>(alloc, order, graph, program, advisers),
-        Domain::Polyhedra => analysed::<Poly>(alloc, order, graph, program, advisers),
+        Domain::Boxes => analysed::<Boxes>(alloc, order, formula, graph, program, advisers),
+        Domain::Octagons => analysed::<Octagon>(alloc, order, formula, graph, program, advisers),
+        Domain::Polyhedra => analysed::<Poly>(alloc, order, formula, graph, program, advisers),
     }
 }
 
@@ -133,40 +171,55 @@ fn reported(
 fn analysed<D: NumDomain>(
     alloc: Global,
     order: &Order,
+    formula: &Formula,
     graph: &Graph,
     program: &Program,
     advisers: &mut Vec<Box<dyn Adviser>>,
 ) -> Result<Due, AllocError>
     requires names { graph.now.names ≡ program.now.names }
     requires body { statements graph.now.body ≡ statements program.now.body }
+    requires formula { IsNormalAsked program.now.names (task_of order.now).formula (ctl formula.now) }
     requires patient { All (λ adviser. asked_of adviser ≤ 2 ^ 32) advisers.old.items }
-    ensures due { IfOk result (λ due. IsDueOnProgram order.now program.now due.status due.turns due.bytes.items) }
+    ensures due { IfOk result (λ due. IsDueOnProgram (task_of order.now) program.now due.status due.turns due.bytes.items) }
     ensures asked { (times : ℕ) × (times ≤ 8) × RoseBy (λ adviser. asked_of adviser) times advisers.old.items advisers.new.items
         × IfOk result (λ due. due.turns ≡ times) }
 {
-    let found = find::<D>(alloc, order.delay, graph, program, advisers)?;
+    let found = find::<D>(alloc, order, formula, graph, program, advisers)?;
     let due = report(alloc, &found, &program.names)?;
     Ok(due)
 }
 
 /// The line of a text of more than 65,536 bytes. The only error is want of memory.
 pub(crate) fn too_long(alloc: Global) -> Result<Due, AllocError>
-    ensures due { IfOk result (λ due. (order : Order) (text : List ℕ) → 65536 < length text
-        → IsDueOn order text due.status due.turns due.bytes.items) }
+    ensures due { IfOk result (λ due. (task : Task) (text : List ℕ) → 65536 < length text
+        → IsDueOn task text due.status due.turns due.bytes.items) }
     ensures unasked { IfOk result (λ due. due.turns ≡ 0) }
 {
-    refused(alloc, 14, 65_536)
+    no_program(alloc, 14, 65_536)
 }
 
-// The line of a fault, for which no adviser is asked.
-fn refused(alloc: Global, number: u8, offset: u32) -> Result<Due, AllocError>
-    ensures line { IfOk result (λ due. due.bytes.items ≡ fault_text number offset) }
+// The line of a program's fault, for which no adviser is asked.
+fn no_program(alloc: Global, number: u8, offset: u32) -> Result<Due, AllocError>
+    ensures line { IfOk result (λ due. due.bytes.items ≡ program_text number offset) }
     ensures status { IfOk result (λ due. due.status ≡ Status.Program) }
     ensures unasked { IfOk result (λ due. due.turns ≡ 0) }
 {
     Ok(Due {
-        bytes: fault_line(alloc, number, offset)?,
+        bytes: fault_line(alloc, b"program", number, offset)?,
         status: Status::Program,
+        turns: 0,
+    })
+}
+
+// The line of a formula's fault, for which no adviser is asked.
+fn no_formula(alloc: Global, number: u8, offset: u32) -> Result<Due, AllocError>
+    ensures line { IfOk result (λ due. due.bytes.items ≡ formula_text number offset) }
+    ensures status { IfOk result (λ due. due.status ≡ Status.Formula) }
+    ensures unasked { IfOk result (λ due. due.turns ≡ 0) }
+{
+    Ok(Due {
+        bytes: fault_line(alloc, b"formula", number, offset)?,
+        status: Status::Formula,
         turns: 0,
     })
 }

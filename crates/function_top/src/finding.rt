@@ -1,39 +1,45 @@
-//! From a program to what is found of it.
+//! From a program and a formula to what is found of them.
 
-ghost use Rattle.std.specs.Prelude.{◌≡◌, ◌≤◌, ◌^◌, ◌⊎◌, ℕ, All, IfOk, Some, length, pos};
+ghost use Rattle.std.specs.Prelude.{◌≡◌, ◌≤◌, ◌^◌, ◌⊎◌, ℕ, Bool, All, IfOk, Some, length, pos};
 ghost use Rattle.step_meaning.specs.Countdown.{IsCountdown};
 ghost use Rattle.step_meaning.specs.Counts.{HasNoLoop};
 ghost use Rattle.step_meaning.specs.Syntax.{statements};
 ghost use Rattle.linear_cons.specs.Functions.{constant_of};
 ghost use Rattle.count_down.specs.Candidates.{last_steps};
 ghost use Rattle.count_down.specs.Trees.{ranked};
+ghost use Rattle.ctl_formula.specs.Formulas.{Ctl, af_exit, normal, until};
+ghost use Rattle.ctl_formula.specs.Mirror.{ctl};
 ghost use Rattle.decision_tree.specs.Extent.{IsWhole};
 ghost use Rattle.decision_tree.specs.Plans.{plan_of, rank_of};
-ghost use Rattle.ctl_rounds.specs.Asked.{RoseBy};
-ghost use Rattle.ctl_rounds.specs.Bounds.{BoundsInputs};
-ghost use Rattle.function_top.specs.Found.{IsFound};
-ghost use Rattle.function_top.specs.Printable.{IsFoundPrintable, IsPrintable};
+ghost use Rattle.ctl_rounds.specs.Asked.{IsAdvised, RoseBy};
+ghost use Rattle.ctl_rounds.specs.Bounds.{SatisfiesInputs, SatisfiesWithin};
+ghost use Rattle.function_top.specs.Found.{IsExactPart, IsFound, claims_for};
+ghost use Rattle.function_top.specs.Order.{task_of};
+ghost use Rattle.function_top.specs.Printable.{IsExactPrintable, IsFoundPrintable, IsPrintable};
 ghost use Rattle.function_top.specs.Subject.{subject_of};
 
 use crate::exact::exactly;
-use crate::found::Found;
+use crate::found::{Exact, Found};
+use crate::order::Order;
 use advice::Adviser;
 use control_flow::Graph;
-use ctl_formula::{Formula, af_exit_is_that_runs_end};
+use ctl_formula::{Formula, normal_forms_mean_the_same};
 use ctl_rounds::laws::{covers_can_be_printed, covers_hold};
 use ctl_rounds::{analyse, cover};
 use decision_tree::{AffineRank, Tree};
 use forward_inv::{Inv, invariants};
 use num_domain::NumDomain;
+use report_text::Top;
 use std::alloc::{AllocError, Global};
 use step_meaning::Program;
 use tree_support::laws::invariants_tell_the_truth;
 
-/// What is found of a program with its graph, over one kind of sets, and exactly for as many tests of loops as the delay. The only error is
+/// What is found of a program with its graph and of a formula in normal form, over one kind of sets, by what an order asks. The only error is
 /// want of memory; the advisers may have been asked by then.
 pub(crate) fn find<D: NumDomain>(
     alloc: Global,
-    delay: u32,
+    order: &Order,
+    formula: &Formula,
     graph: &Graph,
     program: &Program,
     advisers: &mut Vec<Box<dyn Adviser>>,
@@ -41,25 +47,57 @@ pub(crate) fn find<D: NumDomain>(
     requires names { graph.now.names ≡ program.now.names }
     requires body { statements graph.now.body ≡ statements program.now.body }
     requires patient { All (λ adviser. asked_of adviser ≤ 2 ^ 32) advisers.old.items }
-    ensures finds { IfOk result (λ found. IsFound delay (subject_of program.now) found) }
+    ensures finds { IfOk result (λ found. (meant : Ctl) → ctl formula.now ≡ normal meant
+        → IsFound (task_of order.now) (subject_of program.now meant) found) }
     ensures printable { IfOk result (λ found. IsFoundPrintable (length program.now.names) found) }
     ensures asked { (times : ℕ) × (times ≤ 8) × RoseBy (λ adviser. asked_of adviser) times advisers.old.items advisers.new.items
         × IfOk result (λ found. found.turns ≡ times) }
 {
-    af_exit_is_that_runs_end();
-    let exact = exactly(alloc, delay, graph, program)?;
-    let (cover, turns) = covered::<D>(alloc, delay, graph, program, advisers)?;
+    normal_forms_mean_the_same();
+    let exact = exact_part(alloc, order, graph, program)?;
+    let (cover, turns) = covered::<D>(alloc, order.delay, formula, graph, program, advisers)?;
     Ok(Found {
         exact,
+        claims: claims_for(formula),
         cover,
         turns,
     })
 }
 
-// The cover of a certificate that every run ends, over one kind of sets, and how often each adviser was asked for it.
+// What is known exactly of a program with its graph, where no formula is asked about.
+fn exact_part(
+    alloc: Global,
+    order: &Order,
+    graph: &Graph,
+    program: &Program,
+) -> Result<Exact, AllocError>
+    requires names { graph.now.names ≡ program.now.names }
+    requires body { statements graph.now.body ≡ statements program.now.body }
+    ensures exact { IfOk result (λ exact. (meant : Ctl)
+        → IsExactPart (task_of order.now).formula (subject_of program.now meant) order.now.delay exact) }
+    ensures printable { IfOk result (λ exact. IsExactPrintable (length program.now.names) exact) }
+{
+    match order.formula {
+        Some(_) => Ok(Exact::Unasked),
+        None => Ok(exactly(alloc, order.delay, graph, program)?),
+    }
+}
+
+// What is claimed of a formula in normal form.
+fn claims_for(formula: &Formula) -> Top
+    ensures { result ≡ claims_for (ctl formula.now) }
+{
+    match formula {
+        Formula::Until { .. } => Top::Bound,
+        _ => Top::Plain,
+    }
+}
+
+// The cover of a certificate of the formula, over one kind of sets, and how often each adviser was asked for it.
 fn covered<D: NumDomain>(
     alloc: Global,
     delay: u32,
+    formula: &Formula,
     graph: &Graph,
     program: &Program,
     advisers: &mut Vec<Box<dyn Adviser>>,
@@ -67,18 +105,21 @@ fn covered<D: NumDomain>(
     requires names { graph.now.names ≡ program.now.names }
     requires body { statements graph.now.body ≡ statements program.now.body }
     requires patient { All (λ adviser. asked_of adviser ≤ 2 ^ 32) advisers.old.items }
-    ensures bounds { IfOk result (λ covered. BoundsInputs (length program.now.names) (statements program.now.body) (plan_of covered.0)) }
+    ensures satisfied { IfOk result (λ covered. SatisfiesInputs (length program.now.names) (statements program.now.body) (ctl formula.now)
+        (plan_of covered.0)) }
+    ensures bounded { (all : Bool) (keep goal : Ctl) → ctl formula.now ≡ until all keep goal → IfOk result (λ covered.
+        SatisfiesWithin (length program.now.names) (statements program.now.body) (until all keep goal) (plan_of covered.0)) }
     ensures printable { IfOk result (λ covered. IsPrintable (length program.now.names) (plan_of covered.0)) }
     ensures asked { (times : ℕ) × (times ≤ 8) × RoseBy (λ adviser. asked_of adviser) times advisers.old.items advisers.new.items
         × IfOk result (λ covered. covered.1 ≡ times) }
-    ensures insists { IfOk result (λ covered. IsWhole (plan_of covered.0) ⊎ (covered.1 ≡ 8)) }
-    ensures countdown { IsCountdown (statements program.now.body) → IfOk result (λ covered. IsWhole (plan_of covered.0)) }
-    ensures loopless { HasNoLoop (statements program.now.body) → IfOk result (λ covered.
+    ensures insists { IsAdvised (ctl formula.now) → IfOk result (λ covered. IsWhole (plan_of covered.0) ⊎ (covered.1 ≡ 8)) }
+    ensures spares { ¬ IsAdvised (ctl formula.now) → IfOk result (λ covered. covered.1 ≡ 0) }
+    ensures countdown { ctl formula.now ≡ af_exit → IsCountdown (statements program.now.body) → IfOk result (λ covered. IsWhole (plan_of covered.0)) }
+    ensures loopless { ctl formula.now ≡ af_exit → HasNoLoop (statements program.now.body) → IfOk result (λ covered.
         rank_of (plan_of covered.0) ≡ Some (ranked (constant_of (pos (last_steps (statements program.now.body)))))) }
 {
     let inv: Inv<D> = invariants(alloc, graph)?;
-    let formula = Formula::af_exit(alloc)?;
-    let certificate = analyse(alloc, graph, program, &inv, &formula, advisers, delay)?;
+    let certificate = analyse(alloc, graph, program, &inv, formula, advisers, delay)?;
     invariants_tell_the_truth::<D>();
     covers_hold();
     covers_can_be_printed();

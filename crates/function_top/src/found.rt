@@ -1,11 +1,13 @@
-//! What the analysis finds of a program.
+//! What the analysis finds of a program and a formula.
 
 use decision_tree::{AffineRank, Tree};
-use report_text::Stop;
+use report_text::{Stop, Top};
 
 /// What is known exactly of a program.
 #[derive(Drop)]
 pub(crate) enum Exact {
+    /// Nothing: a formula is asked about.
+    Unasked,
     /// Nothing, and why.
     Unmade(Stop),
     /// For so many tests of loops: the tree at the entry, which claims the length of the longest run where all end with as many tests. Why
@@ -21,6 +23,8 @@ pub(crate) enum Exact {
 #[derive(Drop)]
 pub(crate) struct Found {
     pub exact: Exact,
+    /// What a defined leaf of the cover claims.
+    pub claims: Top,
     /// What the families of a certificate say at the entry, joined.
     pub cover: Tree<AffineRank>,
     /// How often each adviser was asked for it.

@@ -14,6 +14,7 @@ ghost use Rattle.function_top.specs.declared.found.Exact.TheVariants.{Made};
 ghost use Rattle.function_top.specs.declared.found.Found.{Found};
 ghost use Rattle.function_top.specs.Exact.{EndsExactly, MeetsAtMostOneLine, MeetsLine};
 ghost use Rattle.function_top.specs.Found.{IsFound};
+ghost use Rattle.function_top.specs.Order.{Task};
 ghost use Rattle.function_top.specs.Shown.{Shows};
 ghost use Rattle.function_top.specs.Subject.{Subject};
 
@@ -31,7 +32,7 @@ pub fn each_input_meets_at_most_one_exact_line()
 /// A law: an input of a program meets a line `exactly n steps` of the exact part exactly where every run from it ends with at most as many
 /// tests of a loop as the part's header says, and the longest one has n steps.
 pub fn exact_lines_are_met_by_exact_runs()
-    ensures { (delay : ℕ) (subject : Subject) (found : Found) (report : Report) → IsFound delay subject found → Shows found report
+    ensures { (task : Task) (subject : Subject) (found : Found) (report : Report) → IsFound task subject found → Shows found report
         → (tests : ℕ) (stop : Option Stop) (tree : Tree AffineRank) → found.exact ≡ Made tests stop tree
         → (input : Store) → IsInput (length subject.names) input → (n : ℕ)
         → MeetsLine input (Exactly (pos n)) report.exact ↔ EndsExactly subject.body tests input n }

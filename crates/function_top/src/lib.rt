@@ -6,6 +6,7 @@ mod answer;
 mod due;
 mod exact;
 mod finding;
+mod formula;
 mod found;
 mod laws;
 mod order;

@@ -1,11 +1,8 @@
 //! The words of the command line.
 
-ghost use Rattle.std.specs.Prelude.{◌≡◌, ◌↔◌, Some, map};
-ghost use Rattle.function_top.specs.declared.order.Order.{Order};
-ghost use Rattle.function_top.specs.declared.order.Choice.{Choice};
-ghost use Rattle.function_top.specs.declared.order.Chosen.{Chosen};
-ghost use Rattle.function_top.specs.Choosing.{Adds, with_choice};
-ghost use Rattle.function_top.specs.Order.{Ask, IsChoice};
+ghost use Rattle.std.specs.Prelude.{◌≡◌, ◌↔◌, Some, map, option_map};
+ghost use Rattle.function_top.specs.Choosing.{Adds, Chosen, choice_of, chosen_of, with_choice};
+ghost use Rattle.function_top.specs.Order.{Ask, Choice, IsChoice, Task, task_of};
 
 /// What is kept of the stores with which a label is reached.
 #[derive(Clone, Copy, PartialEq, Eq, Debug)]
@@ -20,33 +17,38 @@ pub enum Domain {
 
 /// What is asked of the analysis.
 #[derive(Clone, Copy, PartialEq, Eq, Debug)]
-pub struct Order {
+pub struct Order<'w> {
     pub domain: Domain,
     /// How many tests of loops the exact part allows, from 0 to 8; and so many sweeps, but at least one, are made without widening.
     pub delay: u32,
+    /// The text of the formula that is asked about; without one it is `AF exit`, that each run ends.
+    pub formula: Option<&'w [u8]>,
 }
 
 /// What an option with its value chooses.
 #[derive(Clone, Copy, PartialEq, Eq, Debug)]
-pub(crate) enum Choice {
+pub(crate) enum Setting<'w> {
     OfDomain(Domain),
     OfDelay(u32),
+    OfFormula(&'w [u8]),
 }
 
 /// What options chose so far.
 #[derive(Clone, Copy, PartialEq, Eq, Debug)]
-pub(crate) struct Chosen {
+pub(crate) struct Settings<'w> {
     pub domain: Option<Domain>,
     pub delay: Option<u32>,
+    pub formula: Option<&'w [u8]>,
 }
 
 /// What the words ask for, the program's name first; `None` where they are refused.
-pub fn order_of(words: &[&str]) -> Option<Order>
-    ensures { (order : Order) → result ≡ Some order ↔ Ask (map (λ word. word.now) words.now) order }
+pub fn order_of<'w>(words: &[&'w str]) -> Option<Order<'w>>
+    ensures { (task : Task) → option_map task_of result ≡ Some task ↔ Ask (map (λ word. word.now) words.now) task }
 {
-    let nothing = Chosen {
+    let nothing = Settings {
         domain: None,
         delay: None,
+        formula: None,
     };
     let chosen = match words.split_first() {
         Some((_, options)) => nothing.with_all(options)?,
@@ -55,13 +57,15 @@ pub fn order_of(words: &[&str]) -> Option<Order>
     Some(Order {
         domain: chosen.domain.unwrap_or(Domain::Boxes),
         delay: chosen.delay.unwrap_or(2),
+        formula: chosen.formula,
     })
 }
 
-impl Chosen {
+impl<'w> Settings<'w> {
     /// With what the words choose, each option with its value.
-    fn with_all(self, words: &[&str]) -> Option<Chosen>
-        ensures { (chosen : Chosen) → result ≡ Some chosen ↔ Adds self (map (λ word. word.now) words.now) chosen }
+    fn with_all(self, words: &[&'w str]) -> Option<Settings<'w>>
+        ensures { (chosen : Chosen) → option_map chosen_of result ≡ Some chosen
+            ↔ Adds (chosen_of self.entry) (map (λ word. word.now) words.now) chosen }
     {
         let Some((option, rest)) = words.split_first() else {
             return Some(self);
@@ -71,25 +75,34 @@ impl Chosen {
     }
 
     /// With one choice more; `None` where one of its kind was made before.
-    fn with(self, choice: Choice) -> Option<Chosen>
-        ensures { result ≡ with_choice self choice }
+    fn with(self, setting: Setting<'w>) -> Option<Settings<'w>>
+        ensures { option_map chosen_of result ≡ with_choice (chosen_of self.entry) (choice_of setting.entry) }
     {
-        match choice {
-            Choice::OfDomain(domain) => {
+        match setting {
+            Setting::OfDomain(domain) => {
                 if self.domain.is_some() {
                     return None;
                 }
-                Some(Chosen {
+                Some(Settings {
                     domain: Some(domain),
                     ..self
                 })
             }
-            Choice::OfDelay(delay) => {
+            Setting::OfDelay(delay) => {
                 if self.delay.is_some() {
                     return None;
                 }
-                Some(Chosen {
+                Some(Settings {
                     delay: Some(delay),
+                    ..self
+                })
+            }
+            Setting::OfFormula(text) => {
+                if self.formula.is_some() {
+                    return None;
+                }
+                Some(Settings {
+                    formula: Some(text),
                     ..self
                 })
             }
@@ -98,20 +111,21 @@ impl Chosen {
 }
 
 /// What the option chooses with the value; `None` where there is no such option, or the value is none of its own.
-fn chosen_by(option: &str, value: &str) -> Option<Choice>
-    ensures { (choice : Choice) → result ≡ Some choice ↔ IsChoice option.now value.now choice }
+fn chosen_by<'w>(option: &str, value: &'w str) -> Option<Setting<'w>>
+    ensures { (choice : Choice) → option_map choice_of result ≡ Some choice ↔ IsChoice option.now value.now choice }
 {
     match option {
         "--domain" => match value {
-            "boxes" => Some(Choice::OfDomain(Domain::Boxes)),
-            "octagons" => Some(Choice::OfDomain(Domain::Octagons)),
-            "polyhedra" => Some(Choice::OfDomain(Domain::Polyhedra)),
+            "boxes" => Some(Setting::OfDomain(Domain::Boxes)),
+            "octagons" => Some(Setting::OfDomain(Domain::Octagons)),
+            "polyhedra" => Some(Setting::OfDomain(Domain::Polyhedra)),
             _ => None,
         },
         "--delay" => match value.as_bytes() {
-            [digit @ b'0'..=b'8'] => Some(Choice::OfDelay(u32::from(*digit - b'0'))),
+            [digit @ b'0'..=b'8'] => Some(Setting::OfDelay(u32::from(*digit - b'0'))),
             _ => None,
         },
+        "--ctl" => Some(Setting::OfFormula(value.as_bytes())),
         _ => None,
     }
 }

@@ -32,7 +32,7 @@ pub(crate) fn report(alloc: Global, found: &Found, names: &Names) -> Result<Due,
     ensures turns { IfOk result (λ due. due.turns ≡ found.now.turns) }
 {
     let (header, exact) = exact_part(alloc, &found.exact)?;
-    let (proved, unknown) = lines(alloc, &found.cover, Top::Bound)?.parted(alloc)?;
+    let (proved, unknown) = lines(alloc, &found.cover, found.claims)?.parted(alloc)?;
     let status = verdict(&unknown);
     let report = Report {
         header,
@@ -55,6 +55,7 @@ fn exact_part(alloc: Global, exact: &Exact) -> Result<(Header, Lines), AllocErro
     ensures { IfOk result (λ part. ShowsExact exact.now part.0 part.1) }
 {
     match exact {
+        Exact::Unasked => Ok((Header::Absent, Lines::of(Vec::new(alloc)))),
         Exact::Unmade(stop) => Ok((Header::Stopped { cause: *stop }, Lines::of(Vec::new(alloc)))),
         Exact::Made { tests, stop, tree } => {
             let (claimed, _) = lines(alloc, tree, Top::Exact)?.parted(alloc)?;
@@ -84,12 +85,13 @@ fn verdict(unknown: &Lines) -> Status
     }
 }
 
-/// The line of a program's fault, by its number and its offset. The only error is want of memory.
-pub fn fault(alloc: Global, number: u8, offset: u32) -> Result<Vec<u8>, AllocError>
-    ensures { IfOk result (λ text. text.items ≡ fault_text number offset) }
+/// The line of a fault by what has it, a program or a formula, its number and its offset. The only error is want of memory.
+pub fn fault(alloc: Global, what: &[u8], number: u8, offset: u32) -> Result<Vec<u8>, AllocError>
+    ensures { IfOk result (λ text. text.items ≡ fault_text what.now number offset) }
 {
     let mut text = Vec::new(alloc);
-    text.extend_from_slice(b"program: ")?;
+    text.extend_from_slice(what)?;
+    text.extend_from_slice(b": ")?;
     push_numeral(&mut text, u128::from(number))?;
     text.extend_from_slice(b" at ")?;
     push_numeral(&mut text, u128::from(offset))?;

@@ -11,7 +11,7 @@ pub enum Status {
     Words,
     /// The text is no program; the line of its fault is written.
     Program,
-    /// The formula is none; the line of its fault is written.
+    /// The text of the formula is none over the program's names, or its normal form is too long; the line of its fault is written.
     Formula,
     /// A read failed; nothing is written.
     ReadFault,

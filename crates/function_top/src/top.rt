@@ -8,7 +8,7 @@ ghost use Rattle.outside.specs.Source.{ConsumesUpTo};
 ghost use Rattle.ctl_rounds.specs.Asked.{RoseBy};
 ghost use Rattle.function_top.specs.Answer.{IsRun, after_failing};
 ghost use Rattle.function_top.specs.Due.{IsDueOn};
-ghost use Rattle.function_top.specs.Order.{Accepted};
+ghost use Rattle.function_top.specs.Order.{Accepted, task_of};
 ghost use Rattle.function_top.specs.Text.{IsRead};
 
 use crate::answer::{report_on, too_long};
@@ -17,6 +17,7 @@ use crate::order::{Order, order_of};
 use crate::report::usage;
 use crate::status::Status;
 use advice::Adviser;
+use formula_parse::a_text_is_one_formula;
 use line_text::laws::{a_line_spells_at_most_one_claim, lines_have_their_own_form};
 use outside::{ReadEnd, Sink, Source, read_program, write_all};
 use source_parse::{a_text_is_one_program, names_are_distinct, names_are_spelled_as_names};
@@ -25,12 +26,13 @@ use std::alloc::{AllocError, Global};
 /// Does all that the program does: reads a program from the source, and writes the report on it to the sink.
 ///
 /// `words` are the words of the command line, the program's name first; behind it may stand `--domain` with `boxes`, `octagons` or
-/// `polyhedra`, and `--delay` with a digit up to 8, each at most once and in any order. The order is: words, reading, program, writing, and
-/// the first refusal ends the run. The whole output is built before its first byte is written. After a refusal nothing was written but its
-/// line, or a front of that where the sink failed.
+/// `polyhedra`, `--delay` with a digit up to 8, and `--ctl` with the text of a formula over the program's variables, each at most once and in
+/// any order. The order is: words, reading, program, formula, analysis, writing, and the first refusal ends the run. The whole output is built
+/// before its first byte is written. After a refusal nothing was written but its line, or a front of that where the sink failed.
 ///
 /// `advisers` are shown facts about loops, and may hint at what bounds one: each equally often and at most eight times, and eight times
-/// where the report has an unknown line. Nothing is assumed of what they hint; each was asked at most 2^32 times before.
+/// where the report has an unknown line and the normal form of the formula is a whole `A[f U g]`, as that of `AF exit` is, about which is asked
+/// without `--ctl`. Nothing is assumed of what they hint; each was asked at most 2^32 times before.
 pub fn run<S: Source, K: Sink>(
     alloc: Global,
     words: &[&str],
@@ -57,6 +59,7 @@ pub fn run<S: Source, K: Sink>(
     ensures asked { (times : ℕ) × (times ≤ 8) × RoseBy (λ adviser. asked_of adviser) times advisers.old.items advisers.new.items }
 {
     a_text_is_one_program();
+    a_text_is_one_formula();
     names_are_spelled_as_names();
     names_are_distinct();
     lines_have_their_own_form();
@@ -81,7 +84,7 @@ fn answer<S: Source>(
     requires patient { All (λ adviser. asked_of adviser ≤ 2 ^ 32) advisers.old.items }
     ensures due { IfOk result (λ outcome. MatchOption outcome (Rose (S.faults source.old) (S.faults source.new))
         (λ due. (text : List ℕ) × IsRead (S.left source.old) text × (S.faults source.new ≡ S.faults source.old)
-        × IsDueOn order.now text due.status due.turns due.bytes.items)) }
+        × IsDueOn (task_of order.now) text due.status due.turns due.bytes.items)) }
     ensures stops { ConsumesUpTo (65536 + 1) (S.left source.old) (S.left source.new) }
     ensures never_falls { S.faults source.old ≤ S.faults source.new }
     ensures stays { OnErr result (S.faults source.new ≡ S.faults source.old) }

@@ -14,6 +14,8 @@ mod families;
 #[cfg(test)]
 mod faults;
 #[cfg(test)]
+mod formulas;
+#[cfg(test)]
 mod hints;
 #[cfg(test)]
 mod limits;

@@ -4,15 +4,19 @@ use crate::running::{EMPTY, outcome_of};
 use function_top::Status;
 use std::test::Fail;
 
-const ACCEPTED: [&[&str]; 5] = [
+const ACCEPTED: [&[&str]; 7] = [
     &[],
     &["function"],
     &["function", "--delay", "0"],
     &["function", "--delay", "8", "--domain", "boxes"],
     &["function", "--domain", "octagons", "--delay", "1"],
+    &["function", "--ctl", "AF exit"],
+    &[
+        "function", "--delay", "1", "--ctl", "AF exit", "--domain", "boxes",
+    ],
 ];
 
-const REFUSED: [&[&str]; 12] = [
+const REFUSED: [&[&str]; 15] = [
     &["function", "--help"],
     &["function", "0"],
     &["function", "", "0"],
@@ -25,6 +29,9 @@ const REFUSED: [&[&str]; 12] = [
     &["function", "--domain", "discs"],
     &["function", "--domain", "--delay", "2"],
     &["function", "--domain=boxes"],
+    &["function", "--ctl"],
+    &["function", "--ctl=AF exit"],
+    &["function", "--ctl", "AF exit", "--ctl", "AF exit"],
 ];
 
 #[test]

@@ -1,13 +1,13 @@
-use Rattle.std.proofs.Common.{◌≡◌, All, length, rules, sym, subst, arith}
+use Rattle.std.proofs.Common.{◌≡◌, All, length, rules, refl, sym, subst, arith}
 use Rattle.step_meaning.specs.Syntax.{statements}
 use Rattle.control_flow.specs.Labels.{all_labels}
 use Rattle.count_down.proofs.Leads.{all_weaken}
-use Rattle.ctl_formula.specs.Formulas.{af_exit}
+use Rattle.ctl_formula.specs.Formulas.{Ctl, until}
 use Rattle.ctl_formula.specs.Mirror.{ctl}
 use Rattle.decision_tree.specs.Extent.{ComplementsFit, IsTreeOver}
 use Rattle.decision_tree.specs.Plans.{plan_of}
 use Rattle.forward_inv.specs.Invariants.{AreInvariants}
-use Rattle.tree_support.specs.Told.{told_by}
+use Rattle.tree_support.specs.Told.{IsTrueOfReached, told_by}
 use Rattle.ctl_rounds.specs.Certified.{Certifies, IsFamilyFor}
 use Rattle.ctl_rounds.specs.Covers.{IsCover}
 use Rattle.ctl_rounds.proofs.Asking.{unasked}
@@ -16,10 +16,6 @@ use Rattle.function_top.proofs.finding.covered.Goals as goal
 
 pub returns-in_err-inv-clause-asked : goal.returns-in_err-inv-clause-asked
 returns-in_err-inv-clause-asked g c =
-    (0, omega (arith), unasked (λ a. (goal.Adviser-dyn g (a.vtable, a.value)).asked_of a.value) c.args.advisers.now.items, search rules)
-
-pub returns-in_err-formula-clause-asked : goal.returns-in_err-formula-clause-asked
-returns-in_err-formula-clause-asked g c =
     (0, omega (arith), unasked (λ a. (goal.Adviser-dyn g (a.vtable, a.value)).asked_of a.value) c.args.advisers.now.items, search rules)
 
 pub cover-requires : goal.cover-requires
@@ -44,37 +40,64 @@ printable g c =
     let program = c.args.program.now in
     let told = told_by g.D.NumDomain.told_bounds g.D.NumDomain.told_rows g.D.NumDomain.seen_empty c.in_ok-inv.inv in
     let certificate = c.in_ok-certificate.certificate in
-    c.covers_can_be_printed.ensures (length program.names) (statements program.body) told (ctl c.in_ok-formula.formula) certificate.parts certificate.tops
+    c.covers_can_be_printed.ensures (length program.names) (statements program.body) told (ctl c.args.formula.now) certificate.parts certificate.tops
     c.in_ok-certificate.ensures.certified (plan_of c.in_ok-cover.cover) (covers g c)
 
 pub returns-clause-printable : goal.returns-clause-printable
 returns-clause-printable g c = let both = printable g c in record { over = both.0; complements = both.1 }
 
-pub returns-clause-bounds : goal.returns-clause-bounds
-returns-clause-bounds g c =
+-- the certificate is one of the formula, over invariants that are true
+certifies : (g : given.Over) (c : goal.After-drop-inv-inside-2 g) → (f : Ctl) → ctl c.args.formula.now ≡ f
+    → Certifies (length c.args.program.now.names) (statements c.args.program.now.body)
+    (told_by g.D.NumDomain.told_bounds g.D.NumDomain.told_rows g.D.NumDomain.seen_empty c.in_ok-inv.inv) f c.in_ok-certificate.certificate.parts
+    c.in_ok-certificate.certificate.tops
+certifies g c f is =
+    subst (λ formula. Certifies (length c.args.program.now.names) (statements c.args.program.now.body)
+    (told_by g.D.NumDomain.told_bounds g.D.NumDomain.told_rows g.D.NumDomain.seen_empty c.in_ok-inv.inv) formula c.in_ok-certificate.certificate.parts
+    c.in_ok-certificate.certificate.tops) is c.in_ok-certificate.ensures.certified
+
+true_of_reached : (g : given.Over) (c : goal.After-drop-inv-inside-2 g)
+    → IsTrueOfReached (length c.args.program.now.names) (statements c.args.program.now.body)
+    (told_by g.D.NumDomain.told_bounds g.D.NumDomain.told_rows g.D.NumDomain.seen_empty c.in_ok-inv.inv)
+true_of_reached g c =
     let program = c.args.program.now in
     let graph = c.args.graph.now in
-    let vars = length program.names in
     let body = statements program.body in
     let inv = c.in_ok-inv.inv in
-    let told = told_by g.D.NumDomain.told_bounds g.D.NumDomain.told_rows g.D.NumDomain.seen_empty inv in
-    let certificate = c.in_ok-certificate.certificate in
-    let certified : Certifies vars body told af_exit certificate.parts certificate.tops =
-    subst (λ formula. Certifies vars body told formula certificate.parts certificate.tops) c.in_ok-formula.ensures c.in_ok-certificate.ensures.certified in
-    let invariants : AreInvariants g.D.NumDomain.has vars body inv =
+    let invariants : AreInvariants g.D.NumDomain.has (length program.names) body inv =
     subst (λ names. AreInvariants g.D.NumDomain.has (length names) body inv) c.requires.names
     (subst (λ b. AreInvariants g.D.NumDomain.has (length graph.names) b inv) c.requires.body c.in_ok-inv.ensures.members) in
-    c.covers_hold.ensures.ending vars body told program.valid.few program.valid.well_sorted
-    (c.invariants_tell_the_truth.ensures vars body inv invariants) certificate.parts certificate.tops certified (plan_of c.in_ok-cover.cover) (covers g c)
+    c.invariants_tell_the_truth.ensures (length program.names) body inv invariants
+
+pub returns-clause-satisfied : goal.returns-clause-satisfied
+returns-clause-satisfied g c =
+    let program = c.args.program.now in
+    let certificate = c.in_ok-certificate.certificate in
+    c.covers_hold.ensures.satisfied (length program.names) (statements program.body)
+    (told_by g.D.NumDomain.told_bounds g.D.NumDomain.told_rows g.D.NumDomain.seen_empty c.in_ok-inv.inv) program.valid.few program.valid.well_sorted
+    (true_of_reached g c) (ctl c.args.formula.now) certificate.parts certificate.tops (certifies g c (ctl c.args.formula.now) refl)
+    (plan_of c.in_ok-cover.cover) (covers g c)
+
+pub returns-clause-bounded : goal.returns-clause-bounded
+returns-clause-bounded g c = λ all keep goal is.
+    let program = c.args.program.now in
+    let certificate = c.in_ok-certificate.certificate in
+    c.covers_hold.ensures.bounded (length program.names) (statements program.body)
+    (told_by g.D.NumDomain.told_bounds g.D.NumDomain.told_rows g.D.NumDomain.seen_empty c.in_ok-inv.inv) program.valid.few program.valid.well_sorted
+    (true_of_reached g c) all keep goal certificate.parts certificate.tops (certifies g c (until all keep goal) is)
+    (plan_of c.in_ok-cover.cover) (covers g c)
 
 pub returns-clause-countdown : goal.returns-clause-countdown
-returns-clause-countdown g c = λ counted. c.in_ok-certificate.ensures.countdown counted (plan_of c.in_ok-cover.cover) (covers g c)
+returns-clause-countdown g c = λ ends counted. c.in_ok-certificate.ensures.countdown ends counted (plan_of c.in_ok-cover.cover) (covers g c)
 
 pub returns-clause-loopless : goal.returns-clause-loopless
-returns-clause-loopless g c = λ free. c.in_ok-certificate.ensures.loopless free (plan_of c.in_ok-cover.cover) (covers g c)
+returns-clause-loopless g c = λ ends free. c.in_ok-certificate.ensures.loopless ends free (plan_of c.in_ok-cover.cover) (covers g c)
 
 pub returns-clause-asked : goal.returns-clause-asked
 returns-clause-asked g c = c.in_ok-certificate.ensures.asked
 
 pub returns-clause-insists : goal.returns-clause-insists
-returns-clause-insists g c = c.in_ok-certificate.ensures.turns (plan_of c.in_ok-cover.cover) (covers g c)
+returns-clause-insists g c = λ advised. c.in_ok-certificate.ensures.turns advised (plan_of c.in_ok-cover.cover) (covers g c)
+
+pub returns-clause-spares : goal.returns-clause-spares
+returns-clause-spares g c = c.in_ok-certificate.ensures.unadvised

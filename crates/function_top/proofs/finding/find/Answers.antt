@@ -1,20 +1,38 @@
-use Rattle.std.proofs.Common.{rules, ◌≤◌, sym, subst, arith}
+use Rattle.std.proofs.Common.{rules, ◌≤◌, ◌≢◌, ◌∙◌, ap, sym, subst, arith}
+use Rattle.ctl_formula.specs.Mirror.{ctl}
 use Rattle.decision_tree.specs.Plans.{plan_of}
+use Rattle.ctl_rounds.specs.Asked.{IsAdvised}
 use Rattle.ctl_rounds.proofs.Asking.{unasked}
-use Rattle.function_top.proofs.Bounding.{bounds_true}
+use Rattle.report_text.specs.declared.line.Top.TheVariants.{Exact as Counted}
+use Rattle.function_top.specs.Found.{IsTrueTree, claims_for}
+use Rattle.function_top.specs.Subject.{subject_of}
+use Rattle.function_top.proofs.Claiming.{claims_true, no_exact_number}
 use Rattle.function_top.proofs.finding.find.Goals as goal
 
 pub returns-in_err-exact-clause-asked : goal.returns-in_err-exact-clause-asked
 returns-in_err-exact-clause-asked g c = (0, omega (arith), unasked (λ a. (goal.Adviser-dyn g (a.vtable, a.value)).asked_of a.value) c.args.advisers.now.items, search rules)
 
 pub returns-clause-finds : goal.returns-clause-finds
-returns-clause-finds g c =
+returns-clause-finds g c = λ meant is.
     let asked = c.in_ok-cover.ensures.asked in
+    let subject = subject_of c.args.program.now meant in
+    let f = ctl c.args.formula.now in
     record {
-      exact = c.in_ok-exact.ensures.exact;
-      holds = bounds_true c.af_exit_is_that_runs_end.ensures c.args.program.now (plan_of c.in_ok-cover.cover) c.in_ok-cover.ensures.bounds;
-      countdown = λ ends counts. c.in_ok-cover.ensures.countdown counts;
-      loopless = λ ends free. c.in_ok-cover.ensures.loopless free;
+      exact = c.in_ok-exact.ensures.exact meant;
+      claims = c.claims_for.ensures ∙ ap claims_for is;
+      holds = subst (λ claims. IsTrueTree subject claims (plan_of c.in_ok-cover.cover)) (sym c.claims_for.ensures)
+          (claims_true c.normal_forms_mean_the_same.ensures subject (plan_of c.in_ok-cover.cover) f is c.in_ok-cover.ensures.satisfied
+          c.in_ok-cover.ensures.bounded);
+      countdown = λ ends counts. c.in_ok-cover.ensures.countdown (is ∙ ends) counts;
+      loopless = λ ends free. c.in_ok-cover.ensures.loopless (is ∙ ends) free;
       few = subst (λ n. n ≤ 8) (sym asked.3) asked.1;
-      insists = c.in_ok-cover.ensures.insists;
+      insists = λ advised. c.in_ok-cover.ensures.insists (subst IsAdvised (sym is) advised);
+      spares = λ unadvised. c.in_ok-cover.ensures.spares (λ advised. unadvised (subst IsAdvised is advised));
     }
+
+pub returns-clause-printable : goal.returns-clause-printable
+returns-clause-printable g c = record {
+  exact = c.in_ok-exact.ensures.printable;
+  claims = subst (λ claims. claims ≢ Counted) (sym c.claims_for.ensures) (no_exact_number (ctl c.args.formula.now));
+  cover = c.in_ok-cover.ensures.printable;
+}

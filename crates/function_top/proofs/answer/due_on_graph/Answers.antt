@@ -1,0 +1,40 @@
+use Rattle.std.proofs.Common.{rules, ◌≡◌, ◌∙◌, refl, sym, Some, arith}
+use Rattle.formula_parse.specs.Laws.{numbered}
+use Rattle.ctl_rounds.proofs.Asking.{unasked}
+use Rattle.function_top.specs.Order.{task_of}
+use Rattle.function_top.proofs.Refusing.{asked_refused}
+use Rattle.function_top.proofs.answer.due_on_graph.Goals as goal
+
+pub returns-in_ok-no_formula-in-Some-clause-due : goal.returns-in_ok-no_formula-in-Some-clause-due
+returns-in_ok-no_formula-in-Some-clause-due g c = λ text short derived stand.
+    let program = c.args.program.now in
+    let told : numbered c.in-Err.fault ≡ Some (c.in-Some.number, c.in-Some.offset) = sym c.numbered.ensures ∙ c.in-Some.is in
+    let refused = asked_refused program.names (task_of c.args.order.now).formula c.in-Err.fault c.in-Some.number c.in-Some.offset
+    c.in_ok-no_formula-in-Some.field-0.bytes.items c.a_formula_has_no_fault.ensures c.in-Err.ensures.fault told c.in_ok-no_formula-in-Some.ensures.line
+    in
+    rw (c.in_ok-no_formula-in-Some.ensures.status) (
+      record {
+        names = program.names;
+        within = record {
+          short = short;
+          program = program;
+          derived = derived;
+          names_are = refl;
+          labels = c.requires.labels;
+          conjunctions = c.requires.conjunctions;
+        };
+        formula = refused.formula;
+        asked = refused.asked_is;
+        refused = refused.refused;
+      },
+      c.in_ok-no_formula-in-Some.ensures.unasked,
+    )
+
+pub returns-in_ok-no_formula-in-Some-clause-asked : goal.returns-in_ok-no_formula-in-Some-clause-asked
+returns-in_ok-no_formula-in-Some-clause-asked g c = (0, omega (arith), unasked (λ a. (goal.Adviser-dyn g (a.vtable, a.value)).asked_of a.value) c.args.advisers.now.items, c.in_ok-no_formula-in-Some.ensures.unasked)
+
+pub returns-in_err-no_formula-in-Some-clause-asked : goal.returns-in_err-no_formula-in-Some-clause-asked
+returns-in_err-no_formula-in-Some-clause-asked g c = (0, omega (arith), unasked (λ a. (goal.Adviser-dyn g (a.vtable, a.value)).asked_of a.value) c.args.advisers.now.items, search rules)
+
+pub returns-in-None-clause-asked : goal.returns-in-None-clause-asked
+returns-in-None-clause-asked g c = (0, omega (arith), unasked (λ a. (goal.Adviser-dyn g (a.vtable, a.value)).asked_of a.value) c.args.advisers.now.items, search rules)

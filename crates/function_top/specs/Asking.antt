@@ -1,0 +1,35 @@
+-- The formula that is asked about, in normal form, or what is answered in its place.
+use Rattle.std.specs.Prelude.{◌≡◌, ℕ, ◌≤◌, ◌⊎◌, List, Option, None, Some}
+use Rattle.ctl_formula.specs.Formulas.{Ctl, normal}
+use Rattle.normal_form.specs.Operators.{operators}
+use Rattle.formula_parse.specs.declared.fault.FormulaFault.{FormulaFault}
+use Rattle.formula_parse.specs.Derives.{IsFormulaOf}
+use Rattle.formula_parse.specs.FaultOf.{IsFaultOf, IsNormalFault}
+use Rattle.formula_parse.specs.Laws.{IsMemory}
+use Rattle.function_top.specs.Subject.{IsFormulaAsked}
+
+-- over the names this is the normal form of the formula that is asked about, and has at most 256 operators
+pub record IsNormalAsked (names : List (List ℕ)) (asked : Option (List ℕ)) (f : Ctl) : Type 0 where
+  pub meant : Ctl
+  pub is : IsFormulaAsked names asked meant
+  pub normal_form : f ≡ normal meant
+  pub limited : operators (normal meant) ≤ 256
+
+-- this is the normal form of the formula that the text is
+abbrev pub IsNormalRead : List (List ℕ) → List ℕ → Ctl → Type 0
+IsNormalRead names text f = IsNormalAsked names (Some text) f
+
+-- over the names the text is a formula of which this is the fault of the normal form
+pub record IsFaultOfNormal (names : List (List ℕ)) (text : List ℕ) (fault : FormulaFault) : Type 0 where
+  pub meant : Ctl
+  pub derived : IsFormulaOf text names meant
+  pub fault_of : IsNormalFault meant fault
+
+-- this is answered in place of the normal form of the formula that the text is: a fault of the text, or one of the normal form
+abbrev pub IsFaultRead : List (List ℕ) → List ℕ → FormulaFault → Type 0
+IsFaultRead names text fault = IsFaultOf text names fault ⊎ IsFaultOfNormal names text fault
+
+-- where no formula is asked about nothing but want of memory is
+abbrev pub IsFaultAsked : List (List ℕ) → Option (List ℕ) → FormulaFault → Type 0
+IsFaultAsked names None fault = IsMemory fault
+IsFaultAsked names (Some text) fault = IsFaultRead names text fault
