@@ -4,8 +4,8 @@
 - docs/ARCHITECTURE.md has the layers of crates.txt, each with its crates in their order, and names at each crate exactly the crates of the repository that it
   stands on.
 - Each word in backquotes that looks like a name of the code occurs in the code.
-- Each program under examples/ stands in docs/EXAMPLES.md with its report, as the files have them, and in the table on top of that page; README.md shows
-  programs as the files have them too.
+- Each program under examples/ stands in docs/EXAMPLES.md with its report, as the files have them, and in the table on top of that page, and each one under
+  examples/formulas/ with its formula too; README.md shows programs as the files have them.
 - Behind the dash of each claim in docs/PROOFS.md stand functions and clauses: each function is one of the code, and each clause stands at a function that the claim
   names before it, or is a field of a record in that function's contract. Where a claim names no function, the clause is one of the heading's crates.
 """
@@ -14,7 +14,7 @@ import sys
 from pathlib import Path
 
 TOP = Path(__file__).resolve().parent.parent
-PAGES = ["README.md"] + [f"docs/{name}.md" for name in ("ARCHITECTURE", "DECISIONS", "DOMAINS", "EXAMPLES", "FORMULAS", "GLOSSARY", "LANGUAGE", "PROOFS", "RELATED", "REPORT", "WORKING")]
+PAGES = ["README.md"] + [f"docs/{name}.md" for name in ("ANALYSIS", "ARCHITECTURE", "DECISIONS", "DOMAINS", "EXAMPLES", "FORMULAS", "GLOSSARY", "LANGUAGE", "PROOFS", "RELATED", "REPORT", "WORKING")]
 # Words of the toolchain and of the command line, which the code doesn't spell.
 ELSEWHERE = {"Answers", "Invariants", "IfErr", "IfOk", "IfSome", "MatchOption", "OnErr", "OnOk", "abbrev", "always", "certificate", "const", "continue", "enum",
              "extern", "function", "indexmap", "main", "noexec", "num_traits", "result", "start_io", "thiserror", "typedef", "unfoldable", "verdict"}
@@ -112,6 +112,20 @@ def missing_examples():
             yield f"docs/EXAMPLES.md has not the row: {row_of(program, report)}"
 
 
+def missing_formulas():
+    """Programs with a formula and their reports that the page of examples doesn't show as the files have them."""
+    page = (TOP / "docs/EXAMPLES.md").read_text()
+    for program in sorted((TOP / "examples/formulas").glob("*.c")):
+        asked, report = program.with_suffix(".ctl").read_text(), program.with_suffix(".report").read_text()
+        shown = f"```c\n{program.read_text()}```\n\n```\n--ctl '{asked.strip()}'\n```\n\n```\n{report}```\n"
+        verdict = report.splitlines()[-1].removeprefix("verdict: ")
+        in_row = asked.strip().replace("|", "\\|")
+        if shown not in page:
+            yield f"docs/EXAMPLES.md doesn't show formulas/{program.name} with its report"
+        elif not re.search(rf"(?m)^\| {program.name} \| `{re.escape(in_row)}` \| .* \| {verdict} \|$", page):
+            yield f"docs/EXAMPLES.md has no row of formulas/{program.name}"
+
+
 def stale_examples():
     """Programs and reports that README.md shows otherwise than the files have them."""
     page = (TOP / "README.md").read_text()
@@ -175,7 +189,7 @@ def missing_clauses():
 
 
 def main():
-    faults = [*wrong_layers(), *wrong_rows(), *unknown_names(), *missing_examples(), *stale_examples(), *missing_clauses()]
+    faults = [*wrong_layers(), *wrong_rows(), *unknown_names(), *missing_examples(), *missing_formulas(), *stale_examples(), *missing_clauses()]
     for fault in faults:
         print(fault)
     return 1 if faults else 0

@@ -1,0 +1,8 @@
+/* One of two ways leads to 2. */
+int main() {
+  int x;
+  if (?)
+    x = 1;
+  else
+    x = 2;
+}

@@ -1,0 +1,17 @@
+/* Whose turn it is not yet gets in after all. */
+int main() {
+  int turn, a, b;
+  turn = 0;
+  a = 0;
+  while (true) {
+    if (turn == 0) {
+      a = 1;
+      a = 0;
+      turn = 1;
+    } else {
+      b = 1;
+      b = 0;
+      turn = 0;
+    }
+  }
+}

@@ -1,0 +1,1 @@
+E[lock == 1 W lock == 0]

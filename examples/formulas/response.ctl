@@ -1,0 +1,1 @@
+AG (request == 0 || AF grant == 1)
