@@ -18,10 +18,11 @@ from fuzz import COMPARISONS, SECONDS, TOP, Maker, affine, met, sections
 
 DEPTH = 40
 MOST_STATES = 4000
+LARGEST = 10**30
 
 
 class TooMany(Exception):
-    """More states than are looked at."""
+    """More states, or larger numbers, than are looked at."""
 
 
 # ---- programs
@@ -199,6 +200,8 @@ class Truth:
             if len(self.ahead) > MOST_STATES:
                 raise TooMany
             self.ahead[state] = successors(state)
+            if any(abs(number) > LARGEST for _, store in self.ahead[state] for number in store):
+                raise TooMany
         return self.ahead[state]
 
     def within(self, f, steps, state):
