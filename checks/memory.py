@@ -3,7 +3,7 @@
 
     python3 checks/memory.py [PROGRAM ..]
 
-It is no part of the gate, and needs a C compiler. Without words it takes four of the examples. It ends with 1 where a run ends otherwise.
+It is no part of the gate, and needs a C compiler. Without words it takes seven of the examples, three of them with their formula. It ends with 1 where a run ends otherwise.
 """
 import os
 import subprocess
@@ -13,7 +13,7 @@ from pathlib import Path
 
 TOP = Path(__file__).resolve().parent.parent
 COMMAND = TOP / "crates/function_cli/out/function_cli"
-EXAMPLES = ["empty", "branches", "countdown", "steps"]
+EXAMPLES = ["empty", "branches", "countdown", "steps", "formulas/some_sum", "formulas/settles", "formulas/keeps_on"]
 
 # In front of the C library's calls: the one with the number in REFUSE gives nothing, and at the end the number of calls goes to standard error.
 SHIM = r"""
@@ -42,19 +42,20 @@ __attribute__((destructor)) static void tell(void) { dprintf(2, "calls %ld\n", c
 """
 
 
-def run(shim, text, refuse):
+def run(shim, words, text, refuse):
     """The status, what was written, and the number of allocations of a run without the one of that number; 0 refuses none."""
-    ended = subprocess.run([COMMAND], input=text, capture_output=True, check=False, env={**os.environ, "LD_PRELOAD": shim, "REFUSE": str(refuse)})
+    ended = subprocess.run([COMMAND, *words], input=text, capture_output=True, check=False, env={**os.environ, "LD_PRELOAD": shim, "REFUSE": str(refuse)})
     told = ended.stderr.rpartition(b"calls ")[2]
     return ended.returncode, ended.stdout, int(told) if told.strip().isdigit() else 0
 
 
 def wrong(shim, program):
     """A line for each run on the program that ends otherwise."""
-    text = program.read_bytes()
-    status, report, count = run(shim, text, 0)
+    text, asked = program.read_bytes(), program.with_suffix(".ctl")
+    words = ["--ctl", asked.read_text().strip()] if asked.exists() else []
+    status, report, count = run(shim, words, text, 0)
     for refuse in range(1, count + 1):
-        answer = run(shim, text, refuse)[:2]
+        answer = run(shim, words, text, refuse)[:2]
         if answer not in ((7, b""), (status, report)):
             yield f"{program.name}: without allocation {refuse} of {count}: status {answer[0]}, {len(answer[1])} bytes"
     print(f"{program.name}: {count} allocations")
