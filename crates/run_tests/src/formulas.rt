@@ -15,7 +15,7 @@ const ALWAYS_HOLDS: &str = "proved:\nalways: holds\nunknown:\nverdict: all input
 const NOTHING_CLAIMED: &str = "proved:\nunknown:\nalways: unknown\nverdict: some inputs\n";
 
 // Without a formula there is an exact part, with one there is none, also where it is the formula that is asked about without one.
-const HELD: [Case; 6] = [
+const HELD: [Case; 10] = [
     (
         SET,
         &["function", "--ctl", "AF AG x == 1"],
@@ -40,6 +40,30 @@ const HELD: [Case; 6] = [
         &["function", "--ctl", "AX x == 4"],
         SomeInputs,
         NOTHING_CLAIMED,
+    ),
+    (
+        EITHER,
+        &["function", "--ctl", "EX EX x == 2"],
+        AllInputs,
+        ALWAYS_HOLDS,
+    ),
+    (
+        "int main() { int x; x = [0, 9]; }",
+        &["function", "--ctl", "EX x == 4"],
+        AllInputs,
+        ALWAYS_HOLDS,
+    ),
+    (
+        "int main() { int x; x = [0, 9]; }",
+        &["function", "--ctl", "EX x == 10"],
+        SomeInputs,
+        NOTHING_CLAIMED,
+    ),
+    (
+        "int main() { int x; while (x > 0) x = x + 1; }",
+        &["function", "--ctl", "EG x >= 1"],
+        SomeInputs,
+        "proved:\nx - 1 >= 0: holds\nunknown:\n-x >= 0: unknown\nverdict: some inputs\n",
     ),
     (
         EMPTY,
