@@ -11,6 +11,7 @@ ghost use Rattle.decision_tree.specs.Extent.{ComplementsFit};
 ghost use Rattle.tree_unify.specs.declared.fault.TreeFault.TheVariants.{Full as TooFull, Wide as TooWide};
 
 use crate::fault::TreeFault;
+use crate::trimming::is_leaf;
 use crate::walk::{Stopped, Walk};
 use decision_tree::{Rank, Tree};
 use linear_cons::Row;
@@ -71,6 +72,22 @@ fn cut<R: Rank, D: NumDomain>(
         discard(below);
         let part = cut(alloc, walk, yes, inside)?;
         return Ok(part);
+    }
+    if is_leaf(no) {
+        // A leaf needs no state, so a long line of yes sides holds none for each of its nodes.
+        discard(below);
+        let first = cut(alloc, walk, yes, inside)?;
+        let size = walk.size;
+        return match walk.copied(alloc, no) {
+            Ok(other) => {
+                let part = walk.join_sides(alloc, row, first, other, size)?;
+                Ok(part)
+            }
+            Err(stopped) => {
+                Tree::discard(first);
+                Err(stopped)
+            }
+        };
     }
     let first = cut(alloc, walk, yes, inside)?;
     let size = walk.size;
