@@ -11,10 +11,10 @@
 //!
 //! `trees JOB ROWS TIMES` works on trees. `copy`, `walk`, `trim`, `either` and `prune` work on a line of ROWS rows: `walk` goes over it
 //! with its rows in hand, `trim ROWS TIMES LENGTH` trims it by a path of LENGTH rows, `either` joins it with itself, and `prune` holds it
-//! against all stores. `later` joins two trees of ROWS rows each that share no row, and `grown` copies the tree that `later` makes. `full`
-//! joins two that make too large a tree, the first with nodes on the yes sides of its line. `widen` widens a line of rising ranks by the
-//! line of ranks 0, which bears each of its claims out. For a walk it prints how many of the rows were settled by those above them, else
-//! the size of the last tree.
+//! against all stores. `descend-boxes` and `descend-octagons` prune by all stores a line whose nodes lie on the yes sides. `later` joins
+//! two trees of ROWS rows each that share no row, and `grown` copies the tree that `later` makes. `full` joins two that make too large a
+//! tree, the first with nodes on the yes sides of its line. `widen` widens a line of rising ranks by the line of ranks 0, which bears each
+//! of its claims out. For a walk it prints how many of the rows were settled by those above them, else the size of the last tree.
 //!
 //! `checks JOB LABELS TIMES` works on families of trees for a program of LABELS labels, from 2 to 1,024. Each label but the end has a tree
 //! of one row and two leaves. `check` copies the family of a line of assignments and checks the copy, which gives up nothing; in `fall` the

@@ -5,8 +5,9 @@ mod walk;
 use crate::fault::Fault;
 use decision_tree::{AffineRank, Trail, Tree};
 use interval_dom::Boxes;
-use made::{broad_trees, line_tree, path, rising_line, two_trees};
+use made::{broad_trees, descending_line, line_tree, path, rising_line, two_trees};
 use num_domain::NumDomain;
+use octagon_dom::Octagon;
 use std::alloc::Global;
 use tree_unify::{TreeFault, either, later, prune, trim};
 use tree_widening::widen;
@@ -24,7 +25,9 @@ pub fn done(alloc: Global, job: &str, rows: u32, times: u32, length: u32) -> Res
             let (first, second) = two_trees(alloc, rows)?;
             copied(alloc, &later(alloc, &first, &second)?, times)
         }
-        "prune" => pruned(alloc, rows, times),
+        "prune" => pruned::<Boxes>(alloc, &line_tree(alloc, rows)?, times),
+        "descend-boxes" => pruned::<Boxes>(alloc, &descending_line(alloc, rows)?, times),
+        "descend-octagons" => pruned::<Octagon>(alloc, &descending_line(alloc, rows)?, times),
         "full" => refused(alloc, rows, times),
         "widen" => widened(alloc, rows, times),
         _ => Err(Fault::Job),
@@ -77,12 +80,11 @@ fn joined_by_later(alloc: Global, rows: u32, times: u32) -> Result<u64, Fault> {
     Ok(size)
 }
 
-fn pruned(alloc: Global, rows: u32, times: u32) -> Result<u64, Fault> {
-    let tree = line_tree(alloc, rows)?;
-    let all = Boxes::top(alloc)?;
+fn pruned<D: NumDomain>(alloc: Global, tree: &Tree<AffineRank>, times: u32) -> Result<u64, Fault> {
+    let all = D::top(alloc)?;
     let mut size = 0;
     for _ in 0..times {
-        size = prune(alloc, &tree, &all)?.size();
+        size = prune(alloc, tree, &all)?.size();
     }
     Ok(size)
 }

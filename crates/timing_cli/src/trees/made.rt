@@ -42,6 +42,19 @@ pub fn broad_trees(
     Ok((tree, second))
 }
 
+/// A line of such rows, each with a leaf of rank 0 on its no side: the numbers rise from the root, so that both
+/// sides of each node have members.
+pub fn descending_line(alloc: Global, rows: u32) -> Result<Tree<AffineRank>, Fault> {
+    let mut tree = Tree::Bottom;
+    for above in 0..rows {
+        let number = rows.saturating_sub(above);
+        if let RowKind::Row(row) = row_of(0, number) {
+            tree = Tree::branch(alloc, row, tree, leaf(&Affine::constant(0)))?;
+        }
+    }
+    Ok(tree)
+}
+
 /// A line of rows over the eight variables from a place on. From leaf to leaf the rank rises.
 fn line_of(
     alloc: Global,
