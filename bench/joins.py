@@ -9,7 +9,7 @@ of them with one linear part, and joined with itself; two trees of 201 nodes tha
 to one of 40,201; a line of 4,095 nodes is pruned by a box of all stores; and a line of 5,001 nodes is
 widened by one of the same rows with smaller ranks, so that the solver is asked nothing. A line of 1,000
 nodes that lie on the yes sides is pruned by all stores, under boxes and under octagons: how many times as
-long octagons take, and the memory that they take beyond boxes. At the end stands the memory that a join
+long octagons take, which is to be 3 at most, and the memory that they take beyond boxes, 4 megabytes at most. At the end stands the memory that a join
 takes which is refused, of 1,000 rows with nodes on their yes sides and a tree of 2,001 nodes.
 """
 
@@ -58,7 +58,7 @@ def main():
     boxes, octagons = (f"descend-{domain} 1000" for domain in ("boxes", "octagons"))
     ratio = each(program, octagons, 10) / each(program, boxes, 100)
     beyond = megabytes(program, f"{octagons} 1") - megabytes(program, f"{boxes} 1")
-    print(f"prune by octagons: {ratio:.1f} times as long as by boxes, {beyond:.1f} megabytes beyond")
+    print(f"prune by octagons: {ratio:.1f} times as long as by boxes, {beyond:.1f} megabytes beyond (at most 3 times, 4 megabytes)")
     print(f"later of too many nodes: {megabytes(program, 'full 1000 1'):.0f} megabytes")
 
 

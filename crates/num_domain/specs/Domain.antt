@@ -55,6 +55,10 @@ pub record IsPlain (row : Row) (place : ℕ) : Type 0 where
 abbrev pub AllMeet : Row → (List ℤ → Type 0) → Type 0
 AllMeet row has = (store : List ℤ) → IsStore store → has store → Meets store row
 
+-- no store of the set meets the row
+abbrev pub NoneMeets : Row → (List ℤ → Type 0) → Type 0
+NoneMeets row has = (store : List ℤ) → IsStore store → has store → Meets store row → ⊥
+
 -- a domain's value after a call that wanted memory: its members and its answers are the old ones
 pub record IsUnchanged {D : Type 0} (has : D → List ℤ → Type 0) (empty : D → Bool) (rows : D → List Row) (bounds : D
     → Bounds) (old new : D) : Type 0 where

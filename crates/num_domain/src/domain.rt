@@ -4,8 +4,8 @@ ghost use Rattle.linear_cons.specs.declared.bounds.Bounds.{Bounds};
 ghost use Rattle.linear_cons.specs.declared.row.Row.{Row};
 ghost use Rattle.linear_cons.specs.Bounds.{LiesIn};
 ghost use Rattle.linear_cons.specs.Rows.{MeetsAll};
-ghost use Rattle.num_domain.specs.Domain.{AllMeet, HasEvery, IsPlain, IsUnchanged, KeepsAssigned, KeepsMeeting, KeepsMeetingAll, SameMembers};
-ghost use Rattle.num_domain.specs.Domain.{Within};
+ghost use Rattle.num_domain.specs.Domain.{AllMeet, HasEvery, IsPlain, IsUnchanged, KeepsAssigned, KeepsMeeting, KeepsMeetingAll, NoneMeets};
+ghost use Rattle.num_domain.specs.Domain.{SameMembers, Within};
 
 use linear_cons::{Bounds, Linear, Row};
 use std::alloc::{AllocError, Global};
@@ -70,6 +70,15 @@ pub trait NumDomain: Drop + Sized {
     /// together.
     fn implies(&self, row: &Row) -> bool
         ensures { IsTrue result → AllMeet row.now (has self.now) };
+
+    /// True only where no member meets the row: where a copy that met it would be seen to be empty.
+    fn rules_out(&self, alloc: Global, row: &Row) -> Result<bool, AllocError>
+        ensures { IfOk result (λ out. IsTrue out → NoneMeets row.now (has self.now)) }
+    {
+        let mut twin = self.copy(alloc)?;
+        twin.meet_row(alloc, row)?;
+        Ok(twin.is_empty())
+    }
 
     /// Rows that each member meets.
     fn rows(&self, alloc: Global) -> Result<Vec<Row>, AllocError>

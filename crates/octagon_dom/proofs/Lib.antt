@@ -9,6 +9,7 @@ pub mod Twins
 pub mod Closures
 pub mod RowClosures
 pub mod Passing
+pub mod Opposed
 pub mod Passes
 pub mod Moves
 pub mod Sizes

@@ -1,9 +1,11 @@
 -- A cell that contradicts its opposite.
-use Rattle.std.proofs.Common.{◌≡◌, ℕ, zero, suc, ◌+◌, ◌*◌, ◌/◌, ◌%◌, ◌<◌, ◌≤◌, ℤ, Bool, true, false, ◌||◌, List, arith, refl, add-one}
-use Rattle.std.proofs.Common.{⊎_elim, subst, sym}
+use Rattle.std.proofs.Common.{◌≡◌, ℕ, zero, suc, ◌+◌, ◌*◌, ◌/◌, ◌%◌, ◌<◌, ◌≤◌, ℤ, pos, ◌+ℤ◌, Bool, true, false, ◌||◌, List, Option, None, Some, int_lt, arith, refl, add-one}
+use Rattle.std.proofs.Common.{◌∙◌, ⊎_elim, ap, subst, sym}
 use Rattle.std.proofs.lemmas.Bool.{cases_lt}
+use Rattle.std.proofs.lemmas.Int.{ints}
 use Rattle.num_domain.specs.declared.bound.Bound.{Bound}
 use Rattle.octagon_dom.specs.Cells.{bound, is_negative, void_below}
+use Rattle.octagon_dom.specs.Laws.Members.{bound_same}
 
 pub void_none : (cells : List (Bound ℤ)) → void_below 0 cells ≡ false
 unfolding void_below
@@ -70,3 +72,45 @@ some_negative (suc n) cells few is = chosen (void_below n cells) refl (λ before
       also = omega arith;
       is = rw before at is;
     }
+
+-- two ends sum below 0 in either order
+negative_turned : (left right : Option ℤ) → is_negative left right ≡ is_negative right left
+negative_turned None None = refl
+negative_turned None (Some b) = refl
+negative_turned (Some a) None = refl
+negative_turned (Some a) (Some b) = let same : a +ℤ b ≡ b +ℤ a = omega (arith, ints) in ap (λ t. int_lt t (pos 0)) same
+
+-- one cell that contradicts its opposite
+pub void_found : (cells : List (Bound ℤ)) (i j : ℕ) → i < 32 → j < 32 → is_negative (bound cells i j) (bound cells j i) ≡ true
+    → void_below 1024 cells ≡ true
+void_found cells i j low also is =
+    let row : (32 * i + j) / 32 ≡ i = omega arith in
+    let column : (32 * i + j) % 32 ≡ j = omega arith in
+    let here : is_negative (bound cells ((32 * i + j) / 32) ((32 * i + j) % 32)) (bound cells ((32 * i + j) % 32) ((32 * i + j) / 32)) ≡ true =
+    rw (row, column) is in
+    void_later (32 * i + j + 1) 1024 cells (omega arith) (void_more (32 * i + j) cells ∙ either_true (void_below (32 * i + j) cells) _ here)
+  where
+    either_true : (a b : Bool) → b ≡ true → (a || b) ≡ true
+    either_true true b is = refl
+    either_true false b is = is
+
+-- a signed place less itself is 0
+negative_itself : (cells : List (Bound ℤ)) (i j : ℕ) → i ≡ j → is_negative (bound cells i j) (bound cells j i) ≡ false
+negative_itself cells i j same = rw (bound_same cells i j same, bound_same cells j i (sym same)) refl
+
+-- no cell contradicts its opposite where the later of two never does
+negative_nowhere : (cells : List (Bound ℤ)) → ((i j : ℕ) → i < 32 → j < i → is_negative (bound cells i j) (bound cells j i) ≡ false) → (i j : ℕ) → i < 32 → j < 32
+    → is_negative (bound cells i j) (bound cells j i) ≡ false
+negative_nowhere cells none i j low also = ⊎_elim
+    (λ (later : j < i). none i j low later)
+    (λ (from : i ≤ j). ⊎_elim
+    (λ (earlier : i < j). negative_turned (bound cells i j) (bound cells j i) ∙ none j i also earlier)
+    (λ (upto : j ≤ i). let same : i ≡ j = omega arith in negative_itself cells i j same)
+    (cases_lt i j))
+    (cases_lt j i)
+
+pub void_nowhere : (cells : List (Bound ℤ)) → ((i j : ℕ) → i < 32 → j < i → is_negative (bound cells i j) (bound cells j i) ≡ false) → (n : ℕ) → n ≤ 1024
+    → void_below n cells ≡ false
+unfolding void_below
+void_nowhere cells none zero few = refl
+void_nowhere cells none (suc n) few = rw (void_nowhere cells none n (omega arith), negative_nowhere cells none (n / 32) (n % 32) (omega arith) (omega arith)) refl

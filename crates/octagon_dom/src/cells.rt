@@ -1,5 +1,5 @@
 //! The matrix of bounds on differences of signed places, in one flat list of cells.
-ghost use Rattle.std.specs.Prelude.{◌≡◌, ◌↔◌, ℕ, ◌<◌, IsTrue, length};
+ghost use Rattle.std.specs.Prelude.{◌≡◌, ◌≢◌, ◌↔◌, ℕ, ◌+◌, ◌*◌, ◌/◌, ◌<◌, IsTrue, true, false, length};
 ghost use Rattle.num_domain.specs.Ends.{some_end};
 ghost use Rattle.octagon_dom.specs.Assignments.{HasModerateBounds};
 ghost use Rattle.octagon_dom.specs.Closure.{IsModerateAt, IsModerateEnd, SumsFit};
@@ -143,7 +143,22 @@ fn line(cells: &[Bound<i128>], j: usize) -> [Bound<i128>; 32]
     ways
 }
 
-/// Makes each cell the smaller of itself and the way over a new bound on `i` less `j`.
+/// Makes each bound on `a` the smaller of itself and a way from there, on by a bound of `out`.
+fn shorten_line(cells: &mut [Bound<i128>], a: usize, way: Bound<i128>, out: &[Bound<i128>; 32])
+    requires long { length cells.old ≡ 1024 }
+    requires inside { a < 32 }
+    ensures long { length cells.new ≡ 1024 }
+    ensures line { (b : ℕ) → b < 32 → cell cells.new (32 * a + b) ≡ least_end (cell cells.old (32 * a + b)) (sum_end (some_end way) (cell out.now b)) }
+    ensures others { (k : ℕ) → k / 32 ≢ a → cell cells.new k ≡ cell cells.old k }
+{
+    for b in 0..SIGNED {
+        let k = SIGNED * a + b;
+        cells[k] = least(cells[k], sum(way, out[b]));
+    }
+}
+
+/// Makes each cell the smaller of itself and the way over a new bound on `i` less `j`. The bounds on a
+/// signed place from which none leads to `i` stay, so that the cost goes by the places in use.
 fn tighten(cells: &mut [Bound<i128>], i: usize, j: usize, step: Bound<i128>)
     requires long { length cells.old ≡ 1024 }
     requires row { i < 32 }
@@ -152,9 +167,10 @@ fn tighten(cells: &mut [Bound<i128>], i: usize, j: usize, step: Bound<i128>)
 {
     let into = column(cells, i, step);
     let out = line(cells, j);
-    for k in 0..CELLS {
-        let way = sum(into[k / SIGNED], out[k % SIGNED]);
-        cells[k] = least(cells[k], way);
+    for a in 0..SIGNED {
+        if let Bound::At(_) = into[a] {
+            shorten_line(cells, a, into[a], &out);
+        }
     }
 }
 
@@ -174,14 +190,43 @@ pub(crate) fn shorten(cells: &mut [Bound<i128>], i: usize, j: usize, step: Bound
     both(moderate, both(here, there))
 }
 
-/// True exactly where some cell contradicts its opposite.
+/// True exactly where the bound on `i` less an earlier signed place contradicts its opposite, which isn't
+/// looked at where the bound is missing.
+fn contradicts(cells: &[Bound<i128>], i: usize, j: usize) -> bool
+    requires long { length cells.now ≡ 1024 }
+    requires inside { i < 32 }
+    requires earlier { j < i }
+    ensures { result ≡ is_negative (bound cells.now i j) (bound cells.now j i) }
+{
+    let own = cells[SIGNED * i + j];
+    match own {
+        Bound::At(_) => is_negative(own, cells[SIGNED * j + i]),
+        Bound::Without => false,
+    }
+}
+
+/// True exactly where the bound on `i` less some earlier signed place contradicts its opposite.
+fn is_void_at(cells: &[Bound<i128>], i: usize) -> bool
+    requires long { length cells.now ≡ 1024 }
+    requires inside { i < 32 }
+    ensures some { IsTrue result → (j : ℕ) × (j < i) × (is_negative (bound cells.now i j) (bound cells.now j i) ≡ true) }
+    ensures none { result ≡ false → (j : ℕ) → j < i → is_negative (bound cells.now i j) (bound cells.now j i) ≡ false }
+{
+    for j in 0..i {
+        if contradicts(cells, i, j) {
+            return true;
+        }
+    }
+    false
+}
+
+/// True exactly where some cell contradicts its opposite. Of each two the later one is asked.
 pub(crate) fn is_void(cells: &[Bound<i128>]) -> bool
     requires { length cells.now ≡ 1024 }
     ensures { result ≡ is_void cells.now }
 {
-    for k in 0..CELLS {
-        let (i, j) = (k / SIGNED, k % SIGNED);
-        if is_negative(at(cells, i, j), at(cells, j, i)) {
+    for i in 0..SIGNED {
+        if is_void_at(cells, i) {
             return true;
         }
     }

@@ -1,16 +1,16 @@
 //! Several rows at once, and rows that the bounds imply.
-ghost use Rattle.std.specs.Prelude.{◌≡◌, ◌<◌, ℤ, ◌-ℤ◌, List, All, IsTrue, length};
+ghost use Rattle.std.specs.Prelude.{◌≡◌, ◌<◌, ℤ, ◌-ℤ◌, List, All, IsTrue, IfSome, length};
 ghost use Rattle.linear_cons.specs.Bounds.{IsUpTo};
 ghost use Rattle.linear_cons.specs.Rows.{Meets};
 ghost use Rattle.num_domain.specs.Ends.{some_end};
 ghost use Rattle.octagon_dom.specs.Cells.{IsBelow, IsWithin, signed};
 ghost use Rattle.octagon_dom.specs.Closure.{KeepsClosed};
-ghost use Rattle.octagon_dom.specs.Stated.{AreMet, MeetsStated};
+ghost use Rattle.octagon_dom.specs.Stated.{AreMet, HoldsIn, IsBetweenTwo, MeetsStated};
 
-use crate::cells::{SIGNED, at, both, is_void, least, turned};
+use crate::cells::{SIGNED, at, both, is_moderate, is_negative, is_void, least, sum, turned};
 use crate::closing::{close, meet};
 use crate::ends::bounds_of;
-use crate::stated::stated_by;
+use crate::stated::{Stated, stated_by};
 use linear_cons::Row;
 use num_domain::{Bound, ends_imply};
 
@@ -46,6 +46,38 @@ pub(crate) fn imply(cells: &[Bound<i128>], row: &Row) -> bool
         Some(stated) => is_within(at(cells, stated.high, stated.low), stated.step),
         None => ends_imply(&bounds_of(cells), row),
     }
+}
+
+/// Whether the cells and the bound that the row states contradict each other, with the twin of that bound:
+/// of closed cells exactly whether they would be void after meeting the row. `None` where the row states
+/// no bound, or where a sum may leave 128 bits.
+pub(crate) fn exclude(cells: &[Bound<i128>], row: &Row) -> Option<bool>
+    requires { length cells.now ≡ 1024 }
+    ensures { IfSome result (λ out. IsTrue out → (store : List ℤ) → IsBelow cells.now store → Meets store row.now → ⊥) }
+{
+    let stated = stated_by(row)?;
+    let up = at(cells, turned(stated.high), stated.high);
+    let down = at(cells, stated.low, turned(stated.low));
+    if !(is_moderate(stated.step) && is_moderate(up) && is_moderate(down)) {
+        return None;
+    }
+    Some(oppose(cells, stated))
+}
+
+/// True only where no store below the cells keeps to the bound.
+fn oppose(cells: &[Bound<i128>], stated: Stated) -> bool
+    requires long { length cells.now ≡ 1024 }
+    requires between { IsBetweenTwo stated }
+    ensures { IsTrue result → (store : List ℤ) → IsBelow cells.now store → HoldsIn stated store → ⊥ }
+{
+    let (high, low, step) = (stated.high, stated.low, stated.step);
+    let (from, to) = (turned(high), turned(low));
+    if is_negative(step, at(cells, low, high)) {
+        return true;
+    }
+    // The opposite of the twin has a way over the bound itself.
+    let way = sum(sum(at(cells, from, high), step), at(cells, low, to));
+    is_negative(step, least(at(cells, from, to), way))
 }
 
 /// True exactly where the end is there and isn't above the other one.

@@ -1,12 +1,13 @@
 //! Octagons of stores.
 ghost use Rattle.std.specs.Prelude.{◌≡◌, true, length};
+ghost use Rattle.octagon_dom.specs.Cells.{is_void};
 ghost use Rattle.octagon_dom.specs.Closure.{IsClosedOrVoid};
 
 use crate::cells::{CELLS, both, is_void};
 use crate::closing::{close, meet};
 use crate::ends::bounds_of;
 use crate::listing::rows_of;
-use crate::meeting::{imply, meet_all};
+use crate::meeting::{exclude, imply, meet_all};
 use crate::merging::{join, widen};
 use crate::setting::set;
 use linear_cons::{Bounds, Linear, Row};
@@ -15,19 +16,21 @@ use std::alloc::{AllocError, Global};
 
 /// The stores that keep to an upper bound on each sum and difference of two places, and on twice each
 /// place and its negative; every bound may be missing. The mark `closed` says that no way over a third
-/// signed place is shorter than a bound, unless two bounds contradict each other.
+/// signed place is shorter than a bound, unless two bounds contradict each other, and `empty` whether two do.
 #[derive(Drop)]
 pub struct Octagon {
     cells: Vec<Bound<i128>>,
     closed: bool,
+    empty: bool,
     ghost size: { length cells.items ≡ 1024 },
     ghost mark: { closed ≡ true → IsClosedOrVoid cells.items },
+    ghost void: { empty ≡ is_void cells.items },
 }
 
 impl Octagon {
     ghost use Rattle.std.specs.Prelude.{◌≡◌, ◌<◌, All, IsTrue, true, IfOk};
     ghost use Rattle.octagon_dom.specs.Closure.{ArePassed};
-    ghost use Rattle.num_domain.specs.Domain.{AllMeet, HasEvery, IsMeet, KeepsAssigned, KeepsMeeting, KeepsMeetingAll, SameMembers, Within};
+    ghost use Rattle.num_domain.specs.Domain.{AllMeet, HasEvery, IsMeet, KeepsAssigned, KeepsMeeting, KeepsMeetingAll, NoneMeets, SameMembers, Within};
     ghost use Rattle.octagon_dom.specs.Assignments.{IsSimpleBeside, SetsValue};
     ghost use Rattle.octagon_dom.specs.Octagons.{AreSameBounds, Has, HasSameMark, HullsClosed, IsClosedOctagon, IsMarked, IsUnmarked, MeetsClosed};
     ghost use Rattle.octagon_dom.specs.Octagons.{MovesClosed, MovesMarked, PassesUnmarked, StatesBound, StaysMarked, UnmarksFilled, WidensFilled};
@@ -40,9 +43,11 @@ impl Octagon {
         ensures marked { IfOk result IsMarked }
     {
         let cells = vec![in alloc; Bound::Without; CELLS]?;
+        let empty = is_void(&cells);
         Ok(Octagon {
             cells,
             closed: true,
+            empty,
         })
     }
 
@@ -50,7 +55,7 @@ impl Octagon {
     fn has_none(&self) -> bool
         ensures { result ≡ is_empty_octagon self.now }
     {
-        is_void(&self.cells)
+        self.empty
     }
 
     /// Closes the bounds if the mark is missing.
@@ -63,6 +68,7 @@ impl Octagon {
         if !self.closed {
             let whole = close(self.cells.as_mut_slice());
             self.closed = whole;
+            self.empty = is_void(&self.cells);
         }
     }
 
@@ -78,6 +84,7 @@ impl Octagon {
         self.close_up();
         let whole = meet(self.cells.as_mut_slice(), row);
         self.closed = both(self.closed, whole);
+        self.empty = is_void(&self.cells);
     }
 
     /// Adds what each row states.
@@ -89,6 +96,7 @@ impl Octagon {
         self.close_up();
         let whole = meet_all(self.cells.as_mut_slice(), rows);
         self.closed = both(self.closed, whole);
+        self.empty = is_void(&self.cells);
     }
 
     /// True only where each member meets the row.
@@ -98,12 +106,30 @@ impl Octagon {
         imply(&self.cells, row)
     }
 
+    /// True only where no member meets the row. Takes memory only where no look at single bounds tells.
+    fn denies(&self, alloc: Global, row: &Row) -> Result<bool, AllocError>
+        ensures { IfOk result (λ out. IsTrue out → NoneMeets row.now (Has self.now)) }
+    {
+        if self.has_none() {
+            return Ok(true);
+        }
+        if self.closed
+            && let Some(out) = exclude(&self.cells, row)
+        {
+            return Ok(out);
+        }
+        let mut twin = self.twin(alloc)?;
+        twin.add(row);
+        Ok(twin.has_none())
+    }
+
     /// Takes the bounds of another one.
     fn take_over(&mut self, other: &Octagon)
         ensures { self.new.cells.items ≡ other.now.cells.items }
     {
         self.cells.as_mut_slice().copy_from_slice(&other.cells);
         self.closed = other.closed;
+        self.empty = other.empty;
     }
 
     /// The members of both, where the other one is closed.
@@ -123,6 +149,7 @@ impl Octagon {
         }
         join(self.cells.as_mut_slice(), &other.cells);
         self.closed = both(self.closed, other.closed);
+        self.empty = is_void(&self.cells);
     }
 
     /// The members of both, without each bound that the newer one passes.
@@ -141,6 +168,7 @@ impl Octagon {
         }
         widen(self.cells.as_mut_slice(), &newer.cells);
         self.closed = false;
+        self.empty = is_void(&self.cells);
     }
 
     /// The members with the number at the place replaced by those of the expression.
@@ -157,6 +185,7 @@ impl Octagon {
         }
         let whole = set(self.cells.as_mut_slice(), place as usize, value);
         self.closed = both(self.closed, whole);
+        self.empty = is_void(&self.cells);
     }
 
     /// The ends at each place.
@@ -175,6 +204,7 @@ impl Octagon {
         Ok(Octagon {
             cells,
             closed: self.closed,
+            empty: self.empty,
         })
     }
 }
@@ -295,6 +325,11 @@ impl NumDomain for Octagon {
     /// By one bound where the row states one, and else by the ends.
     fn implies(&self, row: &Row) -> bool {
         self.tells(row)
+    }
+
+    /// By a few bounds where the row states one, and else by a copy that meets the row.
+    fn rules_out(&self, alloc: Global, row: &Row) -> Result<bool, AllocError> {
+        self.denies(alloc, row)
     }
 
     /// At most 512 rows, one for each sum or difference that is bounded: exactly the members meet them.

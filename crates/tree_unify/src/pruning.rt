@@ -2,18 +2,18 @@
 ghost use Rattle.std.specs.Prelude.{◌≡◌, ℕ, ◌<◌, ◌≤◌, ℤ, List, IsTrue, Err, IfOk, OnErr, OnOk};
 ghost use Rattle.linear_cons.specs.Exact.{IsOutside};
 ghost use Rattle.linear_cons.specs.Functions.{NumbersFit, complement_of};
-ghost use Rattle.linear_cons.specs.Rows.{complement};
 ghost use Rattle.linear_cons.specs.declared.exact.Wide.{Wide};
-ghost use Rattle.num_domain.specs.Domain.{KeepsMeeting, SameMembers};
+ghost use Rattle.num_domain.specs.Domain.{KeepsMeeting, NoneMeets, SameMembers};
+ghost use Rattle.decision_tree.specs.declared.path.PathFault;
 ghost use Rattle.decision_tree.specs.Plans.{plan_of, size_of};
-ghost use Rattle.tree_unify.specs.Pruned.{IsPartOf, SameLeaves};
+ghost use Rattle.tree_unify.specs.Pruned.{AreSides, IsLeft, IsPartOf, SameLeaves};
 ghost use Rattle.decision_tree.specs.Extent.{ComplementsFit};
 ghost use Rattle.tree_unify.specs.declared.fault.TreeFault.TheVariants.{Full as TooFull, Wide as TooWide};
 
 use crate::fault::TreeFault;
 use crate::trimming::is_leaf;
 use crate::walk::{Stopped, Walk};
-use decision_tree::{Rank, Tree};
+use decision_tree::{PathFault, Rank, Tree};
 use linear_cons::Row;
 use num_domain::NumDomain;
 use std::alloc::{AllocError, Global};
@@ -37,20 +37,29 @@ pub fn prune<R: Rank, D: NumDomain>(
 {
     let state = copied_state(alloc, at)?;
     let mut walk = Walk::new(alloc);
-    match cut(alloc, &mut walk, tree, state) {
+    match cut(alloc, &mut walk, tree, Some(state)) {
         Ok(part) => Ok(Box::into_inner(part)),
         Err(_) => Err(walk.fault),
     }
 }
 
-/// The tree without the sides at which the state has no member. The walk knows the size.
+/// What is left of a state at each side of a node, or the one side at which it has members. For a leaf no
+/// state is kept.
+enum Sides<D> {
+    Yes(Option<Box<D>>),
+    No(Option<Box<D>>),
+    Both(Option<Box<D>>, Option<Box<D>>),
+}
+
+/// The tree without the sides at which the state has no member; a copy where no state was kept. The walk
+/// knows the size.
 fn cut<R: Rank, D: NumDomain>(
     alloc: Global,
     walk: &mut Walk,
     tree: &Tree<R>,
-    at: Box<D>,
+    at: Option<Box<D>>,
 ) -> Result<Box<Tree<R>>, Stopped>
-    ensures leaves { IfOk result (λ made. SameLeaves (D.has at.value) (plan_of made.value) (plan_of tree.now)) }
+    ensures leaves { IfOk result (λ made. SameLeaves (IsLeft D.has at) (plan_of made.value) (plan_of tree.now)) }
     ensures part { IfOk result (λ made. IsPartOf (plan_of made.value) (plan_of tree.now)) }
     ensures size { IfOk result (λ made. walk.new.size ≡ size_of (plan_of made.value)) }
     ensures small { OnOk result (walk.new.size ≤ 65536) }
@@ -58,49 +67,129 @@ fn cut<R: Rank, D: NumDomain>(
     ensures wide { OnErr result ((w : Wide) → walk.new.fault ≡ TooWide w → ComplementsFit (plan_of tree.now) → ⊥) }
     ensures operands { OnErr result ((w : Wide) → walk.new.fault ≡ TooWide w → IsOutside w) }
 {
+    let Some(at) = at else {
+        return walk.copied(alloc, tree);
+    };
     let Tree::Node { row, yes, no } = tree else {
         return copied_leaf(alloc, walk, tree, at);
     };
-    let inside = with_row(alloc, walk, &*at, row)?;
-    let below = without_row(alloc, walk, at, row)?;
-    if has_no_member(&*inside) {
-        discard(inside);
-        let part = cut(alloc, walk, no, below)?;
-        return Ok(part);
-    }
-    if has_no_member(&*below) {
-        discard(below);
-        let part = cut(alloc, walk, yes, inside)?;
-        return Ok(part);
-    }
-    if is_leaf(no) {
-        // A leaf needs no state, so a long line of yes sides holds none for each of its nodes.
-        discard(below);
-        let first = cut(alloc, walk, yes, inside)?;
-        let size = walk.size;
-        return match walk.copied(alloc, no) {
-            Ok(other) => {
-                let part = walk.join_sides(alloc, row, first, other, size)?;
-                Ok(part)
-            }
-            Err(stopped) => {
-                Tree::discard(first);
-                Err(stopped)
-            }
-        };
-    }
-    let first = cut(alloc, walk, yes, inside)?;
-    let size = walk.size;
-    match cut(alloc, walk, no, below) {
-        Ok(other) => {
-            let part = walk.join_sides(alloc, row, first, other, size)?;
+    let sides = divide(alloc, walk, row, is_leaf(yes), is_leaf(no), at)?;
+    match sides {
+        Sides::Yes(inside) => {
+            let part = cut(alloc, walk, yes, inside)?;
             Ok(part)
         }
-        Err(stopped) => {
-            Tree::discard(first);
-            Err(stopped)
+        Sides::No(below) => {
+            let part = cut(alloc, walk, no, below)?;
+            Ok(part)
+        }
+        Sides::Both(inside, below) => {
+            let first = cut(alloc, walk, yes, inside)?;
+            let size = walk.size;
+            match cut(alloc, walk, no, below) {
+                Ok(other) => {
+                    let part = walk.join_sides(alloc, row, first, other, size)?;
+                    Ok(part)
+                }
+                Err(stopped) => {
+                    Tree::discard(first);
+                    Err(stopped)
+                }
+            }
         }
     }
+}
+
+/// What is left of the state at each side of a node with the row. Only where both sides are nodes is the
+/// state copied, as far as the domain can do without.
+#[inline(never)]
+fn divide<D: NumDomain>(
+    alloc: Global,
+    walk: &mut Walk,
+    row: &Row,
+    yes_ends: bool,
+    no_ends: bool,
+    at: Box<D>,
+) -> Result<Sides<D>, Stopped>
+    ensures sides { IfOk result (AreSides D.has row.now (D.has at.value)) }
+    ensures wide { OnErr result ((w : Wide) → walk.new.fault ≡ TooWide w → NumbersFit (complement_of row.now.affine) → ⊥) }
+    ensures operands { OnErr result ((w : Wide) → walk.new.fault ≡ TooWide w → IsOutside w) }
+    ensures full { OnErr result ((count : ℕ) → walk.new.fault ≡ TooFull count → ⊥) }
+{
+    match divided(alloc, row, yes_ends, no_ends, at) {
+        Ok(sides) => Ok(sides),
+        Err(PathFault::Wide(wide)) => Err(walk.stop(TreeFault::Wide(wide))),
+        Err(PathFault::Memory(error)) => Err(walk.stop(TreeFault::Memory(error))),
+    }
+}
+
+/// The same, with the fault.
+fn divided<D: NumDomain>(
+    alloc: Global,
+    row: &Row,
+    yes_ends: bool,
+    no_ends: bool,
+    at: Box<D>,
+) -> Result<Sides<D>, PathFault>
+    ensures sides { IfOk result (AreSides D.has row.now (D.has at.value)) }
+    ensures wide { (w : Wide) → result ≡ Err (PathFault.Wide w) → NumbersFit (complement_of row.now.affine) → ⊥ }
+    ensures operands { (w : Wide) → result ≡ Err (PathFault.Wide w) → IsOutside w }
+{
+    let opposite = row.not()?;
+    if yes_ends && !no_ends {
+        let yes = look(alloc, &*at, row, true)?;
+        let below = met(alloc, at, &opposite)?;
+        if yes.none {
+            return Ok(Sides::No(Some(below)));
+        }
+        if has_no_member(&*below) {
+            return Ok(Sides::Yes(None));
+        }
+        return Ok(Sides::Both(None, Some(below)));
+    }
+    let no = look(alloc, &*at, &opposite, no_ends)?;
+    let inside = met(alloc, at, row)?;
+    if has_no_member(&*inside) {
+        return Ok(Sides::No(no.left));
+    }
+    if no.none {
+        return Ok(Sides::Yes(Some(inside)));
+    }
+    Ok(Sides::Both(Some(inside), no.left))
+}
+
+/// What is left of a state at one side, and whether that has no member. For a leaf nothing is kept.
+#[derive(Drop)]
+struct Side<D> {
+    left: Option<Box<D>>,
+    none: bool,
+}
+
+/// Looks at the side of a node where the row is met, and leaves the state as it is.
+fn look<D: NumDomain>(alloc: Global, at: &D, row: &Row, ends: bool) -> Result<Side<D>, AllocError>
+    ensures keeps { IfOk result (λ side. KeepsMeeting row.now (D.has at.now) (IsLeft D.has side.left)) }
+    ensures none { IfOk result (λ side. IsTrue side.none → NoneMeets row.now (D.has at.now)) }
+{
+    if ends {
+        let none = at.rules_out(alloc, row)?;
+        return Ok(Side { left: None, none });
+    }
+    let twin = copied_state(alloc, at)?;
+    let state = met(alloc, twin, row)?;
+    let none = has_no_member(&*state);
+    Ok(Side {
+        left: Some(state),
+        none,
+    })
+}
+
+/// The members of the state that meet the row.
+fn met<D: NumDomain>(alloc: Global, at: Box<D>, row: &Row) -> Result<Box<D>, AllocError>
+    ensures { IfOk result (λ state. KeepsMeeting row.now (D.has at.value) (D.has state.value)) }
+{
+    let mut at = at;
+    (*at).meet_row(alloc, row)?;
+    Ok(at)
 }
 
 /// A copy of the leaf, and the state is dropped.
@@ -120,37 +209,6 @@ fn copied_leaf<R: Rank, D: NumDomain>(
     walk.copied(alloc, leaf)
 }
 
-/// Drops the state.
-#[inline(never)]
-fn discard<D: NumDomain>(_state: Box<D>) {}
-
-/// The members of the state that meet the row.
-#[inline(never)]
-fn with_row<D: NumDomain>(
-    alloc: Global,
-    walk: &mut Walk,
-    at: &D,
-    row: &Row,
-) -> Result<Box<D>, Stopped>
-    ensures keeps { IfOk result (λ state. KeepsMeeting row.now (D.has at.now) (D.has state.value)) }
-    ensures wide { OnErr result ((w : Wide) → walk.new.fault ≡ TooWide w → ⊥) }
-    ensures full { OnErr result ((count : ℕ) → walk.new.fault ≡ TooFull count → ⊥) }
-{
-    match copied_with(alloc, at, row) {
-        Ok(state) => Ok(state),
-        Err(error) => Err(walk.stop(TreeFault::Memory(error))),
-    }
-}
-
-/// The members of the state that meet the row, as a copy.
-fn copied_with<D: NumDomain>(alloc: Global, at: &D, row: &Row) -> Result<Box<D>, AllocError>
-    ensures { IfOk result (λ state. KeepsMeeting row.now (D.has at.now) (D.has state.value)) }
-{
-    let mut state = copied_state(alloc, at)?;
-    (*state).meet_row(alloc, row)?;
-    Ok(state)
-}
-
 /// A state with the same members.
 fn copied_state<D: NumDomain>(alloc: Global, at: &D) -> Result<Box<D>, AllocError>
     ensures { IfOk result (λ state. SameMembers (D.has at.now) (D.has state.value)) }
@@ -158,30 +216,6 @@ fn copied_state<D: NumDomain>(alloc: Global, at: &D) -> Result<Box<D>, AllocErro
     let state = at.copy(alloc)?;
     let state = Box::new(alloc, state)?;
     Ok(state)
-}
-
-/// The members of the state that meet the row's complement.
-#[inline(never)]
-fn without_row<D: NumDomain>(
-    alloc: Global,
-    walk: &mut Walk,
-    at: Box<D>,
-    row: &Row,
-) -> Result<Box<D>, Stopped>
-    ensures keeps { IfOk result (λ state. KeepsMeeting (complement row.now) (D.has at.value) (D.has state.value)) }
-    ensures wide { OnErr result ((w : Wide) → walk.new.fault ≡ TooWide w → NumbersFit (complement_of row.now.affine) → ⊥) }
-    ensures operands { OnErr result ((w : Wide) → walk.new.fault ≡ TooWide w → IsOutside w) }
-    ensures full { OnErr result ((count : ℕ) → walk.new.fault ≡ TooFull count → ⊥) }
-{
-    let mut at = at;
-    let complement = match row.not() {
-        Ok(complement) => complement,
-        Err(wide) => return Err(walk.stop(TreeFault::Wide(wide))),
-    };
-    match (*at).meet_row(alloc, &complement) {
-        Ok(()) => Ok(at),
-        Err(error) => Err(walk.stop(TreeFault::Memory(error))),
-    }
 }
 
 /// True only where the state has no member.
