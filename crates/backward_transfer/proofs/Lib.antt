@@ -1,4 +1,5 @@
 pub mod Making
+pub mod Parts
 pub mod Standing
 pub mod PickedLeaves
 pub mod Throughout

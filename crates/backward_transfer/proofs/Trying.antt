@@ -1,6 +1,6 @@
 -- How conjunctions are tried one by one: it ends, and each part of what is made is no larger than the whole.
 use Rattle.std.specs.Prelude.{◌&&◌, ◌||◌}
-use Rattle.std.proofs.Common.{◌≡◌, ◌↔◌, ◌⊎◌, inl, inr, ⊎_elim, ℕ, ◌<◌, ◌≤◌, ◌+◌, ℤ, Bool, true, false, cond, List, [], ◌∷◌, ◌++◌, Option, None, Some, length, IsTrue, refl, sym, ap, subst, ◌∙◌, arith}
+use Rattle.std.proofs.Common.{◌≡◌, ◌↔◌, ◌⊎◌, inl, inr, ⊎_elim, ℕ, ◌<◌, ◌≤◌, ◌+◌, ℤ, Bool, true, false, cond, List, [], ◌∷◌, ◌++◌, Option, None, Some, length, IsTrue, refl, ◌∙◌, arith}
 use Rattle.linear_cons.specs.Rows.{Meets, MeetsAll, complement}
 use Rattle.linear_cons.specs.Settling.{settles}
 use Rattle.linear_cons.specs.declared.row.Row.{Row}
@@ -9,11 +9,11 @@ use Rattle.linear_cons.proofs.Telling.{settled_row_fails, settled_row_holds}
 use Rattle.linear_forms.specs.Meeting.{MeetsEach, MeetsOne}
 use Rattle.decision_tree.specs.Evaluation.{eval}
 use Rattle.decision_tree.specs.Nodes.{node}
-use Rattle.decision_tree.specs.Plans.{Plan, size_of}
+use Rattle.decision_tree.specs.Plans.{Plan}
 use Rattle.decision_tree.specs.declared.rank.Alternatives.{Alternatives}
-use Rattle.tree_unify.specs.Shapes.{OnSide, on_side}
-use Rattle.tree_unify.proofs.Meeting.{eval_met, eval_missed, meets_more, meets_or_not, node_eval, node_size}
-use Rattle.backward_transfer.specs.Tests.{FailureAsks, RowsAsk, SettledAsks, Side, TriedAsks, TriesAsk, all_held, enabled, failure_tried, is_held, is_refuted, not_refuted, one_held, one_refuted, rows_asked, settled_tree, tested, tried, tried_tree}
+use Rattle.tree_unify.specs.Shapes.{on_side}
+use Rattle.tree_unify.proofs.Meeting.{eval_met, eval_missed, meets_more, meets_or_not, node_eval}
+use Rattle.backward_transfer.specs.Tests.{all_held, enabled, failure_tried, is_held, is_refuted, not_refuted, one_held, one_refuted, rows_asked, tested, tried}
 
 -- rows and conjunctions that are left to ask
 abbrev pub rows_left : List (List Row) → ℕ
@@ -37,73 +37,6 @@ fewer_left path (rows ∷ rest) = fewer_at (one_refuted path rows) rows (not_ref
 pub settle_falls : (holds : Option Bool) (found : Bool) (path : List Row) (left fails : List (List Row)) → holds ≡ None → left ≡ not_refuted path fails
     → rows_left left + 1 + stage_left (Some found) fails < stage_left holds fails
 settle_falls holds found path left fails none is = let fewer = fewer_left path fails in rw (none, is) (omega arith)
-
--- ---- a row that the path doesn't settle, where its two sides are made in turn
-
-module _ (rows others : List Row) (row : Row) (path here there : List Row) (is : rows ≡ row ∷ others) (settle : settles path row ≡ None)
-    (down : here ≡ path ++ row ∷ []) (turned : there ≡ path ++ complement row ∷ []) where
-  module _ {R : Type 0} (same : R → R → Bool) (alike : (rank other : R) → IsTrue (same rank other) ↔ (rank ≡ other)) (holds fails : List Row → Plan R) where
-    -- both sides are made
-    pub asked_shape : (first second : Plan R) → first ≡ rows_asked same others holds fails here → second ≡ fails there
-        → node same row first second ≡ rows_asked same rows holds fails path
-    asked_shape first second yes_is no_is =
-        rw (yes_is, no_is, down, turned, is)
-        (sym (ap (λ (t : Option Bool). on_side t (rows_asked same others holds fails path) (fails path)
-        (node same row (rows_asked same others holds fails (path ++ row ∷ [])) (fails (path ++ complement row ∷ [])))) settle))
-
-    -- and neither is larger than the whole
-    pub asked_yes_least : (n : ℕ) → size_of (rows_asked same rows holds fails path) ≤ n → size_of (rows_asked same others holds fails here) ≤ n
-    asked_yes_least n least =
-        let whole = asked_shape (rows_asked same others holds fails here) (fails there) refl refl in
-        let low = (node_size same alike row (rows_asked same others holds fails here) (fails there)).0 in
-        let most : size_of (node same row (rows_asked same others holds fails here) (fails there)) ≤ n = rw whole least in
-        omega arith
-
-    pub asked_no_least : (n : ℕ) → size_of (rows_asked same rows holds fails path) ≤ n → size_of (fails there) ≤ n
-    asked_no_least n least =
-        let whole = asked_shape (rows_asked same others holds fails here) (fails there) refl refl in
-        let low = (node_size same alike row (rows_asked same others holds fails here) (fails there)).1 in
-        let most : size_of (node same row (rows_asked same others holds fails here) (fails there)) ≤ n = rw whole least in
-        omega arith
-
-    pub asked_too_large : (n : ℕ) (first second : Plan R) → first ≡ rows_asked same others holds fails here → second ≡ fails there
-        → n < size_of (node same row first second) → size_of (rows_asked same rows holds fails path) ≤ n → ⊥
-    asked_too_large n first second yes_is no_is more least =
-        let most : size_of (node same row first second) ≤ n = rw (asked_shape first second yes_is no_is) least in omega arith
-
-  -- what is asked is asked of both sides and of the row
-  module _ (Asks : Row → Type 0) (Holds Fails : List Row → Type 0) where
-    asks_both : RowsAsk Asks rows Holds Fails path ≡ (RowsAsk Asks others Holds Fails here × Asks row × Fails there)
-    asks_both =
-        rw (down, turned, is)
-        (ap (λ (t : Option Bool). OnSide t (RowsAsk Asks others Holds Fails path) (Fails path)
-        (RowsAsk Asks others Holds Fails (path ++ row ∷ []) × Asks row × Fails (path ++ complement row ∷ []))) settle)
-
-    pub asks_sides : RowsAsk Asks rows Holds Fails path → RowsAsk Asks others Holds Fails here × Asks row × Fails there
-    asks_sides asks = subst (λ (T : Type 0). T) asks_both asks
-
-    pub asks_whole : RowsAsk Asks others Holds Fails here → Asks row → Fails there → RowsAsk Asks rows Holds Fails path
-    asks_whole first own second = subst (λ (T : Type 0). T) (sym asks_both) (first, own, second)
-
--- ---- where neither outcome's failure is settled, the conjunctions that are left are tried
-
-module _ (holds : Option Bool) (found : Bool) (path : List Row) (left fails : List (List Row)) (none : holds ≡ None)
-    (is : left ≡ not_refuted path fails) (apart : one_held path fails ≡ false) where
-  pub settled_shape : {R : Type 0} (same : R → R → Bool) (where_greater : R → R → Alternatives) (greater_fits : R → R → Type 0) (one_more : R → R)
-      (this that : Plan R) → tried_tree same where_greater greater_fits one_more this that fails (Some found) left path
-      ≡ settled_tree same where_greater greater_fits one_more this that fails holds found path
-  settled_shape same where_greater greater_fits one_more this that =
-      rw (none, is)
-      (sym (ap (λ (t : Bool). cond t (enabled same where_greater greater_fits one_more this that found true)
-      (tried same (not_refuted path fails) (λ other way. enabled same where_greater greater_fits one_more this that found other) path)) apart))
-
-  pub settled_asks : (Asks : Row → Type 0) (Enabled : Bool → Bool → Type 0) → SettledAsks Asks Enabled fails holds found path
-      → TriedAsks Asks Enabled fails (Some found) left path
-  settled_asks Asks Enabled asks =
-      let open_asks : FailureAsks Asks Enabled fails found path = rw none at asks in
-      let tries : TriesAsk Asks (not_refuted path fails) (λ other way. Enabled found other) path
-      = subst (λ (t : Bool). Side t (Enabled found true) (TriesAsk Asks (not_refuted path fails) (λ other way. Enabled found other) path)) apart open_asks in
-      rw is tries
 
 -- ---- at which leaf a store stands
 

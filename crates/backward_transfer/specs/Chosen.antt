@@ -10,8 +10,10 @@ use Rattle.linear_cons.specs.Rows.{row_kind_of}
 use Rattle.decision_tree.specs.Evaluation.{eval}
 use Rattle.decision_tree.specs.Plans.{Plan, bottom, leaf, size_of}
 use Rattle.decision_tree.specs.declared.rank.Alternatives.{Alternatives}
+use Rattle.decision_tree.specs.declared.rank.Rank.{Ghosts as Ranks}
 use Rattle.decision_tree.specs.declared.reason.Pick.TheVariants.{Value}
 use Rattle.decision_tree.specs.declared.reason.Why.{Why}
+use Rattle.tree_unify.specs.Builds.{Build, formed}
 use Rattle.backward_transfer.specs.Picks.{EitherFits, either_of}
 use Rattle.backward_transfer.specs.Steps.{AskedFits, AssignFits, asked, assigned_by, step_by}
 
@@ -100,3 +102,31 @@ pub record LeadsToClaim {R : Type 0} (put : R → ℕ → Affine → R) (one_mor
     pub behind : R
     pub claimed : eval plan (slice_set store place (value_at value store)) ≡ leaf reason behind
     pub here : leaf why rank ≡ step_by (Value value) (one_more (put behind place value))
+
+-- ---- what is made on the way
+
+module _ {R : Type 0} (same : R → R → Bool) (ranks : Ranks R) where
+  -- the tree with a value put in, where that isn't above the upper end, and where it lies in the range
+  abbrev pub putting_up_to : Option ℤ → ℕ → Plan R → Affine → Build R
+  putting_up_to hi place plan a =
+      formed (up_to same ranks.substituted ranks.one_more hi place plan a) (UpToFits ranks.substituted ranks.subst_fits ranks.add_one_fits hi place plan a)
+
+  abbrev pub putting : Option ℤ → Option ℤ → ℕ → Plan R → Affine → Build R
+  putting lo hi place plan a =
+      formed (with_value same ranks.substituted ranks.one_more lo hi place plan a)
+      (ValueFits ranks.substituted ranks.subst_fits ranks.add_one_fits lo hi place plan a)
+
+  -- what is made, with the claims of the values where it has none, and the claims of the values alone
+  abbrev pub adding : Option ℤ → Option ℤ → ℕ → Plan R → Plan R → List Affine → Build R
+  adding lo hi place plan made values = record {
+    plan = with_more same ranks.where_greater ranks.greater_fits ranks.substituted ranks.one_more lo hi place plan made values;
+    Fits = MoreFits same ranks.where_greater ranks.greater_fits ranks.substituted ranks.one_more ranks.subst_fits ranks.add_one_fits lo hi place plan made values;
+    Room = IsMoreSmall same ranks.where_greater ranks.greater_fits ranks.substituted ranks.one_more 65536 lo hi place plan made values;
+  }
+
+  abbrev pub choosing : Option ℤ → Option ℤ → ℕ → Plan R → List Affine → Build R
+  choosing lo hi place plan values = record {
+    plan = with_some same ranks.where_greater ranks.greater_fits ranks.substituted ranks.one_more lo hi place plan values;
+    Fits = SomeFits same ranks.where_greater ranks.greater_fits ranks.substituted ranks.one_more ranks.subst_fits ranks.add_one_fits lo hi place plan values;
+    Room = IsSomeSmall same ranks.where_greater ranks.greater_fits ranks.substituted ranks.one_more 65536 lo hi place plan values;
+  }

@@ -3,7 +3,9 @@
 use Rattle.std.specs.Prelude.{ℕ, ◌≤◌, Bool}
 use Rattle.decision_tree.specs.Plans.{Plan, size_of}
 use Rattle.decision_tree.specs.declared.rank.Alternatives.{Alternatives}
+use Rattle.decision_tree.specs.declared.rank.Rank.{Ghosts as Ranks}
 use Rattle.decision_tree.specs.declared.reason.Pick.TheVariants.{Yes, No}
+use Rattle.tree_unify.specs.Builds.{Build}
 use Rattle.tree_unify.specs.Shapes.{JoinedFits, joined}
 use Rattle.tree_unify.specs.declared.join.Join.TheVariants.{Either}
 use Rattle.backward_transfer.specs.Steps.{StepFits, stepped_by}
@@ -30,3 +32,11 @@ module _ {R : Type 0} (same : R → R → Bool) (where_greater : R → R → Alt
     abbrev pub ArePicksSmall : ℕ → Plan R → Plan R → Type 0
     ArePicksSmall most this that =
         (size_of (stepped_by same one_more Yes this) ≤ most) × (size_of (stepped_by same one_more No that) ≤ most) × (size_of (picked this that) ≤ most)
+
+-- the tree before a free test
+abbrev pub picking : {R : Type 0} → (R → R → Bool) → Ranks R → Plan R → Plan R → Build R
+picking same ranks this that = record {
+  plan = picked same ranks.where_greater ranks.greater_fits ranks.one_more this that;
+  Fits = PickFits same ranks.where_greater ranks.greater_fits ranks.one_more ranks.add_one_fits this that;
+  Room = ArePicksSmall same ranks.where_greater ranks.greater_fits ranks.one_more 65536 this that;
+}

@@ -13,6 +13,8 @@ use Rattle.decision_tree.specs.AffineRanks.{trend_of}
 use Rattle.decision_tree.specs.Plans.{Plan, bottom, branch, leaf, size_of}
 use Rattle.decision_tree.specs.Trend.{GreatestFits, Trend, falling, greatest_of, rising, unmentioned}
 use Rattle.decision_tree.specs.declared.rank.Alternatives.{Alternatives}
+use Rattle.decision_tree.specs.declared.rank.Rank.{Ghosts as Ranks}
+use Rattle.tree_unify.specs.Builds.{Build, formed}
 use Rattle.tree_unify.specs.Shapes.{JoinedFits, joined}
 use Rattle.tree_unify.specs.declared.join.Join.TheVariants.{Later}
 use Rattle.backward_transfer.specs.Steps.{AskedFits, asked, step_to}
@@ -122,3 +124,37 @@ module _ {R : Type 0} (same : R → R → Bool) (where_greater : R → R → Alt
         (AreSmall most place range this × AreSmall most place range that
         × size_of (later_of (ranged place range this) (ranged place range that)) ≤ most))
     AreSmall most place range end = ⊤
+
+-- ---- what is made on the way
+
+module _ {R : Type 0} (same : R → R → Bool) (ranks : Ranks R) where
+  -- the no side where the constraint is met, else the later of both
+  abbrev pub asking_second : RowKind → Plan R → Plan R → Build R
+  asking_second fails this that = record {
+    plan = asked same fails that (later_of same ranks.where_greater ranks.greater_fits this that);
+    Fits = AskedFits fails ⊤ (JoinedFits same ranks.where_greater ranks.greater_fits Later this that);
+    Room = AskedFits fails ⊤ (size_of (later_of same ranks.where_greater ranks.greater_fits this that) ≤ 65536);
+  }
+
+  -- the yes side where the first constraint is met, the no side where the second is, else the later of both
+  abbrev pub asking_both : RowKind → RowKind → Plan R → Plan R → Build R
+  asking_both holds fails this that = record {
+    plan = asked same holds this (asking_second fails this that).plan;
+    Fits = (asking_second fails this that).Fits;
+    Room = (asking_second fails this that).Room;
+  }
+
+  -- the tree before an assignment of a value in a range
+  abbrev pub ranging : ℕ → Linear → Plan R → Build R
+  ranging place range plan = record {
+    plan = ranged same ranks.where_greater ranks.greater_fits ranks.trend ranks.substituted ranks.one_more place range plan;
+    Fits = RangeFits same ranks.where_greater ranks.greater_fits ranks.trend ranks.substituted ranks.one_more ranks.subst_fits ranks.add_one_fits place range plan;
+    Room = AreSmall same ranks.where_greater ranks.greater_fits ranks.trend ranks.substituted ranks.one_more 65536 place range plan;
+  }
+
+-- the greatest of a leaf's ranks over the range, with one more step
+abbrev pub spreading : {R : Type 0} → Ranks R → ℕ → Linear → R → Build R
+spreading ranks place range rank =
+    formed (step_to_greatest ranks.one_more (greatest_of rank (ranks.trend rank place) range (ranks.substituted rank place)))
+    (GreatestFits (ranks.trend rank place) range (ranks.subst_fits rank place)
+    × GreatestStepFits ranks.add_one_fits (greatest_of rank (ranks.trend rank place) range (ranks.substituted rank place)))

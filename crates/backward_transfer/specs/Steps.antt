@@ -8,9 +8,11 @@ use Rattle.linear_cons.specs.declared.row.RowKind.{RowKind}
 use Rattle.linear_cons.specs.declared.row.RowKind.TheVariants.{Always, Never, Row as Kept}
 use Rattle.decision_tree.specs.Nodes.{node}
 use Rattle.decision_tree.specs.Plans.{Plan, branch, leaf}
+use Rattle.decision_tree.specs.declared.rank.Rank.{Ghosts as Ranks}
 use Rattle.decision_tree.specs.declared.reason.Pick.{Pick}
 use Rattle.decision_tree.specs.declared.reason.Pick.TheVariants.{All as EveryState}
 use Rattle.decision_tree.specs.declared.reason.Why.TheVariants.{Step}
+use Rattle.tree_unify.specs.Builds.{Build, formed}
 
 -- a leaf of that rank, for the next states that are picked, or for every one
 abbrev pub step_by : {R : Type 0} → Pick → R → Plan R
@@ -69,3 +71,15 @@ module _ {R : Type 0} (put : R → ℕ → Affine → R) (put_fits : R → ℕ �
       × AskedFits (row_kind_of (substituted row.affine place by)) (AssignFits place by this) (AssignFits place by that)
   AssignFits place by (leaf why rank) = put_fits rank place by × more_fits (put rank place by)
   AssignFits place by end = ⊤
+
+-- ---- what is made on the way
+
+module _ {R : Type 0} (same : R → R → Bool) (ranks : Ranks R) (pick : Pick) where
+  -- the tree before a step that changes nothing
+  abbrev pub stepping : Plan R → Build R
+  stepping plan = formed (stepped_by same ranks.one_more pick plan) (StepFits ranks.add_one_fits plan)
+
+  -- the tree before an assignment
+  abbrev pub assigning : ℕ → Affine → Plan R → Build R
+  assigning place by plan =
+      formed (assigned_by same ranks.substituted ranks.one_more pick place by plan) (AssignFits ranks.substituted ranks.subst_fits ranks.add_one_fits place by plan)

@@ -7,6 +7,8 @@ use Rattle.linear_cons.specs.declared.row.Row.{Row}
 use Rattle.decision_tree.specs.Nodes.{node}
 use Rattle.decision_tree.specs.Plans.{Plan, bottom, size_of}
 use Rattle.decision_tree.specs.declared.rank.Alternatives.{Alternatives}
+use Rattle.decision_tree.specs.declared.rank.Rank.{Ghosts as Ranks}
+use Rattle.tree_unify.specs.Builds.{Build}
 use Rattle.tree_unify.specs.Shapes.{JoinedFits, OnSide, on_side}
 use Rattle.tree_unify.specs.declared.join.Join.TheVariants.{Later}
 use Rattle.backward_transfer.specs.Ranges.{later_of}
@@ -144,3 +146,39 @@ module _ (Asks : Row → Type 0) (Enabled : Bool → Bool → Type 0) (fails : L
 
   abbrev pub AskedAsks : Option Bool → List Row → List (List Row) → List Row → Type 0
   AskedAsks holds rows rest path = RowsAsk Asks rows (SettledAsks holds true) (TriesAsk Asks rest (SettledAsks holds)) path
+
+-- ---- what is made on the way
+
+module _ {R : Type 0} (same : R → R → Bool) (ranks : Ranks R) (this that : Plan R) where
+  -- the tree of the outcomes that are possible
+  abbrev pub enabling : Bool → Bool → Build R
+  enabling holds fails = record {
+    plan = enabled same ranks.where_greater ranks.greater_fits ranks.one_more this that holds fails;
+    Fits = EnabledFits same ranks.where_greater ranks.greater_fits ranks.one_more ranks.add_one_fits this that holds fails;
+    Room = IsLaterSmall same ranks.where_greater ranks.greater_fits this that holds fails;
+  }
+
+  module _ (fails : List (List Row)) where
+    -- what stands where a conjunction was found to hold, or all to fail
+    abbrev pub settling : Option Bool → Bool → List Row → Build R
+    settling holds found path = record {
+      plan = settled_tree same ranks.where_greater ranks.greater_fits ranks.one_more this that fails holds found path;
+      Fits = SettledAsks ComplementFits (λ first second. (enabling first second).Fits) fails holds found path;
+      Room = SettledAsks (λ row. ⊤) (λ first second. (enabling first second).Room) fails holds found path;
+    }
+
+    -- what stands where conjunctions are left to try
+    abbrev pub trying : Option Bool → List (List Row) → List Row → Build R
+    trying holds rest path = record {
+      plan = tried_tree same ranks.where_greater ranks.greater_fits ranks.one_more this that fails holds rest path;
+      Fits = TriedAsks ComplementFits (λ first second. (enabling first second).Fits) fails holds rest path;
+      Room = TriedAsks (λ row. ⊤) (λ first second. (enabling first second).Room) fails holds rest path;
+    }
+
+    -- and where rows of one are left to ask before them
+    abbrev pub asking : Option Bool → List Row → List (List Row) → List Row → Build R
+    asking holds rows rest path = record {
+      plan = asked_tree same ranks.where_greater ranks.greater_fits ranks.one_more this that fails holds rows rest path;
+      Fits = AskedAsks ComplementFits (λ first second. (enabling first second).Fits) fails holds rows rest path;
+      Room = AskedAsks (λ row. ⊤) (λ first second. (enabling first second).Room) fails holds rows rest path;
+    }

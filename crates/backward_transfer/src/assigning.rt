@@ -5,9 +5,10 @@ ghost use Rattle.linear_cons.specs.Functions.{SubstitutionFits, substituted};
 ghost use Rattle.linear_cons.specs.Rows.{row_kind_of};
 ghost use Rattle.linear_cons.specs.declared.exact.Wide.{Wide};
 ghost use Rattle.decision_tree.specs.Plans.{plan_of, size_of};
+ghost use Rattle.tree_unify.specs.Builds.{Builds, formed};
 ghost use Rattle.tree_unify.specs.Shapes.{TrimFits, trimmed};
 ghost use Rattle.tree_unify.specs.declared.fault.TreeFault.TheVariants.{Full as TooFull, Wide as TooWide};
-ghost use Rattle.backward_transfer.specs.Steps.{AssignFits, assigned, assigned_by, step_by};
+ghost use Rattle.backward_transfer.specs.Steps.{AssignFits, assigned, assigning, step_by};
 
 use crate::stepping::step_leaf;
 use decision_tree::{Pick, Rank, Tree};
@@ -58,15 +59,7 @@ pub(crate) fn put<R: Rank>(
     by: &Affine,
 ) -> Result<Box<Tree<R>>, Stopped>
     requires { place < 16 }
-    ensures tree { IfOk result (λ made. plan_of made.value ≡ assigned_by R.eq R.substituted R.one_more pick.now place by.now (plan_of tree.now)) }
-    ensures size { IfOk result (λ made. walk.new.size ≡ size_of (plan_of made.value)) }
-    ensures small { OnOk result (walk.new.size ≤ 65536) }
-    ensures fits { OnOk result (AssignFits R.substituted R.subst_fits R.add_one_fits place by.now (plan_of tree.now)) }
-    ensures full { OnErr result ((count : ℕ) → walk.new.fault ≡ TooFull count
-        → (65536 < count) × (65536 < size_of (assigned_by R.eq R.substituted R.one_more pick.now place by.now (plan_of tree.now)))) }
-    ensures wide { OnErr result ((w : Wide) → walk.new.fault ≡ TooWide w
-        → AssignFits R.substituted R.subst_fits R.add_one_fits place by.now (plan_of tree.now) → ⊥) }
-    ensures operands { OnErr result ((w : Wide) → walk.new.fault ≡ TooWide w → IsOutside w) }
+    ensures { Builds (assigning R.eq R.Rank.own pick.now place by.now (plan_of tree.now)) walk.old walk.new result }
 {
     match tree {
         Tree::Bottom => walk.copied(alloc, tree),
@@ -104,6 +97,7 @@ fn put_row(
 ) -> Result<Box<RowKind>, Stopped>
     requires { place < 16 }
     ensures kind { IfOk result (λ kind. kind.value ≡ row_kind_of (substituted row.now.affine place by.now)) }
+    ensures trail { OnOk result (walk.new.trail ≡ walk.old.trail) }
     ensures fits { OnOk result (SubstitutionFits row.now.affine place by.now) }
     ensures full { OnErr result ((count : ℕ) → walk.new.fault ≡ TooFull count → ⊥) }
     ensures wide { OnErr result ((w : Wide) → walk.new.fault ≡ TooWide w → SubstitutionFits row.now.affine place by.now → ⊥) }
@@ -131,13 +125,8 @@ fn put_leaf<R: Rank>(
     by: &Affine,
 ) -> Result<Box<Tree<R>>, Stopped>
     requires { place < 16 }
-    ensures tree { IfOk result (λ made. plan_of made.value ≡ step_by pick.now (R.one_more (R.substituted rank.now place by.now))) }
-    ensures size { OnOk result (walk.new.size ≡ 1) }
-    ensures fits { OnOk result (R.subst_fits rank.now place by.now × R.add_one_fits (R.substituted rank.now place by.now)) }
-    ensures full { OnErr result ((count : ℕ) → walk.new.fault ≡ TooFull count → ⊥) }
-    ensures wide { OnErr result ((w : Wide) → walk.new.fault ≡ TooWide w
-        → R.subst_fits rank.now place by.now → R.add_one_fits (R.substituted rank.now place by.now) → ⊥) }
-    ensures operands { OnErr result ((w : Wide) → walk.new.fault ≡ TooWide w → IsOutside w) }
+    ensures { Builds (formed (step_by pick.now (R.one_more (R.substituted rank.now place by.now)))
+        (R.subst_fits rank.now place by.now × R.add_one_fits (R.substituted rank.now place by.now))) walk.old walk.new result }
 {
     match rank.subst(place, by) {
         Ok(moved) => step_leaf(alloc, walk, pick, &moved),

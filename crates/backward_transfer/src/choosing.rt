@@ -5,10 +5,11 @@ ghost use Rattle.linear_cons.specs.declared.exact.Wide.{Wide};
 ghost use Rattle.decision_tree.specs.Nodes.{node};
 ghost use Rattle.decision_tree.specs.Plans.{bottom, plan_of, size_of};
 ghost use Rattle.decision_tree.specs.declared.reason.Pick.TheVariants.{Value};
+ghost use Rattle.tree_unify.specs.Builds.{Builds, given};
 ghost use Rattle.tree_unify.specs.Shapes.{TrimFits, trimmed};
 ghost use Rattle.tree_unify.specs.declared.fault.TreeFault.TheVariants.{Full as TooFull, Wide as TooWide};
-ghost use Rattle.backward_transfer.specs.Chosen.{FromFits, IsMoreSmall, IsSomeSmall, MoreFits, SomeFits, ToFits, UpToFits, ValueFits};
-ghost use Rattle.backward_transfer.specs.Chosen.{from_end, to_end, up_to, with_more, with_some, with_value};
+ghost use Rattle.backward_transfer.specs.Chosen.{FromFits, IsSomeSmall, SomeFits, ToFits};
+ghost use Rattle.backward_transfer.specs.Chosen.{adding, choosing, from_end, putting, putting_up_to, to_end, with_some};
 ghost use Rattle.backward_transfer.specs.Values.{RootsFit, tried_values};
 
 use crate::assigning::put;
@@ -84,12 +85,7 @@ fn only_where<R: Rank>(
     tree: Box<Tree<R>>,
 ) -> Result<Box<Tree<R>>, Stopped>
     requires { (walk.old.size ≡ size_of (plan_of tree.value)) × (walk.old.size ≤ 65536) }
-    ensures tree { IfOk result (λ made. plan_of made.value ≡ node R.eq row.now (plan_of tree.value) bottom) }
-    ensures size { IfOk result (λ made. walk.new.size ≡ size_of (plan_of made.value)) }
-    ensures small { OnOk result (walk.new.size ≤ 65536) }
-    ensures full { OnErr result ((count : ℕ) → walk.new.fault ≡ TooFull count
-        → (65536 < count) × (65536 < size_of (node R.eq row.now (plan_of tree.value) bottom))) }
-    ensures wide { OnErr result ((w : Wide) → walk.new.fault ≡ TooWide w → ⊥) }
+    ensures { Builds (given (node R.eq row.now (plan_of tree.value) bottom)) walk.old walk.new result }
 {
     match Tree::boxed_bottom(alloc) {
         Ok(none) => walk.join_last(alloc, row, tree, none, 1),
@@ -107,15 +103,7 @@ fn put_up_to<R: Rank>(
     a: &Affine,
 ) -> Result<Box<Tree<R>>, Stopped>
     requires { place < 16 }
-    ensures tree { IfOk result (λ made. plan_of made.value ≡ up_to R.eq R.substituted R.one_more hi place (plan_of tree.now) a.now) }
-    ensures size { IfOk result (λ made. walk.new.size ≡ size_of (plan_of made.value)) }
-    ensures small { OnOk result (walk.new.size ≤ 65536) }
-    ensures fits { OnOk result (UpToFits R.substituted R.subst_fits R.add_one_fits hi place (plan_of tree.now) a.now) }
-    ensures full { OnErr result ((count : ℕ) → walk.new.fault ≡ TooFull count
-        → (65536 < count) × (65536 < size_of (up_to R.eq R.substituted R.one_more hi place (plan_of tree.now) a.now))) }
-    ensures wide { OnErr result ((w : Wide) → walk.new.fault ≡ TooWide w
-        → UpToFits R.substituted R.subst_fits R.add_one_fits hi place (plan_of tree.now) a.now → ⊥) }
-    ensures operands { OnErr result ((w : Wide) → walk.new.fault ≡ TooWide w → IsOutside w) }
+    ensures { Builds (putting_up_to R.eq R.Rank.own hi place (plan_of tree.now) a.now) walk.old walk.new result }
 {
     let kind = end_above(walk, hi, a)?;
     match kind {
@@ -132,6 +120,7 @@ fn put_up_to<R: Rank>(
 #[inline(never)]
 fn end_above(walk: &mut Walk, hi: Option<i64>, a: &Affine) -> Result<RowKind, Stopped>
     ensures kind { IfOk result (λ kind. kind ≡ to_end hi a.now) }
+    ensures trail { OnOk result (walk.new.trail ≡ walk.old.trail) }
     ensures fits { OnOk result (ToFits hi a.now) }
     ensures full { OnErr result ((count : ℕ) → walk.new.fault ≡ TooFull count → ⊥) }
     ensures wide { OnErr result ((w : Wide) → walk.new.fault ≡ TooWide w → ToFits hi a.now → ⊥) }
@@ -150,6 +139,7 @@ fn end_above(walk: &mut Walk, hi: Option<i64>, a: &Affine) -> Result<RowKind, St
 #[inline(never)]
 fn end_below(walk: &mut Walk, lo: Option<i64>, a: &Affine) -> Result<RowKind, Stopped>
     ensures kind { IfOk result (λ kind. kind ≡ from_end lo a.now) }
+    ensures trail { OnOk result (walk.new.trail ≡ walk.old.trail) }
     ensures fits { OnOk result (FromFits lo a.now) }
     ensures full { OnErr result ((count : ℕ) → walk.new.fault ≡ TooFull count → ⊥) }
     ensures wide { OnErr result ((w : Wide) → walk.new.fault ≡ TooWide w → FromFits lo a.now → ⊥) }
@@ -173,16 +163,7 @@ fn put_value<R: Rank>(
     range: &Range,
     a: &Affine,
 ) -> Result<Box<Tree<R>>, Stopped>
-    ensures tree { IfOk result (λ made. plan_of made.value
-        ≡ with_value R.eq R.substituted R.one_more range.now.lo range.now.hi range.now.place (plan_of tree.now) a.now) }
-    ensures size { IfOk result (λ made. walk.new.size ≡ size_of (plan_of made.value)) }
-    ensures small { OnOk result (walk.new.size ≤ 65536) }
-    ensures fits { OnOk result (ValueFits R.substituted R.subst_fits R.add_one_fits range.now.lo range.now.hi range.now.place (plan_of tree.now) a.now) }
-    ensures full { OnErr result ((count : ℕ) → walk.new.fault ≡ TooFull count → (65536 < count)
-        × (65536 < size_of (with_value R.eq R.substituted R.one_more range.now.lo range.now.hi range.now.place (plan_of tree.now) a.now))) }
-    ensures wide { OnErr result ((w : Wide) → walk.new.fault ≡ TooWide w
-        → ValueFits R.substituted R.subst_fits R.add_one_fits range.now.lo range.now.hi range.now.place (plan_of tree.now) a.now → ⊥) }
-    ensures operands { OnErr result ((w : Wide) → walk.new.fault ≡ TooWide w → IsOutside w) }
+    ensures { Builds (putting R.eq R.Rank.own range.now.lo range.now.hi range.now.place (plan_of tree.now) a.now) walk.old walk.new result }
 {
     let kind = end_below(walk, range.lo, a)?;
     match kind {
@@ -205,21 +186,8 @@ fn put_more<R: Rank>(
     values: &[Affine],
 ) -> Result<Box<Tree<R>>, Stopped>
     requires { (walk.old.size ≡ size_of (plan_of made.value)) × (walk.old.size ≤ 65536) }
-    ensures tree { IfOk result (λ more. plan_of more.value ≡ with_more R.eq R.where_greater R.greater_fits R.substituted R.one_more
-        range.now.lo range.now.hi range.now.place (plan_of tree.now) (plan_of made.value) values.now) }
-    ensures size { IfOk result (λ more. walk.new.size ≡ size_of (plan_of more.value)) }
-    ensures least { OnOk result (walk.new.size ≤ 65536) }
-    ensures small { OnOk result (IsMoreSmall R.eq R.where_greater R.greater_fits R.substituted R.one_more 65536
-        range.now.lo range.now.hi range.now.place (plan_of tree.now) (plan_of made.value) values.now) }
-    ensures fits { OnOk result (MoreFits R.eq R.where_greater R.greater_fits R.substituted R.one_more R.subst_fits R.add_one_fits
-        range.now.lo range.now.hi range.now.place (plan_of tree.now) (plan_of made.value) values.now) }
-    ensures full { OnErr result ((count : ℕ) → walk.new.fault ≡ TooFull count → (65536 < count)
-        × (IsMoreSmall R.eq R.where_greater R.greater_fits R.substituted R.one_more 65536
-        range.now.lo range.now.hi range.now.place (plan_of tree.now) (plan_of made.value) values.now → ⊥)) }
-    ensures wide { OnErr result ((w : Wide) → walk.new.fault ≡ TooWide w
-        → MoreFits R.eq R.where_greater R.greater_fits R.substituted R.one_more R.subst_fits R.add_one_fits
-        range.now.lo range.now.hi range.now.place (plan_of tree.now) (plan_of made.value) values.now → ⊥) }
-    ensures operands { OnErr result ((w : Wide) → walk.new.fault ≡ TooWide w → IsOutside w) }
+    ensures { Builds (adding R.eq R.Rank.own range.now.lo range.now.hi range.now.place (plan_of tree.now) (plan_of made.value) values.now)
+        walk.old walk.new result }
 {
     let Some((a, rest)) = values.split_first() else {
         return Ok(made);
@@ -244,21 +212,7 @@ fn put_some<R: Rank>(
     range: &Range,
     values: &[Affine],
 ) -> Result<Box<Tree<R>>, Stopped>
-    ensures tree { IfOk result (λ made. plan_of made.value ≡ with_some R.eq R.where_greater R.greater_fits R.substituted R.one_more
-        range.now.lo range.now.hi range.now.place (plan_of tree.now) values.now) }
-    ensures size { IfOk result (λ made. walk.new.size ≡ size_of (plan_of made.value)) }
-    ensures least { OnOk result (walk.new.size ≤ 65536) }
-    ensures small { OnOk result (IsSomeSmall R.eq R.where_greater R.greater_fits R.substituted R.one_more 65536
-        range.now.lo range.now.hi range.now.place (plan_of tree.now) values.now) }
-    ensures fits { OnOk result (SomeFits R.eq R.where_greater R.greater_fits R.substituted R.one_more R.subst_fits R.add_one_fits
-        range.now.lo range.now.hi range.now.place (plan_of tree.now) values.now) }
-    ensures full { OnErr result ((count : ℕ) → walk.new.fault ≡ TooFull count → (65536 < count)
-        × (IsSomeSmall R.eq R.where_greater R.greater_fits R.substituted R.one_more 65536
-        range.now.lo range.now.hi range.now.place (plan_of tree.now) values.now → ⊥)) }
-    ensures wide { OnErr result ((w : Wide) → walk.new.fault ≡ TooWide w
-        → SomeFits R.eq R.where_greater R.greater_fits R.substituted R.one_more R.subst_fits R.add_one_fits
-        range.now.lo range.now.hi range.now.place (plan_of tree.now) values.now → ⊥) }
-    ensures operands { OnErr result ((w : Wide) → walk.new.fault ≡ TooWide w → IsOutside w) }
+    ensures { Builds (choosing R.eq R.Rank.own range.now.lo range.now.hi range.now.place (plan_of tree.now) values.now) walk.old walk.new result }
 {
     let Some((a, rest)) = values.split_first() else {
         return none(alloc, walk);

@@ -1,11 +1,13 @@
 //! Trees moved back over a free test of which one outcome is picked.
-ghost use Rattle.std.specs.Prelude.{◌≡◌, ℕ, ◌<◌, ◌≤◌, [], Err, IfOk, OnErr, OnOk};
+ghost use Rattle.std.specs.Prelude.{◌≡◌, ℕ, ◌<◌, [], Err, IfOk, OnOk};
 ghost use Rattle.linear_cons.specs.Exact.{IsOutside};
 ghost use Rattle.linear_cons.specs.declared.exact.Wide.{Wide};
-ghost use Rattle.decision_tree.specs.Plans.{plan_of, size_of};
-ghost use Rattle.tree_unify.specs.Shapes.{TrimFits, trimmed};
+ghost use Rattle.decision_tree.specs.Plans.{plan_of};
+ghost use Rattle.tree_unify.specs.Builds.{Builds};
+ghost use Rattle.tree_unify.specs.Shapes.{TrimFits, joining, trimmed};
 ghost use Rattle.tree_unify.specs.declared.fault.TreeFault.TheVariants.{Full as TooFull, Wide as TooWide};
-ghost use Rattle.backward_transfer.specs.Picks.{ArePicksSmall, EitherFits, PickFits, either_of, picked};
+ghost use Rattle.tree_unify.specs.declared.join.Join.TheVariants.{Either};
+ghost use Rattle.backward_transfer.specs.Picks.{ArePicksSmall, PickFits, picked, picking};
 
 use crate::stepping::step;
 use decision_tree::{Pick, Rank, Tree};
@@ -45,17 +47,7 @@ fn pick<R: Rank>(
     yes: &Tree<R>,
     no: &Tree<R>,
 ) -> Result<Box<Tree<R>>, Stopped>
-    ensures tree { IfOk result (λ made. plan_of made.value
-        ≡ picked R.eq R.where_greater R.greater_fits R.one_more (plan_of yes.now) (plan_of no.now)) }
-    ensures size { IfOk result (λ made. walk.new.size ≡ size_of (plan_of made.value)) }
-    ensures least { OnOk result (walk.new.size ≤ 65536) }
-    ensures small { OnOk result (ArePicksSmall R.eq R.where_greater R.greater_fits R.one_more 65536 (plan_of yes.now) (plan_of no.now)) }
-    ensures fits { OnOk result (PickFits R.eq R.where_greater R.greater_fits R.one_more R.add_one_fits (plan_of yes.now) (plan_of no.now)) }
-    ensures full { OnErr result ((count : ℕ) → walk.new.fault ≡ TooFull count → (65536 < count)
-        × (ArePicksSmall R.eq R.where_greater R.greater_fits R.one_more 65536 (plan_of yes.now) (plan_of no.now) → ⊥)) }
-    ensures wide { OnErr result ((w : Wide) → walk.new.fault ≡ TooWide w
-        → PickFits R.eq R.where_greater R.greater_fits R.one_more R.add_one_fits (plan_of yes.now) (plan_of no.now) → ⊥) }
-    ensures operands { OnErr result ((w : Wide) → walk.new.fault ≡ TooWide w → IsOutside w) }
+    ensures { Builds (picking R.eq R.Rank.own (plan_of yes.now) (plan_of no.now)) walk.old walk.new result }
 {
     let first = step(alloc, walk, &Pick::Yes, yes)?;
     match step(alloc, walk, &Pick::No, no) {
@@ -75,15 +67,7 @@ pub(crate) fn join_either<R: Rank>(
     first: &Tree<R>,
     second: &Tree<R>,
 ) -> Result<Box<Tree<R>>, Stopped>
-    ensures tree { IfOk result (λ made. plan_of made.value ≡ either_of R.eq R.where_greater R.greater_fits (plan_of first.now) (plan_of second.now)) }
-    ensures size { IfOk result (λ made. walk.new.size ≡ size_of (plan_of made.value)) }
-    ensures small { OnOk result (walk.new.size ≤ 65536) }
-    ensures fits { OnOk result (EitherFits R.eq R.where_greater R.greater_fits (plan_of first.now) (plan_of second.now)) }
-    ensures full { OnErr result ((count : ℕ) → walk.new.fault ≡ TooFull count → (65536 < count)
-        × (65536 < size_of (either_of R.eq R.where_greater R.greater_fits (plan_of first.now) (plan_of second.now)))) }
-    ensures wide { OnErr result ((w : Wide) → walk.new.fault ≡ TooWide w
-        → EitherFits R.eq R.where_greater R.greater_fits (plan_of first.now) (plan_of second.now) → ⊥) }
-    ensures operands { OnErr result ((w : Wide) → walk.new.fault ≡ TooWide w → IsOutside w) }
+    ensures { Builds (joining R.eq R.Rank.own Either (plan_of first.now) (plan_of second.now)) walk.old walk.new result }
 {
     match either(alloc, first, second) {
         Ok(tree) => match Box::new(alloc, tree) {

@@ -1,19 +1,17 @@
 //! Trees moved back over the assignment of a value in a range.
-ghost use Rattle.std.specs.Prelude.{◌≡◌, ℕ, ◌<◌, ◌≤◌, [], Err, Ok, IfErr, IfOk, IsTrue, OkIff, OnErr, OnOk, ◌↔◌, ⊤};
+ghost use Rattle.std.specs.Prelude.{◌≡◌, ℕ, ◌<◌, ◌≤◌, [], Err, Ok, IfErr, IfOk, IsTrue, OkIff, OnErr, OnOk, ◌↔◌};
 ghost use Rattle.linear_cons.specs.Exact.{IsOutside};
 ghost use Rattle.linear_cons.specs.declared.exact.Wide.{Wide};
 ghost use Rattle.linear_cons.specs.declared.row.RowKind.TheVariants.{Always, Never};
 ghost use Rattle.decision_tree.specs.AffineRanks.{trend_of};
 ghost use Rattle.decision_tree.specs.Plans.{plan_of, size_of};
-ghost use Rattle.decision_tree.specs.Trend.{GreatestFits, greatest_of};
-ghost use Rattle.tree_unify.specs.Shapes.{JoinedFits, TrimFits, trimmed};
+ghost use Rattle.tree_unify.specs.Builds.{Builds};
+ghost use Rattle.tree_unify.specs.Shapes.{TrimFits, joining, trimmed};
 ghost use Rattle.tree_unify.specs.declared.fault.TreeFault.TheVariants.{Full as TooFull, Wide as TooWide};
 ghost use Rattle.tree_unify.specs.declared.join.Join.TheVariants.{Later};
-ghost use Rattle.backward_transfer.specs.Steps.{AskedFits, asked};
-ghost use Rattle.backward_transfer.specs.Ranges.{AreSmall, FailsAtFits, FailsFits, GreatestStepFits, HoldsAtFits, HoldsFits};
-ghost use Rattle.backward_transfer.specs.Ranges.{NegationFits, RangeFits};
-ghost use Rattle.backward_transfer.specs.Ranges.{RowAtFits, fails_at, holds_at};
-ghost use Rattle.backward_transfer.specs.Ranges.{fails_throughout, holds_throughout, later_of, negated, ranged, row_at, step_to_greatest};
+ghost use Rattle.backward_transfer.specs.Ranges.{AreSmall, FailsAtFits, FailsFits, HoldsAtFits, HoldsFits, NegationFits, RangeFits};
+ghost use Rattle.backward_transfer.specs.Ranges.{RowAtFits, asking_both, asking_second, fails_at, fails_throughout, holds_at};
+ghost use Rattle.backward_transfer.specs.Ranges.{holds_throughout, negated, ranged, ranging, row_at, spreading};
 
 use crate::stepping::{none, step_leaf};
 use decision_tree::{Pick, Rank, Tree};
@@ -69,20 +67,7 @@ fn spread_over<R: Rank>(
     range: &Linear,
 ) -> Result<Box<Tree<R>>, Stopped>
     requires { place < 16 }
-    ensures tree { IfOk result (λ made. plan_of made.value
-        ≡ ranged R.eq R.where_greater R.greater_fits R.trend R.substituted R.one_more place range.now (plan_of tree.now)) }
-    ensures size { IfOk result (λ made. walk.new.size ≡ size_of (plan_of made.value)) }
-    ensures least { OnOk result (walk.new.size ≤ 65536) }
-    ensures small { OnOk result (AreSmall R.eq R.where_greater R.greater_fits R.trend R.substituted R.one_more 65536 place range.now
-        (plan_of tree.now)) }
-    ensures fits { OnOk result (RangeFits R.eq R.where_greater R.greater_fits R.trend R.substituted R.one_more R.subst_fits R.add_one_fits
-        place range.now (plan_of tree.now)) }
-    ensures full { OnErr result ((count : ℕ) → walk.new.fault ≡ TooFull count → (65536 < count)
-        × (AreSmall R.eq R.where_greater R.greater_fits R.trend R.substituted R.one_more 65536 place range.now (plan_of tree.now) → ⊥)) }
-    ensures wide { OnErr result ((w : Wide) → walk.new.fault ≡ TooWide w
-        → RangeFits R.eq R.where_greater R.greater_fits R.trend R.substituted R.one_more R.subst_fits R.add_one_fits place range.now
-        (plan_of tree.now) → ⊥) }
-    ensures operands { OnErr result ((w : Wide) → walk.new.fault ≡ TooWide w → IsOutside w) }
+    ensures { Builds (ranging R.eq R.Rank.own place range.now (plan_of tree.now)) walk.old walk.new result }
 {
     match tree {
         Tree::Bottom => walk.copied(alloc, tree),
@@ -126,21 +111,7 @@ fn ask<R: Rank>(
     requires fails { holds.now ≡ Never → fails.now ≡ Always → ⊥ }
     requires yes { (yes_size ≡ size_of (plan_of yes.value)) × (yes_size ≤ 65536) }
     requires no { (walk.old.size ≡ size_of (plan_of no.value)) × (walk.old.size ≤ 65536) }
-    ensures tree { IfOk result (λ made. plan_of made.value ≡ asked R.eq holds.now (plan_of yes.value)
-        (asked R.eq fails.now (plan_of no.value) (later_of R.eq R.where_greater R.greater_fits (plan_of yes.value) (plan_of no.value)))) }
-    ensures size { IfOk result (λ made. walk.new.size ≡ size_of (plan_of made.value)) }
-    ensures least { OnOk result (walk.new.size ≤ 65536) }
-    ensures small { OnOk result (AskedFits fails.now ⊤
-        (size_of (later_of R.eq R.where_greater R.greater_fits (plan_of yes.value) (plan_of no.value)) ≤ 65536)) }
-    ensures fits { OnOk result (AskedFits fails.now ⊤
-        (JoinedFits R.eq R.where_greater R.greater_fits Later (plan_of yes.value) (plan_of no.value))) }
-    ensures full { OnErr result ((count : ℕ) → walk.new.fault ≡ TooFull count → (65536 < count)
-        × (AskedFits fails.now ⊤ (size_of (later_of R.eq R.where_greater R.greater_fits (plan_of yes.value) (plan_of no.value)) ≤ 65536)
-        → size_of (asked R.eq holds.now (plan_of yes.value) (asked R.eq fails.now (plan_of no.value)
-        (later_of R.eq R.where_greater R.greater_fits (plan_of yes.value) (plan_of no.value)))) ≤ 65536 → ⊥)) }
-    ensures wide { OnErr result ((w : Wide) → walk.new.fault ≡ TooWide w
-        → AskedFits fails.now ⊤ (JoinedFits R.eq R.where_greater R.greater_fits Later (plan_of yes.value) (plan_of no.value)) → ⊥) }
-    ensures operands { OnErr result ((w : Wide) → walk.new.fault ≡ TooWide w → IsOutside w) }
+    ensures { Builds (asking_both R.eq R.Rank.own holds.now fails.now (plan_of yes.value) (plan_of no.value)) walk.old walk.new result }
 {
     let no_size = walk.size;
     let rest = ask_second(alloc, walk, fails, &yes, no)?;
@@ -161,21 +132,7 @@ fn ask_second<R: Rank>(
     no: Box<Tree<R>>,
 ) -> Result<Box<Tree<R>>, Stopped>
     requires no { (walk.old.size ≡ size_of (plan_of no.value)) × (walk.old.size ≤ 65536) }
-    ensures tree { IfOk result (λ made. plan_of made.value ≡ asked R.eq fails.now (plan_of no.value)
-        (later_of R.eq R.where_greater R.greater_fits (plan_of yes.now) (plan_of no.value))) }
-    ensures size { IfOk result (λ made. walk.new.size ≡ size_of (plan_of made.value)) }
-    ensures least { OnOk result (walk.new.size ≤ 65536) }
-    ensures small { OnOk result (AskedFits fails.now ⊤
-        (size_of (later_of R.eq R.where_greater R.greater_fits (plan_of yes.now) (plan_of no.value)) ≤ 65536)) }
-    ensures fits { OnOk result (AskedFits fails.now ⊤
-        (JoinedFits R.eq R.where_greater R.greater_fits Later (plan_of yes.now) (plan_of no.value))) }
-    ensures full { OnErr result ((count : ℕ) → walk.new.fault ≡ TooFull count → (65536 < count)
-        × (AskedFits fails.now ⊤ (size_of (later_of R.eq R.where_greater R.greater_fits (plan_of yes.now) (plan_of no.value)) ≤ 65536)
-        → size_of (asked R.eq fails.now (plan_of no.value)
-        (later_of R.eq R.where_greater R.greater_fits (plan_of yes.now) (plan_of no.value))) ≤ 65536 → ⊥)) }
-    ensures wide { OnErr result ((w : Wide) → walk.new.fault ≡ TooWide w
-        → AskedFits fails.now ⊤ (JoinedFits R.eq R.where_greater R.greater_fits Later (plan_of yes.now) (plan_of no.value)) → ⊥) }
-    ensures operands { OnErr result ((w : Wide) → walk.new.fault ≡ TooWide w → IsOutside w) }
+    ensures { Builds (asking_second R.eq R.Rank.own fails.now (plan_of yes.now) (plan_of no.value)) walk.old walk.new result }
 {
     let no_size = walk.size;
     match fails {
@@ -196,17 +153,7 @@ pub(crate) fn join_later<R: Rank>(
     yes: &Tree<R>,
     no: &Tree<R>,
 ) -> Result<Box<Tree<R>>, Stopped>
-    ensures tree { IfOk result (λ made. plan_of made.value
-        ≡ later_of R.eq R.where_greater R.greater_fits (plan_of yes.now) (plan_of no.now)) }
-    ensures size { IfOk result (λ made. walk.new.size ≡ size_of (plan_of made.value)) }
-    ensures small { OnOk result (walk.new.size ≤ 65536) }
-    ensures trail { OnOk result (walk.new.trail ≡ walk.old.trail) }
-    ensures fits { OnOk result (JoinedFits R.eq R.where_greater R.greater_fits Later (plan_of yes.now) (plan_of no.now)) }
-    ensures full { OnErr result ((count : ℕ) → walk.new.fault ≡ TooFull count → (65536 < count)
-        × (65536 < size_of (later_of R.eq R.where_greater R.greater_fits (plan_of yes.now) (plan_of no.now)))) }
-    ensures wide { OnErr result ((w : Wide) → walk.new.fault ≡ TooWide w
-        → JoinedFits R.eq R.where_greater R.greater_fits Later (plan_of yes.now) (plan_of no.now) → ⊥) }
-    ensures operands { OnErr result ((w : Wide) → walk.new.fault ≡ TooWide w → IsOutside w) }
+    ensures { Builds (joining R.eq R.Rank.own Later (plan_of yes.now) (plan_of no.now)) walk.old walk.new result }
 {
     match later(alloc, yes, no) {
         Ok(tree) => match Box::new(alloc, tree) {
@@ -227,18 +174,7 @@ fn spread_leaf<R: Rank>(
     range: &Linear,
 ) -> Result<Box<Tree<R>>, Stopped>
     requires { place < 16 }
-    ensures tree { IfOk result (λ made. plan_of made.value
-        ≡ step_to_greatest R.one_more (greatest_of rank.now (R.trend rank.now place) range.now (R.substituted rank.now place))) }
-    ensures size { IfOk result (λ made. walk.new.size ≡ size_of (plan_of made.value)) }
-    ensures small { OnOk result (walk.new.size ≡ 1) }
-    ensures greatest { OnOk result (GreatestFits (R.trend rank.now place) range.now (R.subst_fits rank.now place)) }
-    ensures more { OnOk result (GreatestStepFits R.add_one_fits
-        (greatest_of rank.now (R.trend rank.now place) range.now (R.substituted rank.now place))) }
-    ensures full { OnErr result ((count : ℕ) → walk.new.fault ≡ TooFull count → ⊥) }
-    ensures wide { OnErr result ((w : Wide) → walk.new.fault ≡ TooWide w
-        → GreatestFits (R.trend rank.now place) range.now (R.subst_fits rank.now place)
-        → GreatestStepFits R.add_one_fits (greatest_of rank.now (R.trend rank.now place) range.now (R.substituted rank.now place)) → ⊥) }
-    ensures operands { OnErr result ((w : Wide) → walk.new.fault ≡ TooWide w → IsOutside w) }
+    ensures { Builds (spreading R.Rank.own place range.now rank.now) walk.old walk.new result }
 {
     match rank.greatest(place, range) {
         Ok(Some(greatest)) => step_leaf(alloc, walk, &Pick::All, &greatest),
@@ -278,6 +214,7 @@ fn holds_throughout(
 ) -> Result<Box<RowKind>, Stopped>
     requires { place < 16 }
     ensures kind { IfOk result (λ kind. kind.value ≡ holds_throughout (trend_of row.now.affine place) row.now place range.now) }
+    ensures trail { OnOk result (walk.new.trail ≡ walk.old.trail) }
     ensures fits { OnOk result (HoldsFits (trend_of row.now.affine place) row.now place range.now) }
     ensures full { OnErr result ((count : ℕ) → walk.new.fault ≡ TooFull count → ⊥) }
     ensures wide { OnErr result ((w : Wide) → walk.new.fault ≡ TooWide w
@@ -298,6 +235,7 @@ fn fails_throughout(
 ) -> Result<Box<RowKind>, Stopped>
     requires { place < 16 }
     ensures kind { IfOk result (λ kind. kind.value ≡ fails_throughout (trend_of row.now.affine place) row.now place range.now) }
+    ensures trail { OnOk result (walk.new.trail ≡ walk.old.trail) }
     ensures fits { OnOk result (FailsFits (trend_of row.now.affine place) row.now place range.now) }
     ensures full { OnErr result ((count : ℕ) → walk.new.fault ≡ TooFull count → ⊥) }
     ensures wide { OnErr result ((w : Wide) → walk.new.fault ≡ TooWide w
@@ -314,6 +252,7 @@ fn keep(
     formed: Result<RowKind, Wide>,
 ) -> Result<Box<RowKind>, Stopped>
     ensures kind { IfOk result (λ kind. formed ≡ Ok kind.value) }
+    ensures trail { OnOk result (walk.new.trail ≡ walk.old.trail) }
     ensures full { OnErr result ((count : ℕ) → walk.new.fault ≡ TooFull count → ⊥) }
     ensures wide { OnErr result ((w : Wide) → walk.new.fault ≡ TooWide w → formed ≡ Err w) }
 {

@@ -1,11 +1,12 @@
 //! Trees moved back over a step that changes nothing.
-ghost use Rattle.std.specs.Prelude.{◌≡◌, ℕ, ◌<◌, ◌≤◌, [], Err, IfOk, OnErr, OnOk};
+ghost use Rattle.std.specs.Prelude.{◌≡◌, ℕ, ◌<◌, ◌≤◌, [], Err, IfOk, OnOk};
 ghost use Rattle.linear_cons.specs.Exact.{IsOutside};
 ghost use Rattle.linear_cons.specs.declared.exact.Wide.{Wide};
 ghost use Rattle.decision_tree.specs.Plans.{bottom, plan_of, size_of};
+ghost use Rattle.tree_unify.specs.Builds.{Builds, formed, given};
 ghost use Rattle.tree_unify.specs.Shapes.{TrimFits, trimmed};
 ghost use Rattle.tree_unify.specs.declared.fault.TreeFault.TheVariants.{Full as TooFull, Wide as TooWide};
-ghost use Rattle.backward_transfer.specs.Steps.{StepFits, step_by, stepped, stepped_by};
+ghost use Rattle.backward_transfer.specs.Steps.{StepFits, step_by, stepped, stepping};
 
 use decision_tree::{Pick, Rank, Tree, Why};
 use std::alloc::Global;
@@ -42,15 +43,7 @@ pub(crate) fn step<R: Rank>(
     pick: &Pick,
     tree: &Tree<R>,
 ) -> Result<Box<Tree<R>>, Stopped>
-    ensures tree { IfOk result (λ made. plan_of made.value ≡ stepped_by R.eq R.one_more pick.now (plan_of tree.now)) }
-    ensures size { IfOk result (λ made. walk.new.size ≡ size_of (plan_of made.value)) }
-    ensures small { OnOk result (walk.new.size ≤ 65536) }
-    ensures trail { OnOk result (walk.new.trail ≡ walk.old.trail) }
-    ensures fits { OnOk result (StepFits R.add_one_fits (plan_of tree.now)) }
-    ensures full { OnErr result ((count : ℕ) → walk.new.fault ≡ TooFull count
-        → (65536 < count) × (65536 < size_of (stepped_by R.eq R.one_more pick.now (plan_of tree.now)))) }
-    ensures wide { OnErr result ((w : Wide) → walk.new.fault ≡ TooWide w → StepFits R.add_one_fits (plan_of tree.now) → ⊥) }
-    ensures operands { OnErr result ((w : Wide) → walk.new.fault ≡ TooWide w → IsOutside w) }
+    ensures { Builds (stepping R.eq R.Rank.own pick.now (plan_of tree.now)) walk.old walk.new result }
 {
     match tree {
         Tree::Bottom => walk.copied(alloc, tree),
@@ -78,13 +71,7 @@ pub(crate) fn step_leaf<R: Rank>(
     pick: &Pick,
     rank: &R,
 ) -> Result<Box<Tree<R>>, Stopped>
-    ensures tree { IfOk result (λ made. plan_of made.value ≡ step_by pick.now (R.one_more rank.now)) }
-    ensures size { OnOk result (walk.new.size ≡ 1) }
-    ensures trail { OnOk result (walk.new.trail ≡ walk.old.trail) }
-    ensures fits { OnOk result (R.add_one_fits rank.now) }
-    ensures full { OnErr result ((count : ℕ) → walk.new.fault ≡ TooFull count → ⊥) }
-    ensures wide { OnErr result ((w : Wide) → walk.new.fault ≡ TooWide w → R.add_one_fits rank.now → ⊥) }
-    ensures operands { OnErr result ((w : Wide) → walk.new.fault ≡ TooWide w → IsOutside w) }
+    ensures { Builds (formed (step_by pick.now (R.one_more rank.now)) (R.add_one_fits rank.now)) walk.old walk.new result }
 {
     let more = match rank.add_one() {
         Ok(more) => more,
@@ -102,11 +89,7 @@ pub(crate) fn step_leaf<R: Rank>(
 /// No claim; its size is known.
 #[inline(never)]
 pub(crate) fn none<R: Rank>(alloc: Global, walk: &mut Walk) -> Result<Box<Tree<R>>, Stopped>
-    ensures tree { IfOk result (λ made. plan_of made.value ≡ bottom) }
-    ensures size { OnOk result (walk.new.size ≡ 1) }
-    ensures trail { OnOk result (walk.new.trail ≡ walk.old.trail) }
-    ensures full { OnErr result ((count : ℕ) → walk.new.fault ≡ TooFull count → ⊥) }
-    ensures wide { OnErr result ((w : Wide) → walk.new.fault ≡ TooWide w → ⊥) }
+    ensures { Builds (given bottom) walk.old walk.new result }
 {
     match Tree::boxed_bottom(alloc) {
         Ok(none) => {

@@ -1,13 +1,13 @@
 //! Two trees moved back over a test.
-ghost use Rattle.std.specs.Prelude.{◌≡◌, ℕ, ◌<◌, ◌≤◌, ⊤, true, false, [], ◌++◌, Err, Option, IfOk, OnErr, OnOk};
+ghost use Rattle.std.specs.Prelude.{◌≡◌, ℕ, ◌<◌, ◌≤◌, ⊤, true, [], ◌++◌, Err, IfOk, OnOk};
 ghost use Rattle.linear_cons.specs.Exact.{IsOutside};
 ghost use Rattle.linear_cons.specs.declared.exact.Wide.{Wide};
 ghost use Rattle.decision_tree.specs.Plans.{plan_of, size_of};
+ghost use Rattle.tree_unify.specs.Builds.{Builds};
 ghost use Rattle.tree_unify.specs.Shapes.{TrimFits, trimmed};
 ghost use Rattle.tree_unify.specs.declared.fault.TreeFault.TheVariants.{Full as TooFull, Wide as TooWide};
-ghost use Rattle.backward_transfer.specs.Tests.{AskedAsks, ComplementFits, EnabledFits, IsLaterSmall, SettledAsks, TestAsks, TriedAsks};
-ghost use Rattle.backward_transfer.specs.Tests.{all_held, asked_tree, enabled, not_refuted, one_held, one_refuted};
-ghost use Rattle.backward_transfer.specs.Tests.{settled_tree, tested, tried_tree};
+ghost use Rattle.backward_transfer.specs.Tests.{ComplementFits, EnabledFits, IsLaterSmall, TestAsks, tested};
+ghost use Rattle.backward_transfer.specs.Tests.{all_held, asking, enabling, not_refuted, one_held, one_refuted, settling, trying};
 
 use crate::ranging::join_later;
 use crate::stepping::{none, step};
@@ -82,26 +82,8 @@ impl<'a, R: Rank> Test<'a, R> {
         rest: &[Rows],
         holds: Option<bool>,
     ) -> Result<Box<Tree<R>>, Stopped>
-        ensures tree { IfOk result (λ made. plan_of made.value
-            ≡ asked_tree R.eq R.where_greater R.greater_fits R.one_more (plan_of self.now.yes.now) (plan_of self.now.no.now)
-            self.now.no_rows.now holds rows.now rest.now walk.old.trail) }
-        ensures size { IfOk result (λ made. walk.new.size ≡ size_of (plan_of made.value)) }
-        ensures small { OnOk result (walk.new.size ≤ 65536) }
-        ensures later { OnOk result (AskedAsks (λ row. ⊤) (IsLaterSmall R.eq R.where_greater R.greater_fits (plan_of
-            self.now.yes.now) (plan_of self.now.no.now)) self.now.no_rows.now holds rows.now rest.now walk.old.trail) }
-        ensures trail { OnOk result (walk.new.trail ≡ walk.old.trail) }
-        ensures fits { OnOk result (AskedAsks ComplementFits (EnabledFits R.eq R.where_greater R.greater_fits R.one_more
-            R.add_one_fits (plan_of self.now.yes.now) (plan_of self.now.no.now)) self.now.no_rows.now holds rows.now rest.now
-            walk.old.trail) }
-        ensures full { OnErr result ((count : ℕ) → walk.new.fault ≡ TooFull count → (65536 < count)
-            × (AskedAsks (λ row. ⊤) (IsLaterSmall R.eq R.where_greater R.greater_fits (plan_of self.now.yes.now) (plan_of
-            self.now.no.now)) self.now.no_rows.now holds rows.now rest.now walk.old.trail
-            → size_of (asked_tree R.eq R.where_greater R.greater_fits R.one_more (plan_of self.now.yes.now) (plan_of self.now.no.now)
-            self.now.no_rows.now holds rows.now rest.now walk.old.trail) ≤ 65536 → ⊥)) }
-        ensures wide { OnErr result ((w : Wide) → walk.new.fault ≡ TooWide w
-            → AskedAsks ComplementFits (EnabledFits R.eq R.where_greater R.greater_fits R.one_more R.add_one_fits (plan_of
-            self.now.yes.now) (plan_of self.now.no.now)) self.now.no_rows.now holds rows.now rest.now walk.old.trail → ⊥) }
-        ensures operands { OnErr result ((w : Wide) → walk.new.fault ≡ TooWide w → IsOutside w) }
+        ensures { Builds (asking R.eq R.Rank.own (plan_of self.now.yes.now) (plan_of self.now.no.now) self.now.no_rows.now holds rows.now rest.now
+            walk.old.trail) walk.old walk.new result }
     {
         let Some((row, others)) = rows.split_first() else {
             return self.settle(alloc, walk, holds, true);
@@ -140,25 +122,8 @@ impl<'a, R: Rank> Test<'a, R> {
         rest: &[Rows],
         holds: Option<bool>,
     ) -> Result<Box<Tree<R>>, Stopped>
-        ensures tree { IfOk result (λ made. plan_of made.value
-            ≡ tried_tree R.eq R.where_greater R.greater_fits R.one_more (plan_of self.now.yes.now) (plan_of self.now.no.now)
-            self.now.no_rows.now holds rest.now walk.old.trail) }
-        ensures size { IfOk result (λ made. walk.new.size ≡ size_of (plan_of made.value)) }
-        ensures small { OnOk result (walk.new.size ≤ 65536) }
-        ensures later { OnOk result (TriedAsks (λ row. ⊤) (IsLaterSmall R.eq R.where_greater R.greater_fits (plan_of
-            self.now.yes.now) (plan_of self.now.no.now)) self.now.no_rows.now holds rest.now walk.old.trail) }
-        ensures trail { OnOk result (walk.new.trail ≡ walk.old.trail) }
-        ensures fits { OnOk result (TriedAsks ComplementFits (EnabledFits R.eq R.where_greater R.greater_fits R.one_more
-            R.add_one_fits (plan_of self.now.yes.now) (plan_of self.now.no.now)) self.now.no_rows.now holds rest.now walk.old.trail) }
-        ensures full { OnErr result ((count : ℕ) → walk.new.fault ≡ TooFull count → (65536 < count)
-            × (TriedAsks (λ row. ⊤) (IsLaterSmall R.eq R.where_greater R.greater_fits (plan_of self.now.yes.now) (plan_of
-            self.now.no.now)) self.now.no_rows.now holds rest.now walk.old.trail
-            → size_of (tried_tree R.eq R.where_greater R.greater_fits R.one_more (plan_of self.now.yes.now) (plan_of self.now.no.now)
-            self.now.no_rows.now holds rest.now walk.old.trail) ≤ 65536 → ⊥)) }
-        ensures wide { OnErr result ((w : Wide) → walk.new.fault ≡ TooWide w
-            → TriedAsks ComplementFits (EnabledFits R.eq R.where_greater R.greater_fits R.one_more R.add_one_fits (plan_of
-            self.now.yes.now) (plan_of self.now.no.now)) self.now.no_rows.now holds rest.now walk.old.trail → ⊥) }
-        ensures operands { OnErr result ((w : Wide) → walk.new.fault ≡ TooWide w → IsOutside w) }
+        ensures { Builds (trying R.eq R.Rank.own (plan_of self.now.yes.now) (plan_of self.now.no.now) self.now.no_rows.now holds rest.now walk.old.trail)
+            walk.old walk.new result }
     {
         match rest.split_first() {
             Some((rows, others)) => self.ask_rows(alloc, walk, rows.items(), others, holds),
@@ -175,25 +140,8 @@ impl<'a, R: Rank> Test<'a, R> {
         holds: Option<bool>,
         found: bool,
     ) -> Result<Box<Tree<R>>, Stopped>
-        ensures tree { IfOk result (λ made. plan_of made.value
-            ≡ settled_tree R.eq R.where_greater R.greater_fits R.one_more (plan_of self.now.yes.now) (plan_of self.now.no.now)
-            self.now.no_rows.now holds found walk.old.trail) }
-        ensures size { IfOk result (λ made. walk.new.size ≡ size_of (plan_of made.value)) }
-        ensures small { OnOk result (walk.new.size ≤ 65536) }
-        ensures later { OnOk result (SettledAsks (λ row. ⊤) (IsLaterSmall R.eq R.where_greater R.greater_fits (plan_of
-            self.now.yes.now) (plan_of self.now.no.now)) self.now.no_rows.now holds found walk.old.trail) }
-        ensures trail { OnOk result (walk.new.trail ≡ walk.old.trail) }
-        ensures fits { OnOk result (SettledAsks ComplementFits (EnabledFits R.eq R.where_greater R.greater_fits R.one_more
-            R.add_one_fits (plan_of self.now.yes.now) (plan_of self.now.no.now)) self.now.no_rows.now holds found walk.old.trail) }
-        ensures full { OnErr result ((count : ℕ) → walk.new.fault ≡ TooFull count → (65536 < count)
-            × (SettledAsks (λ row. ⊤) (IsLaterSmall R.eq R.where_greater R.greater_fits (plan_of self.now.yes.now) (plan_of
-            self.now.no.now)) self.now.no_rows.now holds found walk.old.trail
-            → size_of (settled_tree R.eq R.where_greater R.greater_fits R.one_more (plan_of self.now.yes.now) (plan_of
-            self.now.no.now) self.now.no_rows.now holds found walk.old.trail) ≤ 65536 → ⊥)) }
-        ensures wide { OnErr result ((w : Wide) → walk.new.fault ≡ TooWide w
-            → SettledAsks ComplementFits (EnabledFits R.eq R.where_greater R.greater_fits R.one_more R.add_one_fits (plan_of
-            self.now.yes.now) (plan_of self.now.no.now)) self.now.no_rows.now holds found walk.old.trail → ⊥) }
-        ensures operands { OnErr result ((w : Wide) → walk.new.fault ≡ TooWide w → IsOutside w) }
+        ensures { Builds (settling R.eq R.Rank.own (plan_of self.now.yes.now) (plan_of self.now.no.now) self.now.no_rows.now holds found walk.old.trail)
+            walk.old walk.new result }
     {
         match holds {
             Some(holds) => self.take(alloc, walk, holds, found),
@@ -218,22 +166,7 @@ impl<'a, R: Rank> Test<'a, R> {
         holds: bool,
         fails: bool,
     ) -> Result<Box<Tree<R>>, Stopped>
-        ensures tree { IfOk result (λ made. plan_of made.value ≡ enabled R.eq R.where_greater R.greater_fits R.one_more (plan_of
-            self.now.yes.now) (plan_of self.now.no.now) holds fails) }
-        ensures size { IfOk result (λ made. walk.new.size ≡ size_of (plan_of made.value)) }
-        ensures small { OnOk result (walk.new.size ≤ 65536) }
-        ensures later { OnOk result (IsLaterSmall R.eq R.where_greater R.greater_fits (plan_of self.now.yes.now) (plan_of
-            self.now.no.now) holds fails) }
-        ensures trail { OnOk result (walk.new.trail ≡ walk.old.trail) }
-        ensures fits { OnOk result (EnabledFits R.eq R.where_greater R.greater_fits R.one_more R.add_one_fits (plan_of
-            self.now.yes.now) (plan_of self.now.no.now) holds fails) }
-        ensures full { OnErr result ((count : ℕ) → walk.new.fault ≡ TooFull count → (65536 < count)
-            × (IsLaterSmall R.eq R.where_greater R.greater_fits (plan_of self.now.yes.now) (plan_of self.now.no.now) holds fails →
-            size_of (enabled R.eq R.where_greater R.greater_fits R.one_more (plan_of self.now.yes.now) (plan_of self.now.no.now)
-            holds fails) ≤ 65536 → ⊥)) }
-        ensures wide { OnErr result ((w : Wide) → walk.new.fault ≡ TooWide w → EnabledFits R.eq R.where_greater R.greater_fits
-            R.one_more R.add_one_fits (plan_of self.now.yes.now) (plan_of self.now.no.now) holds fails → ⊥) }
-        ensures operands { OnErr result ((w : Wide) → walk.new.fault ≡ TooWide w → IsOutside w) }
+        ensures { Builds (enabling R.eq R.Rank.own (plan_of self.now.yes.now) (plan_of self.now.no.now) holds fails) walk.old walk.new result }
     {
         match (holds, fails) {
             (true, true) => self.take_both(alloc, walk),
@@ -246,22 +179,7 @@ impl<'a, R: Rank> Test<'a, R> {
     /// The later of both trees, with one more step at each defined leaf.
     #[inline(never)]
     fn take_both(&self, alloc: Global, walk: &mut Walk) -> Result<Box<Tree<R>>, Stopped>
-        ensures tree { IfOk result (λ made. plan_of made.value ≡ enabled R.eq R.where_greater R.greater_fits R.one_more (plan_of
-            self.now.yes.now) (plan_of self.now.no.now) true true) }
-        ensures size { IfOk result (λ made. walk.new.size ≡ size_of (plan_of made.value)) }
-        ensures small { OnOk result (walk.new.size ≤ 65536) }
-        ensures later { OnOk result (IsLaterSmall R.eq R.where_greater R.greater_fits (plan_of self.now.yes.now) (plan_of
-            self.now.no.now) true true) }
-        ensures trail { OnOk result (walk.new.trail ≡ walk.old.trail) }
-        ensures fits { OnOk result (EnabledFits R.eq R.where_greater R.greater_fits R.one_more R.add_one_fits (plan_of
-            self.now.yes.now) (plan_of self.now.no.now) true true) }
-        ensures full { OnErr result ((count : ℕ) → walk.new.fault ≡ TooFull count → (65536 < count)
-            × (IsLaterSmall R.eq R.where_greater R.greater_fits (plan_of self.now.yes.now) (plan_of self.now.no.now) true true →
-            size_of (enabled R.eq R.where_greater R.greater_fits R.one_more (plan_of self.now.yes.now) (plan_of self.now.no.now) true
-            true) ≤ 65536 → ⊥)) }
-        ensures wide { OnErr result ((w : Wide) → walk.new.fault ≡ TooWide w → EnabledFits R.eq R.where_greater R.greater_fits
-            R.one_more R.add_one_fits (plan_of self.now.yes.now) (plan_of self.now.no.now) true true → ⊥) }
-        ensures operands { OnErr result ((w : Wide) → walk.new.fault ≡ TooWide w → IsOutside w) }
+        ensures { Builds (enabling R.eq R.Rank.own (plan_of self.now.yes.now) (plan_of self.now.no.now) true true) walk.old walk.new result }
     {
         let both = join_later(alloc, walk, self.yes, self.no)?;
         step(alloc, walk, &Pick::All, &both)

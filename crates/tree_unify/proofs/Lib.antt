@@ -1,3 +1,4 @@
+pub mod Building
 pub mod Meeting
 pub mod Asking
 pub mod Cutting

@@ -1,6 +1,5 @@
 -- What stands where in joined trees.
-use Rattle.std.proofs.Common.{◌≡◌, ◌↔◌, ℕ, ◌<◌, ◌≤◌, ℤ, pos, ◌≤ℤ◌, Bool, true, false, cond, int_le, List, [], ◌∷◌, ◌++◌, Option, Some, None, Result, Ok, Err, IsTrue, refl, sym, ap, ◌∙◌, subst, arith, ⊎_elim, ◌⊎◌, inl, inr}
-use Rattle.std.specs.Result.{OnErr}
+use Rattle.std.proofs.Common.{◌≡◌, ◌↔◌, ℕ, ◌≤◌, ℤ, pos, ◌≤ℤ◌, Bool, true, false, cond, int_le, List, [], ◌∷◌, ◌++◌, Option, Some, None, IsTrue, refl, sym, ap, ◌∙◌, arith, ⊎_elim, ◌⊎◌, inl, inr}
 use Rattle.std.proofs.lemmas.Int.{ints}
 use Rattle.std.proofs.lemmas.List.Elements.{All-append, All-cons}
 use Rattle.linear_cons.specs.Functions.{NumbersFit, complement_of, value_at}
@@ -14,12 +13,7 @@ use Rattle.decision_tree.specs.Evaluation.{eval}
 use Rattle.decision_tree.specs.Laws.EqualityLaws.{plan_eq-Decides}
 use Rattle.decision_tree.specs.Nodes.{node}
 use Rattle.decision_tree.specs.Plans.{IsEnd, Plan, bottom, branch, leaf, size_of, top}
-use Rattle.tree_unify.specs.Shapes.{GraftFits, OnSide, TrimWithFits, grafted, on_side, trimmed_with}
-
--- what is claimed of an error stands
-pub on_err : {T E P : Type 0} (r : Result T E) → P → OnErr r P
-on_err (Ok x) p = tt
-on_err (Err e) p = p
+use Rattle.tree_unify.specs.Shapes.{GraftFits, grafted, on_side, trimmed_with}
 
 least_at : (v : ℤ) (t : Bool) → int_le (pos 0) v ≡ t → pos 0 ≤ℤ v → t ≡ true
 least_at v true is h = refl
@@ -146,27 +140,6 @@ module _ {R : Type 0} (same : R → R → Bool) (alike : (rank other : R) → Is
   pub unlike : (m n : ℕ) (a b : Plan R) → m ≡ size_of a → n ≡ size_of b → (m ≡ n → ⊥) → false ≡ same_plan same a b
   unlike m n a b first second apart = unlike_at (same_plan same a b) (λ equal. apart (first ∙ ap size_of ((plan_eq-Decides same alike a b).0 equal) ∙ sym second))
 
-  -- ---- one node more
-
-  -- where the path settles nothing of the row, both sides are made
-  pub open_shape : (f : Plan R → Plan R) (path : List Row) (row : Row) (this that : Plan R) → settles path row ≡ None
-      → trimmed_with same f path (branch row this that) ≡ node same row (trimmed_with same f (path ++ row ∷ []) this) (trimmed_with same f (path ++ complement row ∷ []) that)
-  open_shape f path row this that settle =
-      ap (λ (t : Option Bool). on_side t (trimmed_with same f path this) (trimmed_with same f path that) (node same row (trimmed_with same f (path ++ row ∷ []) this) (trimmed_with same f (path ++ complement row ∷ []) that))) settle
-
-  pub open_second : (f : Plan R → Plan R) (path : List Row) (row : Row) (this that : Plan R) (n : ℕ) → settles path row ≡ None
-      → n < size_of (trimmed_with same f (path ++ complement row ∷ []) that) → n < size_of (trimmed_with same f path (branch row this that))
-  open_second f path row this that n settle more =
-      let sizes = node_size row (trimmed_with same f (path ++ row ∷ []) this) (trimmed_with same f (path ++ complement row ∷ []) that) in
-      let low = sizes.1 in
-      rw (open_shape f path row this that settle) (omega arith)
-
-  pub open_complement : (Fits : Plan R → Type 0) (path : List Row) (row : Row) (this that : Plan R) → settles path row ≡ None
-      → TrimWithFits same Fits path (branch row this that) → NumbersFit (complement_of row.affine)
-  open_complement Fits path row this that settle fits =
-      (subst (λ (t : Option Bool). OnSide t (TrimWithFits same Fits path this) (TrimWithFits same Fits path that)
-      (TrimWithFits same Fits (path ++ row ∷ []) this × NumbersFit (complement_of row.affine) × TrimWithFits same Fits (path ++ complement row ∷ []) that)) settle fits).1
-
   -- at a leaf stands what is put in its place
   pub grafted_end : (graft : List Row → Plan R → Plan R) (path : List Row) (end : Plan R) → IsEnd end → grafted same graft path end ≡ graft path end
   grafted_end graft path bottom ends = refl
@@ -180,26 +153,15 @@ module _ {R : Type 0} (same : R → R → Bool) (alike : (rank other : R) → Is
   graft_fits_end Fits path (leaf why rank) ends = refl
   graft_fits_end Fits path (branch row this that) ends = absurd ends
 
-  -- a node whose yes side is a leaf, where the no side is made first
-  module _ (graft : List Row → Plan R → Plan R) (path way : List Row) (row : Row) (this that : Plan R) (back : way ≡ path) (ends : IsEnd this) where
-    pub beside : (made : Plan R) → made ≡ grafted same graft (path ++ complement row ∷ []) that
-        → node same row (graft (way ++ row ∷ []) this) made ≡ grafted same graft path (branch row this that)
-    beside made is = rw (back, is, grafted_end graft (path ++ row ∷ []) this ends) refl
+  -- a node whose yes side is a leaf
+  module _ (path : List Row) (row : Row) (this that : Plan R) (ends : IsEnd this) where
+    pub leaf_beside : (graft : List Row → Plan R → Plan R)
+        → node same row (graft (path ++ row ∷ []) this) (grafted same graft (path ++ complement row ∷ []) that) ≡ grafted same graft path (branch row this that)
+    leaf_beside graft = rw (grafted_end graft (path ++ row ∷ []) this ends) refl
 
-  module _ (Fits : List Row → Plan R → Type 0) (path way : List Row) (row : Row) (this that : Plan R) (back : way ≡ path) (ends : IsEnd this) where
-    pub beside_fits : Fits (way ++ row ∷ []) this → NumbersFit (complement_of row.affine) → GraftFits same Fits (path ++ complement row ∷ []) that
-        → GraftFits same Fits path (branch row this that)
-    beside_fits here turned there = (rw (graft_fits_end Fits (path ++ row ∷ []) this ends) (subst (λ (t : List Row). Fits (t ++ row ∷ []) this) back here), turned, there)
+    pub leaf_beside_fits : (Fits : List Row → Plan R → Type 0) → Fits (path ++ row ∷ []) this → NumbersFit (complement_of row.affine)
+        → GraftFits same Fits (path ++ complement row ∷ []) that → GraftFits same Fits path (branch row this that)
+    leaf_beside_fits Fits here turned there = (rw (graft_fits_end Fits (path ++ row ∷ []) this ends) here, turned, there)
 
-    pub fits_beside : GraftFits same Fits path (branch row this that) → Fits (way ++ row ∷ []) this
-    fits_beside fits =
-        let here : Fits (path ++ row ∷ []) this = rw (graft_fits_end Fits (path ++ row ∷ []) this ends) at fits.0 in
-        subst (λ (t : List Row). Fits (t ++ row ∷ []) this) (sym back) here
-
-  -- a part of a tree with other trees in place of its leaves is no larger than the whole
-  pub graft_second : (graft : List Row → Plan R → Plan R) (path : List Row) (row : Row) (this that : Plan R) (n : ℕ)
-      → n < size_of (grafted same graft (path ++ complement row ∷ []) that) → n < size_of (grafted same graft path (branch row this that))
-  graft_second graft path row this that n more =
-      let sizes = node_size row (grafted same graft (path ++ row ∷ []) this) (grafted same graft (path ++ complement row ∷ []) that) in
-      let low = sizes.1 in
-      omega arith
+    pub fits_at_leaf : (Fits : List Row → Plan R → Type 0) → GraftFits same Fits path (branch row this that) → Fits (path ++ row ∷ []) this
+    fits_at_leaf Fits fits = rw (graft_fits_end Fits (path ++ row ∷ []) this ends) at fits.0

@@ -1,3 +1,4 @@
+pub mod Builds
 pub mod Choosing
 pub mod Pruned
 pub mod Shapes

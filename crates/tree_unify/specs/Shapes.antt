@@ -7,6 +7,8 @@ use Rattle.linear_cons.specs.declared.row.Row.{Row}
 use Rattle.decision_tree.specs.Nodes.{node}
 use Rattle.decision_tree.specs.Plans.{Plan, branch, is_defined, leaf}
 use Rattle.decision_tree.specs.declared.rank.Alternatives.{Alternatives}
+use Rattle.decision_tree.specs.declared.rank.Rank.{Ghosts as Ranks}
+use Rattle.tree_unify.specs.Builds.{Build, formed}
 use Rattle.tree_unify.specs.Choosing.{ChosenFits, alternatives_of, chosen}
 use Rattle.tree_unify.specs.declared.join.Join.{Join}
 use Rattle.tree_unify.specs.declared.join.Join.TheVariants.{Both, Either, Later}
@@ -96,3 +98,37 @@ module _ {R : Type 0} (same : R → R → Bool) (where_greater : R → R → Alt
 
   abbrev pub JoinedFits : Join → Plan R → Plan R → Type 0
   JoinedFits join first second = GraftFits same (JoinFits join second) [] first
+
+-- ---- what is made on the way
+
+-- a node of the row, whose no side is made already
+abbrev pub beside : {R : Type 0} → (R → R → Bool) → Row → Build R → Plan R → Build R
+beside same row this that = record { plan = node same row this.plan that; Fits = this.Fits; Room = this.Room }
+
+module _ {R : Type 0} (same : R → R → Bool) (ranks : Ranks R) (join : Join) where
+  -- what stands where a leaf meets another one
+  abbrev pub meeting : Plan R → Plan R → Build R
+  meeting end other =
+      formed (leaf_met same ranks.where_greater ranks.greater_fits join end other) (MetFits same ranks.where_greater ranks.greater_fits join end other)
+
+  -- the second tree trimmed by a path, with what stands where the leaf meets its leaves
+  abbrev pub laying : Plan R → List Row → Plan R → Build R
+  laying end path second =
+      formed (trimmed_with same (leaf_met same ranks.where_greater ranks.greater_fits join end) path second)
+      (TrimWithFits same (MetFits same ranks.where_greater ranks.greater_fits join end) path second)
+
+  -- what stands in place of a leaf of the first tree
+  abbrev pub replacing : Plan R → List Row → Plan R → Build R
+  replacing second path end =
+      formed (joined_at same ranks.where_greater ranks.greater_fits join second path end)
+      (JoinFits same ranks.where_greater ranks.greater_fits join second path end)
+
+  -- the first tree with what stands in place of each of its leaves
+  abbrev pub grafting : Plan R → List Row → Plan R → Build R
+  grafting second path first =
+      formed (grafted same (joined_at same ranks.where_greater ranks.greater_fits join second) path first)
+      (GraftFits same (JoinFits same ranks.where_greater ranks.greater_fits join second) path first)
+
+  -- the first tree joined with the second
+  abbrev pub joining : Plan R → Plan R → Build R
+  joining first second = grafting second [] first

@@ -1,10 +1,10 @@
 //! Two trees joined leaf by leaf.
-ghost use Rattle.std.specs.Prelude.{◌≡◌, ℕ, ◌<◌, ◌≤◌, [], ◌∷◌, ◌++◌, Err, IfOk, OnErr, OnOk};
+ghost use Rattle.std.specs.Prelude.{◌≡◌, ℕ, ◌<◌, ◌≤◌, [], ◌∷◌, ◌++◌, Err, IfOk, OnOk};
 ghost use Rattle.linear_cons.specs.Exact.{IsOutside};
 ghost use Rattle.linear_cons.specs.declared.exact.Wide.{Wide};
-ghost use Rattle.decision_tree.specs.Nodes.{node};
 ghost use Rattle.decision_tree.specs.Plans.{is_defined, plan_of, size_of};
-ghost use Rattle.tree_unify.specs.Shapes.{GraftFits, JoinFits, JoinedFits, asks_second, grafted, joined, joined_at};
+ghost use Rattle.tree_unify.specs.Builds.{Builds};
+ghost use Rattle.tree_unify.specs.Shapes.{JoinedFits, asks_second, beside, grafting, joined, replacing};
 ghost use Rattle.tree_unify.specs.declared.fault.TreeFault.TheVariants.{Full as TooFull, Wide as TooWide};
 ghost use Rattle.tree_unify.specs.declared.join.Join.TheVariants.{Both, Either, Later};
 
@@ -104,20 +104,7 @@ fn graft<R: Rank>(
     first: &Tree<R>,
     second: &Tree<R>,
 ) -> Result<Box<Tree<R>>, Stopped>
-    ensures tree { IfOk result (λ tree. plan_of tree.value
-        ≡ grafted R.eq (joined_at R.eq R.where_greater R.greater_fits join (plan_of second.now)) walk.old.trail (plan_of first.now)) }
-    ensures size { IfOk result (λ tree. walk.new.size ≡ size_of (plan_of tree.value)) }
-    ensures small { OnOk result (walk.new.size ≤ 65536) }
-    ensures trail { OnOk result (walk.new.trail ≡ walk.old.trail) }
-    ensures fits { OnOk result (GraftFits R.eq (JoinFits R.eq R.where_greater R.greater_fits join (plan_of second.now))
-        walk.old.trail (plan_of first.now)) }
-    ensures full { OnErr result ((count : ℕ) → walk.new.fault ≡ TooFull count
-        → (65536 < count)
-        × (65536 < size_of (grafted R.eq (joined_at R.eq R.where_greater R.greater_fits join (plan_of second.now)) walk.old.trail
-        (plan_of first.now)))) }
-    ensures wide { OnErr result ((w : Wide) → walk.new.fault ≡ TooWide w
-        → GraftFits R.eq (JoinFits R.eq R.where_greater R.greater_fits join (plan_of second.now)) walk.old.trail (plan_of first.now) → ⊥) }
-    ensures operands { OnErr result ((w : Wide) → walk.new.fault ≡ TooWide w → IsOutside w) }
+    ensures { Builds (grafting R.eq R.Rank.own join (plan_of second.now) walk.old.trail (plan_of first.now)) walk.old walk.new result }
 {
     match first {
         Tree::Bottom => graft_leaf(alloc, walk, join, first, second),
@@ -180,21 +167,8 @@ fn graft_beside<R: Rank>(
     second: &Tree<R>,
 ) -> Result<Box<Tree<R>>, Stopped>
     requires no { (walk.old.size ≡ size_of (plan_of no.value)) × (walk.old.size ≤ 65536) }
-    ensures tree { IfOk result (λ tree. plan_of tree.value
-        ≡ node R.eq row.now (joined_at R.eq R.where_greater R.greater_fits join (plan_of second.now)
-        (walk.old.trail ++ row.now ∷ []) (plan_of leaf.now)) (plan_of no.value)) }
-    ensures size { IfOk result (λ tree. walk.new.size ≡ size_of (plan_of tree.value)) }
-    ensures small { OnOk result (walk.new.size ≤ 65536) }
-    ensures trail { OnOk result (walk.new.trail ≡ walk.old.trail) }
-    ensures fits { OnOk result (JoinFits R.eq R.where_greater R.greater_fits join (plan_of second.now)
-        (walk.old.trail ++ row.now ∷ []) (plan_of leaf.now)) }
-    ensures full { OnErr result ((count : ℕ) → walk.new.fault ≡ TooFull count
-        → (65536 < count)
-        × (65536 < size_of (node R.eq row.now (joined_at R.eq R.where_greater R.greater_fits join (plan_of second.now)
-        (walk.old.trail ++ row.now ∷ []) (plan_of leaf.now)) (plan_of no.value)))) }
-    ensures wide { OnErr result ((w : Wide) → walk.new.fault ≡ TooWide w
-        → JoinFits R.eq R.where_greater R.greater_fits join (plan_of second.now) (walk.old.trail ++ row.now ∷ []) (plan_of leaf.now) → ⊥) }
-    ensures operands { OnErr result ((w : Wide) → walk.new.fault ≡ TooWide w → IsOutside w) }
+    ensures { Builds (beside R.eq row.now (replacing R.eq R.Rank.own join (plan_of second.now) (walk.old.trail ++ row.now ∷ []) (plan_of leaf.now))
+        (plan_of no.value)) walk.old walk.new result }
 {
     let no_size = walk.size;
     let yes = graft_below(alloc, walk, join, row, leaf, second)?;
@@ -214,20 +188,8 @@ fn graft_below<R: Rank>(
     leaf: &Tree<R>,
     second: &Tree<R>,
 ) -> Result<Box<Tree<R>>, Stopped>
-    ensures tree { IfOk result (λ tree. plan_of tree.value
-        ≡ joined_at R.eq R.where_greater R.greater_fits join (plan_of second.now) (walk.old.trail ++ row.now ∷ []) (plan_of leaf.now)) }
-    ensures size { IfOk result (λ tree. walk.new.size ≡ size_of (plan_of tree.value)) }
-    ensures small { OnOk result (walk.new.size ≤ 65536) }
-    ensures trail { OnOk result (walk.new.trail ≡ walk.old.trail) }
-    ensures fits { OnOk result (JoinFits R.eq R.where_greater R.greater_fits join (plan_of second.now)
-        (walk.old.trail ++ row.now ∷ []) (plan_of leaf.now)) }
-    ensures full { OnErr result ((count : ℕ) → walk.new.fault ≡ TooFull count
-        → (65536 < count)
-        × (65536 < size_of (joined_at R.eq R.where_greater R.greater_fits join (plan_of second.now)
-        (walk.old.trail ++ row.now ∷ []) (plan_of leaf.now)))) }
-    ensures wide { OnErr result ((w : Wide) → walk.new.fault ≡ TooWide w
-        → JoinFits R.eq R.where_greater R.greater_fits join (plan_of second.now) (walk.old.trail ++ row.now ∷ []) (plan_of leaf.now) → ⊥) }
-    ensures operands { OnErr result ((w : Wide) → walk.new.fault ≡ TooWide w → IsOutside w) }
+    ensures { Builds (replacing R.eq R.Rank.own join (plan_of second.now) (walk.old.trail ++ row.now ∷ []) (plan_of leaf.now))
+        walk.old walk.new result }
 {
     if !asks_second(join, leaf) {
         return walk.copied(alloc, leaf);
@@ -247,18 +209,7 @@ fn graft_leaf<R: Rank>(
     leaf: &Tree<R>,
     second: &Tree<R>,
 ) -> Result<Box<Tree<R>>, Stopped>
-    ensures tree { IfOk result (λ tree. plan_of tree.value
-        ≡ joined_at R.eq R.where_greater R.greater_fits join (plan_of second.now) walk.old.trail (plan_of leaf.now)) }
-    ensures size { IfOk result (λ tree. walk.new.size ≡ size_of (plan_of tree.value)) }
-    ensures small { OnOk result (walk.new.size ≤ 65536) }
-    ensures trail { OnOk result (walk.new.trail ≡ walk.old.trail) }
-    ensures fits { OnOk result (JoinFits R.eq R.where_greater R.greater_fits join (plan_of second.now) walk.old.trail (plan_of leaf.now)) }
-    ensures full { OnErr result ((count : ℕ) → walk.new.fault ≡ TooFull count
-        → (65536 < count)
-        × (65536 < size_of (joined_at R.eq R.where_greater R.greater_fits join (plan_of second.now) walk.old.trail (plan_of leaf.now)))) }
-    ensures wide { OnErr result ((w : Wide) → walk.new.fault ≡ TooWide w
-        → JoinFits R.eq R.where_greater R.greater_fits join (plan_of second.now) walk.old.trail (plan_of leaf.now) → ⊥) }
-    ensures operands { OnErr result ((w : Wide) → walk.new.fault ≡ TooWide w → IsOutside w) }
+    ensures { Builds (replacing R.eq R.Rank.own join (plan_of second.now) walk.old.trail (plan_of leaf.now)) walk.old walk.new result }
 {
     if asks_second(join, leaf) {
         lay(alloc, walk, join, leaf, second)

@@ -1,11 +1,11 @@
 //! A tree trimmed by rows that are known to hold.
-ghost use Rattle.std.specs.Prelude.{◌≡◌, ℕ, ◌<◌, ◌≤◌, ◌↔◌, [], Err, IfOk, IsTrue, OnErr, OnOk};
+ghost use Rattle.std.specs.Prelude.{◌≡◌, ℕ, ◌<◌, ◌≤◌, ◌↔◌, [], Err, IfOk, IsTrue, OnOk};
 ghost use Rattle.linear_cons.specs.Exact.{IsOutside};
 ghost use Rattle.linear_cons.specs.declared.exact.Wide.{Wide};
-ghost use Rattle.decision_tree.specs.Nodes.{node};
 ghost use Rattle.decision_tree.specs.Plans.{IsEnd, plan_of, size_of};
 ghost use Rattle.decision_tree.specs.declared.path.PathFault;
-ghost use Rattle.tree_unify.specs.Shapes.{MetFits, TrimFits, TrimWithFits, leaf_met, trimmed, trimmed_with};
+ghost use Rattle.tree_unify.specs.Builds.{Builds};
+ghost use Rattle.tree_unify.specs.Shapes.{MetFits, TrimFits, beside, laying, leaf_met, meeting, trimmed};
 ghost use Rattle.tree_unify.specs.declared.fault.TreeFault.TheVariants.{Full as TooFull, Wide as TooWide};
 
 use crate::choosing::choose;
@@ -60,20 +60,7 @@ pub(crate) fn lay<R: Rank>(
     leaf: &Tree<R>,
     second: &Tree<R>,
 ) -> Result<Box<Tree<R>>, Stopped>
-    ensures tree { IfOk result (λ tree. plan_of tree.value
-        ≡ trimmed_with R.eq (leaf_met R.eq R.where_greater R.greater_fits join (plan_of leaf.now)) walk.old.trail (plan_of second.now)) }
-    ensures size { IfOk result (λ tree. walk.new.size ≡ size_of (plan_of tree.value)) }
-    ensures small { OnOk result (walk.new.size ≤ 65536) }
-    ensures trail { OnOk result (walk.new.trail ≡ walk.old.trail) }
-    ensures fits { OnOk result (TrimWithFits R.eq (MetFits R.eq R.where_greater R.greater_fits join (plan_of leaf.now))
-        walk.old.trail (plan_of second.now)) }
-    ensures full { OnErr result ((count : ℕ) → walk.new.fault ≡ TooFull count
-        → (65536 < count)
-        × (65536 < size_of (trimmed_with R.eq (leaf_met R.eq R.where_greater R.greater_fits join (plan_of leaf.now))
-        walk.old.trail (plan_of second.now)))) }
-    ensures wide { OnErr result ((w : Wide) → walk.new.fault ≡ TooWide w
-        → TrimWithFits R.eq (MetFits R.eq R.where_greater R.greater_fits join (plan_of leaf.now)) walk.old.trail (plan_of second.now) → ⊥) }
-    ensures operands { OnErr result ((w : Wide) → walk.new.fault ≡ TooWide w → IsOutside w) }
+    ensures { Builds (laying R.eq R.Rank.own join (plan_of leaf.now) walk.old.trail (plan_of second.now)) walk.old walk.new result }
 {
     let Tree::Node { row, yes, no } = second else {
         return meet(alloc, walk, join, leaf, second);
@@ -122,20 +109,7 @@ fn lay_beside<R: Rank>(
     no: Box<Tree<R>>,
 ) -> Result<Box<Tree<R>>, Stopped>
     requires no { (walk.old.size ≡ size_of (plan_of no.value)) × (walk.old.size ≤ 65536) }
-    ensures tree { IfOk result (λ tree. plan_of tree.value
-        ≡ node R.eq row.now (leaf_met R.eq R.where_greater R.greater_fits join (plan_of leaf.now) (plan_of second.now))
-        (plan_of no.value)) }
-    ensures size { IfOk result (λ tree. walk.new.size ≡ size_of (plan_of tree.value)) }
-    ensures small { OnOk result (walk.new.size ≤ 65536) }
-    ensures trail { OnOk result (walk.new.trail ≡ walk.old.trail) }
-    ensures fits { OnOk result (MetFits R.eq R.where_greater R.greater_fits join (plan_of leaf.now) (plan_of second.now)) }
-    ensures full { OnErr result ((count : ℕ) → walk.new.fault ≡ TooFull count
-        → (65536 < count)
-        × (65536 < size_of (node R.eq row.now (leaf_met R.eq R.where_greater R.greater_fits join (plan_of leaf.now)
-        (plan_of second.now)) (plan_of no.value)))) }
-    ensures wide { OnErr result ((w : Wide) → walk.new.fault ≡ TooWide w
-        → MetFits R.eq R.where_greater R.greater_fits join (plan_of leaf.now) (plan_of second.now) → ⊥) }
-    ensures operands { OnErr result ((w : Wide) → walk.new.fault ≡ TooWide w → IsOutside w) }
+    ensures { Builds (beside R.eq row.now (meeting R.eq R.Rank.own join (plan_of leaf.now) (plan_of second.now)) (plan_of no.value)) walk.old walk.new result }
 {
     let no_size = walk.size;
     let yes = meet(alloc, walk, join, leaf, second)?;
@@ -163,17 +137,7 @@ fn meet<R: Rank>(
     leaf: &Tree<R>,
     second: &Tree<R>,
 ) -> Result<Box<Tree<R>>, Stopped>
-    ensures tree { IfOk result (λ tree. plan_of tree.value
-        ≡ leaf_met R.eq R.where_greater R.greater_fits join (plan_of leaf.now) (plan_of second.now)) }
-    ensures size { IfOk result (λ tree. walk.new.size ≡ size_of (plan_of tree.value)) }
-    ensures small { OnOk result (walk.new.size ≤ 65536) }
-    ensures trail { OnOk result (walk.new.trail ≡ walk.old.trail) }
-    ensures fits { OnOk result (MetFits R.eq R.where_greater R.greater_fits join (plan_of leaf.now) (plan_of second.now)) }
-    ensures full { OnErr result ((count : ℕ) → walk.new.fault ≡ TooFull count
-        → (65536 < count) × (65536 < size_of (leaf_met R.eq R.where_greater R.greater_fits join (plan_of leaf.now) (plan_of second.now)))) }
-    ensures wide { OnErr result ((w : Wide) → walk.new.fault ≡ TooWide w
-        → MetFits R.eq R.where_greater R.greater_fits join (plan_of leaf.now) (plan_of second.now) → ⊥) }
-    ensures operands { OnErr result ((w : Wide) → walk.new.fault ≡ TooWide w → IsOutside w) }
+    ensures { Builds (meeting R.eq R.Rank.own join (plan_of leaf.now) (plan_of second.now)) walk.old walk.new result }
 {
     match met(alloc, join, leaf, second) {
         Ok(tree) => walk.measured(tree),

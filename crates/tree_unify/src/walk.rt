@@ -1,5 +1,5 @@
 //! What a walk over a tree has in hand.
-ghost use Rattle.std.specs.Prelude.{◌≡◌, ℕ, ◌<◌, ◌≤◌, ◌+◌, List, [], ◌∷◌, ◌++◌, IfOk, OnErr, OnOk};
+ghost use Rattle.std.specs.Prelude.{◌≡◌, ℕ, ◌<◌, ◌≤◌, List, [], ◌∷◌, ◌++◌, IfOk, OnErr, OnOk};
 ghost use Rattle.linear_cons.specs.Exact.{IsOutside};
 ghost use Rattle.linear_cons.specs.Functions.{NumbersFit, complement_of};
 ghost use Rattle.linear_cons.specs.Rows.{complement};
@@ -8,6 +8,7 @@ ghost use Rattle.linear_cons.specs.declared.row.Row.{Row};
 ghost use Rattle.decision_tree.specs.Equality.{same_plan};
 ghost use Rattle.decision_tree.specs.Nodes.{node};
 ghost use Rattle.decision_tree.specs.Plans.{plan_of, size_of};
+ghost use Rattle.tree_unify.specs.Builds.{Builds, given};
 ghost use Rattle.tree_unify.specs.declared.fault.TreeFault.TheVariants.{Full, Wide as TooWide};
 
 use crate::fault::TreeFault;
@@ -138,12 +139,7 @@ impl Walk {
     /// The tree, and its size is known; or it has too many nodes.
     #[inline(never)]
     pub fn measured<R: Rank>(&mut self, tree: Box<Tree<R>>) -> Result<Box<Tree<R>>, Stopped>
-        ensures tree { IfOk result (λ made. plan_of made.value ≡ plan_of tree.value) }
-        ensures size { IfOk result (λ made. self.new.size ≡ size_of (plan_of made.value)) }
-        ensures small { OnOk result (self.new.size ≤ 65536) }
-        ensures full { OnErr result ((count : ℕ) → self.new.fault ≡ Full count → (65536 < count) × (65536 < size_of (plan_of tree.value))) }
-        ensures wide { OnErr result ((w : Wide) → self.new.fault ≡ TooWide w → ⊥) }
-        ensures trail { self.new.trail ≡ self.old.trail }
+        ensures { Builds (given (plan_of tree.value)) self.old self.new result }
     {
         let size = tree.size();
         if size > MOST_NODES {
@@ -160,12 +156,7 @@ impl Walk {
         alloc: Global,
         tree: &Tree<R>,
     ) -> Result<Box<Tree<R>>, Stopped>
-        ensures tree { IfOk result (λ made. plan_of made.value ≡ plan_of tree.now) }
-        ensures size { IfOk result (λ made. self.new.size ≡ size_of (plan_of made.value)) }
-        ensures small { OnOk result (self.new.size ≤ 65536) }
-        ensures full { OnErr result ((count : ℕ) → self.new.fault ≡ Full count → (65536 < count) × (65536 < size_of (plan_of tree.now))) }
-        ensures wide { OnErr result ((w : Wide) → self.new.fault ≡ TooWide w → ⊥) }
-        ensures trail { self.new.trail ≡ self.old.trail }
+        ensures { Builds (given (plan_of tree.now)) self.old self.new result }
     {
         match tree.boxed(alloc) {
             Ok(twin) => self.measured(twin),
@@ -186,13 +177,7 @@ impl Walk {
     ) -> Result<Box<Tree<R>>, Stopped>
         requires yes { (yes_size ≡ size_of (plan_of yes.value)) × (yes_size ≤ 65536) }
         requires no { (self.old.size ≡ size_of (plan_of no.value)) × (self.old.size ≤ 65536) }
-        ensures tree { IfOk result (λ tree. plan_of tree.value ≡ node R.eq row.now (plan_of yes.value) (plan_of no.value)) }
-        ensures size { IfOk result (λ tree. self.new.size ≡ size_of (plan_of tree.value)) }
-        ensures small { OnOk result (self.new.size ≤ 65536) }
-        ensures full { OnErr result ((count : ℕ) → self.new.fault ≡ Full count
-            → (65536 < count) × (65536 < size_of (node R.eq row.now (plan_of yes.value) (plan_of no.value)))) }
-        ensures wide { OnErr result ((w : Wide) → self.new.fault ≡ TooWide w → ⊥) }
-        ensures trail { self.new.trail ≡ self.old.trail }
+        ensures { Builds (given (node R.eq row.now (plan_of yes.value) (plan_of no.value))) self.old self.new result }
     {
         if are_equal(&yes, &no, yes_size, self.size) {
             self.size = yes_size;
@@ -221,13 +206,7 @@ impl Walk {
     ) -> Result<Box<Tree<R>>, Stopped>
         requires yes { (self.old.size ≡ size_of (plan_of yes.value)) × (self.old.size ≤ 65536) }
         requires no { (no_size ≡ size_of (plan_of no.value)) × (no_size ≤ 65536) }
-        ensures tree { IfOk result (λ tree. plan_of tree.value ≡ node R.eq row.now (plan_of yes.value) (plan_of no.value)) }
-        ensures size { IfOk result (λ tree. self.new.size ≡ size_of (plan_of tree.value)) }
-        ensures small { OnOk result (self.new.size ≤ 65536) }
-        ensures full { OnErr result ((count : ℕ) → self.new.fault ≡ Full count
-            → (65536 < count) × (65536 < size_of (node R.eq row.now (plan_of yes.value) (plan_of no.value)))) }
-        ensures wide { OnErr result ((w : Wide) → self.new.fault ≡ TooWide w → ⊥) }
-        ensures trail { self.new.trail ≡ self.old.trail }
+        ensures { Builds (given (node R.eq row.now (plan_of yes.value) (plan_of no.value))) self.old self.new result }
     {
         let yes_size = self.size;
         self.size = no_size;

@@ -1,18 +1,11 @@
-use Rattle.std.proofs.Common.{◌≤◌, arith}
-use Rattle.decision_tree.specs.Plans.{plan_of, size_of}
-use Rattle.tree_unify.proofs.Meeting.{on_err}
-use Rattle.backward_transfer.specs.Ranges.{later_of}
-use Rattle.backward_transfer.specs.Steps.{asked}
+use Rattle.decision_tree.specs.Plans.{plan_of}
+use Rattle.tree_unify.proofs.Building.{handed_on, stopped_in}
+use Rattle.backward_transfer.specs.Ranges.{asking_second}
 use Rattle.backward_transfer.proofs.Making.{asked_rest}
 use Rattle.backward_transfer.proofs.ranging.ask.Goals as goal
 
-pub returns-in_err-rest-clause-full : goal.returns-in_err-rest-clause-full
-returns-in_err-rest-clause-full g c = on_err c.from_residual.result (λ count is.
-    let more = c.in_err-rest.ensures.full count is in (
-      more.0,
-      λ small least. more.1 (rw c.deref.ensures small)
-          (let both = later_of g.R.PartialEq.eq g.R.Rank.where_greater g.R.Rank.greater_fits (plan_of c.args.yes.value) (plan_of c.args.no.value) in
-          let low = asked_rest g.R.PartialEq.eq g.met.R.Rank.equal_law c.args.holds.now (plan_of c.args.yes.value) (asked g.R.PartialEq.eq c.args.fails.now (plan_of c.args.no.value) both) c.requires.holds in
-          let least : size_of (asked g.R.PartialEq.eq c.args.fails.now (plan_of c.args.no.value) both) ≤ 65536 = omega arith in
-          rw c.deref.ensures least),
-    ))
+pub returns-in_err-rest : goal.returns-in_err-rest
+returns-in_err-rest g c =
+    let part = rw c.deref.ensures at c.in_err-rest.ensures in
+    let least = asked_rest g.R.PartialEq.eq g.met.R.Rank.equal_law c.args.holds.now (plan_of c.args.yes.value) (asking_second g.R.PartialEq.eq g.R.Rank c.args.fails.now (plan_of c.args.yes.value) (plan_of c.args.no.value)).plan c.requires.holds in
+    handed_on _ _ c.from_residual.result c.from_residual.ensures.0 (stopped_in _ _ part least (λ fits. fits) (λ room. room))
