@@ -112,35 +112,7 @@ def frozen(tree):
     return tuple(map(frozen, tree)) if isinstance(tree, (list, tuple)) else tree
 
 
-# ---- formulas, in normal form beside their text
-
-def formula(dice, maker, depth):
-    """A formula, as a text and as a tree."""
-    kind = dice.random()
-    if depth == 0 or kind < 0.25:
-        if dice.random() < 0.25:
-            return dice.choice([("exit", ("exit",)), ("true", ("const", True)), ("!exit", ("not", ("exit",)))])
-        op, place, number = dice.choice(list(COMPARISONS)), dice.randrange(len(maker.names)), dice.randint(-2, 4)
-        return f"{maker.names[place]} {op} {number}", ("row", op, place, number)
-    if kind < 0.4:
-        (a, f), (b, g), op = formula(dice, maker, depth - 1), formula(dice, maker, depth - 1), dice.choice(["and", "or"])
-        return f"({a} {'&&' if op == 'and' else '||'} {b})", (op, f, g)
-    if kind < 0.5:
-        a, f = formula(dice, maker, depth - 1)
-        return f"!({a})", ("not", f)
-    every = dice.random() < 0.6
-    mark = "A" if every else "E"
-    a, f = formula(dice, maker, depth - 1)
-    if kind < 0.6:
-        return f"{mark}X ({a})", ("next", every, f)
-    if kind < 0.75:
-        return f"{mark}F ({a})", ("until", every, ("const", True), f)
-    if kind < 0.88:
-        return f"{mark}G ({a})", ("weak", every, f, ("const", False))
-    b, g = formula(dice, maker, depth - 1)
-    op = dice.choice("UW")
-    return f"{mark}[{a} {op} {b}]", ("until" if op == "U" else "weak", every, f, g)
-
+# ---- formulas, as trees
 
 def normal(f, turned=False):
     """The normal form of a formula or of its negation."""
@@ -243,7 +215,7 @@ def case(number, seed, command, counts):
     maker = Maker(dice)
     maker.names = maker.names[:3]
     block, source = maker.program()
-    text, tree = formula(dice, maker, 2)
+    text, tree = maker.formula(2)
     f = normal(tree)
     words = ["--ctl", text]
     words += dice.choice([[], [], ["--delay", "0"], ["--delay", "4"], ["--domain", "octagons"]])

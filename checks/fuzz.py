@@ -1,25 +1,35 @@
 #!/usr/bin/env python3
-"""Looks for a program, a damaged text or words on which the command crashes, hangs or answers out of form, or on which a run breaks a printed claim.
+"""Looks for a program, a damaged text, a formula or words on which the command crashes, hangs or answers out of form, or on which a run breaks a printed claim.
 
     python3 checks/fuzz.py [--cases N] [--seed S] [--command PATH]
 
-It is no part of the gate. Programs are made at random from a seed, and every third is damaged by a byte or two. Each answer has a status with its text; a report has, for
-each of some inputs, exactly one line of `proved` and `unknown` together and at most one of the exact part; and some runs from the input, with what they choose made at
-random, end within each bound that its lines claim. A second run of the command gives the same bytes. It ends with 1 where something fell short.
+It is no part of the gate. Texts are made at random from a seed: programs, of which every third is damaged by a byte or two, rows of words of the language, bytes, and long
+programs up to the limits and past them. Of the words of the command line some are none, and some have a formula, which may be damaged or long too. Each answer comes within
+60 seconds and 8 MB of stack, with nothing on standard error; it has a status with its text; a report has, for each of some inputs, exactly one line of `proved` and `unknown`
+together and at most one of the exact part; and, of a program without a formula, some runs from the input, with what they choose made at random, end within each bound that
+its lines claim. A second run of the command gives the same bytes. It ends with 1 where something fell short. What formulas mean is looked at by `formulas.py`.
 """
 import argparse
 import random
 import re
+import resource
 import subprocess
 import sys
+import time
 from pathlib import Path
 
 TOP = Path(__file__).resolve().parent.parent
 USAGE = b"usage: function ["
 NAMES = ["x", "y", "z", "n", "a_1"]
+STACK = 8 * 2**20
+PIECES = """int main ( ) { } ; , x y n = == + - * / % ++ -- += < <= > >= != ! && || if else while do for return break continue ? true false 0 1 2 9223372036854775807
+9223372036854775808 [ ] inf -inf extern __VERIFIER_nondet_int void // /* */ & | @""".split()
+FORMULA_PIECES = "A E U W AX EX AF EF AG EG [ ] ( ) ! && || x y n exit true false == != < <= > >= + - * 0 1 7 9223372036854775807 9223372036854775808 @ ; ?".split()
+WORDS = ["--delay", "--domain", "--ctl", "0", "8", "9", "02", "-1", "boxes", "octagons", "polyhedra", "discs", "--help", "--", "-", "", "x", "--ctl=exit", "AF exit", "exit"]
 COMPARISONS = {"<": int.__lt__, "<=": int.__le__, ">": int.__gt__, ">=": int.__ge__, "==": int.__eq__, "!=": int.__ne__}
 SECONDS = 60
 LONGEST_RUN = 2000
+SHOWN = 2000
 
 
 class Maker:
@@ -104,6 +114,60 @@ class Maker:
     def program(self):
         block = [self.statement(2, False) for _ in range(self.dice.randint(1, 5))]
         return block, f"int main() {{ int {', '.join(self.names)}; {' '.join(map(self.text, block))} }}"
+
+    def long_program(self):
+        """A program of one part many times over, at the limits or near them, as a text."""
+        times = self.dice.choice([15, 16, 62, 63, 64, 65, 255, 256, 257, 340, 1021, 1022, 1023, 1024, 9000])
+        body = {
+            "in a row": lambda: "{ x = x - 1; " + "; " * times + "}",
+            "nested": lambda: f"{self.dice.choice(['if (x > 0) ', 'while (x > 0) ', '{ ', 'if (?) ; else '])}" * times + "x = x - 1;",
+            "a sum": lambda: "x = x" + self.dice.choice([" + y", " - 1", " * 2"]) * times + ";",
+            "a test": lambda: "while (x > 0" + self.dice.choice([" && y != 1", " || y > 2", " && x > y"]) * (times % 9) + ") x = x - 1;",
+            "in a loop": lambda: "while (x > 0) { " + self.dice.choice(["x = x - 1; ", "if (?) x = x - 1; ", "y = y + x; "]) * (times % 70) + "}",
+            "loops": lambda: self.dice.choice(["while (x > 0) x = x - 1; ", "do x = x + 1; while (x < 9); "]) * (times % 25),
+            "names": lambda: f"int {', '.join(f'v{i}' for i in range(times))};",
+        }
+        return f"int main() {{ int x, y; {body[self.dice.choice(list(body))]()} }}"
+
+    def formula(self, depth):
+        """A formula, as a text and as a tree."""
+        kind = self.dice.random()
+        if depth == 0 or kind < 0.25:
+            if self.dice.random() < 0.25:
+                return self.dice.choice([("exit", ("exit",)), ("true", ("const", True)), ("!exit", ("not", ("exit",)))])
+            op, place, number = self.dice.choice(list(COMPARISONS)), self.dice.randrange(len(self.names)), self.dice.randint(-2, 4)
+            return f"{self.names[place]} {op} {number}", ("row", op, place, number)
+        if kind < 0.4:
+            (a, f), (b, g), op = self.formula(depth - 1), self.formula(depth - 1), self.dice.choice(["and", "or"])
+            return f"({a} {'&&' if op == 'and' else '||'} {b})", (op, f, g)
+        if kind < 0.5:
+            a, f = self.formula(depth - 1)
+            return f"!({a})", ("not", f)
+        every = self.dice.random() < 0.6
+        mark = "A" if every else "E"
+        a, f = self.formula(depth - 1)
+        if kind < 0.6:
+            return f"{mark}X ({a})", ("next", every, f)
+        if kind < 0.75:
+            return f"{mark}F ({a})", ("until", every, ("const", True), f)
+        if kind < 0.88:
+            return f"{mark}G ({a})", ("weak", every, f, ("const", False))
+        b, g = self.formula(depth - 1)
+        op = self.dice.choice("UW")
+        return f"{mark}[{a} {op} {b}]", ("until" if op == "U" else "weak", every, f, g)
+
+    def long_formula(self):
+        """A formula of one part many times over, at the limits or near them, as a text."""
+        times, part = self.dice.choice([5, 6, 7, 31, 32, 63, 64, 65]), self.formula(0)[0]
+        return self.dice.choice([
+            lambda: "&&".join([part] * times),
+            lambda: " || ".join([f"AX {part}"] * times),
+            lambda: self.dice.choice(["AX ", "EF ", "!", "AG "]) * times + f"({part})",
+            lambda: f"!A[{part} U " * (times % 8) + part + "]" * (times % 8),
+            lambda: "(" * times + part + ")" * times,
+            lambda: f"x{' + x' * times} >= 0",
+            lambda: part + " " * self.dice.choice([4000, 4096, 4097, 9000]),
+        ])()
 
 
 class Jump(Exception):
@@ -222,74 +286,133 @@ def met(lines, store):
     return claims
 
 
-def broken(maker, block, report, dice):
-    """What is wrong with a report on the program, or None."""
+class Store(dict):
+    """An input, whose numbers are chosen when they are asked for."""
+
+    def __init__(self, dice):
+        super().__init__()
+        self.dice = dice
+
+    def __missing__(self, name):
+        self[name] = self.dice.choice([-10**12, -9, -2, -1, 0, 1, 2, 3, 9, 40, 10**12])
+        return self[name]
+
+
+def broken(report, dice, maker, block):
+    """What is wrong with a report, or None; of a program whose statements are given also with its bounds."""
     exact, others = sections(report)
     for _ in range(8):
-        store = [dice.choice([-10**12, -9, -2, -1, 0, 1, 2, 3, 9, 40, 10**12]) for _ in maker.names]
-        named = dict(zip(maker.names, store))
-        first, second = met(exact, named), met(others, named)
+        store = Store(dice)
+        numbers = [store[name] for name in maker.names]
+        first, second = met(exact, store), met(others, store)
         if len(first) > 1 or len(second) != 1:
-            return f"{named} meets {first} and {second}"
+            return f"{dict(store)} meets {first} and {second}"
         for claim in first + second:
             bound = re.fullmatch(r"(?:exactly|within) (.*) steps?", claim)
-            most = affine(bound.group(1), named) if bound else -1
+            most = affine(bound.group(1), store) if bound else -1
             if bound and most < 0:
-                return f"{named}: {claim} is below 0"
-            if bound and most <= LONGEST_RUN and not all(Run(dice, store, most).ends(block) for _ in range(4)):
-                return f"{named}: a run takes more than {most} steps"
+                return f"{dict(store)}: {claim} is below 0"
+            if bound and block is not None and most <= LONGEST_RUN and not all(Run(dice, numbers, most).ends(block) for _ in range(4)):
+                return f"{dict(store)}: a run takes more than {most} steps"
     return None
 
 
-def out_of_form(words_are_wrong, text, status, written):
+def are_refused(words):
+    """Whether the words are none of the command line: options, each at most once, with their values, all of them text."""
+    asked = {b"--domain": [b"boxes", b"octagons", b"polyhedra"], b"--delay": [b"%d" % number for number in range(9)], b"--ctl": None}
+    try:
+        b" ".join(words).decode()
+    except UnicodeDecodeError:
+        return True
+    while words:
+        name, *words = words
+        if name not in asked or not words:
+            return True
+        values, value, *words = asked.pop(name), *words
+        if values is not None and value not in values:
+            return True
+    return False
+
+
+def out_of_form(words, text, formula, ended):
     """What is wrong with a status and what was written for it, or None."""
-    if words_are_wrong:
-        return None if (status, written[:len(USAGE)]) == (2, USAGE) else "refused words without the usage line"
+    status, written = ended.returncode, ended.stdout
+    if ended.stderr:
+        return f"status {status}, and {ended.stderr[:60]!r} on standard error"
+    if are_refused(words):
+        return None if (status, written[:len(USAGE)], written[-1:]) == (2, USAGE, b"\n") else "refused words without the usage line"
     if status in (0, 1):
         verdict = b"verdict: all inputs\n" if status == 0 else b"verdict: some inputs\n"
+        if not written.startswith(b"exact" if formula is None else b"proved:\n"):
+            return "a report that begins otherwise"
         return None if written.endswith(b"\n" + verdict) else "a status without its verdict"
-    fault = re.fullmatch(rb"program: (\d+) at (\d+)\n", written) if status == 3 else None
-    if not fault or int(fault.group(2)) > len(text):
+    kind, most = (b"program", len(text)) if status == 3 else (b"formula", len(formula or b""))
+    fault = re.fullmatch(kind + rb": (\d+) at (\d+)\n", written) if status in (3, 4 if formula is not None else 3) else None
+    if not fault or int(fault.group(2)) > most:
         return f"status {status} with {written[:60]!r}"
     return None
 
 
-def words_of(dice):
-    """Some words, and whether they are refused."""
-    if dice.random() < 0.02:
-        return dice.choice([["--help"], ["--delay"], ["--delay", "9"], ["--domain", "boxes", "--domain", "boxes"], ["x"], [""]]), True
-    words = []
-    if dice.random() < 0.4:
-        words += ["--domain", dice.choice(["boxes", "octagons", "polyhedra"])]
-    if dice.random() < 0.3:
-        words += ["--delay", str(dice.randint(0, 4))]
-    return words, False
-
-
-def damaged(text, dice):
-    """The text with a byte or two taken out, put in or changed."""
+def damaged(text, dice, pieces):
+    """The text with a byte or two taken out, put in or changed, or a piece put in."""
     for _ in range(dice.randint(1, 2)):
-        place, byte = dice.randrange(len(text)), dice.choice([bytes([dice.randrange(256)]), dice.choice([b";", b"(", b"}", b"&&", b"9" * 20, b"int ", b"/*"])])
+        place, byte = dice.randrange(len(text) + 1), dice.choice([bytes([dice.randrange(1, 256)]), dice.choice(pieces).encode()])
         text = text[:place] + dice.choice([byte, b"", byte + text[place:place + 1]]) + text[place + 1:]
     return text
+
+
+def formula_of(maker, dice):
+    """The bytes of a formula, or of what is none."""
+    kind = dice.random()
+    if kind < 0.05:
+        return " ".join(dice.choice(FORMULA_PIECES) for _ in range(dice.randint(0, 12))).encode()
+    text = (maker.long_formula() if kind < 0.1 else maker.formula(dice.randint(0, 3))[0]).encode()
+    return damaged(text, dice, FORMULA_PIECES) if kind > 0.8 else text
+
+
+def words_of(maker, dice):
+    """Some words, and the formula among them."""
+    if dice.random() < 0.04:
+        words = [dice.choice(WORDS).encode() for _ in range(dice.randint(1, 5))]
+        return words, words[words.index(b"--ctl") + 1] if b"--ctl" in words[:-1] else None
+    formula = formula_of(maker, dice) if dice.random() < 0.4 else None
+    options = [[b"--ctl", formula]] * (formula is not None)
+    if dice.random() < 0.4:
+        options.append([b"--domain", dice.choice([b"boxes", b"octagons", b"polyhedra"])])
+    if dice.random() < 0.3:
+        options.append([b"--delay", str(dice.randint(0, 4)).encode()])
+    dice.shuffle(options)
+    return [word for option in options for word in option], formula
+
+
+def text_of(number, maker, dice):
+    """The statements of a program, where it is one that wasn't damaged, and the bytes of the text."""
+    if number % 100 == 1:
+        return None, bytes(dice.randrange(256) for _ in range(dice.choice([0, 1, 10, 100, 70000])))
+    if number % 25 == 2:
+        return None, " ".join(dice.choice(PIECES) for _ in range(dice.randint(0, 80))).encode()
+    if number % 25 == 7:
+        text = maker.long_program().encode()
+        return None, damaged(text, dice, PIECES) if dice.random() < 0.3 else text
+    block, source = maker.program()
+    return (None, damaged(source.encode(), dice, PIECES)) if number % 3 == 0 else (block, source.encode())
 
 
 def case(number, seed, command):
     """What falls short in a case, or None."""
     dice = random.Random(f"{seed} {number}")
     maker = Maker(dice)
-    block, source = maker.program()
-    text = damaged(source.encode(), dice) if number % 3 == 0 else source.encode()
-    words, are_wrong = words_of(dice)
+    block, text = text_of(number, maker, dice)
+    words, formula = words_of(maker, dice)
     try:
-        ended = [subprocess.run([command, *words], input=text, capture_output=True, timeout=SECONDS, check=False) for _ in range(2 if number % 10 == 0 else 1)]
+        ended, again = [subprocess.run([command, *words], input=text, capture_output=True, timeout=SECONDS, check=False) for _ in range(2)]
     except subprocess.TimeoutExpired:
         return text, words, f"no answer in {SECONDS} seconds"
-    if len({(one.returncode, one.stdout) for one in ended}) > 1:
-        return text, words, "two answers"
-    why = out_of_form(are_wrong, text, ended[0].returncode, ended[0].stdout)
-    if not why and ended[0].returncode in (0, 1) and text == source.encode():
-        why = broken(maker, block, ended[0].stdout.decode(), dice)
+    why = out_of_form(words, text, formula, ended)
+    if (ended.returncode, ended.stdout) != (again.returncode, again.stdout):
+        why = "two answers"
+    if not why and ended.returncode in (0, 1):
+        why = broken(ended.stdout.decode(), dice, maker, block if formula is None else None)
     return (text, words, why) if why else None
 
 
@@ -299,10 +422,17 @@ def main():
     asked.add_argument("--seed", default="0")
     asked.add_argument("--command", default=TOP / "crates/function_cli/out/function_cli")
     asked = asked.parse_args()
-    found = [short for number in range(asked.cases) if (short := case(number, asked.seed, asked.command))]
-    for text, words, why in found:
-        print(f"{why}\n  words {words}\n  text {text.decode(errors='replace')}")
-    print(f"{asked.cases} cases, {len(found)} of them fall short")
+    resource.setrlimit(resource.RLIMIT_STACK, (STACK, STACK))
+    found, slowest = 0, (0, 0)
+    for number in range(asked.cases):
+        begun = time.monotonic()
+        short = case(number, asked.seed, asked.command)
+        slowest = max(slowest, (time.monotonic() - begun, number))
+        if short:
+            found += 1
+            text, words, why = short
+            print(f"case {number}: {why}\n  words {str(words)[:SHOWN]}\n  text {text.decode(errors='replace')[:SHOWN]}", flush=True)
+    print(f"{asked.cases} cases, {found} of them fall short; the slowest is {slowest[1]}, with {slowest[0]:.1f} s for both runs")
     return 1 if found else 0
 
 

@@ -1,10 +1,12 @@
 #!/usr/bin/env python3
 """Refuses the command its allocations in turn, one a run: each run ends with status 7 and nothing written, or with the report.
 
-    python3 checks/memory.py [PROGRAM ..]
+    python3 checks/memory.py [--command PATH] [PROGRAM ..]
 
-It is no part of the gate, and needs a C compiler. Without words it takes seven of the examples, three of them with their formula. It ends with 1 where a run ends otherwise.
+It is no part of the gate, and needs a C compiler. Without programs it takes five small ones with the reports that they are to have, and seven of the examples, three of them
+with their formula. It ends with 1 where a run ends otherwise.
 """
+import argparse
 import os
 import subprocess
 import sys
@@ -12,8 +14,22 @@ import tempfile
 from pathlib import Path
 
 TOP = Path(__file__).resolve().parent.parent
-COMMAND = TOP / "crates/function_cli/out/function_cli"
 EXAMPLES = ["empty", "branches", "countdown", "steps", "formulas/some_sum", "formulas/settles", "formulas/keeps_on"]
+
+# Statements, words, the status, and the lines of the report.
+REPORTS = [
+    ("", [], 0, "exact, 2 tests: / always: exactly 0 steps / proved: / always: within 0 steps / unknown: / verdict: all inputs"),
+    ("int x; while (x > 0) x = x - 1;", [], 0,
+     "exact, 2 tests: / -x + 1 >= 0 and x - 1 >= 0: exactly 3 steps / -x >= 0: exactly 1 step / proved: / -x >= 0: within 1 step / "
+     "x - 1 >= 0: within 2*x + 1 steps / unknown: / verdict: all inputs"),
+    ("int x; while (x != 0) x = x - 1;", [], 1,
+     "exact, 2 tests: / -x + 1 >= 0 and x - 1 >= 0: exactly 3 steps / -x >= 0 and x >= 0: exactly 1 step / proved: / "
+     "-x + 1 >= 0 and x - 1 >= 0: within 3 steps / -x >= 0 and x >= 0: within 1 step / x - 2 >= 0: within 2*x + 1 steps / unknown: / "
+     "-x - 1 >= 0: unknown / verdict: some inputs"),
+    ("int x; x = 1;", ["--ctl", "AF AG x == 1"], 0,
+     "proved: / -x + 1 >= 0 and x - 1 >= 0: within 0 steps / -x >= 0: within 1 step / x - 2 >= 0: within 1 step / unknown: / verdict: all inputs"),
+    ("int x; x = 1;", ["--ctl", "AX AX x == 1"], 0, "proved: / always: holds / unknown: / verdict: all inputs"),
+]
 
 # In front of the C library's calls: the one with the number in REFUSE gives nothing, and at the end the number of calls goes to standard error.
 SHIM = r"""
@@ -42,32 +58,47 @@ __attribute__((destructor)) static void tell(void) { dprintf(2, "calls %ld\n", c
 """
 
 
-def run(shim, words, text, refuse):
+def run(command, shim, words, text, refuse):
     """The status, what was written, and the number of allocations of a run without the one of that number; 0 refuses none."""
-    ended = subprocess.run([COMMAND, *words], input=text, capture_output=True, check=False, env={**os.environ, "LD_PRELOAD": shim, "REFUSE": str(refuse)})
+    ended = subprocess.run([command, *words], input=text, capture_output=True, check=False, env={**os.environ, "LD_PRELOAD": shim, "REFUSE": str(refuse)})
     told = ended.stderr.rpartition(b"calls ")[2]
     return ended.returncode, ended.stdout, int(told) if told.strip().isdigit() else 0
 
 
-def wrong(shim, program):
-    """A line for each run on the program that ends otherwise."""
-    text, asked = program.read_bytes(), program.with_suffix(".ctl")
-    words = ["--ctl", asked.read_text().strip()] if asked.exists() else []
-    status, report, count = run(shim, words, text, 0)
+def wrong(command, shim, name, words, text, wanted):
+    """A line for each run that ends otherwise. Where no report is wanted the one that is written with all memory is."""
+    status, report, count = run(command, shim, words, text, 0)
+    if wanted not in (None, (status, report)):
+        yield f"{name}: with all memory status {status} and {report!r}"
+    without = 0
     for refuse in range(1, count + 1):
-        answer = run(shim, words, text, refuse)[:2]
+        answer = run(command, shim, words, text, refuse)[:2]
+        without += answer == (7, b"")
         if answer not in ((7, b""), (status, report)):
-            yield f"{program.name}: without allocation {refuse} of {count}: status {answer[0]}, {len(answer[1])} bytes"
-    print(f"{program.name}: {count} allocations")
+            yield f"{name}: without allocation {refuse} of {count}: status {answer[0]}, {len(answer[1])} bytes"
+    print(f"{name}: {count} allocations, want of memory without {without} of them")
+
+
+def cases(programs):
+    """A name, words, a text, and the status and the report that are wanted, for each case."""
+    for statements, words, status, lines in [] if programs else REPORTS:
+        text = f"int main() {{ {statements} }}" if statements else "int main() { }"
+        yield " ".join([text, *words]), words, text.encode(), (status, "".join(f"{line}\n" for line in lines.split(" / ")).encode())
+    for program in programs or [TOP / f"examples/{name}.c" for name in EXAMPLES]:
+        asked = program.with_suffix(".ctl")
+        yield program.name, ["--ctl", asked.read_text().strip()] if asked.exists() else [], program.read_bytes(), None
 
 
 def main():
-    programs = [Path(word) for word in sys.argv[1:]] or [TOP / f"examples/{name}.c" for name in EXAMPLES]
+    asked = argparse.ArgumentParser()
+    asked.add_argument("--command", default=TOP / "crates/function_cli/out/function_cli")
+    asked.add_argument("programs", nargs="*", type=Path)
+    asked = asked.parse_args()
     with tempfile.TemporaryDirectory() as folder:
         source, shim = Path(folder) / "refusing.c", Path(folder) / "refusing.so"
         source.write_text(SHIM)
         subprocess.run(["cc", "-O1", "-shared", "-fPIC", "-o", shim, source], check=True)
-        found = [line for program in programs for line in wrong(str(shim), program)]
+        found = [line for case in cases(asked.programs) for line in wrong(asked.command, str(shim), *case)]
     print("\n".join(found), end="\n" if found else "")
     return 1 if found else 0
 

@@ -1,10 +1,12 @@
 //! Programs with their reports.
 
-use crate::running::{
-    COUNTDOWN, COUNTDOWN_REPORT, COUNTDOWN_REPORT_BEFORE_TESTS, Case, EMPTY, EMPTY_REPORT,
-    NO_OPTIONS, ONE_STEP, ONE_TEST, ONE_TEST_REPORT, TWO_SPEEDS, TWO_SPEEDS_REPORT, hold,
-};
+use crate::holding::{Case, hold};
 use function_top::Status::{AllInputs, SomeInputs};
+use memory_runs::{
+    COUNT_UP, COUNT_UP_REPORT, COUNTDOWN, COUNTDOWN_REPORT, COUNTDOWN_REPORT_BEFORE_TESTS, EMPTY,
+    EMPTY_REPORT, NO_OPTIONS, NOISE, ONE_STEP, ONE_TEST, ONE_TEST_REPORT, TWO_SPEEDS,
+    TWO_SPEEDS_REPORT,
+};
 use std::test::Fail;
 
 const NOTHING_KNOWN: &str =
@@ -12,19 +14,6 @@ const NOTHING_KNOWN: &str =
 
 const WITHIN_FIVE: &str =
     "exact: not a plain program\nproved:\nalways: within 5 steps\nunknown:\nverdict: all inputs\n";
-
-// A loop whose test comes down to `x - 1 >= 0`, counted down under noise in `y`.
-const NOISE: &str = "extern int __VERIFIER_nondet_int(void);
-/* counts down under noise */
-int main() {
-  int x, y;
-  while (x > 0 && y < 100) { // guard
-    if (__VERIFIER_nondet_int()) y = y + 1;
-    else y = y - 1;
-    x = x - 1;
-  }
-  return 0;
-}";
 
 // Two variables: boxes keep no row of them.
 const APART: &str =
@@ -129,12 +118,7 @@ fn loops_that_count_down_give_their_reports(rt: HostRuntime) -> Result<(), Fail>
 }
 
 const FOR_SOME_INPUTS: [Case; 5] = [
-    (
-        "int main() { int x; while (x > 0) x = x + 1; }",
-        NO_OPTIONS,
-        SomeInputs,
-        "exact, 2 tests:\n-x >= 0: exactly 1 step\nproved:\n-x >= 0: within 1 step\nunknown:\nx - 1 >= 0: unknown\nverdict: some inputs\n",
-    ),
+    (COUNT_UP, NO_OPTIONS, SomeInputs, COUNT_UP_REPORT),
     (
         "int main() { while (?) ; }",
         NO_OPTIONS,

@@ -1,8 +1,12 @@
 //! Words of the command line.
 
-use crate::running::{EMPTY, outcome_of};
 use function_top::Status;
+use memory_runs::{EMPTY, outcome_of};
 use std::test::Fail;
+
+/// What is written for words that are refused.
+pub const USAGE: &str =
+    "usage: function [--ctl TEXT] [--domain boxes|octagons|polyhedra] [--delay N] [--at TEXT] [--explain] [--demo N]\n";
 
 const ACCEPTED: [&[&str]; 7] = [
     &[],
@@ -48,11 +52,7 @@ fn other_words_are_refused(rt: HostRuntime) -> Result<(), Fail> {
     for words in REFUSED {
         let (status, written) = outcome_of(rt.alloc(), words, EMPTY.as_bytes())?;
         assert_eq!(rt; status, Status::Words, "{words:?}");
-        assert!(rt;
-            written.starts_with(b"usage: function [--ctl TEXT]"),
-            "{words:?}"
-        );
-        assert!(rt; written.ends_with(b"[--demo N]\n"), "{words:?}");
+        assert_eq!(rt; written.as_slice(), USAGE.as_bytes(), "{words:?}");
     }
     Ok(())
 }

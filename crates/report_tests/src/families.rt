@@ -1,7 +1,7 @@
 //! Two loops with a number k in their tests, for each k from 0 to 50.
 
-use crate::running::{NO_OPTIONS, outcome_of, unadvised};
 use function_top::Status;
+use memory_runs::{NO_OPTIONS, outcome_of, unadvised};
 use std::alloc::{AllocError, Global};
 use std::fmt;
 use std::test::Fail;

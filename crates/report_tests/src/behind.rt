@@ -1,7 +1,8 @@
 //! Loops with something behind them.
 
-use crate::running::{Case, NO_OPTIONS, hold, outcome_of};
+use crate::holding::{Case, hold};
 use function_top::Status;
+use memory_runs::{NO_OPTIONS, outcome_of};
 use std::alloc::{AllocError, Global};
 use std::test::Fail;
 

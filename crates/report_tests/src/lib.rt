@@ -1,4 +1,4 @@
-//! Rows on `run`: what it writes and its status, for texts, words, sources and sinks.
+//! Rows on `run`: the reports that it writes, with their status, without formulas and with them, under each domain.
 //!
 //! It holds tests alone, which need only the public calls of the crates below.
 #![tactic(auto)]
@@ -8,22 +8,12 @@ mod behind;
 #[cfg(test)]
 mod domains;
 #[cfg(test)]
-mod ends;
-#[cfg(test)]
 mod families;
-#[cfg(test)]
-mod faults;
 #[cfg(test)]
 mod formulas;
 #[cfg(test)]
-mod hints;
-#[cfg(test)]
-mod limits;
+mod holding;
 #[cfg(test)]
 mod pruning;
 #[cfg(test)]
 mod reports;
-#[cfg(test)]
-mod running;
-#[cfg(test)]
-mod words;

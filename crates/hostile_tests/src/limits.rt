@@ -1,9 +1,10 @@
-//! Long texts and deep ones, up to the limits and past them.
+//! Long texts and deep ones, and long formulas, up to the limits and past them.
 
-use crate::running::{EMPTY, EMPTY_REPORT, NO_OPTIONS, ONE_STEP, outcome_of};
 use function_top::Status;
-use function_top::Status::{AllInputs, Program};
+use function_top::Status::{AllInputs, Formula, Program};
+use memory_runs::{ALWAYS_HOLDS, EMPTY, EMPTY_REPORT, NO_OPTIONS, ONE_STEP, outcome_of};
 use std::alloc::{AllocError, Global};
+use std::process::Abort;
 use std::test::Fail;
 
 /// A front, what is repeated behind it and how often, what comes behind that, the status, and what is written.
@@ -107,13 +108,8 @@ fn texts_are_read_up_to_the_limits(rt: HostRuntime) -> Result<(), Fail> {
     let alloc = rt.alloc();
     for (front, part, times, back, status, bytes) in TEXTS {
         let text = repeated(alloc, front, part, times, back)?;
-        let (found, written) = outcome_of(alloc, NO_OPTIONS, text.as_bytes())?;
-        assert_eq!(rt;
-            written.as_slice(),
-            bytes.as_bytes(),
-            "on {front} with {times} of {part}"
-        );
-        assert_eq!(rt; found, status, "on {front} with {times} of {part}");
+        let which = format!(in alloc; "{front} with {times} of {part}")?;
+        stands(&rt, NO_OPTIONS, &text, status, bytes, &which)?;
     }
     Ok(())
 }
@@ -123,9 +119,43 @@ fn blocks_may_be_64_deep(rt: HostRuntime) -> Result<(), Fail> {
     let alloc = rt.alloc();
     let opened = repeated(alloc, "int main() ", "{", 64, "")?;
     let text = repeated(alloc, &opened, "}", 64, "")?;
-    let (status, written) = outcome_of(alloc, NO_OPTIONS, text.as_bytes())?;
-    assert_eq!(rt; written.as_slice(), EMPTY_REPORT.as_bytes());
-    assert_eq!(rt; status, AllInputs);
+    stands(&rt, NO_OPTIONS, &text, AllInputs, EMPTY_REPORT, "64 blocks")
+}
+
+/// Formulas on the program without statements. The operators of a formula are at most 64, and its bytes at most 4,096.
+const FORMULAS: [Repeated; 6] = [
+    ("true", "&&true", 64, "", AllInputs, ALWAYS_HOLDS),
+    ("true", "&&true", 65, "", Formula, "formula: 11 at 388\n"),
+    ("", " ", 4_096, "", Formula, "formula: 4 at 4096\n"),
+    ("", " ", 4_097, "", Formula, "formula: 14 at 4096\n"),
+    ("true", " ", 4_092, "", AllInputs, ALWAYS_HOLDS),
+    ("true", " ", 4_093, "", Formula, "formula: 14 at 4096\n"),
+];
+
+#[test]
+fn formulas_are_read_up_to_the_limits(rt: HostRuntime) -> Result<(), Fail> {
+    let alloc = rt.alloc();
+    for (front, part, times, back, status, bytes) in FORMULAS {
+        let formula = repeated(alloc, front, part, times, back)?;
+        let words = ["function", "--ctl", formula.as_str()];
+        let which = format!(in alloc; "{front} with {times} of {part}")?;
+        stands(&rt, &words, EMPTY, status, bytes, &which)?;
+    }
+    Ok(())
+}
+
+// The run has the status and writes the bytes.
+fn stands(
+    rt: &(impl Abort + AllocGlobal),
+    words: &[&str],
+    text: &str,
+    status: Status,
+    bytes: &str,
+    which: &str,
+) -> Result<(), Fail> {
+    let (found, written) = outcome_of(rt.alloc(), words, text.as_bytes())?;
+    assert_eq!(rt; written.as_slice(), bytes.as_bytes(), "on {which}");
+    assert_eq!(rt; found, status, "on {which}");
     Ok(())
 }
 

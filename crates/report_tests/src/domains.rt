@@ -1,10 +1,10 @@
 //! Programs whose reports are the same under each domain.
 
-use crate::running::{
+use function_top::Status;
+use memory_runs::{
     COUNTDOWN, COUNTDOWN_REPORT, COUNTDOWN_REPORT_BEFORE_TESTS, EMPTY, EMPTY_REPORT, ONE_STEP,
     ONE_TEST, ONE_TEST_REPORT, TWO_SPEEDS, TWO_SPEEDS_REPORT, outcome_of,
 };
-use function_top::Status;
 use std::test::Fail;
 
 const DOMAINS: [&str; 3] = ["boxes", "octagons", "polyhedra"];

@@ -1,7 +1,8 @@
 //! Formulas of the command line: what is claimed of them, and their faults.
 
-use crate::running::{COUNTDOWN, Case, EMPTY, hold};
+use crate::holding::{Case, hold};
 use function_top::Status::{AllInputs, Formula, Program, SomeInputs};
+use memory_runs::{ALWAYS_HOLDS, COUNT_UP, COUNTDOWN, EMPTY};
 use std::test::Fail;
 
 const SET: &str = "int main() { int x; x = 1; }";
@@ -9,8 +10,6 @@ const SET: &str = "int main() { int x; x = 1; }";
 const EITHER: &str = "int main() { int x; if (?) x = 1; else x = 2; }";
 
 const CLIMB: &str = "int main() { int x; x = x + 1; }";
-
-const ALWAYS_HOLDS: &str = "proved:\nalways: holds\nunknown:\nverdict: all inputs\n";
 
 const NOTHING_CLAIMED: &str = "proved:\nunknown:\nalways: unknown\nverdict: some inputs\n";
 
@@ -60,7 +59,7 @@ const HELD: [Case; 10] = [
         NOTHING_CLAIMED,
     ),
     (
-        "int main() { int x; while (x > 0) x = x + 1; }",
+        COUNT_UP,
         &["function", "--ctl", "EG x >= 1"],
         SomeInputs,
         "proved:\nx - 1 >= 0: holds\nunknown:\n-x >= 0: unknown\nverdict: some inputs\n",
