@@ -8,48 +8,23 @@ use Rattle.linear_cons.specs.declared.exact.Wide.{Wide}
 use Rattle.linear_cons.specs.declared.row.Row.{Row}
 use Rattle.linear_cons.specs.declared.row.RowKind.{RowKind}
 use Rattle.linear_cons.specs.Rows.{row_kind_of}
-use Rattle.linear_forms.specs.Linearising.{is_exact}
-use Rattle.linear_forms.proofs.Naming.{number_names, test_names}
 use Rattle.linear_solve.proofs.Lists.{take_snoc}
-use Rattle.step_meaning.specs.Naming.{NamesBelow}
-use Rattle.step_meaning.specs.Syntax.{Expression}
-use Rattle.control_flow.specs.Actions.{IsSorted}
-use Rattle.control_flow.specs.Edges.{assigned_by, test_by}
-use Rattle.control_flow.specs.Labels.{Action, ends, assigns, passes, tests}
 use Rattle.std.proofs.lemmas.Grind.{flat_map-append}
 use Rattle.decision_tree.specs.declared.rank.Rank.{Ghosts as Ranks}
 use Rattle.decision_tree.specs.declared.tree.Tree.{Tree}
 use Rattle.decision_tree.specs.Plans.{bottom, plan_of}
-use Rattle.tree_support.specs.Flow.{Arc, above_end, assigning, below_end, rows_given, testing}
+use Rattle.transitions.specs.Arcs.{Arc, above_end, below_end, choosing, rows_given, testing}
 use Rattle.tree_support.specs.Setting.{Trees, trees_in}
 use Rattle.tree_support.specs.Support.{HasNoStore}
 use Rattle.rows_in_hand.specs.declared.finding.Finding.{Finding}
-use Rattle.arc_search.specs.Moves.{over_arc, over_each}
+use Rattle.arc_search.specs.Arcs.{over_arc, over_each}
 use Rattle.rows_in_hand.specs.Searches.{IsSearched}
 use Rattle.arc_search.specs.Walks.{systems_behind}
-use Rattle.tree_support.specs.Forming.{Formed, given}
+use Rattle.transitions.specs.Forming.{Formed, given}
 use Rattle.rows_in_hand.specs.Hands.{Adds, AreFormed, Held, IsMetNowhere, all_asked, asked}
 use Rattle.rows_in_hand.proofs.Choosing.{nowhere_with}
 use Rattle.rows_in_hand.proofs.Holding.{held_more, nowhere_added}
 use Rattle.arc_search.proofs.Walking.{asked_more, searched_first, searched_then}
-
--- ---- what a label of a valid program names
-
-pub value_named : (vars : ℕ) (action : Action) (x : ℕ) (e : Expression) → vars ≤ 15 → IsSorted vars action → Some (x, e) ≡ assigned_by action → (x < 16) × NamesBelow 16 e
-value_named vars (assigns y f next) x e few sorted is =
-    let pair : ◌≡◌ {A = ℕ × Expression} (x, e) (y, f) = cc in
-    let place : x ≡ y = ap (λ p. p.0) pair in
-    let same : e ≡ f = ap (λ p. p.1) pair in
-    (let below = sorted.0 in omega (arith, below, place, few), rw same (number_names vars 16 (omega (arith, few)) f sorted.1))
-value_named vars ends x e few sorted is = absurd (cc)
-value_named vars (passes next) x e few sorted is = absurd (cc)
-value_named vars (tests head c then_to else_to) x e few sorted is = absurd (cc)
-
-pub test_named : (vars : ℕ) (action : Action) (c : Expression) → vars ≤ 15 → IsSorted vars action → Some c ≡ test_by action → NamesBelow 16 c
-test_named vars (tests head d then_to else_to) c few sorted is = let same : c ≡ d = cc in rw same (test_names vars 16 (omega (arith, few)) d sorted)
-test_named vars ends c few sorted is = absurd (cc)
-test_named vars (passes next) c few sorted is = absurd (cc)
-test_named vars (assigns y f next) c few sorted is = absurd (cc)
 
 -- ---- rows that are asked for, one after the other
 
@@ -147,15 +122,11 @@ module _ {R : Type 0} (ranks : Ranks R) where
       one_searched family limit (record { edge = edge; target = label; asks = []; sets = sets }) asks refuted found
       (subst (λ all. IsSearched ranks (systems_behind edge sets limit (family label) all) refuted found) (sym (append-nil asks)) searched)
 
-  -- an assignment, by its linear form
-  pub exact_searched : (family : Trees R) (limit : Option R) (x next : ℕ) (value : Linear) (asks : List Formed) (refuted : Bool) (found : Option Finding) → is_exact value ≡ true → IsSearched ranks (systems_behind 0 (Some (x, value.affine)) limit (family next) asks) refuted found → IsSearched ranks (over_each family limit (assigning x next value ∷ []) asks) refuted found
-  exact_searched family limit x next value asks refuted found exact searched =
-      rw exact (unasked_searched family limit 0 next (Some (x, value.affine)) asks refuted found searched)
-
-  pub between_searched : (family : Trees R) (limit : Option R) (x next : ℕ) (value : Linear) (asks : List Formed) (refuted : Bool) (found : Option Finding) → is_exact value ≡ false → IsSearched ranks (systems_behind 0 (Some (x, variable_at 15)) limit (family next) ((asks ++ above_end value.affine value.lo) ++ below_end value.affine value.hi)) refuted found → IsSearched ranks (over_each family limit (assigning x next value ∷ []) asks) refuted found
-  between_searched family limit x next value asks refuted found inexact searched =
-      rw inexact (one_searched family limit (record { edge = 0; target = next; asks = above_end value.affine value.lo ++ below_end value.affine value.hi; sets = Some (x, variable_at 15) }) asks refuted found
-      (subst (λ all. IsSearched ranks (systems_behind 0 (Some (x, variable_at 15)) limit (family next) all) refuted found) (append_assoc asks (above_end value.affine value.lo) (below_end value.affine value.hi)) searched))
+  -- an assignment of a chosen value
+  pub chosen_searched : (family : Trees R) (limit : Option R) (x next : ℕ) (value : Linear) (asks : List Formed) (refuted : Bool) (found : Option Finding) → IsSearched ranks (systems_behind 0 (Some (x, variable_at 15)) limit (family next) ((asks ++ above_end value.affine value.lo) ++ below_end value.affine value.hi)) refuted found → IsSearched ranks (over_each family limit (choosing x next value ∷ []) asks) refuted found
+  chosen_searched family limit x next value asks refuted found searched =
+      one_searched family limit (choosing x next value) asks refuted found
+      (subst (λ all. IsSearched ranks (systems_behind 0 (Some (x, variable_at 15)) limit (family next) all) refuted found) (append_assoc asks (above_end value.affine value.lo) (below_end value.affine value.hi)) searched)
 
   -- the two edges of a test
   pub test_searched : (family : Trees R) (limit : Option R) (first second : List Arc) (asks : List Formed) (refuted : Bool) (found : Option Finding) → All (HasNoStore ranks) (over_each family limit first asks) → IsSearched ranks (over_each family limit second asks) refuted found → IsSearched ranks (over_each family limit (first ++ second) asks) refuted found

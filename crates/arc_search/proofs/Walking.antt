@@ -12,7 +12,7 @@ use Rattle.decision_tree.specs.declared.rank.Rank.{Ghosts as Ranks}
 use Rattle.decision_tree.specs.declared.reason.Cause.{Cause}
 use Rattle.decision_tree.specs.Plans.{Plan, bottom, top, leaf, branch}
 use Rattle.linear_solve.proofs.Lists.{all_of, member_of}
-use Rattle.tree_support.specs.Forming.{Formed}
+use Rattle.transitions.specs.Forming.{Formed}
 use Rattle.tree_support.specs.Support.{HasNoStore, choices, kinds_of}
 use Rattle.tree_support.specs.Systems.{Claim, System, exceeding, moved_by, nothing, plain}
 use Rattle.rows_in_hand.specs.declared.finding.Finding.{Finding}

@@ -1,2 +1,2 @@
 pub mod Walks
-pub mod Moves
+pub mod Arcs

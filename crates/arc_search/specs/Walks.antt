@@ -3,7 +3,7 @@ use Rattle.std.specs.Prelude.{ℕ, Bool, List, if◌then◌else◌, Option, None
 use Rattle.linear_cons.specs.declared.affine.Affine.{Affine}
 use Rattle.linear_cons.specs.Functions.{complement_of}
 use Rattle.decision_tree.specs.Plans.{Plan}
-use Rattle.tree_support.specs.Forming.{Formed}
+use Rattle.transitions.specs.Forming.{Formed}
 use Rattle.tree_support.specs.Systems.{System, at_leaves, if_undefined, moved_by, unless_less}
 
 -- what is asked on a side of a row: the row's function, or its complement

@@ -1,22 +1,22 @@
 //! The targets of a label's arcs, and of parts at the same label.
-ghost use Rattle.std.specs.Prelude.{◌≡◌, ◌++◌, ◌<◌, List, true, false, IfOk, OnOk, IfSome, Some, map};
+ghost use Rattle.std.specs.Prelude.{◌≡◌, ◌++◌, ◌∷◌, [], ◌<◌, List, true, false, IfOk, OnOk, IfSome, map};
 ghost use Rattle.decision_tree.specs.Plans.{plan_of};
-ghost use Rattle.tree_support.specs.Flow.{above_end, below_end, rows_given, testing};
-ghost use Rattle.tree_support.specs.Forming.{Formed, given, minus, plus};
+ghost use Rattle.transitions.specs.Arcs.{above_end, below_end, putting, rows_given, testing};
+ghost use Rattle.transitions.specs.Forming.{Formed, given, minus, plus};
+ghost use Rattle.transitions.specs.Transitions.{arcs_of, outcome_arcs, value_arcs};
 ghost use Rattle.tree_support.specs.Setting.{trees_in};
 ghost use Rattle.linear_cons.specs.Functions.{constant_of, variable_at};
-ghost use Rattle.linear_forms.specs.Linearising as exactness;
 ghost use Rattle.rows_in_hand.specs.Hands.{AreFormed, Forms, IsMetNowhere, all_asked, asked};
-ghost use Rattle.arc_search.specs.Moves.{HasPlace, arcs_of, outcome_arcs, over_each, value_arcs};
+ghost use Rattle.arc_search.specs.Arcs.{over_each};
 ghost use Rattle.rows_in_hand.specs.Searches.{Holds, IsLonger, IsSame, IsSearched, WhereAsked};
 ghost use Rattle.arc_search.specs.Walks.{systems_behind};
 
-use crate::moves::Moves;
 use crate::walk::Way;
 use decision_tree::{Rank, Tree};
 use linear_cons::{Affine, Linear, Row, RowKind, Rows, Wide};
 use rows_in_hand::{Finding, Hand};
 use std::alloc::AllocError;
+use transitions::{Place, Transition};
 
 /// The place that is no variable's, where a value is kept while it is chosen.
 const CHOSEN_PLACE: u8 = 15;
@@ -222,127 +222,133 @@ fn below_function(function: &Affine, hi: i128) -> Result<RowKind, Wide>
     Ok(Row::of(distance))
 }
 
-impl Moves {
-    /// Looks for a reason against the systems of the arcs, behind the rows in hand: a leaf of a target that is undefined, or whose rank isn't
-    /// less. False where no store meets any of them. The error is want of memory.
-    pub fn refute<R: Rank>(
-        &self,
-        trees: &[Tree<R>],
-        limit: Option<R>,
-        hand: &mut Hand,
-        found: &mut Option<Finding>,
-    ) -> Result<bool, AllocError>
-        requires { HasPlace self.now }
-        ensures same { OnOk result (IsSame hand.old hand.new) }
-        ensures searched { IfOk result (λ refuted. WhereAsked hand.old (λ asks.
-            IsSearched R.Rank.own (over_each (trees_in (map plan_of trees.now)) limit (arcs_of self.now) asks)
-            refuted found.new)) }
-    {
-        match self {
-            Moves::Pass { next } => {
-                let refuted = refute_assigned(None, trees, limit, *next, hand, found)?;
-                Ok(refuted)
+/// Looks for a reason against the systems of the transition's arcs, behind the rows in hand: a leaf of a target that is undefined, or
+/// whose rank isn't less. False where no store meets any of them. The error is want of memory.
+pub fn refute_arcs<R: Rank>(
+    transition: &Transition,
+    trees: &[Tree<R>],
+    limit: Option<R>,
+    hand: &mut Hand,
+    found: &mut Option<Finding>,
+) -> Result<bool, AllocError>
+    ensures same { OnOk result (IsSame hand.old hand.new) }
+    ensures searched { IfOk result (λ refuted. WhereAsked hand.old (λ asks.
+        IsSearched R.Rank.own (over_each (trees_in (map plan_of trees.now)) limit (arcs_of transition.now) asks)
+        refuted found.new)) }
+{
+    match transition {
+        Transition::Dead => Ok(false),
+        Transition::End => refute_assigned(None, trees, limit, 0, hand, found),
+        Transition::Pass { to } => refute_assigned(None, trees, limit, *to, hand, found),
+        Transition::Assign { place, value, to } => {
+            refute_put(*place, value, trees, limit, *to, hand, found)
+        }
+        Transition::Choose {
+            place,
+            range,
+            to,
+            ..
+        } => {
+            let way = Way {
+                edge: 0,
+                sets: Some((place.number, Affine::var(CHOSEN_PLACE))),
+                limit,
+            };
+            let refuted = refute_above(range, trees, &way, *to, hand, found)?;
+            Ok(refuted)
+        }
+        Transition::Test { .. } => {
+            if refute_outcome(transition, true, trees, limit, hand, found)? {
+                return Ok(true);
             }
-            Moves::Assign { place, value, next } => {
-                if is_exact(value) {
-                    let sets = Some((*place, value.affine));
-                    let refuted = refute_assigned(sets, trees, limit, *next, hand, found)?;
-                    return Ok(refuted);
-                }
-                let way = Way {
-                    edge: 0,
-                    sets: Some((*place, Affine::var(CHOSEN_PLACE))),
-                    limit,
-                };
-                let refuted = refute_above(value, trees, &way, *next, hand, found)?;
-                Ok(refuted)
-            }
-            Moves::Test {
-                yes,
-                no,
-                yes_rows,
-                no_rows,
-            } => {
-                if refute_each(yes_rows, trees, limit, 0, *yes, hand, found)? {
-                    return Ok(true);
-                }
-                let refuted = refute_each(no_rows, trees, limit, 1, *no, hand, found)?;
-                Ok(refuted)
-            }
+            let refuted = refute_outcome(transition, false, trees, limit, hand, found)?;
+            Ok(refuted)
         }
     }
+}
 
-    /// The same of the arcs of one outcome of a test.
-    pub fn refute_outcome<R: Rank>(
-        &self,
-        outcome: bool,
-        trees: &[Tree<R>],
-        limit: Option<R>,
-        hand: &mut Hand,
-        found: &mut Option<Finding>,
-    ) -> Result<bool, AllocError>
-        ensures same { OnOk result (IsSame hand.old hand.new) }
-        ensures searched { IfOk result (λ refuted. WhereAsked hand.old (λ asks.
-            IsSearched R.Rank.own (over_each (trees_in (map plan_of trees.now)) limit (outcome_arcs self.now outcome) asks)
-            refuted found.new)) }
-    {
-        match self {
-            Moves::Test {
-                yes,
-                no,
-                yes_rows,
-                no_rows,
-            } => {
-                if outcome {
-                    let refuted = refute_each(yes_rows, trees, limit, 0, *yes, hand, found)?;
-                    return Ok(refuted);
-                }
-                let refuted = refute_each(no_rows, trees, limit, 1, *no, hand, found)?;
-                Ok(refuted)
-            }
-            Moves::Pass { next: _ } => Ok(false),
-            Moves::Assign {
-                place: _,
-                value: _,
-                next: _,
-            } => Ok(false),
-        }
+/// The same of the arcs of one outcome of a test.
+pub fn refute_outcome<R: Rank>(
+    transition: &Transition,
+    outcome: bool,
+    trees: &[Tree<R>],
+    limit: Option<R>,
+    hand: &mut Hand,
+    found: &mut Option<Finding>,
+) -> Result<bool, AllocError>
+    ensures same { OnOk result (IsSame hand.old hand.new) }
+    ensures searched { IfOk result (λ refuted. WhereAsked hand.old (λ asks.
+        IsSearched R.Rank.own (over_each (trees_in (map plan_of trees.now)) limit (outcome_arcs transition.now outcome) asks)
+        refuted found.new)) }
+{
+    let Transition::Test {
+        holds,
+        fails,
+        yes,
+        no,
+        ..
+    } = transition
+    else {
+        return Ok(false);
+    };
+    if outcome {
+        let refuted = refute_each(holds, trees, limit, 0, *yes, hand, found)?;
+        return Ok(refuted);
     }
+    let refuted = refute_each(fails, trees, limit, 1, *no, hand, found)?;
+    Ok(refuted)
+}
 
-    /// The same of the arc of an assignment that puts the value of a function.
-    pub fn refute_value<R: Rank>(
-        &self,
-        value: &Affine,
-        trees: &[Tree<R>],
-        limit: Option<R>,
-        hand: &mut Hand,
-        found: &mut Option<Finding>,
-    ) -> Result<bool, AllocError>
-        requires { HasPlace self.now }
-        ensures same { OnOk result (IsSame hand.old hand.new) }
-        ensures searched { IfOk result (λ refuted. WhereAsked hand.old (λ asks.
-            IsSearched R.Rank.own (over_each (trees_in (map plan_of trees.now)) limit (value_arcs self.now value.now) asks)
-            refuted found.new)) }
-    {
-        match self {
-            Moves::Assign {
-                place,
-                value: _,
-                next,
-            } => {
-                let sets = Some((*place, *value));
-                let refuted = refute_assigned(sets, trees, limit, *next, hand, found)?;
-                Ok(refuted)
-            }
-            Moves::Pass { next: _ } => Ok(false),
-            Moves::Test {
-                yes: _,
-                no: _,
-                yes_rows: _,
-                no_rows: _,
-            } => Ok(false),
+/// The same of the arc of an assignment that puts the value of a function.
+pub fn refute_value<R: Rank>(
+    transition: &Transition,
+    value: &Affine,
+    trees: &[Tree<R>],
+    limit: Option<R>,
+    hand: &mut Hand,
+    found: &mut Option<Finding>,
+) -> Result<bool, AllocError>
+    ensures same { OnOk result (IsSame hand.old hand.new) }
+    ensures searched { IfOk result (λ refuted. WhereAsked hand.old (λ asks.
+        IsSearched R.Rank.own (over_each (trees_in (map plan_of trees.now)) limit (value_arcs transition.now value.now) asks)
+        refuted found.new)) }
+{
+    match transition {
+        Transition::Assign {
+            place,
+            value: _,
+            to,
+        } => {
+            let refuted = refute_put(*place, value, trees, limit, *to, hand, found)?;
+            Ok(refuted)
         }
+        Transition::Choose { place, to, .. } => {
+            let refuted = refute_put(*place, value, trees, limit, *to, hand, found)?;
+            Ok(refuted)
+        }
+        Transition::End | Transition::Dead | Transition::Pass { .. } | Transition::Test { .. } =>
+            Ok(false),
     }
+}
+
+/// Looks for a reason against the systems of an arc that sets a place to the value of a function.
+fn refute_put<R: Rank>(
+    place: Place,
+    value: &Affine,
+    trees: &[Tree<R>],
+    limit: Option<R>,
+    label: u32,
+    hand: &mut Hand,
+    found: &mut Option<Finding>,
+) -> Result<bool, AllocError>
+    ensures same { OnOk result (IsSame hand.old hand.new) }
+    ensures searched { IfOk result (λ refuted. WhereAsked hand.old (λ asks.
+        IsSearched R.Rank.own (over_each (trees_in (map plan_of trees.now)) limit (putting place.number label value.now ∷ []) asks)
+        refuted found.new)) }
+{
+    let sets = Some((place.number, *value));
+    let refuted = refute_assigned(sets, trees, limit, label, hand, found)?;
+    Ok(refuted)
 }
 
 /// Looks for a reason against the systems of an arc that asks for nothing and may set a place to the value of a function.
@@ -357,7 +363,8 @@ fn refute_assigned<R: Rank>(
     requires { IfSome sets (λ s. s.0 < 16) }
     ensures same { OnOk result (IsSame hand.old hand.new) }
     ensures searched { IfOk result (λ refuted. WhereAsked hand.old (λ asks.
-        IsSearched R.Rank.own (systems_behind 0 sets limit (trees_in (map plan_of trees.now) label) asks) refuted found.new)) }
+        IsSearched R.Rank.own (over_each (trees_in (map plan_of trees.now)) limit
+        (record { edge = 0; target = label; asks = []; sets = sets } ∷ []) asks) refuted found.new)) }
 {
     let way = Way {
         edge: 0,
@@ -366,11 +373,4 @@ fn refute_assigned<R: Rank>(
     };
     let refuted = refute_at(trees, &way, label, hand, found)?;
     Ok(refuted)
-}
-
-/// Nothing is left out of the function.
-fn is_exact(value: &Linear) -> bool
-    ensures { result ≡ exactness.is_exact value.now }
-{
-    value.lo == Some(0) && value.hi == Some(0)
 }

@@ -1,5 +1,4 @@
 pub mod Passing
-mod Onward
 mod Reading
 mod Trimming
 mod Stepping

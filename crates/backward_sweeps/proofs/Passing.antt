@@ -11,63 +11,63 @@ use Rattle.tree_unify.specs.declared.fault.TreeFault.{TreeFault}
 use Rattle.tree_unify.specs.declared.fault.TreeFault.TheVariants.{Full as TooFull, Memory, Wide as TooWide}
 use Rattle.backward_transfer.specs.AffineShapes.{plans, tree_at}
 use Rattle.backward_transfer.proofs.Putting.{more_each, plans_length, plans_more, put_other, put_same, same_or}
-use Rattle.backward_sweeps.specs.declared.action.Action.{Action}
-use Rattle.backward_sweeps.specs.declared.action.Action.TheVariants.{Assign, Choose, Dead, End, Pass, Test}
-use Rattle.backward_sweeps.specs.Doing.{AreOnward, IsOn, action_in, first_target, is_given, is_idle, second_target}
+use Rattle.transitions.specs.declared.transition.Transition.{Transition}
+use Rattle.transitions.specs.declared.transition.Transition.TheVariants.{Assign, Choose, Dead, End, Pass, Test}
+use Rattle.transitions.specs.Transitions.{AreOnward, IsOn, transition_in, first_target, is_given, is_idle, second_target}
 use Rattle.backward_sweeps.specs.Remaking.{AreEndsGiven, AreEndsStarted, AreGiven, AreKept, AreRemadeFrom, IsOrTop, IsRefused, IsRemade, IsStarted, IsTop, Parts, end_for, given_for, goal_at, remade}
 
 module _ (parts : Parts) where
-  -- what holds of the trees behind an action, and of its own tree
-  abbrev Held : ℕ → Bool → Action → Plan AffineRank → Plan AffineRank → Plan AffineRank → Type 0
-  Held label all action this that plan =
-      (plan ≡ remade parts label action this that) ⊎ ((all ≡ false) × IsRefused parts label action this that plan)
+  -- what holds of the trees behind a transition, and of its own tree
+  abbrev Held : ℕ → Bool → Transition → Plan AffineRank → Plan AffineRank → Plan AffineRank → Type 0
+  Held label all transition this that plan =
+      (plan ≡ remade parts label transition this that) ⊎ ((all ≡ false) × IsRefused parts label transition this that plan)
 
-  weaker : (label : ℕ) (all more : Bool) (action : Action) (this that plan : Plan AffineRank) → Held label all action this that plan
-      → Held label (more && all) action this that plan
-  weaker label all true action this that plan held = held
-  weaker label all false action this that plan (inl made) = inl made
-  weaker label all false action this that plan (inr refused) = inr (refl, refused.1)
+  weaker : (label : ℕ) (all more : Bool) (transition : Transition) (this that plan : Plan AffineRank) → Held label all transition this that plan
+      → Held label (more && all) transition this that plan
+  weaker label all true transition this that plan held = held
+  weaker label all false transition this that plan (inl made) = inl made
+  weaker label all false transition this that plan (inr refused) = inr (refl, refused.1)
 
-  module _ (actions : List Action) (trees : List (Plan AffineRank)) (l : ℕ) (x : Plan AffineRank) (open_there : is_given (action_in actions l) ≡ false) where
-    away : (label to : ℕ) → l ≤ label → IsOn actions label to → to ≡ l → ⊥
+  module _ (transitions : List Transition) (trees : List (Plan AffineRank)) (l : ℕ) (x : Plan AffineRank) (open_there : is_given (transition_in transitions l) ≡ false) where
+    away : (label to : ℕ) → l ≤ label → IsOn transitions label to → to ≡ l → ⊥
     away label to least (inl on) is = absurd (omega arith)
     away label to least (inr given) is =
-        let here : is_given (action_in actions l) ≡ true = subst (λ k. is_given (action_in actions k) ≡ true) is given in absurd (cc)
+        let here : is_given (transition_in transitions l) ≡ true = subst (λ k. is_given (transition_in transitions k) ≡ true) is given in absurd (cc)
 
-    apart_made : (label : ℕ) (all : Bool) (action : Action) (plan : Plan AffineRank) → l ≤ label → IsOn actions label (first_target action)
-        → IsOn actions label (second_target action) → IsRemade parts label all action trees plan
-        → IsRemade parts label all action (set trees l x) plan
-    apart_made label all action plan least first second is =
-        subst (λ (t : Plan AffineRank). Held label all action t (tree_at (set trees l x) (second_target action)) plan)
-        (sym (put_other bottom trees l (first_target action) x (away label (first_target action) least first)))
-        (subst (λ (t : Plan AffineRank). Held label all action (tree_at trees (first_target action)) t plan)
-        (sym (put_other bottom trees l (second_target action) x (away label (second_target action) least second))) is)
+    apart_made : (label : ℕ) (all : Bool) (transition : Transition) (plan : Plan AffineRank) → l ≤ label → IsOn transitions label (first_target transition)
+        → IsOn transitions label (second_target transition) → IsRemade parts label all transition trees plan
+        → IsRemade parts label all transition (set trees l x) plan
+    apart_made label all transition plan least first second is =
+        subst (λ (t : Plan AffineRank). Held label all transition t (tree_at (set trees l x) (second_target transition)) plan)
+        (sym (put_other bottom trees l (first_target transition) x (away label (first_target transition) least first)))
+        (subst (λ (t : Plan AffineRank). Held label all transition (tree_at trees (first_target transition)) t plan)
+        (sym (put_other bottom trees l (second_target transition) x (away label (second_target transition) least second))) is)
 
-    pub put_made : (all more : Bool) → l < length trees → AreOnward actions → IsRemade parts l (more && all) (action_in actions l) trees x
-        → AreRemadeFrom (suc l) all parts actions trees → AreRemadeFrom l (more && all) parts actions (set trees l x)
+    pub put_made : (all more : Bool) → l < length trees → AreOnward transitions → IsRemade parts l (more && all) (transition_in transitions l) trees x
+        → AreRemadeFrom (suc l) all parts transitions trees → AreRemadeFrom l (more && all) parts transitions (set trees l x)
     put_made all more low onward here there label least below open_label =
         let on = onward.on label below open_label in
-        apart_made label (more && all) (action_in actions label) (tree_at (set trees l x) label) least on.0 on.1
+        apart_made label (more && all) (transition_in transitions label) (tree_at (set trees l x) label) least on.0 on.1
         (⊎_elim
         (λ (is : label ≡ l).
-        subst (λ (k : ℕ). IsRemade parts k (more && all) (action_in actions k) trees (tree_at (set trees l x) k)) (sym is)
-        (subst (λ (t : Plan AffineRank). IsRemade parts l (more && all) (action_in actions l) trees t) (sym (put_same bottom trees l x low)) here))
+        subst (λ (k : ℕ). IsRemade parts k (more && all) (transition_in transitions k) trees (tree_at (set trees l x) k)) (sym is)
+        (subst (λ (t : Plan AffineRank). IsRemade parts l (more && all) (transition_in transitions l) trees t) (sym (put_same bottom trees l x low)) here))
         (λ (other : label ≡ l → ⊥).
-        subst (λ (t : Plan AffineRank). IsRemade parts label (more && all) (action_in actions label) trees t)
+        subst (λ (t : Plan AffineRank). IsRemade parts label (more && all) (transition_in transitions label) trees t)
         (sym (put_other bottom trees l label x other))
-        (weaker label all more (action_in actions label) (tree_at trees (first_target (action_in actions label)))
-        (tree_at trees (second_target (action_in actions label))) (tree_at trees label) (there label (omega arith) below open_label)))
+        (weaker label all more (transition_in transitions label) (tree_at trees (first_target (transition_in transitions label)))
+        (tree_at trees (second_target (transition_in transitions label))) (tree_at trees label) (there label (omega arith) below open_label)))
         (same_or label l))
 
 -- the trees of labels at which such a thing is done stay
-pub put_kept : (which : Action → Bool) (actions : List Action) (trees : List (Plan AffineRank)) (l : ℕ) (x : Plan AffineRank)
-    → which (action_in actions l) ≡ false → AreKept which actions trees (set trees l x)
-put_kept which actions trees l x not_here label below such =
+pub put_kept : (which : Transition → Bool) (transitions : List Transition) (trees : List (Plan AffineRank)) (l : ℕ) (x : Plan AffineRank)
+    → which (transition_in transitions l) ≡ false → AreKept which transitions trees (set trees l x)
+put_kept which transitions trees l x not_here label below such =
     put_other bottom trees l label x
-    (λ (is : label ≡ l). let here : which (action_in actions l) ≡ true = subst (λ k. which (action_in actions k) ≡ true) is such in absurd (cc))
+    (λ (is : label ≡ l). let here : which (transition_in transitions l) ≡ true = subst (λ k. which (transition_in transitions k) ≡ true) is such in absurd (cc))
 
 -- where nothing is done the tree is given
-pub idle_given : (action : Action) → is_idle action ≡ true → is_given action ≡ true
+pub idle_given : (transition : Transition) → is_idle transition ≡ true → is_given transition ≡ true
 idle_given End idle = refl
 idle_given Dead idle = refl
 idle_given (Pass to) idle = absurd (cc)
@@ -75,7 +75,7 @@ idle_given (Assign place value to) idle = absurd (cc)
 idle_given (Choose place range choice to) idle = absurd (cc)
 idle_given (Test is_head choice holds fails to other) idle = absurd (cc)
 
-end_given : (goal old : Plan AffineRank) (action : Action) → is_idle action ≡ true → given_for goal action old ≡ end_for goal action
+end_given : (goal old : Plan AffineRank) (transition : Transition) → is_idle transition ≡ true → given_for goal transition old ≡ end_for goal transition
 end_given goal old End idle = refl
 end_given goal old Dead idle = refl
 end_given goal old (Pass to) idle = absurd (cc)
@@ -84,26 +84,26 @@ end_given goal old (Choose place range choice to) idle = absurd (cc)
 end_given goal old (Test is_head choice holds fails to other) idle = absurd (cc)
 
 -- the trees that are given are so where nothing is done, also after they were kept
-pub ends_given : (parts : Parts) (actions : List Action) (heads begun trees : List (Plan AffineRank)) → AreGiven parts actions heads begun
-    → AreKept is_idle actions begun trees → AreEndsGiven parts actions trees
-ends_given parts actions heads begun trees given kept label below idle =
-    kept label below idle ∙ given label below (idle_given (action_in actions label) idle)
-    ∙ end_given (goal_at parts label) (tree_at heads label) (action_in actions label) idle
+pub ends_given : (parts : Parts) (transitions : List Transition) (heads begun trees : List (Plan AffineRank)) → AreGiven parts transitions heads begun
+    → AreKept is_idle transitions begun trees → AreEndsGiven parts transitions trees
+ends_given parts transitions heads begun trees given kept label below idle =
+    kept label below idle ∙ given label below (idle_given (transition_in transitions label) idle)
+    ∙ end_given (goal_at parts label) (tree_at heads label) (transition_in transitions label) idle
 
-pub ends_started : (parts : Parts) (actions : List Action) (begun trees : List (Plan AffineRank)) → AreEndsStarted parts actions begun
-    → AreKept is_idle actions begun trees → AreEndsStarted parts actions trees
-ends_started parts actions begun trees started kept label below idle =
-    subst (IsStarted parts label (action_in actions label)) (sym (kept label below idle)) (started label below idle)
+pub ends_started : (parts : Parts) (transitions : List Transition) (begun trees : List (Plan AffineRank)) → AreEndsStarted parts transitions begun
+    → AreKept is_idle transitions begun trees → AreEndsStarted parts transitions trees
+ends_started parts transitions begun trees started kept label below idle =
+    subst (IsStarted parts label (transition_in transitions label)) (sym (kept label below idle)) (started label below idle)
 
 -- what is made so, whether all are or not
-pub still_remade : (n : ℕ) (all : Bool) (parts : Parts) (actions : List Action) (trees : List (Plan AffineRank))
-    → AreRemadeFrom n all parts actions trees → AreRemadeFrom n false parts actions trees
-still_remade n all parts actions trees remade label least below open_label =
-    weaker parts label all false (action_in actions label) (tree_at trees (first_target (action_in actions label)))
-    (tree_at trees (second_target (action_in actions label))) (tree_at trees label) (remade label least below open_label)
+pub still_remade : (n : ℕ) (all : Bool) (parts : Parts) (transitions : List Transition) (trees : List (Plan AffineRank))
+    → AreRemadeFrom n all parts transitions trees → AreRemadeFrom n false parts transitions trees
+still_remade n all parts transitions trees remade label least below open_label =
+    weaker parts label all false (transition_in transitions label) (tree_at trees (first_target (transition_in transitions label)))
+    (tree_at trees (second_target (transition_in transitions label))) (tree_at trees label) (remade label least below open_label)
 
-pub given_kept : (actions : List Action) (old trees : List (Plan AffineRank)) → AreKept is_given actions old trees → AreKept is_idle actions old trees
-given_kept actions old trees kept label below idle = kept label below (idle_given (action_in actions label) idle)
+pub given_kept : (transitions : List Transition) (old trees : List (Plan AffineRank)) → AreKept is_given transitions old trees → AreKept is_idle transitions old trees
+given_kept transitions old trees kept label below idle = kept label below (idle_given (transition_in transitions label) idle)
 
 -- what holds of each tree of a list and of one more holds of each of both
 pub plans_each : (P : ℕ → Plan AffineRank → Type 0) (trees : List (Tree AffineRank)) (tree : Tree AffineRank)
@@ -116,10 +116,10 @@ plans_each P trees tree each here label below =
     label (omega (arith, below, long)))
 
 -- what was read at a label is what is done there
-pub action_read : (actions : List Action) (l : ℕ) (action : Action) → action ≡ get_or actions l action → l < length actions → action ≡ action_in actions l
-action_read [] l action is low = absurd (omega arith)
-action_read (first ∷ more) zero action is low = is
-action_read (first ∷ more) (suc l) action is low = action_read more l action is (omega arith)
+pub action_read : (transitions : List Transition) (l : ℕ) (transition : Transition) → transition ≡ get_or transitions l transition → l < length transitions → transition ≡ transition_in transitions l
+action_read [] l transition is low = absurd (omega arith)
+action_read (first ∷ more) zero transition is low = is
+action_read (first ∷ more) (suc l) transition is low = action_read more l transition is (omega arith)
 
 -- what stands in place of a tree that can't be made
 pub top_by : (Fits IsSmall : Type 0) (fault : TreeFault) (plan : Plan AffineRank)
@@ -146,9 +146,9 @@ pub both_carried : {A : Type 0} (P : A → A → Type 0) (a b c d : A) → a ≡
 both_carried P a b c d first second holds = subst (λ x. P x d) first (subst (λ y. P a y) second holds)
 
 -- a label whose tree is given asks nothing
-pub passed_over : (parts : Parts) (l : ℕ) (all : Bool) (actions : List Action) (trees : List (Plan AffineRank))
-    → is_given (action_in actions l) ≡ true → AreRemadeFrom (suc l) all parts actions trees → AreRemadeFrom l all parts actions trees
-passed_over parts l all actions trees given there label least below open_label =
+pub passed_over : (parts : Parts) (l : ℕ) (all : Bool) (transitions : List Transition) (trees : List (Plan AffineRank))
+    → is_given (transition_in transitions l) ≡ true → AreRemadeFrom (suc l) all parts transitions trees → AreRemadeFrom l all parts transitions trees
+passed_over parts l all transitions trees given there label least below open_label =
     ⊎_elim
-    (λ (is : label ≡ l). let here : is_given (action_in actions l) ≡ false = subst (λ k. is_given (action_in actions k) ≡ false) is open_label in absurd (cc))
+    (λ (is : label ≡ l). let here : is_given (transition_in transitions l) ≡ false = subst (λ k. is_given (transition_in transitions k) ≡ false) is open_label in absurd (cc))
     (λ (other : label ≡ l → ⊥). there label (omega arith) below open_label) (same_or label l)

@@ -6,14 +6,14 @@ use Rattle.decision_tree.specs.Plans.{Plan}
 use Rattle.decision_tree.specs.declared.affine_rank.AffineRank.{AffineRank}
 use Rattle.backward_transfer.specs.AffineShapes.{assigned_shape, chosen_shape, cut, picked_shape, ranged_shape, same_rank, stepped_shape, tested_shape}
 use Rattle.backward_sweeps.specs.Before.{before}
-use Rattle.backward_sweeps.specs.Doing.{choice_in}
+use Rattle.transitions.specs.Transitions.{choice_in}
 use Rattle.backward_sweeps.specs.Moving.{before_all}
 use Rattle.backward_sweeps.specs.Picking.{before_choice, before_outcome, before_value}
-use Rattle.backward_sweeps.specs.declared.action.Action.{Action}
-use Rattle.backward_sweeps.specs.declared.action.Action.TheVariants.{Assign, Choose, Dead, End, Pass, Test}
+use Rattle.transitions.specs.declared.transition.Transition.{Transition}
+use Rattle.transitions.specs.declared.transition.Transition.TheVariants.{Assign, Choose, Dead, End, Pass, Test}
 use Rattle.backward_sweeps.proofs.Trimming.{trimmed_again}
 
-all_cut : (action : Action) (this that : Plan AffineRank) → cut (before_all action this that) ≡ before_all action this that
+all_cut : (transition : Transition) (this that : Plan AffineRank) → cut (before_all transition this that) ≡ before_all transition this that
 all_cut End this that = refl
 all_cut Dead this that = refl
 all_cut (Pass to) this that = trimmed_again same_rank [] (stepped_shape this)
@@ -21,7 +21,7 @@ all_cut (Assign place value to) this that = trimmed_again same_rank [] (assigned
 all_cut (Choose place range choice to) this that = trimmed_again same_rank [] (ranged_shape place.number range this)
 all_cut (Test is_head choice holds fails to other) this that = trimmed_again same_rank [] (tested_shape this that holds.items fails.items)
 
-outcome_cut : (action : Action) (this that : Plan AffineRank) → cut (before_outcome action this that) ≡ before_outcome action this that
+outcome_cut : (transition : Transition) (this that : Plan AffineRank) → cut (before_outcome transition this that) ≡ before_outcome transition this that
 outcome_cut (Test is_head choice holds fails to other) this that = trimmed_again same_rank [] (picked_shape this that)
 outcome_cut End this that = all_cut End this that
 outcome_cut Dead this that = all_cut Dead this that
@@ -29,7 +29,7 @@ outcome_cut (Pass to) this that = all_cut (Pass to) this that
 outcome_cut (Assign place value to) this that = all_cut (Assign place value to) this that
 outcome_cut (Choose place range choice to) this that = all_cut (Choose place range choice to) this that
 
-value_cut : (lo hi : Option ℤ) (action : Action) (this that : Plan AffineRank) → cut (before_value lo hi action this that) ≡ before_value lo hi action this that
+value_cut : (lo hi : Option ℤ) (transition : Transition) (this that : Plan AffineRank) → cut (before_value lo hi transition this that) ≡ before_value lo hi transition this that
 value_cut lo hi (Choose place range choice to) this that = trimmed_again same_rank [] (chosen_shape lo hi place.number this)
 value_cut lo hi End this that = all_cut End this that
 value_cut lo hi Dead this that = all_cut Dead this that
@@ -37,11 +37,11 @@ value_cut lo hi (Pass to) this that = all_cut (Pass to) this that
 value_cut lo hi (Assign place value to) this that = all_cut (Assign place value to) this that
 value_cut lo hi (Test is_head choice holds fails to other) this that = all_cut (Test is_head choice holds fails to other) this that
 
-choice_cut : (choice : Choice) (action : Action) (this that : Plan AffineRank) → cut (before_choice choice action this that) ≡ before_choice choice action this that
-choice_cut NoChoice action this that = all_cut action this that
-choice_cut Branch action this that = outcome_cut action this that
-choice_cut (Range lo hi) action this that = value_cut lo hi action this that
+choice_cut : (choice : Choice) (transition : Transition) (this that : Plan AffineRank) → cut (before_choice choice transition this that) ≡ before_choice choice transition this that
+choice_cut NoChoice transition this that = all_cut transition this that
+choice_cut Branch transition this that = outcome_cut transition this that
+choice_cut (Range lo hi) transition this that = value_cut lo hi transition this that
 
-pub before_cut : (all : Bool) (action : Action) (this that : Plan AffineRank) → cut (before all action this that) ≡ before all action this that
-before_cut true action this that = all_cut action this that
-before_cut false action this that = choice_cut (choice_in action) action this that
+pub before_cut : (all : Bool) (transition : Transition) (this that : Plan AffineRank) → cut (before all transition this that) ≡ before all transition this that
+before_cut true transition this that = all_cut transition this that
+before_cut false transition this that = choice_cut (choice_in transition) transition this that

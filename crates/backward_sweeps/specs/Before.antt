@@ -4,19 +4,19 @@ use Rattle.decision_tree.specs.Plans.{Plan}
 use Rattle.decision_tree.specs.declared.affine_rank.AffineRank.{AffineRank}
 use Rattle.backward_sweeps.specs.Moving.{AllFit, AreAllSmall, before_all}
 use Rattle.backward_sweeps.specs.Picking.{AreSomeSmall, SomeFit, before_some}
-use Rattle.backward_sweeps.specs.declared.action.Action.{Action}
+use Rattle.transitions.specs.declared.transition.Transition.{Transition}
 
 -- the tree for all next states, or for some
-abbrev pub before : Bool → Action → Plan AffineRank → Plan AffineRank → Plan AffineRank
-before true action this that = before_all action this that
-before false action this that = before_some action this that
+abbrev pub before : Bool → Transition → Plan AffineRank → Plan AffineRank → Plan AffineRank
+before true transition this that = before_all transition this that
+before false transition this that = before_some transition this that
 
 -- each tree that is formed on the way has at most 65,536 nodes
-abbrev pub IsBeforeSmall : Bool → Action → Plan AffineRank → Plan AffineRank → Type 0
-IsBeforeSmall true action this that = AreAllSmall action this that
-IsBeforeSmall false action this that = AreSomeSmall action this that
+abbrev pub IsBeforeSmall : Bool → Transition → Plan AffineRank → Plan AffineRank → Type 0
+IsBeforeSmall true transition this that = AreAllSmall transition this that
+IsBeforeSmall false transition this that = AreSomeSmall transition this that
 
 -- each function, rank, difference of ranks and complement that is formed on the way fits
-abbrev pub BeforeFits : Bool → Action → Plan AffineRank → Plan AffineRank → Type 0
-BeforeFits true action this that = AllFit action this that
-BeforeFits false action this that = SomeFit action this that
+abbrev pub BeforeFits : Bool → Transition → Plan AffineRank → Plan AffineRank → Type 0
+BeforeFits true transition this that = AllFit transition this that
+BeforeFits false transition this that = SomeFit transition this that

@@ -1,4 +1,3 @@
-pub mod Doing
 pub mod Moving
 pub mod Picking
 pub mod Before

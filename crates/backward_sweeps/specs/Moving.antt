@@ -10,8 +10,8 @@ use Rattle.backward_transfer.specs.AffineShapes.{CutFits, affine_ranks, assigned
 use Rattle.backward_transfer.specs.Ranges.{AreSmall, RangeFits}
 use Rattle.backward_transfer.specs.Steps.{AssignFits, StepFits}
 use Rattle.backward_transfer.specs.Tests.{ComplementFits, EnabledFits, IsLaterSmall, TestAsks}
-use Rattle.backward_sweeps.specs.declared.action.Action.{Action}
-use Rattle.backward_sweeps.specs.declared.action.Action.TheVariants.{Assign, Choose, Dead, End, Pass, Test}
+use Rattle.transitions.specs.declared.transition.Transition.{Transition}
+use Rattle.transitions.specs.declared.transition.Transition.TheVariants.{Assign, Choose, Dead, End, Pass, Test}
 
 -- the rank of a claim that needs no step
 abbrev pub nought : AffineRank
@@ -22,7 +22,7 @@ abbrev pub at_once : Why → Plan AffineRank
 at_once why = leaf why nought
 
 -- The tree before what is done, for all next states. Where no run comes everything is claimed; behind the end nothing follows.
-abbrev pub before_all : Action → Plan AffineRank → Plan AffineRank → Plan AffineRank
+abbrev pub before_all : Transition → Plan AffineRank → Plan AffineRank → Plan AffineRank
 before_all End this that = bottom
 before_all Dead this that = at_once NeverReached
 before_all (Pass to) this that = cut (stepped_shape this)
@@ -43,17 +43,17 @@ TestsFit this that holds fails =
     × CutFits (tested_shape this that holds fails)
 
 -- each tree that is formed on the way has at most 65,536 nodes
-abbrev pub AreAllSmall : Action → Plan AffineRank → Plan AffineRank → Type 0
+abbrev pub AreAllSmall : Transition → Plan AffineRank → Plan AffineRank → Type 0
 AreAllSmall (Pass to) this that = size_of (stepped_shape this) ≤ 65536
 AreAllSmall (Assign place value to) this that = size_of (assigned_shape place.number value this) ≤ 65536
 AreAllSmall (Choose place range choice to) this that =
     AreSmall same_rank affine_ranks.where_greater affine_ranks.greater_fits affine_ranks.trend affine_ranks.substituted affine_ranks.one_more
     65536 place.number range this
 AreAllSmall (Test head choice holds fails to other) this that = AreTestsSmall this that holds.items fails.items
-AreAllSmall action this that = ⊤
+AreAllSmall transition this that = ⊤
 
 -- each function, rank, difference of ranks and complement that is formed on the way fits
-abbrev pub AllFit : Action → Plan AffineRank → Plan AffineRank → Type 0
+abbrev pub AllFit : Transition → Plan AffineRank → Plan AffineRank → Type 0
 AllFit (Pass to) this that = StepFits affine_ranks.add_one_fits this × CutFits (stepped_shape this)
 AllFit (Assign place value to) this that =
     AssignFits affine_ranks.substituted affine_ranks.subst_fits affine_ranks.add_one_fits place.number value this
@@ -63,4 +63,4 @@ AllFit (Choose place range choice to) this that =
     affine_ranks.subst_fits affine_ranks.add_one_fits place.number range this
     × CutFits (ranged_shape place.number range this)
 AllFit (Test head choice holds fails to other) this that = TestsFit this that holds.items fails.items
-AllFit action this that = ⊤
+AllFit transition this that = ⊤

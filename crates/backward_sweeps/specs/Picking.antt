@@ -8,69 +8,69 @@ use Rattle.backward_transfer.specs.AffineShapes.{CutFits, affine_ranks, chosen_s
 use Rattle.backward_transfer.specs.Chosen.{IsSomeSmall, SomeFits}
 use Rattle.backward_transfer.specs.Picks.{ArePicksSmall, PickFits}
 use Rattle.backward_transfer.specs.Values.{RootsFit, tried_values}
-use Rattle.backward_sweeps.specs.Doing.{choice_in}
+use Rattle.transitions.specs.Transitions.{choice_in}
 use Rattle.backward_sweeps.specs.Moving.{AllFit, AreAllSmall, before_all}
-use Rattle.backward_sweeps.specs.declared.action.Action.{Action}
-use Rattle.backward_sweeps.specs.declared.action.Action.TheVariants.{Choose, Test}
+use Rattle.transitions.specs.declared.transition.Transition.{Transition}
+use Rattle.transitions.specs.declared.transition.Transition.TheVariants.{Choose, Test}
 
 -- before a test of which one outcome is picked; all else is as for all next states
-abbrev pub before_outcome : Action → Plan AffineRank → Plan AffineRank → Plan AffineRank
+abbrev pub before_outcome : Transition → Plan AffineRank → Plan AffineRank → Plan AffineRank
 before_outcome (Test head choice holds fails to other) this that = cut (picked_shape this that)
-before_outcome action this that = before_all action this that
+before_outcome transition this that = before_all transition this that
 
 -- before the assignment of a number between the ends of which one is picked; all else is as for all next states
-abbrev pub before_value : Option ℤ → Option ℤ → Action → Plan AffineRank → Plan AffineRank → Plan AffineRank
+abbrev pub before_value : Option ℤ → Option ℤ → Transition → Plan AffineRank → Plan AffineRank → Plan AffineRank
 before_value lo hi (Choose place range choice to) this that = cut (chosen_shape lo hi place.number this)
-before_value lo hi action this that = before_all action this that
+before_value lo hi transition this that = before_all transition this that
 
 -- by what may be chosen
-abbrev pub before_choice : Choice → Action → Plan AffineRank → Plan AffineRank → Plan AffineRank
-before_choice NoChoice action this that = before_all action this that
-before_choice Branch action this that = before_outcome action this that
-before_choice (Range lo hi) action this that = before_value lo hi action this that
+abbrev pub before_choice : Choice → Transition → Plan AffineRank → Plan AffineRank → Plan AffineRank
+before_choice NoChoice transition this that = before_all transition this that
+before_choice Branch transition this that = before_outcome transition this that
+before_choice (Range lo hi) transition this that = before_value lo hi transition this that
 
-abbrev pub before_some : Action → Plan AffineRank → Plan AffineRank → Plan AffineRank
-before_some action this that = before_choice (choice_in action) action this that
+abbrev pub before_some : Transition → Plan AffineRank → Plan AffineRank → Plan AffineRank
+before_some transition this that = before_choice (choice_in transition) transition this that
 
 -- each tree that is formed on the way has at most 65,536 nodes
-abbrev pub AreOutcomesSmall : Action → Plan AffineRank → Plan AffineRank → Type 0
+abbrev pub AreOutcomesSmall : Transition → Plan AffineRank → Plan AffineRank → Type 0
 AreOutcomesSmall (Test head choice holds fails to other) this that =
     ArePicksSmall same_rank affine_ranks.where_greater affine_ranks.greater_fits affine_ranks.one_more 65536 this that
-AreOutcomesSmall action this that = AreAllSmall action this that
+AreOutcomesSmall transition this that = AreAllSmall transition this that
 
-abbrev pub AreValuesSmall : Option ℤ → Option ℤ → Action → Plan AffineRank → Plan AffineRank → Type 0
+abbrev pub AreValuesSmall : Option ℤ → Option ℤ → Transition → Plan AffineRank → Plan AffineRank → Type 0
 AreValuesSmall lo hi (Choose place range choice to) this that =
     IsSomeSmall same_rank affine_ranks.where_greater affine_ranks.greater_fits affine_ranks.substituted affine_ranks.one_more 65536
     lo hi place.number this (tried_values lo hi place.number this)
-AreValuesSmall lo hi action this that = AreAllSmall action this that
+AreValuesSmall lo hi transition this that = AreAllSmall transition this that
 
-abbrev pub AreChoicesSmall : Choice → Action → Plan AffineRank → Plan AffineRank → Type 0
-AreChoicesSmall NoChoice action this that = AreAllSmall action this that
-AreChoicesSmall Branch action this that = AreOutcomesSmall action this that
-AreChoicesSmall (Range lo hi) action this that = AreValuesSmall lo hi action this that
+abbrev pub AreChoicesSmall : Choice → Transition → Plan AffineRank → Plan AffineRank → Type 0
+AreChoicesSmall NoChoice transition this that = AreAllSmall transition this that
+AreChoicesSmall Branch transition this that = AreOutcomesSmall transition this that
+AreChoicesSmall (Range lo hi) transition this that = AreValuesSmall lo hi transition this that
 
-abbrev pub AreSomeSmall : Action → Plan AffineRank → Plan AffineRank → Type 0
-AreSomeSmall action this that = AreChoicesSmall (choice_in action) action this that
+abbrev pub AreSomeSmall : Transition → Plan AffineRank → Plan AffineRank → Type 0
+AreSomeSmall transition this that = AreChoicesSmall (choice_in transition) transition this that
 
 -- each function, rank and complement that is formed on the way fits
-abbrev pub OutcomesFit : Action → Plan AffineRank → Plan AffineRank → Type 0
+abbrev pub OutcomesFit : Transition → Plan AffineRank → Plan AffineRank → Type 0
 OutcomesFit (Test head choice holds fails to other) this that =
     PickFits same_rank affine_ranks.where_greater affine_ranks.greater_fits affine_ranks.one_more affine_ranks.add_one_fits this that
     × CutFits (picked_shape this that)
-OutcomesFit action this that = AllFit action this that
+OutcomesFit transition this that = AllFit transition this that
 
-abbrev pub ValuesFit : Option ℤ → Option ℤ → Action → Plan AffineRank → Plan AffineRank → Type 0
+abbrev pub ValuesFit : Option ℤ → Option ℤ → Transition → Plan AffineRank → Plan AffineRank → Type 0
 ValuesFit lo hi (Choose place range choice to) this that =
     RootsFit place.number this
     × SomeFits same_rank affine_ranks.where_greater affine_ranks.greater_fits affine_ranks.substituted affine_ranks.one_more
     affine_ranks.subst_fits affine_ranks.add_one_fits lo hi place.number this (tried_values lo hi place.number this)
     × CutFits (chosen_shape lo hi place.number this)
-ValuesFit lo hi action this that = AllFit action this that
+ValuesFit lo hi transition this that = AllFit transition this that
 
-abbrev pub ChoicesFit : Choice → Action → Plan AffineRank → Plan AffineRank → Type 0
-ChoicesFit NoChoice action this that = AllFit action this that
-ChoicesFit Branch action this that = OutcomesFit action this that
-ChoicesFit (Range lo hi) action this that = ValuesFit lo hi action this that
+abbrev pub ChoicesFit : Choice → Transition → Plan AffineRank → Plan AffineRank → Type 0
+ChoicesFit NoChoice transition this that = AllFit transition this that
+ChoicesFit Branch transition this that = OutcomesFit transition this that
+ChoicesFit (Range lo hi) transition this that = ValuesFit lo hi transition this that
 
-abbrev pub SomeFit : Action → Plan AffineRank → Plan AffineRank → Type 0
-SomeFit action this that = ChoicesFit (choice_in action) action this that
+abbrev pub SomeFit : Transition → Plan AffineRank → Plan AffineRank → Type 0
+SomeFit transition this that = ChoicesFit (choice_in transition) transition this that

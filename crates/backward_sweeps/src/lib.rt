@@ -7,21 +7,17 @@
 //! pass; `taken_over` takes claims over from another part.
 #![tactic(auto)]
 
-mod action;
 mod claiming;
 mod moving;
 mod operands;
 mod pass;
-mod place;
 mod remaking;
 mod starting;
 mod sweep;
 
-pub use action::{Action, actions};
 pub use claiming::taken_over;
 pub use moving::{at_once, moved_back};
 pub use operands::Operands;
 pub use pass::{begun, follow};
-pub use place::Place;
 pub use remaking::{given_up, tree_at};
 pub use sweep::{kept, swept};

@@ -5,18 +5,18 @@ ghost use Rattle.linear_cons.specs.declared.exact.Wide.{Wide};
 ghost use Rattle.decision_tree.specs.Plans.{plan_of};
 ghost use Rattle.tree_unify.specs.declared.fault.TreeFault.TheVariants.{Full as TooFull, Wide as TooWide};
 ghost use Rattle.backward_transfer.specs.AffineShapes.{plans, tree_at};
-ghost use Rattle.backward_sweeps.specs.Doing.{LeadsWithin, first_target, second_target};
+ghost use Rattle.transitions.specs.Transitions.{LeadsWithin, first_target, second_target};
 ghost use Rattle.backward_sweeps.specs.Before.{BeforeFits, IsBeforeSmall, before};
 ghost use Rattle.backward_sweeps.specs.Moving.{AllFit, AreAllSmall, at_once, before_all};
 ghost use Rattle.backward_sweeps.specs.Picking.{AreOutcomesSmall, AreSomeSmall, AreValuesSmall, OutcomesFit, SomeFit, ValuesFit};
 ghost use Rattle.backward_sweeps.specs.Picking.{before_outcome, before_some, before_value};
 
-use crate::action::Action;
 use backward_transfer::{back_assign, back_pick, back_range, back_skip, back_some, back_test};
 use control_flow::Choice;
 use decision_tree::{AffineRank, Tree, Why};
 use linear_cons::Affine;
 use std::alloc::Global;
+use transitions::Transition;
 use tree_unify::TreeFault;
 
 /// The tree before what is done at a label, with the trees of all labels given, for all next states or, where `all` is false, for some: then
@@ -26,58 +26,58 @@ use tree_unify::TreeFault;
 pub fn moved_back(
     alloc: Global,
     all: bool,
-    action: &Action,
+    transition: &Transition,
     trees: &[Tree<AffineRank>],
 ) -> Result<Tree<AffineRank>, TreeFault>
-    requires { LeadsWithin (length trees.now) action.now }
-    ensures tree { IfOk result (λ tree. plan_of tree ≡ before all action.now
-        (tree_at (plans trees.now) (first_target action.now)) (tree_at (plans trees.now) (second_target action.now))) }
+    requires { LeadsWithin (length trees.now) transition.now }
+    ensures tree { IfOk result (λ tree. plan_of tree ≡ before all transition.now
+        (tree_at (plans trees.now) (first_target transition.now)) (tree_at (plans trees.now) (second_target transition.now))) }
     ensures full { (count : ℕ) → result ≡ Err (TooFull count)
-        → IsBeforeSmall all action.now (tree_at (plans trees.now) (first_target action.now))
-        (tree_at (plans trees.now) (second_target action.now)) → ⊥ }
+        → IsBeforeSmall all transition.now (tree_at (plans trees.now) (first_target transition.now))
+        (tree_at (plans trees.now) (second_target transition.now)) → ⊥ }
     ensures wide { (w : Wide) → result ≡ Err (TooWide w)
-        → BeforeFits all action.now (tree_at (plans trees.now) (first_target action.now))
-        (tree_at (plans trees.now) (second_target action.now)) → ⊥ }
+        → BeforeFits all transition.now (tree_at (plans trees.now) (first_target transition.now))
+        (tree_at (plans trees.now) (second_target transition.now)) → ⊥ }
     ensures operands { (w : Wide) → result ≡ Err (TooWide w) → IsOutside w }
 {
     if all {
-        for_all(alloc, action, trees)
+        for_all(alloc, transition, trees)
     } else {
-        for_some(alloc, action, trees)
+        for_some(alloc, transition, trees)
     }
 }
 
 /// The tree before what is done, for all next states.
 fn for_all(
     alloc: Global,
-    action: &Action,
+    transition: &Transition,
     trees: &[Tree<AffineRank>],
 ) -> Result<Tree<AffineRank>, TreeFault>
-    requires { LeadsWithin (length trees.now) action.now }
-    ensures tree { IfOk result (λ tree. plan_of tree ≡ before_all action.now
-        (tree_at (plans trees.now) (first_target action.now)) (tree_at (plans trees.now) (second_target action.now))) }
+    requires { LeadsWithin (length trees.now) transition.now }
+    ensures tree { IfOk result (λ tree. plan_of tree ≡ before_all transition.now
+        (tree_at (plans trees.now) (first_target transition.now)) (tree_at (plans trees.now) (second_target transition.now))) }
     ensures full { (count : ℕ) → result ≡ Err (TooFull count)
-        → AreAllSmall action.now (tree_at (plans trees.now) (first_target action.now)) (tree_at (plans trees.now) (second_target action.now))
+        → AreAllSmall transition.now (tree_at (plans trees.now) (first_target transition.now)) (tree_at (plans trees.now) (second_target transition.now))
         → ⊥ }
     ensures wide { (w : Wide) → result ≡ Err (TooWide w)
-        → AllFit action.now (tree_at (plans trees.now) (first_target action.now)) (tree_at (plans trees.now) (second_target action.now))
+        → AllFit transition.now (tree_at (plans trees.now) (first_target transition.now)) (tree_at (plans trees.now) (second_target transition.now))
         → ⊥ }
     ensures operands { (w : Wide) → result ≡ Err (TooWide w) → IsOutside w }
 {
-    match action {
-        Action::End => Ok(Tree::Bottom),
-        Action::Dead => Ok(at_once(Why::Dead)),
-        Action::Pass { to } => back_skip(alloc, &trees[*to as usize]),
-        Action::Assign { place, value, to } => {
+    match transition {
+        Transition::End => Ok(Tree::Bottom),
+        Transition::Dead => Ok(at_once(Why::Dead)),
+        Transition::Pass { to } => back_skip(alloc, &trees[*to as usize]),
+        Transition::Assign { place, value, to } => {
             back_assign(alloc, &trees[*to as usize], place.number, value)
         }
-        Action::Choose {
+        Transition::Choose {
             place,
             range,
             choice: _,
             to,
         } => back_range(alloc, &trees[*to as usize], place.number, range),
-        Action::Test {
+        Transition::Test {
             is_head: _,
             choice: _,
             holds,
@@ -97,46 +97,46 @@ fn for_all(
 /// The tree before what is done, for some next state: where it may be chosen it is picked, and else it is as for all.
 fn for_some(
     alloc: Global,
-    action: &Action,
+    transition: &Transition,
     trees: &[Tree<AffineRank>],
 ) -> Result<Tree<AffineRank>, TreeFault>
-    requires { LeadsWithin (length trees.now) action.now }
-    ensures tree { IfOk result (λ tree. plan_of tree ≡ before_some action.now
-        (tree_at (plans trees.now) (first_target action.now)) (tree_at (plans trees.now) (second_target action.now))) }
+    requires { LeadsWithin (length trees.now) transition.now }
+    ensures tree { IfOk result (λ tree. plan_of tree ≡ before_some transition.now
+        (tree_at (plans trees.now) (first_target transition.now)) (tree_at (plans trees.now) (second_target transition.now))) }
     ensures full { (count : ℕ) → result ≡ Err (TooFull count)
-        → AreSomeSmall action.now (tree_at (plans trees.now) (first_target action.now)) (tree_at (plans trees.now) (second_target action.now))
+        → AreSomeSmall transition.now (tree_at (plans trees.now) (first_target transition.now)) (tree_at (plans trees.now) (second_target transition.now))
         → ⊥ }
     ensures wide { (w : Wide) → result ≡ Err (TooWide w)
-        → SomeFit action.now (tree_at (plans trees.now) (first_target action.now)) (tree_at (plans trees.now) (second_target action.now))
+        → SomeFit transition.now (tree_at (plans trees.now) (first_target transition.now)) (tree_at (plans trees.now) (second_target transition.now))
         → ⊥ }
     ensures operands { (w : Wide) → result ≡ Err (TooWide w) → IsOutside w }
 {
-    match action.choice() {
-        Choice::None => for_all(alloc, action, trees),
-        Choice::Branch => with_outcome(alloc, action, trees),
-        Choice::Range { lo, hi } => with_value(alloc, action, lo, hi, trees),
+    match transition.choice() {
+        Choice::None => for_all(alloc, transition, trees),
+        Choice::Branch => with_outcome(alloc, transition, trees),
+        Choice::Range { lo, hi } => with_value(alloc, transition, lo, hi, trees),
     }
 }
 
 /// The tree before a test of which one outcome is picked, and before anything else as for all next states.
 fn with_outcome(
     alloc: Global,
-    action: &Action,
+    transition: &Transition,
     trees: &[Tree<AffineRank>],
 ) -> Result<Tree<AffineRank>, TreeFault>
-    requires { LeadsWithin (length trees.now) action.now }
-    ensures tree { IfOk result (λ tree. plan_of tree ≡ before_outcome action.now
-        (tree_at (plans trees.now) (first_target action.now)) (tree_at (plans trees.now) (second_target action.now))) }
+    requires { LeadsWithin (length trees.now) transition.now }
+    ensures tree { IfOk result (λ tree. plan_of tree ≡ before_outcome transition.now
+        (tree_at (plans trees.now) (first_target transition.now)) (tree_at (plans trees.now) (second_target transition.now))) }
     ensures full { (count : ℕ) → result ≡ Err (TooFull count)
-        → AreOutcomesSmall action.now (tree_at (plans trees.now) (first_target action.now))
-        (tree_at (plans trees.now) (second_target action.now)) → ⊥ }
+        → AreOutcomesSmall transition.now (tree_at (plans trees.now) (first_target transition.now))
+        (tree_at (plans trees.now) (second_target transition.now)) → ⊥ }
     ensures wide { (w : Wide) → result ≡ Err (TooWide w)
-        → OutcomesFit action.now (tree_at (plans trees.now) (first_target action.now))
-        (tree_at (plans trees.now) (second_target action.now)) → ⊥ }
+        → OutcomesFit transition.now (tree_at (plans trees.now) (first_target transition.now))
+        (tree_at (plans trees.now) (second_target transition.now)) → ⊥ }
     ensures operands { (w : Wide) → result ≡ Err (TooWide w) → IsOutside w }
 {
-    match action {
-        Action::Test {
+    match transition {
+        Transition::Test {
             is_head: _,
             choice: _,
             holds: _,
@@ -144,37 +144,37 @@ fn with_outcome(
             yes,
             no,
         } => back_pick(alloc, &trees[*yes as usize], &trees[*no as usize]),
-        _ => for_all(alloc, action, trees),
+        _ => for_all(alloc, transition, trees),
     }
 }
 
 /// The tree before the assignment of a number of a range of which one is picked, and before anything else as for all next states.
 fn with_value(
     alloc: Global,
-    action: &Action,
+    transition: &Transition,
     lo: Option<i64>,
     hi: Option<i64>,
     trees: &[Tree<AffineRank>],
 ) -> Result<Tree<AffineRank>, TreeFault>
-    requires { LeadsWithin (length trees.now) action.now }
-    ensures tree { IfOk result (λ tree. plan_of tree ≡ before_value lo hi action.now
-        (tree_at (plans trees.now) (first_target action.now)) (tree_at (plans trees.now) (second_target action.now))) }
+    requires { LeadsWithin (length trees.now) transition.now }
+    ensures tree { IfOk result (λ tree. plan_of tree ≡ before_value lo hi transition.now
+        (tree_at (plans trees.now) (first_target transition.now)) (tree_at (plans trees.now) (second_target transition.now))) }
     ensures full { (count : ℕ) → result ≡ Err (TooFull count)
-        → AreValuesSmall lo hi action.now (tree_at (plans trees.now) (first_target action.now))
-        (tree_at (plans trees.now) (second_target action.now)) → ⊥ }
+        → AreValuesSmall lo hi transition.now (tree_at (plans trees.now) (first_target transition.now))
+        (tree_at (plans trees.now) (second_target transition.now)) → ⊥ }
     ensures wide { (w : Wide) → result ≡ Err (TooWide w)
-        → ValuesFit lo hi action.now (tree_at (plans trees.now) (first_target action.now))
-        (tree_at (plans trees.now) (second_target action.now)) → ⊥ }
+        → ValuesFit lo hi transition.now (tree_at (plans trees.now) (first_target transition.now))
+        (tree_at (plans trees.now) (second_target transition.now)) → ⊥ }
     ensures operands { (w : Wide) → result ≡ Err (TooWide w) → IsOutside w }
 {
-    match action {
-        Action::Choose {
+    match transition {
+        Transition::Choose {
             place,
             range: _,
             choice: _,
             to,
         } => back_some(alloc, &trees[*to as usize], place.number, lo, hi),
-        _ => for_all(alloc, action, trees),
+        _ => for_all(alloc, transition, trees),
     }
 }
 

@@ -6,38 +6,38 @@ ghost use Rattle.decision_tree.specs.Plans.{bottom, plan_of, top};
 ghost use Rattle.decision_tree.specs.declared.reason.Cause.TheVariants.{Nodes, Wide as WideNumber};
 ghost use Rattle.tree_unify.specs.declared.fault.TreeFault.TheVariants.{Full as TooFull, Memory, Wide as TooWide};
 ghost use Rattle.backward_transfer.specs.AffineShapes.{cut, plans, tree_at};
-ghost use Rattle.backward_sweeps.specs.Doing.{LeadsWithin, first_target, second_target};
+ghost use Rattle.transitions.specs.Transitions.{LeadsWithin, first_target, second_target};
 ghost use Rattle.backward_sweeps.specs.Remaking.{IsMade, IsMadeSmall, IsRemadeSmall, MadeFits, RemadeFits, made, parts_of};
 
-use crate::action::Action;
 use crate::moving::moved_back;
 use crate::operands::Operands;
 use decision_tree::{AffineRank, Cause, Tree};
 use std::alloc::{AllocError, Global};
+use transitions::Transition;
 use tree_unify::{TreeFault, both, either};
 
 /// The tree of a label at which this is done, with the trees of all labels given: what the goal claims there, or else what the trees behind
-/// the action claim before it, where it is to be kept. `Full` comes only where a tree that is formed on the way would have more than 65,536
+/// the transition claim before it, where it is to be kept. `Full` comes only where a tree that is formed on the way would have more than 65,536
 /// nodes, `Wide` only where a function, a rank, a difference of ranks or a complement has a number outside `i128`. `Memory` says nothing.
 pub(crate) fn remade(
     alloc: Global,
     operands: &Operands<'_>,
     label: u32,
-    action: &Action,
+    transition: &Transition,
     trees: &[Tree<AffineRank>],
 ) -> Result<Tree<AffineRank>, TreeFault>
-    requires { LeadsWithin (length trees.now) action.now }
-    ensures tree { IfOk result (λ tree. IsMade (parts_of operands.now) label action.now (plans trees.now) (plan_of tree)) }
+    requires { LeadsWithin (length trees.now) transition.now }
+    ensures tree { IfOk result (λ tree. IsMade (parts_of operands.now) label transition.now (plans trees.now) (plan_of tree)) }
     ensures full { (count : ℕ) → result ≡ Err (TooFull count)
-        → IsRemadeSmall (parts_of operands.now) label action.now (tree_at (plans trees.now) (first_target action.now))
-        (tree_at (plans trees.now) (second_target action.now)) → ⊥ }
+        → IsRemadeSmall (parts_of operands.now) label transition.now (tree_at (plans trees.now) (first_target transition.now))
+        (tree_at (plans trees.now) (second_target transition.now)) → ⊥ }
     ensures wide { (w : Wide) → result ≡ Err (TooWide w)
-        → RemadeFits (parts_of operands.now) label action.now (tree_at (plans trees.now) (first_target action.now))
-        (tree_at (plans trees.now) (second_target action.now)) → ⊥ }
+        → RemadeFits (parts_of operands.now) label transition.now (tree_at (plans trees.now) (first_target transition.now))
+        (tree_at (plans trees.now) (second_target transition.now)) → ⊥ }
     ensures operands { (w : Wide) → result ≡ Err (TooWide w) → IsOutside w }
 {
     let none = Tree::Bottom;
-    let moved = moved_back(alloc, operands.all, action, trees)?;
+    let moved = moved_back(alloc, operands.all, transition, trees)?;
     made(
         alloc,
         tree_at(operands.goal, label, &none),

@@ -1,10 +1,9 @@
 //! Sweeps over the labels.
 ghost use Rattle.std.specs.Prelude.{◌≡◌, ◌<◌, ◌≤◌, [], false, IfOk, OnOk, length};
 ghost use Rattle.backward_transfer.specs.AffineShapes.{plans};
-ghost use Rattle.backward_sweeps.specs.Doing.{AreOnward, HasNoHead, LeadsWithin, is_head, is_idle};
+ghost use Rattle.transitions.specs.Transitions.{AreOnward, HasNoHead, LeadsWithin, is_head, is_idle};
 ghost use Rattle.backward_sweeps.specs.Remaking.{AreEndsGiven, AreEndsStarted, AreKept, AreRemadeFrom, parts_of};
 
-use crate::action::Action;
 use crate::operands::Operands;
 use crate::pass::{begun, follow, is_idle};
 use crate::remaking::{given_up, remade};
@@ -13,6 +12,7 @@ use decision_tree::{AffineRank, Tree, TreeList};
 use forward_inv::Inv;
 use num_domain::NumDomain;
 use std::alloc::{AllocError, Global};
+use transitions::Transition;
 use tree_unify::{TreeFault, prune};
 use tree_widening::widen;
 
@@ -27,25 +27,25 @@ const SWEEPS: u32 = 32;
 pub fn swept<D: NumDomain>(
     alloc: Global,
     inv: &Inv<D>,
-    actions: &[Action],
+    transitions: &[Transition],
     operands: &Operands<'_>,
     delay: u32,
 ) -> Result<TreeList<AffineRank>, AllocError>
-    requires states { length inv.now ≡ length actions.now }
-    requires few { length actions.now ≤ 1024 }
-    requires onward { AreOnward actions.now }
-    ensures labels { IfOk result (λ trees. length trees ≡ length actions.now) }
-    ensures given { IfOk result (λ trees. AreEndsGiven (parts_of operands.now) actions.now trees) }
-    ensures remade { HasNoHead actions.now → IfOk result (λ trees. AreRemadeFrom 0 false (parts_of operands.now) actions.now trees) }
+    requires states { length inv.now ≡ length transitions.now }
+    requires few { length transitions.now ≤ 1024 }
+    requires onward { AreOnward transitions.now }
+    ensures labels { IfOk result (λ trees. length trees ≡ length transitions.now) }
+    ensures given { IfOk result (λ trees. AreEndsGiven (parts_of operands.now) transitions.now trees) }
+    ensures remade { HasNoHead transitions.now → IfOk result (λ trees. AreRemadeFrom 0 false (parts_of operands.now) transitions.now trees) }
 {
-    let mut trees = begun(alloc, actions, operands, &[])?;
-    if !has_head(actions) {
-        follow(alloc, actions, operands, &mut trees)?;
+    let mut trees = begun(alloc, transitions, operands, &[])?;
+    if !has_head(transitions) {
+        follow(alloc, transitions, operands, &mut trees)?;
         return Ok(TreeList::of(trees));
     }
     let sweeps = Sweeps {
         alloc,
-        actions,
+        transitions,
         inv,
         operands,
         count: SWEEPS,
@@ -63,25 +63,25 @@ pub fn swept<D: NumDomain>(
 pub fn kept<D: NumDomain>(
     alloc: Global,
     inv: &Inv<D>,
-    actions: &[Action],
+    transitions: &[Transition],
     operands: &Operands<'_>,
     delay: u32,
 ) -> Result<TreeList<AffineRank>, AllocError>
-    requires states { length inv.now ≡ length actions.now }
-    requires few { length actions.now ≤ 1024 }
-    requires onward { AreOnward actions.now }
-    ensures labels { IfOk result (λ trees. length trees ≡ length actions.now) }
-    ensures started { IfOk result (λ trees. AreEndsStarted (parts_of operands.now) actions.now trees) }
-    ensures remade { HasNoHead actions.now → IfOk result (λ trees. AreRemadeFrom 0 false (parts_of operands.now) actions.now trees) }
+    requires states { length inv.now ≡ length transitions.now }
+    requires few { length transitions.now ≤ 1024 }
+    requires onward { AreOnward transitions.now }
+    ensures labels { IfOk result (λ trees. length trees ≡ length transitions.now) }
+    ensures started { IfOk result (λ trees. AreEndsStarted (parts_of operands.now) transitions.now trees) }
+    ensures remade { HasNoHead transitions.now → IfOk result (λ trees. AreRemadeFrom 0 false (parts_of operands.now) transitions.now trees) }
 {
-    let mut trees = started(alloc, actions, operands)?;
-    if !has_head(actions) {
-        follow(alloc, actions, operands, &mut trees)?;
+    let mut trees = started(alloc, transitions, operands)?;
+    if !has_head(transitions) {
+        follow(alloc, transitions, operands, &mut trees)?;
         return Ok(TreeList::of(trees));
     }
     let sweeps = Sweeps {
         alloc,
-        actions,
+        transitions,
         inv,
         operands,
         count: delay.max(1),
@@ -95,7 +95,7 @@ pub fn kept<D: NumDomain>(
 #[derive(Drop)]
 struct Sweeps<'a, D: NumDomain> {
     alloc: Global,
-    actions: &'a [Action],
+    transitions: &'a [Transition],
     inv: &'a Inv<D>,
     operands: &'a Operands<'a>,
     /// How many there are at most.
@@ -107,14 +107,14 @@ struct Sweeps<'a, D: NumDomain> {
 impl<'a, D: NumDomain> Sweeps<'a, D> {
     /// Makes the trees anew, sweep after sweep, until one changes nothing or there were as many as may be.
     fn run(&self, trees: &mut [Tree<AffineRank>]) -> Result<(), AllocError>
-        requires states { length self.now.inv.now ≡ length self.now.actions.now }
-        requires few { length self.now.actions.now ≤ 1024 }
-        requires onward { AreOnward self.now.actions.now }
-        requires trees { length trees.old ≡ length self.now.actions.now }
+        requires states { length self.now.inv.now ≡ length self.now.transitions.now }
+        requires few { length self.now.transitions.now ≤ 1024 }
+        requires onward { AreOnward self.now.transitions.now }
+        requires trees { length trees.old ≡ length self.now.transitions.now }
         ensures trees { length trees.new ≡ length trees.old }
-        ensures ends { OnOk result (AreKept is_idle self.now.actions.now (plans trees.old) (plans trees.new)) }
+        ensures ends { OnOk result (AreKept is_idle self.now.transitions.now (plans trees.old) (plans trees.new)) }
     {
-        let mut changed = vec![in self.alloc; true; self.actions.len()]?;
+        let mut changed = vec![in self.alloc; true; self.transitions.len()]?;
         for number in 1..=self.count {
             if !self.sweep(number, trees, &mut changed)? {
                 break;
@@ -131,17 +131,17 @@ impl<'a, D: NumDomain> Sweeps<'a, D> {
         trees: &mut [Tree<AffineRank>],
         changed: &mut [bool],
     ) -> Result<bool, AllocError>
-        requires states { length self.now.inv.now ≡ length self.now.actions.now }
-        requires few { length self.now.actions.now ≤ 1024 }
-        requires onward { AreOnward self.now.actions.now }
-        requires trees { length trees.old ≡ length self.now.actions.now }
-        requires flags { length changed.old ≡ length self.now.actions.now }
+        requires states { length self.now.inv.now ≡ length self.now.transitions.now }
+        requires few { length self.now.transitions.now ≤ 1024 }
+        requires onward { AreOnward self.now.transitions.now }
+        requires trees { length trees.old ≡ length self.now.transitions.now }
+        requires flags { length changed.old ≡ length self.now.transitions.now }
         ensures trees { length trees.new ≡ length trees.old }
         ensures flags { length changed.new ≡ length changed.old }
-        ensures ends { OnOk result (AreKept is_idle self.now.actions.now (plans trees.old) (plans trees.new)) }
+        ensures ends { OnOk result (AreKept is_idle self.now.transitions.now (plans trees.old) (plans trees.new)) }
     {
         let mut any = false;
-        for label in (0..self.actions.len() as u32).rev() {
+        for label in (0..self.transitions.len() as u32).rev() {
             let differs = self.is_due(number, label, changed) && self.remake(number, label, trees)?;
             changed[label as usize] = differs;
             any = any || differs;
@@ -151,16 +151,16 @@ impl<'a, D: NumDomain> Sweeps<'a, D> {
 
     /// Whether the tree of the label may differ from what it was: that of a successor did, or it was or begins to be widened.
     fn is_due(&self, number: u32, label: u32, changed: &[bool]) -> bool
-        requires within { label < length self.now.actions.now }
-        requires flags { length changed.now ≡ length self.now.actions.now }
+        requires within { label < length self.now.transitions.now }
+        requires flags { length changed.now ≡ length self.now.transitions.now }
     {
-        match &self.actions[label as usize] {
-            Action::End | Action::Dead => false,
-            Action::Pass { to } => number == 1 || is_set(changed, *to),
-            Action::Assign { to, .. } | Action::Choose { to, .. } => {
+        match &self.transitions[label as usize] {
+            Transition::End | Transition::Dead => false,
+            Transition::Pass { to } => number == 1 || is_set(changed, *to),
+            Transition::Assign { to, .. } | Transition::Choose { to, .. } => {
                 number == 1 || is_set(changed, *to)
             }
-            Action::Test {
+            Transition::Test {
                 is_head,
                 yes,
                 no,
@@ -189,18 +189,18 @@ impl<'a, D: NumDomain> Sweeps<'a, D> {
         label: u32,
         trees: &mut [Tree<AffineRank>],
     ) -> Result<bool, AllocError>
-        requires label { label < length self.now.actions.now }
-        requires onward { AreOnward self.now.actions.now }
-        requires states { length self.now.inv.now ≡ length self.now.actions.now }
-        requires trees { length trees.old ≡ length self.now.actions.now }
+        requires label { label < length self.now.transitions.now }
+        requires onward { AreOnward self.now.transitions.now }
+        requires states { length self.now.inv.now ≡ length self.now.transitions.now }
+        requires trees { length trees.old ≡ length self.now.transitions.now }
         ensures labels { length trees.new ≡ length trees.old }
-        ensures ends { OnOk result (AreKept is_idle self.now.actions.now (plans trees.old) (plans trees.new)) }
+        ensures ends { OnOk result (AreKept is_idle self.now.transitions.now (plans trees.old) (plans trees.new)) }
     {
-        let action = &self.actions[label as usize];
-        if is_idle(action) {
+        let transition = &self.transitions[label as usize];
+        if is_idle(transition) {
             return Ok(false);
         }
-        let made = self.made(number, label, action, trees)?;
+        let made = self.made(number, label, transition, trees)?;
         let differs = made != trees[label as usize];
         trees[label as usize] = made;
         Ok(differs)
@@ -211,17 +211,17 @@ impl<'a, D: NumDomain> Sweeps<'a, D> {
         &self,
         number: u32,
         label: u32,
-        action: &Action,
+        transition: &Transition,
         trees: &[Tree<AffineRank>],
     ) -> Result<Tree<AffineRank>, AllocError>
-        requires label { label < length self.now.actions.now }
-        requires leads { LeadsWithin (length trees.now) action.now }
-        requires states { length self.now.inv.now ≡ length self.now.actions.now }
-        requires trees { length trees.now ≡ length self.now.actions.now }
+        requires label { label < length self.now.transitions.now }
+        requires leads { LeadsWithin (length trees.now) transition.now }
+        requires states { length self.now.inv.now ≡ length self.now.transitions.now }
+        requires trees { length trees.now ≡ length self.now.transitions.now }
     {
-        let made = or_given_up(remade(self.alloc, self.operands, label, action, trees))?;
+        let made = or_given_up(remade(self.alloc, self.operands, label, transition, trees))?;
         match self.widened_from {
-            Some(first) if is_head(action) && number >= first => {
+            Some(first) if is_head(transition) && number >= first => {
                 let set = self.inv.at(label);
                 or_given_up(widened(self.alloc, &trees[label as usize], &made, set))
             }
@@ -239,18 +239,18 @@ fn or_given_up(made: Result<Tree<AffineRank>, TreeFault>) -> Result<Tree<AffineR
 }
 
 /// Whether some label is that of a loop's test.
-fn has_head(actions: &[Action]) -> bool
-    ensures { HasNoHead actions.now → result ≡ false }
+fn has_head(transitions: &[Transition]) -> bool
+    ensures { HasNoHead transitions.now → result ≡ false }
 {
-    actions.iter().any(is_head)
+    transitions.iter().any(is_head)
 }
 
 /// Whether the label is that of a loop's test.
-fn is_head(action: &Action) -> bool
-    ensures { result ≡ is_head action.now }
+fn is_head(transition: &Transition) -> bool
+    ensures { result ≡ is_head transition.now }
 {
-    match action {
-        Action::Test { is_head, .. } => *is_head,
+    match transition {
+        Transition::Test { is_head, .. } => *is_head,
         _ => false,
     }
 }

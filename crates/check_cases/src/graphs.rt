@@ -14,7 +14,7 @@ pub fn read_graph(alloc: Global, words: &mut Words<'_>) -> Result<Option<Graph>,
     let Some(program) = parsed(alloc, text.as_bytes(), words)? else {
         return Ok(None);
     };
-    match Graph::of(alloc, &program) {
+    match Graph::of(alloc, program) {
         Ok(graph) => Ok(Some(graph)),
         Err(_) => {
             words.fail("a program without a graph");

@@ -1,6 +1,5 @@
 pub mod Leasts
 pub mod Standing
-pub mod Copied
 pub mod Rooms
 pub mod Steps
 pub mod LabelLaws
@@ -15,3 +14,5 @@ pub mod Held
 pub mod Holding
 pub mod Existing
 pub mod Measuring
+pub mod Reached
+pub mod Unstuck

@@ -1,24 +1,23 @@
 -- What is done at a label, as it stands in a table.
 use Rattle.std.proofs.Common.{◌≡◌, ℕ, zero, suc, ◌+◌, ◌<◌, ◌≤◌, List, [], ◌∷◌, ◌++◌, length, refl, sym, subst, ◌∙◌, ap, arith, ⊎_elim}
-use Rattle.linear_forms.proofs.Naming.{test_names}
+use Rattle.linear_forms.proofs.Naming.{number_names, test_names}
 use Rattle.step_meaning.specs.Syntax.{Statements}
 use Rattle.step_meaning.specs.Valid.{IsBody}
-use Rattle.control_flow.specs.Actions.{IsSorted}
+use Rattle.control_flow.specs.Actions.{IsPlaced, IsSorted}
 use Rattle.control_flow.specs.Labels.{Action, ends, assigns, passes, tests, action_at, all_labels}
 use Rattle.control_flow.specs.Sizing.{held_at}
-use Rattle.control_flow.specs.Tables.{IsNamed}
 use Rattle.control_flow.proofs.Filling.{same_or}
 use Rattle.control_flow.proofs.LabelLaws.{labels_are_sorted}
 
-named_of : (vars : ℕ) → vars ≤ 15 → (action : Action) → IsSorted vars action → IsNamed action
-named_of vars few ends sorted = tt
-named_of vars few (assigns x e next) sorted = tt
-named_of vars few (passes next) sorted = tt
-named_of vars few (tests head c p q) sorted = test_names vars 16 (omega (arith, few)) c sorted
+placed_of : (vars : ℕ) → vars ≤ 15 → (action : Action) → IsSorted vars action → IsPlaced action
+placed_of vars few ends sorted = tt
+placed_of vars few (assigns x e next) sorted = let low = sorted.0 in (omega (arith, few, low), number_names vars 16 (omega (arith, few)) e sorted.1)
+placed_of vars few (passes next) sorted = tt
+placed_of vars few (tests head c p q) sorted = test_names vars 16 (omega (arith, few)) c sorted
 
-pub is_named : (vars : ℕ) → vars ≤ 15 → (body : Statements) → IsBody vars body → (l : ℕ) → l < length (all_labels body) → (action : Action) → action ≡ action_at body l
-    → IsNamed action
-is_named vars few body sorted l low action is = subst IsNamed (sym is) (named_of vars few (action_at body l) (labels_are_sorted vars body sorted l low))
+pub is_placed : (vars : ℕ) → vars ≤ 15 → (body : Statements) → IsBody vars body → (l : ℕ) → l < length (all_labels body) → (action : Action) → action ≡ action_at body l
+    → IsPlaced action
+is_placed vars few body sorted l low action is = subst IsPlaced (sym is) (placed_of vars few (action_at body l) (labels_are_sorted vars body sorted l low))
 
 -- ---- a number more
 

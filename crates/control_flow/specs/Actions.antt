@@ -1,5 +1,6 @@
 -- What a valid program does at its labels, and where its edges lead.
 use Rattle.std.specs.Prelude.{◌≡◌, ◌⊎◌, ℕ, suc, ◌<◌, ◌≤◌, true, false, length, ⊤}
+use Rattle.step_meaning.specs.Naming.{NamesBelow}
 use Rattle.step_meaning.specs.Syntax.{Statements}
 use Rattle.step_meaning.specs.Valid.{IsNumber, IsTest}
 use Rattle.control_flow.specs.Edges.{is_head_by}
@@ -11,6 +12,13 @@ IsSorted vars ends = ⊤
 IsSorted vars (assigns x e next) = (x < vars) × IsNumber vars e
 IsSorted vars (passes next) = ⊤
 IsSorted vars (tests head c then_to else_to) = IsTest vars c
+
+-- what is assigned, and what is named there, stands at one of the 16 places
+abbrev pub IsPlaced : Action → Type 0
+IsPlaced ends = ⊤
+IsPlaced (assigns x e next) = (x < 16) × NamesBelow 16 e
+IsPlaced (passes next) = ⊤
+IsPlaced (tests head c then_to else_to) = NamesBelow 16 c
 
 -- each label that follows is below the number
 abbrev pub LeadsBelow : ℕ → Action → Type 0

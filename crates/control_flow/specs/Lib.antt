@@ -9,3 +9,5 @@ pub mod Sizing
 pub mod Growth
 pub mod Tables
 pub mod Faults
+pub mod States
+pub mod Invariants

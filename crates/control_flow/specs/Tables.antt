@@ -1,6 +1,5 @@
 -- Labels as a graph keeps them.
-use Rattle.std.specs.Prelude.{◌≡◌, ◌<◌, List, map, ⊤}
-use Rattle.step_meaning.specs.Naming.{NamesBelow}
+use Rattle.std.specs.Prelude.{◌≡◌, ◌<◌, List, map}
 use Rattle.step_meaning.specs.Syntax.{Statements, expression, size_of}
 use Rattle.control_flow.specs.declared.node.Node.{Node}
 use Rattle.control_flow.specs.declared.node.Node.TheVariants.{End as Ends, Assign as Assigns, Pass as Passes, Test as Tests}
@@ -23,10 +22,3 @@ actions_of labels = map (λ (label : Label). label.action) labels
 pub record IsTableOf (nodes : List Node) (body : Statements) : Type 0 where
   pub labels : actions nodes ≡ actions_of (all_labels body)
   pub few : size_of body < 1024
-
--- the names of a test are among the 16 places
-abbrev pub IsNamed : Action → Type 0
-IsNamed ends = ⊤
-IsNamed (assigns x e next) = ⊤
-IsNamed (passes next) = ⊤
-IsNamed (tests head c then_to else_to) = NamesBelow 16 c

@@ -39,7 +39,7 @@ fn check_label(graph: &Graph, label: u32) -> Result<(), Wide>
     ensures wide { OnErr result (ActionFits (action_at (statements graph.now.body) label) → ⊥) }
     ensures operands { IfErr result IsOutside }
 {
-    match graph.done_at(label) {
+    match graph.action(label) {
         Action::Assign {
             place: _,
             value,

@@ -3,7 +3,7 @@
 ghost use Rattle.std.specs.Prelude.{◌≡◌, ◌<◌, ◌≤◌, [], IfOk, IfErr, OnOk, option_map, length};
 ghost use Rattle.step_meaning.specs.Syntax.{expression, size_of, statements};
 ghost use Rattle.control_flow.specs.Bodies.{body_of};
-ghost use Rattle.control_flow.specs.Edges.{assigned_by, choice_by, choice_of_test, choice_of_value, edges_from, is_head_by, test_by};
+ghost use Rattle.control_flow.specs.Edges.{assigned_by, choice_by, edges_from, is_head_by, test_by};
 ghost use Rattle.control_flow.specs.Faults.{IsFlowFault, wide_offsets};
 ghost use Rattle.control_flow.specs.Growth.{greatest_of_tests};
 ghost use Rattle.control_flow.specs.Labels.{action_at, all_labels, entry_of};
@@ -11,7 +11,6 @@ ghost use Rattle.control_flow.specs.Sizing.{held, leaves_at};
 ghost use Rattle.control_flow.specs.Tables.{action_of};
 
 use crate::bodies::body_in;
-use crate::copy;
 use crate::edge::{Choice, Edge, EdgeKind};
 use crate::fault::FlowFault;
 use crate::limit::{CONJUNCTIONS, least_wide, room_behind};
@@ -27,7 +26,7 @@ pub(crate) const LABELS: u32 = 1024;
 
 /// The labels of a program and the edges between them. Label 0 is the end; each statement has one of the others, in the order of the
 /// tree: a statement stands before its parts, the first part of an `if` before the second, a body before its step; the label of a `do`
-/// loop is that of its test and stands behind its body. Contracts see the equal copy of the program that the graph keeps.
+/// loop is that of its test and stands behind its body. The graph owns the program, and contracts see it.
 #[derive(Drop)]
 pub struct Graph {
     program: Program,
@@ -61,15 +60,13 @@ impl Model for Graph {
 impl Graph {
     /// The graph of a program. `Labels` comes exactly where it has more than 1,024 labels, and else `Conjunctions` exactly where a test
     /// or its negation spreads to more than 64 conjunctions.
-    pub fn of(alloc: Global, program: &Program) -> Result<Graph, FlowFault>
-        ensures names { IfOk result (λ graph. graph.names ≡ program.now.names) }
-        ensures body { IfOk result (λ graph. statements graph.body ≡ statements program.now.body) }
-        ensures labels { OnOk result (size_of (statements program.now.body) < 1024) }
-        ensures conjunctions { OnOk result (wide_offsets program.now.body ≡ []) }
-        ensures fault { IfErr result (λ fault. IsFlowFault fault program.now.body) }
+    pub fn of(alloc: Global, program: Program) -> Result<Graph, FlowFault>
+        ensures program { IfOk result (λ graph. graph ≡ program) }
+        ensures labels { OnOk result (size_of (statements program.body) < 1024) }
+        ensures conjunctions { OnOk result (wide_offsets program.body ≡ []) }
+        ensures fault { IfErr result (λ fault. IsFlowFault fault program.body) }
     {
         check(&program.body)?;
-        let program = copy::program(alloc, program)?;
         let nodes = table(alloc, &program.body)?;
         let entry = entry(&program.body, 1, 0);
         let measures = measures_of(alloc, &program, &nodes)?;
@@ -79,6 +76,13 @@ impl Graph {
             nodes,
             measures,
         })
+    }
+
+    /// The program.
+    pub fn program(&self) -> &Program
+        ensures { result.now ≡ self.now }
+    {
+        &self.program
     }
 
     /// The number of labels, from 1 to 1,024.
@@ -136,11 +140,7 @@ impl Graph {
         requires { label < length (all_labels (statements self.now.body)) }
         ensures { result ≡ choice_by (action_at (statements self.now.body) label) }
     {
-        match self.node(label) {
-            Node::Test { test, .. } => choice_of_test(test),
-            Node::Assign { value, .. } => choice_of_value(value),
-            Node::End | Node::Pass { .. } => Choice::None,
-        }
+        self.action(label).choice()
     }
 
     /// The test of the label, where it has one.
@@ -194,27 +194,6 @@ fn edge(from: u32, to: u32, kind: EdgeKind) -> Edge
     ensures { result ≡ record { from = from; to = to; kind = kind } }
 {
     Edge { from, to, kind }
-}
-
-// The choice at a test.
-fn choice_of_test(test: &Expr) -> Choice
-    ensures { result ≡ choice_of_test (expression test.now) }
-{
-    match test {
-        Expr::Free => Choice::Branch,
-        _ => Choice::None,
-    }
-}
-
-// The choice at a right side.
-fn choice_of_value(value: &Expr) -> Choice
-    ensures { result ≡ choice_of_value (expression value.now) }
-{
-    match value {
-        Expr::Free => Choice::Range { lo: None, hi: None },
-        Expr::Range { lo, hi } => Choice::Range { lo: *lo, hi: *hi },
-        _ => Choice::None,
-    }
 }
 
 // Whether the statements keep the limits.

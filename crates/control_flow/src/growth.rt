@@ -50,7 +50,7 @@ fn factor(graph: &Graph, label: u32) -> u128
     requires within { label < length (all_labels (statements graph.now.body)) }
     ensures { ActionFits (action_at (statements graph.now.body) label) → result ≡ held (factor (action_at (statements graph.now.body) label)) }
 {
-    match graph.done_at(label) {
+    match graph.action(label) {
         Action::Assign {
             place: _,
             value,

@@ -3,12 +3,14 @@
 ghost use Rattle.std.specs.Prelude.{◌≡◌, ◌⊎◌, ℕ, ℤ, ◌<◌, ◌+◌, Bool, [], length, slice_set};
 ghost use Rattle.step_meaning.specs.Syntax.{Expression, Statements, free, size_of};
 ghost use Rattle.step_meaning.specs.Outcome.{Store, May};
+ghost use Rattle.step_meaning.specs.Run.{IsInput};
 ghost use Rattle.step_meaning.specs.Step.{Configuration, Next, Step, front, items_of};
 ghost use Rattle.step_meaning.specs.Valid.{IsBody};
 ghost use Rattle.control_flow.specs.Actions.{IsSorted, LeadsBelow, LeadsOn};
 ghost use Rattle.control_flow.specs.Edges.{EdgesAreSteps, Reached, SomeEdge, BothTaken, LandsAt, configuration, edges_from};
 ghost use Rattle.control_flow.specs.Labels.{action_at, all_labels, assigns, entry_of, rest, tests};
 ghost use Rattle.control_flow.specs.Measures.{AreSizes};
+ghost use Rattle.control_flow.specs.States.{IsReachedState};
 
 /// The steps of the configurations of a label, its statements with a store, are those of its edges and no others. Each leads to a list
 /// with the same front as that of the edge's target. A run begins with the front of the entry.
@@ -56,4 +58,12 @@ pub fn there_are_sizes()
     ensures some { (body : Statements) → (sizes : ℕ → ℕ → ℕ) × AreSizes body sizes }
     ensures only { (body : Statements) (sizes others : ℕ → ℕ → ℕ) → AreSizes body sizes → AreSizes body others
         → (level label : ℕ) → label < length (all_labels body) → sizes level label ≡ others level label }
+{}
+
+/// A label that is reached is one of the program's, and the store has sixteen places. Where the program is valid those past its variables
+/// are 0.
+pub fn reached_states_are_of_the_program()
+    ensures labels { (vars : ℕ) (body : Statements) (label : ℕ) (store : Store) → IsReachedState vars body label store → label < length (all_labels body) }
+    ensures places { (vars : ℕ) (body : Statements) (label : ℕ) (store : Store) → IsReachedState vars body label store → length store ≡ 16 }
+    ensures inputs { (vars : ℕ) (body : Statements) → IsBody vars body → (label : ℕ) (store : Store) → IsReachedState vars body label store → IsInput vars store }
 {}

@@ -7,7 +7,6 @@
 
 mod action;
 mod bodies;
-mod copy;
 mod edge;
 mod fault;
 mod fitting;

@@ -5,7 +5,8 @@ ghost use Rattle.step_meaning.specs.Syntax.{statements};
 ghost use Rattle.control_flow.specs.Growth.{greatest_of_conjunctions, greatest_of_rows, greatest_of_tests, greatest_size, row_size};
 ghost use Rattle.control_flow.specs.Measures.{anywhere, leaves_asking};
 ghost use Rattle.control_flow.specs.Sizing.{AreLeaves, held, leaves_at};
-ghost use Rattle.control_flow.specs.Tables.{IsNamed, IsTableOf, action_of};
+ghost use Rattle.control_flow.specs.Actions.{IsPlaced};
+ghost use Rattle.control_flow.specs.Tables.{IsTableOf, action_of};
 
 use crate::node::Node;
 use linear_cons::{Affine, Bounds, Row, Rows};
@@ -55,7 +56,7 @@ pub(crate) fn measures_of(
 
 // What the test of a label comes to.
 fn measure_of(alloc: Global, node: &Node) -> Result<Measure, AllocError>
-    requires { IsNamed (action_of node.now) }
+    requires { IsPlaced (action_of node.now) }
     ensures leaves { IfOk result (λ measure. measure.leaves ≡ held (leaves_at (action_of node.now))) }
     ensures greatest { IfOk result (λ measure. measure.greatest ≡ row_size (action_of node.now)) }
 {

@@ -6,7 +6,6 @@ ghost use Rattle.step_meaning.specs.Syntax.{expression, statements, statement, s
 ghost use Rattle.control_flow.specs.Labels.{assigns, inside, passes, tests, labels_of, labels_of_statement, entry_label, first_label};
 ghost use Rattle.control_flow.specs.Tables.{IsTableOf, actions, actions_of};
 
-use crate::copy;
 use crate::node::Node;
 use std::alloc::{AllocError, Global};
 use step_meaning::{Block, Expr, Stmt, StmtKind};
@@ -174,7 +173,7 @@ fn add_assign(
     ensures labels { OnOk result (actions nodes.new.items ≡ actions nodes.old.items ++ assigns var (expression value.now) next ∷ []) }
     ensures count { OnOk result (length nodes.new.items ≡ length nodes.old.items + 1) }
 {
-    let value = copy::expr(alloc, value)?;
+    let value = copied(alloc, value)?;
     nodes.push(Node::Assign { var, value, next })?;
     Ok(())
 }
@@ -200,7 +199,7 @@ fn add_test(
     ensures labels { OnOk result (actions nodes.new.items ≡ actions nodes.old.items ++ tests is_head (expression test.now) yes no ∷ []) }
     ensures count { OnOk result (length nodes.new.items ≡ length nodes.old.items + 1) }
 {
-    let test = copy::expr(alloc, test)?;
+    let test = copied(alloc, test)?;
     nodes.push(Node::Test {
         is_head,
         test,
@@ -208,4 +207,38 @@ fn add_test(
         no,
     })?;
     Ok(())
+}
+
+// An equal expression.
+fn copied(alloc: Global, from: &Expr) -> Result<Expr, AllocError>
+    ensures { IfOk result (λ twin. expression twin ≡ expression from.now) }
+{
+    let twin = match from {
+        Expr::Number(number) => Expr::Number(*number),
+        Expr::Name(place) => Expr::Name(*place),
+        Expr::Free => Expr::Free,
+        Expr::Range { lo, hi } => Expr::Range { lo: *lo, hi: *hi },
+        Expr::True => Expr::True,
+        Expr::False => Expr::False,
+        Expr::Neg(operand) => Expr::Neg(Box::new(alloc, copied(alloc, operand)?)?),
+        Expr::Not(operand) => Expr::Not(Box::new(alloc, copied(alloc, operand)?)?),
+        Expr::Quot { of, by } => Expr::Quot {
+            of: Box::new(alloc, copied(alloc, of)?)?,
+            by: *by,
+        },
+        Expr::Rem { of, by } => Expr::Rem {
+            of: Box::new(alloc, copied(alloc, of)?)?,
+            by: *by,
+        },
+        Expr::Pair { op, left, right } => {
+            let left = copied(alloc, left)?;
+            let right = copied(alloc, right)?;
+            Expr::Pair {
+                op: *op,
+                left: Box::new(alloc, left)?,
+                right: Box::new(alloc, right)?,
+            }
+        }
+    };
+    Ok(twin)
 }

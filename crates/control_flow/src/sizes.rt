@@ -150,7 +150,7 @@ fn size(graph: &Graph, label: u32, behind: &[u128]) -> u128
     ensures { (sizes : ℕ → ℕ) → AtNext (action_at (statements graph.now.body) label) (HoldsAt sizes behind.now)
         → result ≡ held (size_before sizes (action_at (statements graph.now.body) label)) }
 {
-    match graph.done_at(label) {
+    match graph.action(label) {
         Action::End => 1,
         Action::Assign { next, .. } => behind[next as usize].saturating_add(1),
         Action::Pass { next } => behind[next as usize].saturating_add(1),

@@ -14,7 +14,7 @@ use Rattle.tree_support.specs.declared.dropped.Reason.{Reason}
 use Rattle.tree_support.specs.declared.dropped.Reason.TheVariants.{Point, Wide as TooWide, Rows}
 use Rattle.tree_support.specs.Certificates.{affine_ranks}
 use Rattle.tree_support.specs.Elimination.{Eliminates, IsOpen, IsSeen, Justifies, Shows, rows_in}
-use Rattle.tree_support.specs.Forming.{Formed, exact}
+use Rattle.transitions.specs.Forming.{Formed, exact}
 use Rattle.tree_support.specs.Setting.{Setting, Trees}
 use Rattle.tree_support.specs.Support.{ClaimFits, HasNoStore, IsSupported, choices, kinds_of}
 use Rattle.tree_support.specs.Systems.{Claim, nothing, unnatural, exceeding, System, systems}

@@ -20,11 +20,11 @@ use Rattle.step_meaning.specs.Countdown.{Asks, IsSmall, form_of}
 use Rattle.linear_cons.specs.Sizes.{total_size}
 use Rattle.step_meaning.specs.Syntax.{Expression, Statements, assign, sequence}
 use Rattle.decision_tree.specs.declared.affine_rank.AffineRank.{AffineRank}
-use Rattle.tree_support.specs.Flow.{assigning, rows_given, testing}
-use Rattle.tree_support.specs.Forming.{Formed}
+use Rattle.transitions.specs.Arcs.{assigning, rows_given, testing}
+use Rattle.transitions.specs.Forming.{Formed}
 use Rattle.tree_support.specs.Setting.{Trees}
 use Rattle.tree_support.specs.Systems.{at_leaves, moved_by, unless_less}
-use Rattle.tree_support.specs.Told.{Told}
+use Rattle.transitions.specs.Told.{Told}
 use Rattle.tree_support.proofs.Lists.{all_one}
 use Rattle.tree_support.proofs.Moving.{store_after}
 use Rattle.count_down.specs.Asking.{Has}

@@ -25,9 +25,9 @@ use Rattle.decision_tree.specs.Paths.{leaf_numbered}
 use Rattle.decision_tree.specs.declared.affine_rank.AffineRank.{AffineRank}
 use Rattle.decision_tree.specs.declared.reason.Why.TheVariants.{End}
 use Rattle.ctl_formula.specs.Formulas.{af_exit}
-use Rattle.tree_support.specs.Setting.{Trees, trees_in}
+use Rattle.tree_support.specs.Setting.{Trees, setting_of, trees_in}
 use Rattle.tree_support.specs.Systems.{of_leaf, region}
-use Rattle.tree_support.specs.Told.{Told, setting_of}
+use Rattle.transitions.specs.Told.{Told}
 use Rattle.tree_support.proofs.Lists.{all_none}
 use Rattle.count_down.specs.Blocking.{AllBlocked, IsBlocked, IsGround}
 use Rattle.count_down.specs.Building.{IsFew, IsLed}

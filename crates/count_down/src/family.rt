@@ -1,6 +1,6 @@
 //! The candidate of a countdown program.
 
-ghost use Rattle.std.specs.Prelude.{◌≡◌, ◌<◌, ◌++◌, ◌↔◌, reverse, IfOk, IfSome, IsSome, OnOk, length, slice_index_or};
+ghost use Rattle.std.specs.Prelude.{◌≡◌, ◌<◌, ◌≤◌, ◌++◌, ◌↔◌, reverse, IfOk, IfSome, IsSome, OnOk, length, slice_index_or};
 ghost use Rattle.step_meaning.specs.Syntax.{size_of, statements};
 ghost use Rattle.step_meaning.specs.Countdown.{IsCountdown, IsCountdownBy};
 ghost use Rattle.control_flow.specs.Labels.{all_labels, entry_of};
@@ -16,19 +16,29 @@ use std::alloc::{AllocError, Global};
 use step_meaning::{Countdown, Program};
 
 /// For a countdown program a tree for each label of its graph, which promises the end within a bound of steps, or `None` exactly where
-/// the program is no countdown program. The graph is one of the program.
-pub fn candidate(
-    alloc: Global,
-    graph: &Graph,
-    program: &Program,
-) -> Result<Option<Family<AffineRank>>, AllocError>
-    requires { statements graph.now.body ≡ statements program.now.body }
-    ensures countdown { IfOk result (λ found. IsSome found ↔ IsCountdown (statements program.now.body)) }
-    ensures trees { IfOk result (λ found. IfSome found (λ family. candidates.IsCandidate family.trees (statements program.now.body))) }
+/// the program is no countdown program.
+pub fn candidate(alloc: Global, graph: &Graph) -> Result<Option<Family<AffineRank>>, AllocError>
+    ensures countdown { IfOk result (λ found. IsSome found ↔ IsCountdown (statements graph.now.body)) }
+    ensures trees { IfOk result (λ found. IfSome found (λ family. candidates.IsCandidate family.trees (statements graph.now.body))) }
     ensures labels { IfOk result (λ found. IfSome found (λ family. length family.trees ≡ length (all_labels (statements graph.now.body)))) }
     ensures entry { IfOk result (λ found. IfSome found (λ family. IsWhole (slice_index_or family.trees (entry_of (statements graph.now.body)) bottom))) }
 {
-    let labels = graph.labels();
+    candidate_of(alloc, graph.labels(), graph.program())
+}
+
+// The same of the program, with so many labels.
+fn candidate_of(
+    alloc: Global,
+    labels: u32,
+    program: &Program,
+) -> Result<Option<Family<AffineRank>>, AllocError>
+    requires count { labels ≡ length (all_labels (statements program.now.body)) }
+    requires few { labels ≤ 1024 }
+    ensures countdown { IfOk result (λ found. IsSome found ↔ IsCountdown (statements program.now.body)) }
+    ensures trees { IfOk result (λ found. IfSome found (λ family. candidates.IsCandidate family.trees (statements program.now.body))) }
+    ensures labels { IfOk result (λ found. IfSome found (λ family. length family.trees ≡ length (all_labels (statements program.now.body)))) }
+    ensures entry { IfOk result (λ found. IfSome found (λ family. IsWhole (slice_index_or family.trees (entry_of (statements program.now.body)) bottom))) }
+{
     match program.countdown() {
         Some(countdown) => {
             let trees = trees(alloc, labels, program, &countdown)?;

@@ -20,7 +20,7 @@ use Rattle.tree_support.specs.Certificates.{IsShown, affine_ranks, operands_from
 use Rattle.tree_support.specs.declared.dropped.Dropped.{Dropped}
 use Rattle.tree_support.specs.Elimination.{Eliminates}
 use Rattle.tree_support.specs.Setting.{Setting, Trees, trees_in}
-use Rattle.tree_support.specs.Told.{Told}
+use Rattle.transitions.specs.Told.{Told}
 use Rattle.smaller_parts.specs.Families.{AreNumberedFrom, IsFamilyFor, trees_of}
 use Rattle.smaller_parts.specs.Knowing.{told_on}
 use Rattle.smaller_parts.specs.Showing.{AreAt, all_of}
@@ -53,7 +53,7 @@ unchanged at old new drops none legal = subst (λ d. Eliminates affine_ranks at 
 
 module _ {D : Type 0} (domain : Domain D) (subject : Subject D) where
   abbrev body : Statements
-  body = statements subject.premises.now.program.now.body
+  body = statements subject.premises.now.graph.now.body
 
   abbrev formula : Ctl
   formula = ctl subject.formula.now
@@ -76,7 +76,7 @@ module _ {D : Type 0} (domain : Domain D) (subject : Subject D) where
   -- what was found, over the families of the smaller parts in the order of their numbers
   pub certified : IsSubject domain subject → (parts : List (Family AffineRank)) → parts ≡ all_of subject.smaller.now
       → (tops : List (Family AffineRank)) (cover : Option (Plan AffineRank)) → AreFoundSoFar domain subject tops cover → 0 < length tops
-      → Certifies (length subject.premises.now.program.now.names) body told formula parts tops
+      → Certifies (length subject.premises.now.graph.now.names) body told formula parts tops
   certified is parts are tops cover found some =
       let families : ℕ → Trees AffineRank = families_of parts in
       let smaller = is.smaller in
@@ -93,6 +93,6 @@ module _ {D : Type 0} (domain : Domain D) (subject : Subject D) where
         each_part = subst (λ list. length list ≡ number_from 0 formula) (sym are) (omega (arith, each));
         part_numbers = subst (AreNumberedFrom 0) (sym are) smaller.part_numbers;
         top_numbers = all_weaken Top (λ family. family.part ≡ number_from 0 formula) tops (λ family top. top.number ∙ smaller.number) found.families;
-        smaller = subst (All (IsFamilyFor (length subject.premises.now.program.now.names) body)) (sym are) smaller.fit;
-        whole = all_weaken Top (IsFamilyFor (length subject.premises.now.program.now.names) body) tops (λ family top. top.fits) found.families;
+        smaller = subst (All (IsFamilyFor (length subject.premises.now.graph.now.names) body)) (sym are) smaller.fit;
+        whole = all_weaken Top (IsFamilyFor (length subject.premises.now.graph.now.names) body) tops (λ family top. top.fits) found.families;
       }

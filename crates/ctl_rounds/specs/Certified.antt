@@ -7,7 +7,7 @@ use Rattle.decision_tree.specs.declared.affine_rank.AffineRank.{AffineRank}
 use Rattle.decision_tree.specs.declared.family.Family.{Family}
 use Rattle.tree_check.specs.Checking.{families_of}
 use Rattle.tree_support.specs.Certificates.{IsCertificate}
-use Rattle.tree_support.specs.Told.{Told}
+use Rattle.transitions.specs.Told.{Told}
 pub use Rattle.smaller_parts.specs.Families.{AreNumberedFrom, IsFamilyFor, trees_of}
 
 -- The families are a certificate of the formula: one family for each smaller part, in the order of their numbers, and at least one of the

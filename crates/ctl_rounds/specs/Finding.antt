@@ -15,16 +15,16 @@ module _ {D : Type 0} (domain : Domain D) (subject : Subject D) where
   -- What is known of the program is so, and the families show the smaller parts of the formula, whose numbers begin with 0.
   pub record IsSubject : Type 0 where
     pub premises : ArePremises domain subject.premises.now
-    pub smaller : AreSmaller subject.premises.now.program.now (told_on domain subject.premises.now) subject.premises.now.labels 0
+    pub smaller : AreSmaller subject.premises.now.graph.now (told_on domain subject.premises.now) subject.premises.now.labels 0
         (ctl subject.formula.now) subject.smaller.now
 
   -- the family shows the whole formula over those of its operands
   abbrev pub IsTop : Family AffineRank → Type 0
   IsTop family =
-      Shows subject.premises.now.program.now (told_on domain subject.premises.now) (ctl subject.formula.now) subject.smaller.now.number
+      Shows subject.premises.now.graph.now (told_on domain subject.premises.now) (ctl subject.formula.now) subject.smaller.now.number
       subject.smaller.now.operands.items family
 
   -- families of the whole formula, and the cover so far of what they say of inputs
   pub record AreFoundSoFar (tops : List (Family AffineRank)) (so_far : Option (Plan AffineRank)) : Type 0 where
     pub families : All IsTop tops
-    pub firsts : Covers None (at_entry (statements subject.premises.now.program.now.body) tops) so_far
+    pub firsts : Covers None (at_entry (statements subject.premises.now.graph.now.body) tops) so_far

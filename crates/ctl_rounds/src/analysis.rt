@@ -12,9 +12,9 @@ ghost use Rattle.decision_tree.specs.declared.affine_rank.AffineRank.{AffineRank
 ghost use Rattle.decision_tree.specs.Extent.{IsWhole};
 ghost use Rattle.decision_tree.specs.Plans.{Plan, plan_of, rank_of};
 ghost use Rattle.control_flow.specs.Labels.{entry_of};
-ghost use Rattle.forward_inv.specs.Invariants.{AreInvariants};
+ghost use Rattle.control_flow.specs.Invariants.{AreInvariants};
 ghost use Rattle.tree_support.specs.Setting.{trees_in};
-ghost use Rattle.tree_support.specs.Told.{told_by};
+ghost use Rattle.transitions.specs.Told.{told_by};
 ghost use Rattle.smaller_parts.specs.Knowing.{told_on};
 ghost use Rattle.smaller_parts.specs.Showing.{all_of};
 ghost use Rattle.ctl_rounds.specs.Asked.{IsAdvised, RoseBy};
@@ -26,7 +26,6 @@ use crate::certificate::Certificate;
 use crate::found::Found;
 use crate::subject::Subject;
 use advice::Adviser;
-use backward_sweeps::actions;
 use control_flow::Graph;
 use count_down::candidate;
 use count_down::laws::{
@@ -35,11 +34,10 @@ use count_down::laws::{
 };
 use ctl_formula::Formula;
 use decision_tree::{AffineRank, Family};
-use forward_inv::Inv;
+use forward_inv::{Inv, transitions_of};
 use num_domain::NumDomain;
 use smaller_parts::Premises;
 use std::alloc::{AllocError, Global};
-use step_meaning::Program;
 
 /// A certificate of the formula: families of trees for its parts, each supported over those of its operands. The smaller parts have one family
 /// each, and the whole at least one. For `AF exit` a countdown program has one family of the whole, its candidate, of which the check leaves
@@ -47,42 +45,38 @@ use step_meaning::Program;
 /// sweeps that widen at the heads of loops after `max(delay, 1)` of them; and for an `A[f U g]`, as long as an input has no claim, the advisers
 /// propose more, in eight turns. Nothing is assumed of the advisers: a family is there because the check left it so.
 ///
-/// The graph is one of the program, and the invariants have each state that is reached. The only error is want of memory, as for a formula of
+/// The invariants have each state that is reached. The only error is want of memory, as for a formula of
 /// more than 2^32 parts; the advisers may have been asked by then.
 pub fn analyse<D: NumDomain>(
     alloc: Global,
     graph: &Graph,
-    program: &Program,
     inv: &Inv<D>,
     formula: &Formula,
     advisers: &mut Vec<Box<dyn Adviser>>,
     delay: u32,
 ) -> Result<Certificate, AllocError>
-    requires names { graph.now.names ≡ program.now.names }
-    requires body { statements graph.now.body ≡ statements program.now.body }
-    requires invariants { AreInvariants D.has (length program.now.names) (statements program.now.body) inv.now }
+    requires invariants { AreInvariants D.has (length graph.now.names) (statements graph.now.body) inv.now }
     requires patient { All (λ adviser. asked_of adviser ≤ 2 ^ 32) advisers.old.items }
-    ensures certified { IfOk result (λ certificate. Certifies (length program.now.names) (statements program.now.body)
+    ensures certified { IfOk result (λ certificate. Certifies (length graph.now.names) (statements graph.now.body)
         (told_by D.told_bounds D.told_rows D.seen_empty inv.now) (ctl formula.now) certificate.parts certificate.tops) }
     ensures turns { IsAdvised (ctl formula.now) → IfOk result (λ certificate. (cover : Plan AffineRank)
-        → IsCover (statements program.now.body) certificate.tops cover → IsWhole cover ⊎ (certificate.turns ≡ 8)) }
+        → IsCover (statements graph.now.body) certificate.tops cover → IsWhole cover ⊎ (certificate.turns ≡ 8)) }
     ensures unadvised { (IsAdvised (ctl formula.now) → ⊥) → IfOk result (λ certificate. certificate.turns ≡ 0) }
     ensures asked { (times : ℕ) × (times ≤ 8) × RoseBy (λ adviser. asked_of adviser) times advisers.old.items advisers.new.items
         × IfOk result (λ certificate. certificate.turns ≡ times) }
-    ensures countdown { ctl formula.now ≡ af_exit → IsCountdown (statements program.now.body) → IfOk result (λ certificate. (cover : Plan AffineRank)
-        → IsCover (statements program.now.body) certificate.tops cover → IsWhole cover) }
-    ensures unasked { ctl formula.now ≡ af_exit → IsCountdown (statements program.now.body) → IfOk result (λ certificate. certificate.turns ≡ 0) }
-    ensures loopless { ctl formula.now ≡ af_exit → HasNoLoop (statements program.now.body) → IfOk result (λ certificate. (cover : Plan AffineRank)
-        → IsCover (statements program.now.body) certificate.tops cover
-        → rank_of cover ≡ Some (ranked (constant_of (pos (last_steps (statements program.now.body)))))) }
+    ensures countdown { ctl formula.now ≡ af_exit → IsCountdown (statements graph.now.body) → IfOk result (λ certificate. (cover : Plan AffineRank)
+        → IsCover (statements graph.now.body) certificate.tops cover → IsWhole cover) }
+    ensures unasked { ctl formula.now ≡ af_exit → IsCountdown (statements graph.now.body) → IfOk result (λ certificate. certificate.turns ≡ 0) }
+    ensures loopless { ctl formula.now ≡ af_exit → HasNoLoop (statements graph.now.body) → IfOk result (λ certificate. (cover : Plan AffineRank)
+        → IsCover (statements graph.now.body) certificate.tops cover
+        → rank_of cover ≡ Some (ranked (constant_of (pos (last_steps (statements graph.now.body)))))) }
 {
-    let actions = actions(alloc, graph, inv)?;
+    let transitions = transitions_of(alloc, graph, inv)?;
     let premises = Premises {
         alloc,
-        program,
         graph,
         inv,
-        actions: &actions,
+        transitions: &transitions,
         labels: graph.labels(),
         delay,
     };
@@ -102,23 +96,23 @@ impl<'a, D: NumDomain> Subject<'a, D> {
     fn found(&self, advisers: &mut Vec<Box<dyn Adviser>>) -> Result<Found, AllocError>
         requires subject { IsSubject D.NumDomain.own self.now }
         requires patient { All (λ adviser. asked_of adviser ≤ 2 ^ 32) advisers.old.items }
-        ensures certified { IfOk result (λ found. Certifies (length self.now.premises.now.program.now.names)
-            (statements self.now.premises.now.program.now.body) (told_on D.NumDomain.own self.now.premises.now) (ctl self.now.formula.now)
+        ensures certified { IfOk result (λ found. Certifies (length self.now.premises.now.graph.now.names)
+            (statements self.now.premises.now.graph.now.body) (told_on D.NumDomain.own self.now.premises.now) (ctl self.now.formula.now)
             (all_of self.now.smaller.now) found.tops.items) }
-        ensures covers { IfOk result (λ found. Covers None (at_entry (statements self.now.premises.now.program.now.body) found.tops.items)
+        ensures covers { IfOk result (λ found. Covers None (at_entry (statements self.now.premises.now.graph.now.body) found.tops.items)
             (option_map plan_of found.cover)) }
         ensures turns { IsAdvised (ctl self.now.formula.now) → IfOk result (λ found.
             IsWhole (claims_of (option_map plan_of found.cover)) ⊎ (found.turns ≡ 8)) }
         ensures unadvised { (IsAdvised (ctl self.now.formula.now) → ⊥) → IfOk result (λ found. found.turns ≡ 0) }
         ensures asked { (times : ℕ) × (times ≤ 8) × RoseBy (λ adviser. asked_of adviser) times advisers.old.items advisers.new.items
             × IfOk result (λ found. found.turns ≡ times) }
-        ensures countdown { ctl self.now.formula.now ≡ af_exit → IsCountdown (statements self.now.premises.now.program.now.body)
+        ensures countdown { ctl self.now.formula.now ≡ af_exit → IsCountdown (statements self.now.premises.now.graph.now.body)
             → IfOk result (λ found. IsWhole (claims_of (option_map plan_of found.cover))) }
-        ensures unasked { ctl self.now.formula.now ≡ af_exit → IsCountdown (statements self.now.premises.now.program.now.body)
+        ensures unasked { ctl self.now.formula.now ≡ af_exit → IsCountdown (statements self.now.premises.now.graph.now.body)
             → IfOk result (λ found. found.turns ≡ 0) }
-        ensures loopless { ctl self.now.formula.now ≡ af_exit → HasNoLoop (statements self.now.premises.now.program.now.body)
+        ensures loopless { ctl self.now.formula.now ≡ af_exit → HasNoLoop (statements self.now.premises.now.graph.now.body)
             → IfOk result (λ found. rank_of (claims_of (option_map plan_of found.cover))
-            ≡ Some (ranked (constant_of (pos (last_steps (statements self.now.premises.now.program.now.body)))))) }
+            ≡ Some (ranked (constant_of (pos (last_steps (statements self.now.premises.now.graph.now.body)))))) }
     {
         match self.candidate()? {
             Some(family) => Ok(self.counted(family)?),
@@ -131,19 +125,15 @@ impl<'a, D: NumDomain> Subject<'a, D> {
         requires subject { IsSubject D.NumDomain.own self.now }
         ensures formula { IfOk result (λ found. IfSome found (λ family. ctl self.now.formula.now ≡ af_exit)) }
         ensures candidate { IfOk result (λ found. IfSome found (λ family.
-            IsCandidate family.trees (statements self.now.premises.now.program.now.body))) }
+            IsCandidate family.trees (statements self.now.premises.now.graph.now.body))) }
         ensures labels { IfOk result (λ found. IfSome found (λ family. length family.trees ≡ self.now.premises.now.labels)) }
         ensures entry { IfOk result (λ found. IfSome found (λ family.
-            IsWhole (trees_in family.trees (entry_of (statements self.now.premises.now.program.now.body))))) }
+            IsWhole (trees_in family.trees (entry_of (statements self.now.premises.now.graph.now.body))))) }
         ensures none { IfOk result (λ found. IfNone found (ctl self.now.formula.now ≡ af_exit
-            → IsCountdown (statements self.now.premises.now.program.now.body) → ⊥)) }
+            → IsCountdown (statements self.now.premises.now.graph.now.body) → ⊥)) }
     {
         if is_af_exit(self.formula) {
-            let found = candidate(
-                self.premises.alloc,
-                self.premises.graph,
-                self.premises.program,
-            )?;
+            let found = candidate(self.premises.alloc, self.premises.graph)?;
             Ok(found)
         } else {
             Ok(None)
@@ -154,16 +144,16 @@ impl<'a, D: NumDomain> Subject<'a, D> {
     fn counted(&self, family: Family<AffineRank>) -> Result<Found, AllocError>
         requires subject { IsSubject D.NumDomain.own self.now }
         requires formula { ctl self.now.formula.now ≡ af_exit }
-        requires candidate { IsCandidate family.trees (statements self.now.premises.now.program.now.body) }
+        requires candidate { IsCandidate family.trees (statements self.now.premises.now.graph.now.body) }
         requires labels { length family.trees ≡ self.now.premises.now.labels }
-        requires entry { IsWhole (trees_in family.trees (entry_of (statements self.now.premises.now.program.now.body))) }
+        requires entry { IsWhole (trees_in family.trees (entry_of (statements self.now.premises.now.graph.now.body))) }
         ensures found { IfOk result (λ found. AreFoundSoFar D.NumDomain.own self.now found.tops.items (option_map plan_of found.cover)) }
         ensures some { IfOk result (λ found. 0 < length found.tops.items) }
         ensures turns { IfOk result (λ found. found.turns ≡ 0) }
         ensures whole { IfOk result (λ found. IsWhole (claims_of (option_map plan_of found.cover))) }
-        ensures loopless { HasNoLoop (statements self.now.premises.now.program.now.body) → IfOk result (λ found.
+        ensures loopless { HasNoLoop (statements self.now.premises.now.graph.now.body) → IfOk result (λ found.
             rank_of (claims_of (option_map plan_of found.cover))
-            ≡ Some (ranked (constant_of (pos (last_steps (statements self.now.premises.now.program.now.body)))))) }
+            ≡ Some (ranked (constant_of (pos (last_steps (statements self.now.premises.now.graph.now.body)))))) }
     {
         candidates_are_kept();
         candidates_are_over_the_variables();

@@ -76,12 +76,12 @@ impl<'a, D: NumDomain> Subject<'a, D> {
         requires subject { IsSubject D.NumDomain.own self.now }
     {
         let premises = self.premises;
-        let variables = premises.program.names.items().len() as u32;
+        let variables = premises.graph.program().names.items().len() as u32;
         let facts = Facts::of(
             premises.alloc,
             premises.graph,
             premises.inv,
-            premises.actions,
+            premises.transitions,
             variables,
         )?;
         Ok(facts)
@@ -158,11 +158,11 @@ impl<'a, D: NumDomain> Subject<'a, D> {
         ensures { IfOk result (λ found. IfSome found (IsTop D.NumDomain.own self.now)) }
     {
         let premises = self.premises;
-        let variables = premises.program.names.items().len() as u32;
+        let variables = premises.graph.program().names.items().len() as u32;
         let Some(trees) = proposal(
             premises.alloc,
             premises.graph,
-            premises.actions,
+            premises.transitions,
             operands,
             current.trees.items(),
             variables,

@@ -15,15 +15,15 @@ use Rattle.linear_forms.proofs.Naming.{test_names}
 use Rattle.num_domain.specs.Domain.{AllMeet, IsPlain, KeepsMeeting}
 use Rattle.control_flow.specs.declared.edge.Edge.{Edge}
 use Rattle.control_flow.specs.declared.edge.EdgeKind.{EdgeKind}
-use Rattle.control_flow.specs.declared.edge.EdgeKind.TheVariants.{Test}
-use Rattle.control_flow.specs.Actions.{IsSorted}
+use Rattle.control_flow.specs.declared.edge.EdgeKind.TheVariants.{Assign, Skip, Test}
+use Rattle.control_flow.specs.Actions.{IsPlaced, IsSorted}
 use Rattle.control_flow.specs.Edges.{Leads, SomeEdge, edges_from, test_by}
 use Rattle.control_flow.specs.Labels.{Action, ends, assigns, passes, tests, action_at, entry_of}
 use Rattle.control_flow.proofs.LabelLaws.{labels_are_sorted}
 use Rattle.forward_inv.specs.Behind.{IsBehind, IsEdgeOf, IsMetOnArrival, IsOnlyEdge, MeetsBehind}
-use Rattle.forward_inv.specs.Invariants.{AreInvariants}
-use Rattle.forward_inv.specs.States.{IsReachedState, entered, followed}
-use Rattle.forward_inv.proofs.Reached.{reached_label, reached_places}
+use Rattle.control_flow.specs.Invariants.{AreInvariants}
+use Rattle.control_flow.specs.States.{IsReachedState, entered, followed}
+use Rattle.control_flow.proofs.Reached.{reached_label, reached_places}
 use Rattle.forward_inv.proofs.Spared.{test_spared}
 
 -- some edge of the list, and what is said of it
@@ -44,6 +44,25 @@ from_there label (passes to) edge (inr none) = absurd none
 from_there label (tests head c to other) edge (inl is) = sym (ap (λ (e : Edge). e.from) is)
 from_there label (tests head c to other) edge (inr (inl is)) = sym (ap (λ (e : Edge). e.from) is)
 from_there label (tests head c to other) edge (inr (inr none)) = absurd none
+
+-- the edge of an outcome is that of a test
+pub asked_over : (label : ℕ) (action : Action) (edge : Edge) (outcome : Bool) → SomeEdge (λ other. other ≡ edge) (edges_from label action)
+    → edge.kind ≡ Test outcome → (c : Expression) × (test_by action ≡ Some c)
+asked_over label ends edge outcome some kind = absurd some
+asked_over label (assigns x e to) edge outcome (inl is) kind =
+    let kinds : ◌≡◌ {A = EdgeKind} Assign (Test outcome) = ap (λ (e : Edge). e.kind) is ∙ kind in absurd (cc)
+asked_over label (assigns x e to) edge outcome (inr none) kind = absurd none
+asked_over label (passes to) edge outcome (inl is) kind =
+    let kinds : ◌≡◌ {A = EdgeKind} Skip (Test outcome) = ap (λ (e : Edge). e.kind) is ∙ kind in absurd (cc)
+asked_over label (passes to) edge outcome (inr none) kind = absurd none
+asked_over label (tests head c to other) edge outcome some kind = (c, refl)
+
+-- what a test names stands at one of the places
+pub test_placed : (action : Action) (c : Expression) → IsPlaced action → test_by action ≡ Some c → NamesBelow 16 c
+test_placed (tests head d to other) c placed is = let same : d ≡ c = cc in subst (NamesBelow 16) same placed
+test_placed ends c placed is = absurd (cc)
+test_placed (assigns x e to) c placed is = absurd (cc)
+test_placed (passes to) c placed is = absurd (cc)
 
 -- what is asked over the edge of a test's outcome
 asked : (action : Action) (test : Expression) (outcome : Bool) (store next : Store) → Some test ≡ test_by action

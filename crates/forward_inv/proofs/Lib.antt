@@ -1,7 +1,6 @@
-pub mod Reached
-pub mod Unstuck
 pub mod Spared
 pub mod Members
 pub mod Entering
 pub mod Arriving
 pub mod Comparing
+pub mod MadeAll

@@ -10,9 +10,9 @@ use Rattle.control_flow.specs.Labels.{action_at, entry_of}
 use Rattle.control_flow.proofs.LabelLaws.{labels_are_sorted}
 use Rattle.inductive_sets.specs.Sets.{AreInductive, KeepsEdge, LeadsInto}
 use Rattle.inductive_sets.proofs.Holding.{some_weaker}
-use Rattle.forward_inv.specs.Invariants.{AreInvariants}
-use Rattle.forward_inv.specs.States.{IsReachedState, entered, followed}
-use Rattle.forward_inv.proofs.Reached.{reached_label, reached_places}
+use Rattle.control_flow.specs.Invariants.{AreInvariants}
+use Rattle.control_flow.specs.States.{IsReachedState, entered, followed}
+use Rattle.control_flow.proofs.Reached.{reached_label, reached_places}
 use Rattle.forward_inv.proofs.Spared.{leads_spared}
 
 if_there : {X : Type 0} (P : X → Type 0) (x : Option X) → IsSomeAnd x P → IfSome x P

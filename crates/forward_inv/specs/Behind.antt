@@ -17,7 +17,7 @@ use Rattle.control_flow.specs.Edges.{SomeEdge, edges_from, test_by}
 use Rattle.control_flow.specs.Labels.{action_at, entry_of}
 use Rattle.forward_inv.specs.declared.behind.Entering.{Entering}
 use Rattle.forward_inv.specs.declared.behind.Entering.TheVariants.{NoEdge, OneEdge, Several}
-use Rattle.forward_inv.specs.States.{IsReachedState}
+use Rattle.control_flow.specs.States.{IsReachedState}
 
 -- the edge is one of those of a program with this body
 abbrev pub IsEdgeOf : Statements → Edge → Type 0

@@ -4,15 +4,15 @@ ghost use Rattle.linear_cons.specs.declared.row.Row.{Row};
 ghost use Rattle.step_meaning.specs.Syntax.{statements};
 ghost use Rattle.control_flow.specs.Labels.{all_labels};
 ghost use Rattle.forward_inv.specs.Behind.{AreEntering, AreUnentered, IsBehind, IsEdgeOf, IsEntering, IsMetOnArrival, MeetsBehind, entered_by, noted};
-ghost use Rattle.forward_inv.specs.Invariants.{AreInvariants};
+ghost use Rattle.control_flow.specs.Invariants.{AreInvariants};
 
 use control_flow::laws::edges_lead_to_labels;
 use control_flow::{Edge, EdgeKind, Graph};
 use linear_cons::{Row, Rows};
 use linear_forms::laws::spreadings_cover;
-use linear_forms::spread;
 use num_domain::NumDomain;
 use std::alloc::{AllocError, Global};
+use transitions::Transition;
 
 /// The edges that lead to a label.
 #[derive(Clone, Copy)]
@@ -83,13 +83,9 @@ fn row_behind<D: NumDomain>(
     if label == graph.entry() {
         return Ok(None);
     }
-    let Some(test) = graph.test(edge.from) else {
-        return Ok(None);
-    };
     let bounds = states[edge.from as usize].bounds();
-    let conjunctions = spread(alloc, test, holds, &bounds)?;
-    let row = only_row(&conjunctions);
-    Ok(row)
+    let transition = Transition::of(alloc, graph.action(edge.from), &bounds)?;
+    Ok(only_row(transition.outcome(holds)))
 }
 
 /// The row of a lone conjunction of one row.

@@ -2,7 +2,7 @@
 ghost use Rattle.std.specs.Prelude.{◌≡◌, ◌<◌, ℕ, IfOk, Some, length, slice_get};
 ghost use Rattle.step_meaning.specs.Syntax.{statements};
 ghost use Rattle.forward_inv.specs.Behind.{MeetsBehind};
-ghost use Rattle.forward_inv.specs.Invariants.{AreInvariants};
+ghost use Rattle.control_flow.specs.Invariants.{AreInvariants};
 
 use crate::behind::meet_rows;
 use crate::sweeps::guesses;

@@ -9,6 +9,7 @@ use inductive_sets::flow;
 use linear_cons::{Affine, Row, RowKind};
 use num_domain::NumDomain;
 use std::alloc::{AllocError, Global};
+use transitions::Transition;
 
 /// The most sweeps in which sets grow.
 const GROWING: u32 = 14;
@@ -113,11 +114,8 @@ fn sweep<D: NumDomain>(
     let mut sets = unreached(alloc, graph)?;
     pour(alloc, &mut sets, graph.entry(), D::top(alloc)?)?;
     for label in 0..graph.labels() {
-        for edge in graph.edges(label) {
-            if let Some((to, moved)) = moved(alloc, graph, label, edge, true, old)? {
-                pour(alloc, &mut sets, to, moved)?;
-            }
-        }
+        let flowed = flowed(alloc, graph, label, true, old)?;
+        pour_all(alloc, &mut sets, flowed)?;
     }
     let mut grows_to = 0;
     for label in 0..graph.labels() {
@@ -132,11 +130,8 @@ fn sweep<D: NumDomain>(
                 grows_to = end;
             }
         }
-        for edge in graph.edges(label) {
-            if let Some((to, moved)) = moved(alloc, graph, label, edge, false, &sets)? {
-                pour(alloc, &mut sets, to, moved)?;
-            }
-        }
+        let flowed = flowed(alloc, graph, label, false, &sets)?;
+        pour_all(alloc, &mut sets, flowed)?;
     }
     Ok(Swept {
         sets,
@@ -144,30 +139,56 @@ fn sweep<D: NumDomain>(
     })
 }
 
-/// The target of the label's edge, with what flows into it, if there is such an edge, it leads back or not as is asked, and something flows.
-fn moved<D: NumDomain>(
+/// The targets of the label's edges that lead back, or of its others, each with what flows into it.
+fn flowed<D: NumDomain>(
     alloc: Global,
     graph: &Graph,
     label: u32,
-    edge: Option<Edge>,
     back: bool,
     sets: &[Option<D>],
-) -> Result<Option<(u32, D)>, AllocError>
+) -> Result<Vec<(u32, D)>, AllocError>
     requires { label < length (all_labels (statements graph.now.body)) }
 {
-    let Some(edge) = edge else {
-        return Ok(None);
-    };
-    if leads_back(&edge, label) != back {
-        return Ok(None);
+    let mut flowed = Vec::new(alloc);
+    let edges = graph.edges(label);
+    if !leads(&edges[0], label, back) && !leads(&edges[1], label, back) {
+        return Ok(flowed);
     }
     let Some(Some(set)) = sets.get(label as usize) else {
-        return Ok(None);
+        return Ok(flowed);
     };
-    match flow(alloc, graph, label, edge.kind, set)? {
-        Some(moved) if !moved.is_empty() => Ok(Some((edge.to, moved))),
-        _ => Ok(None),
+    let transition = Transition::of(alloc, graph.action(label), &set.bounds())?;
+    for edge in edges.iter().flatten() {
+        if leads_back(edge, label) != back {
+            continue;
+        }
+        if let Some(moved) = flow(alloc, &transition, edge.kind, set)? {
+            if !moved.is_empty() {
+                flowed.push((edge.to, moved))?;
+            }
+        }
     }
+    Ok(flowed)
+}
+
+/// There is an edge, and it leads back or not as is asked.
+fn leads(edge: &Option<Edge>, label: u32, back: bool) -> bool {
+    match edge {
+        Some(edge) => leads_back(edge, label) == back,
+        None => false,
+    }
+}
+
+/// Each label's set gets the members of the one that flows into it too.
+fn pour_all<D: NumDomain>(
+    alloc: Global,
+    sets: &mut [Option<D>],
+    flowed: Vec<(u32, D)>,
+) -> Result<(), AllocError> {
+    for (to, moved) in flowed {
+        pour(alloc, sets, to, moved)?;
+    }
+    Ok(())
 }
 
 /// The label's set gets the members of another one too.

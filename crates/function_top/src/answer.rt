@@ -88,7 +88,7 @@ fn due_on(
         return too_long(alloc);
     }
     match parse(alloc, text) {
-        Ok(program) => Ok(due_on_program(alloc, order, &program, advisers)?),
+        Ok(program) => Ok(due_on_program(alloc, order, program, advisers)?),
         Err(fault) => match fault.numbered() {
             Some((number, offset)) => Ok(no_program(alloc, number, offset)?),
             None => Err(AllocError),
@@ -100,16 +100,16 @@ fn due_on(
 fn due_on_program(
     alloc: Global,
     order: &Order,
-    program: &Program,
+    program: Program,
     advisers: &mut Vec<Box<dyn Adviser>>,
 ) -> Result<Due, AllocError>
     requires patient { All (λ adviser. asked_of adviser ≤ 2 ^ 32) advisers.old.items }
-    ensures due { IfOk result (λ due. IsDueOnProgram (task_of order.now) program.now due.status due.turns due.bytes.items) }
+    ensures due { IfOk result (λ due. IsDueOnProgram (task_of order.now) program due.status due.turns due.bytes.items) }
     ensures asked { (times : ℕ) × (times ≤ 8) × RoseBy (λ adviser. asked_of adviser) times advisers.old.items advisers.new.items
         × IfOk result (λ due. due.turns ≡ times) }
 {
     match Graph::of(alloc, program) {
-        Ok(graph) => Ok(due_on_graph(alloc, order, &graph, program, advisers)?),
+        Ok(graph) => Ok(due_on_graph(alloc, order, &graph, advisers)?),
         Err(FlowFault::Labels { at, count: _ }) => Ok(no_program(alloc, 12, at)?),
         Err(FlowFault::Conjunctions { at, count: _ }) => Ok(no_program(alloc, 13, at)?),
         Err(FlowFault::Memory(error)) => Err(error),
@@ -121,21 +121,18 @@ fn due_on_graph(
     alloc: Global,
     order: &Order,
     graph: &Graph,
-    program: &Program,
     advisers: &mut Vec<Box<dyn Adviser>>,
 ) -> Result<Due, AllocError>
-    requires names { graph.now.names ≡ program.now.names }
-    requires body { statements graph.now.body ≡ statements program.now.body }
-    requires labels { size_of (statements program.now.body) < 1024 }
-    requires conjunctions { wide_offsets program.now.body ≡ [] }
+    requires labels { size_of (statements graph.now.body) < 1024 }
+    requires conjunctions { wide_offsets graph.now.body ≡ [] }
     requires patient { All (λ adviser. asked_of adviser ≤ 2 ^ 32) advisers.old.items }
-    ensures due { IfOk result (λ due. IsDueOnProgram (task_of order.now) program.now due.status due.turns due.bytes.items) }
+    ensures due { IfOk result (λ due. IsDueOnProgram (task_of order.now) graph.now due.status due.turns due.bytes.items) }
     ensures asked { (times : ℕ) × (times ≤ 8) × RoseBy (λ adviser. asked_of adviser) times advisers.old.items advisers.new.items
         × IfOk result (λ due. due.turns ≡ times) }
 {
     a_formula_has_no_fault();
-    match formula_asked(alloc, order.formula, &program.names) {
-        Ok(formula) => Ok(reported(alloc, order, &formula, graph, program, advisers)?),
+    match formula_asked(alloc, order.formula, &graph.program().names) {
+        Ok(formula) => Ok(reported(alloc, order, &formula, graph, advisers)?),
         Err(fault) => match fault.numbered() {
             Some((number, offset)) => Ok(no_formula(alloc, number, offset)?),
             None => Err(AllocError),
@@ -149,21 +146,18 @@ fn reported(
     order: &Order,
     formula: &Formula,
     graph: &Graph,
-    program: &Program,
     advisers: &mut Vec<Box<dyn Adviser>>,
 ) -> Result<Due, AllocError>
-    requires names { graph.now.names ≡ program.now.names }
-    requires body { statements graph.now.body ≡ statements program.now.body }
-    requires formula { IsNormalAsked program.now.names (task_of order.now).formula (ctl formula.now) }
+    requires formula { IsNormalAsked graph.now.names (task_of order.now).formula (ctl formula.now) }
     requires patient { All (λ adviser. asked_of adviser ≤ 2 ^ 32) advisers.old.items }
-    ensures due { IfOk result (λ due. IsDueOnProgram (task_of order.now) program.now due.status due.turns due.bytes.items) }
+    ensures due { IfOk result (λ due. IsDueOnProgram (task_of order.now) graph.now due.status due.turns due.bytes.items) }
     ensures asked { (times : ℕ) × (times ≤ 8) × RoseBy (λ adviser. asked_of adviser) times advisers.old.items advisers.new.items
         × IfOk result (λ due. due.turns ≡ times) }
 {
     match order.domain {
-        Domain::Boxes => analysed::<Boxes>(alloc, order, formula, graph, program, advisers),
-        Domain::Octagons => analysed::<Octagon>(alloc, order, formula, graph, program, advisers),
-        Domain::Polyhedra => analysed::<Poly>(alloc, order, formula, graph, program, advisers),
+        Domain::Boxes => analysed::<Boxes>(alloc, order, formula, graph, advisers),
+        Domain::Octagons => analysed::<Octagon>(alloc, order, formula, graph, advisers),
+        Domain::Polyhedra => analysed::<Poly>(alloc, order, formula, graph, advisers),
     }
 }
 
@@ -173,19 +167,16 @@ fn analysed<D: NumDomain>(
     order: &Order,
     formula: &Formula,
     graph: &Graph,
-    program: &Program,
     advisers: &mut Vec<Box<dyn Adviser>>,
 ) -> Result<Due, AllocError>
-    requires names { graph.now.names ≡ program.now.names }
-    requires body { statements graph.now.body ≡ statements program.now.body }
-    requires formula { IsNormalAsked program.now.names (task_of order.now).formula (ctl formula.now) }
+    requires formula { IsNormalAsked graph.now.names (task_of order.now).formula (ctl formula.now) }
     requires patient { All (λ adviser. asked_of adviser ≤ 2 ^ 32) advisers.old.items }
-    ensures due { IfOk result (λ due. IsDueOnProgram (task_of order.now) program.now due.status due.turns due.bytes.items) }
+    ensures due { IfOk result (λ due. IsDueOnProgram (task_of order.now) graph.now due.status due.turns due.bytes.items) }
     ensures asked { (times : ℕ) × (times ≤ 8) × RoseBy (λ adviser. asked_of adviser) times advisers.old.items advisers.new.items
         × IfOk result (λ due. due.turns ≡ times) }
 {
-    let found = find::<D>(alloc, order, formula, graph, program, advisers)?;
-    let due = report(alloc, &found, &program.names)?;
+    let found = find::<D>(alloc, order, formula, graph, advisers)?;
+    let due = report(alloc, &found, &graph.program().names)?;
     Ok(due)
 }
 

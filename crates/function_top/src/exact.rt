@@ -12,22 +12,14 @@ use control_flow::Graph;
 use decision_tree::{AffineRank, Cause, Family, Tree};
 use report_text::Stop;
 use std::alloc::{AllocError, Global};
-use step_meaning::Program;
 use unroll::{Unrolled, unroll};
 
 /// What is known exactly for so many tests of loops, of a program with its graph. The only error is want of memory.
-pub(crate) fn exactly(
-    alloc: Global,
-    delay: u32,
-    graph: &Graph,
-    program: &Program,
-) -> Result<Exact, AllocError>
-    requires names { graph.now.names ≡ program.now.names }
-    requires body { statements graph.now.body ≡ statements program.now.body }
-    ensures exact { IfOk result (λ exact. IsExact (length program.now.names) (statements program.now.body) delay exact) }
-    ensures printable { IfOk result (λ exact. IsExactPrintable (length program.now.names) exact) }
+pub(crate) fn exactly(alloc: Global, delay: u32, graph: &Graph) -> Result<Exact, AllocError>
+    ensures exact { IfOk result (λ exact. IsExact (length graph.now.names) (statements graph.now.body) delay exact) }
+    ensures printable { IfOk result (λ exact. IsExactPrintable (length graph.now.names) exact) }
 {
-    if !program.is_plain() {
+    if !graph.program().is_plain() {
         return Ok(Exact::Unmade(Stop::NotPlain));
     }
     let Unrolled {

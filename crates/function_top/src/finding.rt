@@ -31,7 +31,6 @@ use forward_inv::{Inv, invariants};
 use num_domain::NumDomain;
 use report_text::Top;
 use std::alloc::{AllocError, Global};
-use step_meaning::Program;
 use tree_support::laws::invariants_tell_the_truth;
 
 /// What is found of a program with its graph and of a formula in normal form, over one kind of sets, by what an order asks. The only error is
@@ -41,21 +40,18 @@ pub(crate) fn find<D: NumDomain>(
     order: &Order,
     formula: &Formula,
     graph: &Graph,
-    program: &Program,
     advisers: &mut Vec<Box<dyn Adviser>>,
 ) -> Result<Found, AllocError>
-    requires names { graph.now.names ≡ program.now.names }
-    requires body { statements graph.now.body ≡ statements program.now.body }
     requires patient { All (λ adviser. asked_of adviser ≤ 2 ^ 32) advisers.old.items }
     ensures finds { IfOk result (λ found. (meant : Ctl) → ctl formula.now ≡ normal meant
-        → IsFound (task_of order.now) (subject_of program.now meant) found) }
-    ensures printable { IfOk result (λ found. IsFoundPrintable (length program.now.names) found) }
+        → IsFound (task_of order.now) (subject_of graph.now meant) found) }
+    ensures printable { IfOk result (λ found. IsFoundPrintable (length graph.now.names) found) }
     ensures asked { (times : ℕ) × (times ≤ 8) × RoseBy (λ adviser. asked_of adviser) times advisers.old.items advisers.new.items
         × IfOk result (λ found. found.turns ≡ times) }
 {
     normal_forms_mean_the_same();
-    let exact = exact_part(alloc, order, graph, program)?;
-    let (cover, turns) = covered::<D>(alloc, order.delay, formula, graph, program, advisers)?;
+    let exact = exact_part(alloc, order, graph)?;
+    let (cover, turns) = covered::<D>(alloc, order.delay, formula, graph, advisers)?;
     Ok(Found {
         exact,
         claims: claims_for(formula),
@@ -65,21 +61,14 @@ pub(crate) fn find<D: NumDomain>(
 }
 
 // What is known exactly of a program with its graph, where no formula is asked about.
-fn exact_part(
-    alloc: Global,
-    order: &Order,
-    graph: &Graph,
-    program: &Program,
-) -> Result<Exact, AllocError>
-    requires names { graph.now.names ≡ program.now.names }
-    requires body { statements graph.now.body ≡ statements program.now.body }
+fn exact_part(alloc: Global, order: &Order, graph: &Graph) -> Result<Exact, AllocError>
     ensures exact { IfOk result (λ exact. (meant : Ctl)
-        → IsExactPart (task_of order.now).formula (subject_of program.now meant) order.now.delay exact) }
-    ensures printable { IfOk result (λ exact. IsExactPrintable (length program.now.names) exact) }
+        → IsExactPart (task_of order.now).formula (subject_of graph.now meant) order.now.delay exact) }
+    ensures printable { IfOk result (λ exact. IsExactPrintable (length graph.now.names) exact) }
 {
     match order.formula {
         Some(_) => Ok(Exact::Unasked),
-        None => Ok(exactly(alloc, order.delay, graph, program)?),
+        None => Ok(exactly(alloc, order.delay, graph)?),
     }
 }
 
@@ -99,27 +88,24 @@ fn covered<D: NumDomain>(
     delay: u32,
     formula: &Formula,
     graph: &Graph,
-    program: &Program,
     advisers: &mut Vec<Box<dyn Adviser>>,
 ) -> Result<(Tree<AffineRank>, u32), AllocError>
-    requires names { graph.now.names ≡ program.now.names }
-    requires body { statements graph.now.body ≡ statements program.now.body }
     requires patient { All (λ adviser. asked_of adviser ≤ 2 ^ 32) advisers.old.items }
-    ensures satisfied { IfOk result (λ covered. SatisfiesInputs (length program.now.names) (statements program.now.body) (ctl formula.now)
+    ensures satisfied { IfOk result (λ covered. SatisfiesInputs (length graph.now.names) (statements graph.now.body) (ctl formula.now)
         (plan_of covered.0)) }
     ensures bounded { (all : Bool) (keep goal : Ctl) → ctl formula.now ≡ until all keep goal → IfOk result (λ covered.
-        SatisfiesWithin (length program.now.names) (statements program.now.body) (until all keep goal) (plan_of covered.0)) }
-    ensures printable { IfOk result (λ covered. IsPrintable (length program.now.names) (plan_of covered.0)) }
+        SatisfiesWithin (length graph.now.names) (statements graph.now.body) (until all keep goal) (plan_of covered.0)) }
+    ensures printable { IfOk result (λ covered. IsPrintable (length graph.now.names) (plan_of covered.0)) }
     ensures asked { (times : ℕ) × (times ≤ 8) × RoseBy (λ adviser. asked_of adviser) times advisers.old.items advisers.new.items
         × IfOk result (λ covered. covered.1 ≡ times) }
     ensures insists { IsAdvised (ctl formula.now) → IfOk result (λ covered. IsWhole (plan_of covered.0) ⊎ (covered.1 ≡ 8)) }
     ensures spares { ¬ IsAdvised (ctl formula.now) → IfOk result (λ covered. covered.1 ≡ 0) }
-    ensures countdown { ctl formula.now ≡ af_exit → IsCountdown (statements program.now.body) → IfOk result (λ covered. IsWhole (plan_of covered.0)) }
-    ensures loopless { ctl formula.now ≡ af_exit → HasNoLoop (statements program.now.body) → IfOk result (λ covered.
-        rank_of (plan_of covered.0) ≡ Some (ranked (constant_of (pos (last_steps (statements program.now.body)))))) }
+    ensures countdown { ctl formula.now ≡ af_exit → IsCountdown (statements graph.now.body) → IfOk result (λ covered. IsWhole (plan_of covered.0)) }
+    ensures loopless { ctl formula.now ≡ af_exit → HasNoLoop (statements graph.now.body) → IfOk result (λ covered.
+        rank_of (plan_of covered.0) ≡ Some (ranked (constant_of (pos (last_steps (statements graph.now.body)))))) }
 {
     let inv: Inv<D> = invariants(alloc, graph)?;
-    let certificate = analyse(alloc, graph, program, &inv, formula, advisers, delay)?;
+    let certificate = analyse(alloc, graph, &inv, formula, advisers, delay)?;
     invariants_tell_the_truth::<D>();
     covers_hold();
     covers_can_be_printed();

@@ -8,16 +8,19 @@ use Rattle.std.proofs.lemmas.Bool.{cases_lt}
 use Rattle.std.proofs.lemmas.Bool.Decides.{Decides-eqb}
 use Rattle.step_meaning.specs.Outcome.{Store}
 use Rattle.step_meaning.specs.Syntax.{Statements}
+use Rattle.linear_cons.specs.declared.bounds.Bounds.{Bounds}
 use Rattle.linear_cons.specs.declared.row.Row.{Row}
 use Rattle.linear_cons.specs.Rows.{MeetsAll}
 use Rattle.num_domain.specs.Domain.{AllMeet, HasEvery, IsStore}
 use Rattle.control_flow.specs.declared.edge.Edge.{Edge}
 use Rattle.control_flow.specs.declared.edge.EdgeKind.{EdgeKind}
 use Rattle.control_flow.specs.declared.edge.EdgeKind.TheVariants.{Assign, Skip, Test}
-use Rattle.control_flow.specs.Actions.{LeadsBelow}
+use Rattle.control_flow.specs.Actions.{IsPlaced, LeadsBelow}
 use Rattle.control_flow.specs.Edges.{EachEdge, Leads, edges_from}
 use Rattle.control_flow.specs.Labels.{Action, action_at, all_labels, assigns, ends, entry_of, passes, tests}
-use Rattle.inductive_sets.specs.Sets.{AreInductive, HoldEach, HoldsRows, IsMemberOf, KeepsEdge, LeadsInto}
+use Rattle.transitions.specs.Transitions.{IsOver}
+use Rattle.transitions.specs.declared.transition.Transition.{Transition}
+use Rattle.inductive_sets.specs.Sets.{AreInductive, HoldEach, HoldsRows, IsMemberOf, KeepsEdge, LeadsBy, LeadsInto}
 
 -- an edge leads to a store of sixteen places
 leads_store : (action : Action) (kind : EdgeKind) (store next : Store) → Leads action kind store next → IsStore store → IsStore next
@@ -31,6 +34,14 @@ leads_store (passes to) Skip store next leads long = ap length leads ∙ long
 leads_store (tests head c yes_label no_label) Assign store next leads long = absurd leads
 leads_store (tests head c yes_label no_label) (Test holds) store next leads long = ap length leads.1 ∙ long
 leads_store (tests head c yes_label no_label) Skip store next leads long = absurd leads
+
+-- what follows of each edge holds of those of a label
+both_edges : (P Q : Edge → Type 0) → ((edge : Edge) → P edge → Q edge) → (label : ℕ) (action : Action)
+    → IfSome (get_or (edges_from label action) 0 None) P → IfSome (get_or (edges_from label action) 1 None) P → EachEdge Q (edges_from label action)
+both_edges P Q makes label ends one other = tt
+both_edges P Q makes label (assigns x e to) one other = (makes _ one, tt)
+both_edges P Q makes label (passes to) one other = (makes _ one, tt)
+both_edges P Q makes label (tests head c yes_label no_label) one other = (makes _ one, (makes _ other, tt))
 
 module _ {D : Type 0} (has : D → List ℤ → Type 0) where
   -- the next set holds the rows of the next label
@@ -59,17 +70,32 @@ module _ {D : Type 0} (has : D → List ℤ → Type 0) where
   some_weaker P Q (Some y) there holds = there y holds
 
   -- an edge behind which all rows of the target are met
-  pub kept_edge : (body : Statements) (rows_at : ℕ → List Row) (sets : List D) (label : ℕ) (edge : Edge) (set : D) (moved : Option D) (rows : List Row)
-      → HoldEach has rows_at sets → slice_get sets label ≡ Some set → edge.to < length sets → rows ≡ rows_at edge.to
-      → LeadsInto (action_at body label) edge.kind (has set) (IsMemberOf has moved) → All (λ row. AllMeet row (IsMemberOf has moved)) rows
-      → KeepsEdge has body sets label edge
-  kept_edge body rows_at sets label edge set moved rows holds own there are leads implied =
-      subst (λ found. IfSome found (λ set. IsSomeAnd (slice_get sets edge.to) (λ target. LeadsInto (action_at body label) edge.kind (has set) (has target)))) (sym own)
-      (some_weaker (HoldsRows has (rows_at edge.to)) (λ target. LeadsInto (action_at body label) edge.kind (has set) (has target)) (slice_get sets edge.to)
-      (λ target held store next long member step.
-      let after = leads_store (action_at body label) edge.kind store next step long in
-      held next after (subst (MeetsAll next) are (λ k d low. implied k d low next after (leads store next long member step))))
-      (holds_at rows_at sets edge.to holds there))
+  pub kept_edge : (bounds : Bounds) (transition : Transition) (rows_at : ℕ → List Row) (sets : List D) (edge : Edge) (set : D) (moved : Option D) (rows : List Row)
+      → HoldEach has rows_at sets → edge.to < length sets → rows ≡ rows_at edge.to
+      → LeadsBy bounds transition edge.kind (has set) (IsMemberOf has moved) → All (λ row. AllMeet row (IsMemberOf has moved)) rows
+      → IsSomeAnd (slice_get sets edge.to) (λ target. LeadsBy bounds transition edge.kind (has set) (has target))
+  kept_edge bounds transition rows_at sets edge set moved rows holds there are leads implied =
+      some_weaker (HoldsRows has (rows_at edge.to)) (λ target. LeadsBy bounds transition edge.kind (has set) (has target)) (slice_get sets edge.to)
+      (λ target held action placed over store next long member step.
+      let after = leads_store action edge.kind store next step long in
+      held next after (subst (MeetsAll next) are (λ k d low. implied k d low next after (leads action placed over store next long member step))))
+      (holds_at rows_at sets edge.to holds there)
+
+  -- both edges of a label, by what is done there
+  pub kept_edges : (body : Statements) (bounds : Bounds) (transition : Transition) (sets : List D) (label : ℕ) (set : D) (edges : List (Option Edge))
+      → edges ≡ edges_from label (action_at body label) → slice_get sets label ≡ Some set
+      → IsPlaced (action_at body label) → IsOver bounds (action_at body label) transition
+      → IfSome (get_or edges 0 None) (λ edge. IsSomeAnd (slice_get sets edge.to) (λ target. LeadsBy bounds transition edge.kind (has set) (has target)))
+      → IfSome (get_or edges 1 None) (λ edge. IsSomeAnd (slice_get sets edge.to) (λ target. LeadsBy bounds transition edge.kind (has set) (has target)))
+      → EachEdge (KeepsEdge has body sets label) (edges_from label (action_at body label))
+  kept_edges body bounds transition sets label set edges are own placed over one other =
+      both_edges _ (KeepsEdge has body sets label)
+      (λ edge into. subst (λ found. IfSome found (λ set. IsSomeAnd (slice_get sets edge.to) (λ target. LeadsInto (action_at body label) edge.kind (has set) (has target)))) (sym own)
+      (some_weaker (λ target. LeadsBy bounds transition edge.kind (has set) (has target)) (λ target. LeadsInto (action_at body label) edge.kind (has set) (has target))
+      (slice_get sets edge.to) (λ target leads. leads (action_at body label) placed over) into))
+      label (action_at body label)
+      (subst (λ list. IfSome (get_or list 0 None) (λ edge. IsSomeAnd (slice_get sets edge.to) (λ target. LeadsBy bounds transition edge.kind (has set) (has target)))) are one)
+      (subst (λ list. IfSome (get_or list 1 None) (λ edge. IsSomeAnd (slice_get sets edge.to) (λ target. LeadsBy bounds transition edge.kind (has set) (has target)))) are other)
 
   -- the entry has every store where it has no row
   pub free_entry : (rows_at : ℕ → List Row) (sets : List D) (entry : ℕ) → HoldEach has rows_at sets → rows_at entry ≡ [] → entry < length sets

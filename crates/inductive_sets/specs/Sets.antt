@@ -2,14 +2,18 @@
 use Rattle.std.specs.Prelude.{◌≡◌, ℕ, zero, suc, ℤ, Bool, false, List, [], ◌∷◌, ◌++◌, length, Option, None, Some, if◌then◌else◌, slice_get, slice_index_or, IfSome, IsSomeAnd}
 use Rattle.step_meaning.specs.Syntax.{Statements}
 use Rattle.step_meaning.specs.Outcome.{Store}
+use Rattle.linear_cons.specs.declared.bounds.Bounds.{Bounds}
 use Rattle.linear_cons.specs.declared.row.Row.{Row}
 use Rattle.linear_cons.specs.Rows.{MeetsAll}
 use Rattle.linear_forms.specs.Meeting.{MeetsOne}
 use Rattle.num_domain.specs.Domain.{HasEvery, IsStore}
 use Rattle.control_flow.specs.declared.edge.Edge.{Edge}
 use Rattle.control_flow.specs.declared.edge.EdgeKind.{EdgeKind}
+use Rattle.control_flow.specs.Actions.{IsPlaced}
 use Rattle.control_flow.specs.Edges.{EachEdge, Leads, edges_from}
 use Rattle.control_flow.specs.Labels.{Action, action_at, all_labels, entry_of}
+use Rattle.transitions.specs.Transitions.{IsOver}
+use Rattle.transitions.specs.declared.transition.Transition.{Transition}
 
 -- a set that isn't there has no member
 abbrev pub IsMemberOf : {D : Type 0} → (D → List ℤ → Type 0) → Option D → List ℤ → Type 0
@@ -26,6 +30,11 @@ KeepsMeetingOne lists old new = (store : List ℤ) → IsStore store → old sto
 -- the new set has each store to which an edge of the kind leads from one of the old one, where this is done at its label
 abbrev pub LeadsInto : Action → EdgeKind → (List ℤ → Type 0) → (List ℤ → Type 0) → Type 0
 LeadsInto action kind old new = (store next : Store) → IsStore store → old store → Leads action kind store next → new next
+
+-- so by a transition that the action, whatever it is, comes down to over the bounds
+abbrev pub LeadsBy : Bounds → Transition → EdgeKind → (List ℤ → Type 0) → (List ℤ → Type 0) → Type 0
+LeadsBy bounds transition kind old new =
+    (action : Action) → IsPlaced action → IsOver bounds action transition → LeadsInto action kind old new
 
 -- each store that meets all rows is a member
 abbrev pub HoldsRows : {D : Type 0} → (D → List ℤ → Type 0) → List Row → D → Type 0

@@ -1,9 +1,9 @@
 //! Sets that each edge keeps.
-ghost use Rattle.std.specs.Prelude.{◌≡◌, ◌<◌, IfOk, IsTrue, length, ◌∷◌, []};
+ghost use Rattle.std.specs.Prelude.{◌≡◌, ◌<◌, IfOk, IfSome, IsSomeAnd, IsTrue, length, slice_get, []};
 ghost use Rattle.step_meaning.specs.Syntax.{statements};
 ghost use Rattle.control_flow.specs.Edges.{EachEdge, edges_from};
 ghost use Rattle.control_flow.specs.Labels.{action_at, all_labels};
-ghost use Rattle.inductive_sets.specs.Sets.{AreInductive, HoldEach, KeepsEdge, kept_at};
+ghost use Rattle.inductive_sets.specs.Sets.{AreInductive, HoldEach, KeepsEdge, LeadsBy, kept_at};
 
 use crate::guess::{Marks, all_marked, kept_rows, sets_of};
 use crate::implied::{give_up, implies_all};
@@ -13,6 +13,7 @@ use control_flow::{Edge, Graph};
 use linear_cons::Row;
 use num_domain::NumDomain;
 use std::alloc::{AllocError, Global};
+use transitions::Transition;
 
 /// How often rows that aren't kept are given up, before every store is taken.
 const TURNS: u32 = 32;
@@ -97,38 +98,39 @@ fn are_kept<D: NumDomain>(
     requires holds { HoldEach D.has (kept_at D.told_rows guesses.now marks.now) sets.now }
     ensures { IfOk result (λ kept. IsTrue kept → EachEdge (KeepsEdge D.has (statements graph.now.body) sets.now label) (edges_from label (action_at (statements graph.now.body) label))) }
 {
-    let edges = graph.edges(label);
-    if !is_kept(alloc, graph, label, &edges[0], guesses, marks, sets)? {
+    let Some(set) = sets.get(label as usize) else {
+        return Ok(false);
+    };
+    let transition = Transition::of(alloc, graph.action(label), &set.bounds())?;
+    let [first, second] = graph.edges(label);
+    if !is_kept(alloc, &transition, set, first, guesses, marks, sets)? {
         return Ok(false);
     }
-    let kept = is_kept(alloc, graph, label, &edges[1], guesses, marks, sets)?;
+    let kept = is_kept(alloc, &transition, set, second, guesses, marks, sets)?;
     Ok(kept)
 }
 
-/// The same of one edge, if there is one.
+/// The same of one edge, if there is one, by the transition over the bounds of its label's set.
 fn is_kept<D: NumDomain>(
     alloc: Global,
-    graph: &Graph,
-    label: u32,
-    edge: &Option<Edge>,
+    transition: &Transition,
+    set: &D,
+    edge: Option<Edge>,
     guesses: &[D],
     marks: &[Marks],
     sets: &[D],
 ) -> Result<bool, AllocError>
-    requires within { label < length (all_labels (statements graph.now.body)) }
     requires holds { HoldEach D.has (kept_at D.told_rows guesses.now marks.now) sets.now }
-    ensures { IfOk result (λ kept. IsTrue kept → EachEdge (KeepsEdge D.has (statements graph.now.body) sets.now label) (edge.now ∷ [])) }
+    ensures { IfOk result (λ kept. IsTrue kept → IfSome edge (λ edge. IsSomeAnd (slice_get sets.now edge.to) (λ target.
+        LeadsBy (D.told_bounds set.now) transition.now edge.kind (D.has set.now) (D.has target)))) }
 {
     let Some(edge) = edge else {
         return Ok(true);
     };
-    let Some(set) = sets.get(label as usize) else {
-        return Ok(false);
-    };
     if edge.to as usize >= sets.len() {
         return Ok(false);
     }
-    let moved = flow(alloc, graph, label, edge.kind, set)?;
+    let moved = flow(alloc, transition, edge.kind, set)?;
     let rows = kept_rows(alloc, guesses, marks, edge.to)?;
     let kept = implies_all(alloc, &moved, &rows)?;
     Ok(kept)
@@ -150,6 +152,7 @@ fn weaker<D: NumDomain>(
         let Some(set) = sets.get(label as usize) else {
             continue;
         };
+        let transition = Transition::of(alloc, graph.action(label), &set.bounds())?;
         for edge in graph.edges(label) {
             let Some(edge) = edge else {
                 continue;
@@ -160,7 +163,7 @@ fn weaker<D: NumDomain>(
             ) else {
                 continue;
             };
-            let moved = flow(alloc, graph, label, edge.kind, set)?;
+            let moved = flow(alloc, &transition, edge.kind, set)?;
             give_up(alloc, marks, &moved, &guess.rows(alloc)?)?;
         }
     }

@@ -8,8 +8,8 @@ use Rattle.control_flow.specs.declared.edge.Choice.TheVariants.{None as NoChoice
 use Rattle.decision_tree.specs.declared.family.Family.{Family}
 use Rattle.decision_tree.specs.declared.rank.Rank.{Ghosts as Ranks}
 use Rattle.decision_tree.specs.Plans.{bottom}
-use Rattle.tree_support.specs.Flow.{Arc}
-use Rattle.tree_support.specs.Forming.{Formed, given}
+use Rattle.transitions.specs.Arcs.{Arc}
+use Rattle.transitions.specs.Forming.{Formed, given}
 use Rattle.tree_support.specs.Setting.{Setting, Trees, trees_in}
 use Rattle.tree_support.specs.Support.{HasNoStore}
 use Rattle.tree_support.specs.Systems as systems
@@ -21,7 +21,7 @@ use Rattle.leaf_search.specs.Operands.{families_of}
 use Rattle.leaf_search.specs.declared.part.Part.{Part}
 use Rattle.leaf_search.specs.declared.part.Part.TheVariants.{Next, Until, Weak}
 use Rattle.leaf_search.specs.Leaves.{IsPastTried, above_ends, below_ends, where_some}
-use Rattle.arc_search.specs.Moves.{over_each}
+use Rattle.arc_search.specs.Arcs.{over_each}
 use Rattle.leaf_search.specs.Parts.{function, has_bound, holds_at, is_both, is_either, is_existential, is_exit, keeps, may_end, met_now, part_of}
 use Rattle.arc_search.proofs.Walking.{plain_searched, searched_first, searched_none, searched_then}
 

@@ -5,8 +5,8 @@ use Rattle.linear_cons.specs.Functions.{constant_of}
 use Rattle.control_flow.specs.declared.edge.Choice.{Choice}
 use Rattle.decision_tree.specs.declared.family.Family.{Family}
 use Rattle.decision_tree.specs.Plans.{plan_of}
-use Rattle.tree_support.specs.Flow.{Arc}
-use Rattle.tree_support.specs.Forming.{Formed, given, minus}
+use Rattle.transitions.specs.Arcs.{Arc}
+use Rattle.transitions.specs.Forming.{Formed, given, minus}
 use Rattle.tree_support.specs.Setting.{Setting, trees_in}
 use Rattle.tree_support.specs.Systems.{System, is_existential, plain, unedged}
 use Rattle.rows_in_hand.specs.Hands.{IsTried, all_asked}
@@ -14,22 +14,22 @@ use Rattle.rows_in_hand.specs.declared.finding.Finding.{Finding}
 use Rattle.leaf_search.specs.Operands.{families_of}
 use Rattle.leaf_search.specs.declared.leaf.Stand.{Stand}
 use Rattle.leaf_search.specs.declared.step.Targets.{Targets}
-use Rattle.arc_search.specs.declared.moves.Moves.{Moves}
+use Rattle.transitions.specs.declared.transition.Transition.{Transition}
 use Rattle.leaf_search.specs.declared.part.Part.{Part}
-use Rattle.arc_search.specs.Moves.{IsMovesAt, over_each}
+use Rattle.arc_search.specs.Arcs.{IsTransitionAt, over_each}
 use Rattle.leaf_search.specs.Parts.{part_of}
 
 module _ {R : Type 0} where
   -- what the code has in hand at the label is what the setting says
-  pub record IsAt (at : Setting R) (part : Part) (label : ℕ) (choice : Choice) (moves : Moves) (smaller : List (Family R)) : Type 0 where
+  pub record IsAt (at : Setting R) (part : Part) (label : ℕ) (choice : Choice) (transition : Transition) (smaller : List (Family R)) : Type 0 where
     pub formula : part_of at.formula ≡ part
-    pub follows : IsMovesAt at label moves
+    pub follows : IsTransitionAt at label transition
     pub chosen : at.flow.choice label ≡ choice
     pub parts : at.parts ≡ families_of smaller
 
   -- it is so in whatever setting the stand is
   abbrev pub WhereStood : Stand R → (Setting R → Type 0) → Type 0
-  WhereStood stand Is = (at : Setting R) → IsAt at stand.part stand.label stand.choice stand.moves.now stand.parts.now → Is at
+  WhereStood stand Is = (at : Setting R) → IsAt at stand.part stand.label stand.choice stand.transition.now stand.parts.now → Is at
 
   -- the systems of arcs that lead to the targets; where there are none a step stands for nothing
   abbrev pub over_targets : Option (Targets R) → List Arc → List Formed → List (System R)

@@ -2,22 +2,22 @@
 ghost use Rattle.std.specs.Prelude.{◌∷◌, ◌++◌, [], IfOk, OnOk, map};
 ghost use Rattle.linear_cons.specs.Functions.{complement_of};
 ghost use Rattle.decision_tree.specs.Plans.{leaf, plan_of};
-ghost use Rattle.tree_support.specs.Forming.{Formed, given};
+ghost use Rattle.transitions.specs.Forming.{Formed, given};
 ghost use Rattle.tree_support.specs.Setting.{trees_in};
 ghost use Rattle.tree_support.specs.Systems.{of_atom, of_both, of_end, of_keep, of_leaf, of_now, of_rank, of_side, of_why, unedged, unnatural, undefined_at};
 ghost use Rattle.rows_in_hand.specs.Hands.{Forms, IsTried, all_asked, asked};
 ghost use Rattle.rows_in_hand.specs.Searches.{IsClaimFormed, IsSame, IsSearched, WhereAsked};
 ghost use Rattle.leaf_search.specs.Operands.{families_of};
 ghost use Rattle.leaf_search.specs.Leaves.{WhereStood};
-ghost use Rattle.arc_search.specs.Moves.{HasPlace};
 
 use crate::part::Part;
-use arc_search::{Moves, Way, refute_at};
+use arc_search::{Way, refute_at};
 use control_flow::Choice;
 use decision_tree::{Alternatives, Family, Rank, Tree, Why};
 use linear_cons::{Affine, Row, RowKind, Wide};
 use rows_in_hand::{Finding, Hand, try_claim};
 use std::alloc::AllocError;
+use transitions::Transition;
 
 /// The edge number of a system that has no edge.
 pub const UNEDGED: u32 = 2;
@@ -29,7 +29,7 @@ pub struct Stand<'a, R: Rank> {
     pub part: Part,
     pub label: u32,
     pub choice: Choice,
-    pub moves: &'a Moves,
+    pub transition: &'a Transition,
     pub family: &'a [Tree<R>],
     pub parts: &'a [Family<R>],
 }
@@ -45,7 +45,6 @@ impl<'a, R: Rank> Stand<'a, R> {
         hand: &mut Hand,
         found: &mut Option<Finding>,
     ) -> Result<bool, AllocError>
-        requires { HasPlace self.now.moves.now }
         ensures same { OnOk result (IsSame hand.old hand.new) }
         ensures searched { IfOk result (λ refuted. WhereStood self.now (λ at. WhereAsked hand.old (λ asks.
             IsSearched R.Rank.own (of_leaf at (leaf why.now rank.now) (trees_in (map plan_of self.now.family.now)) self.now.label asks)
@@ -84,7 +83,6 @@ impl<'a, R: Rank> Stand<'a, R> {
         hand: &mut Hand,
         found: &mut Option<Finding>,
     ) -> Result<bool, AllocError>
-        requires { HasPlace self.now.moves.now }
         ensures same { OnOk result (IsSame hand.old hand.new) }
         ensures searched { IfOk result (λ refuted. WhereStood self.now (λ at. WhereAsked hand.old (λ asks.
             IsSearched R.Rank.own (of_why at why.now (trees_in (map plan_of self.now.family.now)) rank.now self.now.label asks)

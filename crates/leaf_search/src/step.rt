@@ -2,18 +2,18 @@
 ghost use Rattle.std.specs.Prelude.{◌≡◌, List, pos, IfOk, OnOk, map};
 ghost use Rattle.linear_cons.specs.Functions.{constant_of};
 ghost use Rattle.decision_tree.specs.Plans.{plan_of};
-ghost use Rattle.tree_support.specs.Flow.{Arc};
-ghost use Rattle.tree_support.specs.Forming.{Formed, given, minus};
+ghost use Rattle.transitions.specs.Arcs.{Arc};
+ghost use Rattle.transitions.specs.Forming.{Formed, given, minus};
 ghost use Rattle.tree_support.specs.Setting.{trees_in};
 ghost use Rattle.tree_support.specs.Systems.{of_arcs, of_outcome, of_pick, of_value};
 ghost use Rattle.rows_in_hand.specs.Hands.{Forms, asked};
 ghost use Rattle.rows_in_hand.specs.Searches.{IsSame, IsSearched, WhereAsked};
 ghost use Rattle.leaf_search.specs.Operands.{families_of};
 ghost use Rattle.leaf_search.specs.Leaves.{IsPastTried, WhereStood, above_ends, below_ends, over_targets, where_some};
-ghost use Rattle.arc_search.specs.Moves.{HasPlace};
 
 use crate::leaf::{Stand, refute_plain, refute_with};
 use crate::part::Part;
+use arc_search::{refute_arcs, refute_outcome, refute_value};
 use control_flow::Choice;
 use decision_tree::{Pick, Rank, Tree};
 use linear_cons::{Affine, Row, RowKind, Wide};
@@ -69,7 +69,6 @@ impl<'a, R: Rank> Stand<'a, R> {
         hand: &mut Hand,
         found: &mut Option<Finding>,
     ) -> Result<bool, AllocError>
-        requires { HasPlace self.now.moves.now }
         ensures same { OnOk result (IsSame hand.old hand.new) }
         ensures searched { IfOk result (λ refuted. WhereStood self.now (λ at. WhereAsked hand.old (λ asks.
             IsSearched R.Rank.own (of_pick at pick.now (trees_in (map plan_of self.now.family.now)) rank.now self.now.label asks)
@@ -102,7 +101,6 @@ impl<'a, R: Rank> Stand<'a, R> {
         hand: &mut Hand,
         found: &mut Option<Finding>,
     ) -> Result<bool, AllocError>
-        requires { HasPlace self.now.moves.now }
         ensures same { OnOk result (IsSame hand.old hand.new) }
         ensures searched { IfOk result (λ refuted. WhereStood self.now (λ at. WhereAsked hand.old (λ asks.
             IsSearched R.Rank.own (of_arcs at at.formula (trees_in (map plan_of self.now.family.now)) rank.now (at.flow.arcs self.now.label) asks)
@@ -110,7 +108,7 @@ impl<'a, R: Rank> Stand<'a, R> {
     {
         match self.targets(rank) {
             Some(to) => {
-                let refuted = self.moves.refute(to.trees, to.limit, hand, found)?;
+                let refuted = refute_arcs(self.transition, to.trees, to.limit, hand, found)?;
                 Ok(refuted)
             }
             None => {
@@ -165,9 +163,14 @@ impl<'a, R: Rank> Stand<'a, R> {
     {
         match self.targets(rank) {
             Some(to) => {
-                let refuted = self
-                    .moves
-                    .refute_outcome(outcome, to.trees, to.limit, hand, found)?;
+                let refuted = refute_outcome(
+                    self.transition,
+                    outcome,
+                    to.trees,
+                    to.limit,
+                    hand,
+                    found,
+                )?;
                 Ok(refuted)
             }
             None => {
@@ -185,7 +188,6 @@ impl<'a, R: Rank> Stand<'a, R> {
         hand: &mut Hand,
         found: &mut Option<Finding>,
     ) -> Result<bool, AllocError>
-        requires { HasPlace self.now.moves.now }
         ensures same { OnOk result (IsSame hand.old hand.new) }
         ensures searched { IfOk result (λ refuted. WhereStood self.now (λ at. WhereAsked hand.old (λ asks.
             IsSearched R.Rank.own (where_some at
@@ -222,7 +224,6 @@ impl<'a, R: Rank> Stand<'a, R> {
         hand: &mut Hand,
         found: &mut Option<Finding>,
     ) -> Result<bool, AllocError>
-        requires { HasPlace self.now.moves.now }
         ensures same { OnOk result (IsSame hand.old hand.new) }
         ensures searched { IfOk result (λ refuted. WhereStood self.now (λ at. WhereAsked hand.old (λ asks.
             IsSearched R.Rank.own (of_arcs at at.formula (trees_in (map plan_of self.now.family.now)) rank.now
@@ -230,9 +231,14 @@ impl<'a, R: Rank> Stand<'a, R> {
     {
         match self.targets(rank) {
             Some(to) => {
-                let refuted = self
-                    .moves
-                    .refute_value(value, to.trees, to.limit, hand, found)?;
+                let refuted = refute_value(
+                    self.transition,
+                    value,
+                    to.trees,
+                    to.limit,
+                    hand,
+                    found,
+                )?;
                 Ok(refuted)
             }
             None => {

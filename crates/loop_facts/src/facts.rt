@@ -4,12 +4,12 @@ ghost use Rattle.std.specs.Prelude.{◌≡◌, ◌≤◌, length};
 use crate::body::Body;
 use crate::falls::falls;
 use advice::{FactKind, LoopFact};
-use backward_sweeps::Action;
 use control_flow::Graph;
 use forward_inv::Inv;
 use linear_cons::{Affine, Bounds, Row};
 use num_domain::NumDomain;
 use std::alloc::{AllocError, Global};
+use transitions::Transition;
 
 /// Facts about the loops of a program, of the greatest label first.
 #[derive(Drop)]
@@ -27,19 +27,19 @@ impl Facts {
         alloc: Global,
         graph: &Graph,
         inv: &Inv<D>,
-        actions: &[Action],
+        transitions: &[Transition],
         variables: u32,
     ) -> Result<Facts, AllocError>
-        requires states { length inv.now ≡ length actions.now }
-        requires few { length actions.now ≤ 1024 }
+        requires states { length inv.now ≡ length transitions.now }
+        requires few { length transitions.now ≤ 1024 }
     {
         let mut facts = Facts {
             guards: Vec::new(alloc),
             ranges: Vec::new(alloc),
         };
-        for label in (0..actions.len() as u32).rev() {
+        for label in (0..transitions.len() as u32).rev() {
             let bounds = inv.at(label).bounds();
-            facts.add(alloc, graph, actions, variables, label, &bounds)?;
+            facts.add(alloc, graph, transitions, variables, label, &bounds)?;
         }
         Ok(facts)
     }
@@ -49,12 +49,12 @@ impl Facts {
         &mut self,
         alloc: Global,
         graph: &Graph,
-        actions: &[Action],
+        transitions: &[Transition],
         variables: u32,
         label: u32,
         bounds: &Bounds,
     ) -> Result<(), AllocError> {
-        let Some(Action::Test { holds, .. }) = actions.get(label as usize) else {
+        let Some(Transition::Test { holds, .. }) = transitions.get(label as usize) else {
             return Ok(());
         };
         let Some(body) = Body::of(alloc, graph, label)? else {

@@ -1,17 +1,18 @@
 //! Families that hints propose.
 ghost use Rattle.std.specs.Prelude.{◌≡◌, ℕ, ◌<◌, ◌≤◌, true, IfOk, IfSome, length};
 ghost use Rattle.backward_transfer.specs.AffineShapes.{plans, tree_at};
-ghost use Rattle.backward_sweeps.specs.Doing.{AreOnward, action_in, is_given};
+ghost use Rattle.transitions.specs.Transitions.{AreOnward, transition_in, is_given};
 ghost use Rattle.backward_sweeps.specs.Remaking.{AreMade, given_for, goal_at, parts_of};
 
 use crate::body::Body;
 use crate::raising::raised;
 use advice::Hint;
-use backward_sweeps::{Action, Operands, begun, follow};
+use backward_sweeps::{Operands, begun, follow};
 use control_flow::Graph;
 use decision_tree::{AffineRank, Tree, TreeList};
 use linear_cons::Affine;
 use std::alloc::{AllocError, Global};
+use transitions::Transition;
 use tree_unify::{TreeFault, trim};
 
 /// The trees that a hint proposes in place of those at hand for an until of these operands, one for each label: at the test of its loop, where
@@ -22,19 +23,19 @@ use tree_unify::{TreeFault, trim};
 pub fn proposal(
     alloc: Global,
     graph: &Graph,
-    actions: &[Action],
+    transitions: &[Transition],
     operands: &Operands<'_>,
     trees: &[Tree<AffineRank>],
     variables: u32,
     hint: &Hint,
 ) -> Result<Option<TreeList<AffineRank>>, AllocError>
-    requires few { length actions.now ≤ 1024 }
-    requires onward { AreOnward actions.now }
-    ensures labels { IfOk result (λ found. IfSome found (λ made. length made ≡ length actions.now)) }
-    ensures given { IfOk result (λ found. IfSome found (λ made. (label : ℕ) → (label ≡ hint.now.label → ⊥) → label < length actions.now
-        → is_given (action_in actions.now label) ≡ true
-        → tree_at made label ≡ given_for (goal_at (parts_of operands.now) label) (action_in actions.now label) (tree_at (plans trees.now) label))) }
-    ensures follows { IfOk result (λ found. IfSome found (λ made. AreMade (parts_of operands.now) actions.now made)) }
+    requires few { length transitions.now ≤ 1024 }
+    requires onward { AreOnward transitions.now }
+    ensures labels { IfOk result (λ found. IfSome found (λ made. length made ≡ length transitions.now)) }
+    ensures given { IfOk result (λ found. IfSome found (λ made. (label : ℕ) → (label ≡ hint.now.label → ⊥) → label < length transitions.now
+        → is_given (transition_in transitions.now label) ≡ true
+        → tree_at made label ≡ given_for (goal_at (parts_of operands.now) label) (transition_in transitions.now label) (tree_at (plans trees.now) label))) }
+    ensures follows { IfOk result (λ found. IfSome found (λ made. AreMade (parts_of operands.now) transitions.now made)) }
 {
     if !is_over(hint, variables) {
         return Ok(None);
@@ -46,7 +47,7 @@ pub fn proposal(
         return Ok(None);
     }
     match at_head(alloc, trees, &body, hint) {
-        Ok(head) => followed(alloc, actions, operands, trees, hint.label, head),
+        Ok(head) => followed(alloc, transitions, operands, trees, hint.label, head),
         Err(TreeFault::Memory(error)) => Err(error),
         Err(TreeFault::Full { .. } | TreeFault::Wide(_)) => Ok(None),
     }
@@ -102,23 +103,23 @@ fn at_head(
 /// The trees with the one proposed at the label, if that is the test of a loop, and what follows from it at labels that are none.
 fn followed(
     alloc: Global,
-    actions: &[Action],
+    transitions: &[Transition],
     operands: &Operands<'_>,
     trees: &[Tree<AffineRank>],
     label: u32,
     head: Tree<AffineRank>,
 ) -> Result<Option<TreeList<AffineRank>>, AllocError>
-    requires few { length actions.now ≤ 1024 }
-    requires onward { AreOnward actions.now }
-    ensures labels { IfOk result (λ found. IfSome found (λ made. length made ≡ length actions.now)) }
-    ensures given { IfOk result (λ found. IfSome found (λ made. (other : ℕ) → (other ≡ label → ⊥) → other < length actions.now
-        → is_given (action_in actions.now other) ≡ true
-        → tree_at made other ≡ given_for (goal_at (parts_of operands.now) other) (action_in actions.now other) (tree_at (plans trees.now) other))) }
-    ensures follows { IfOk result (λ found. IfSome found (λ made. AreMade (parts_of operands.now) actions.now made)) }
+    requires few { length transitions.now ≤ 1024 }
+    requires onward { AreOnward transitions.now }
+    ensures labels { IfOk result (λ found. IfSome found (λ made. length made ≡ length transitions.now)) }
+    ensures given { IfOk result (λ found. IfSome found (λ made. (other : ℕ) → (other ≡ label → ⊥) → other < length transitions.now
+        → is_given (transition_in transitions.now other) ≡ true
+        → tree_at made other ≡ given_for (goal_at (parts_of operands.now) other) (transition_in transitions.now other) (tree_at (plans trees.now) other))) }
+    ensures follows { IfOk result (λ found. IfSome found (λ made. AreMade (parts_of operands.now) transitions.now made)) }
 {
-    let mut made = begun(alloc, actions, operands, trees)?;
-    put(actions, &mut made, label, head);
-    if follow(alloc, actions, operands, &mut made)? {
+    let mut made = begun(alloc, transitions, operands, trees)?;
+    put(transitions, &mut made, label, head);
+    if follow(alloc, transitions, operands, &mut made)? {
         Ok(Some(TreeList::of(made)))
     } else {
         Ok(None)
@@ -126,12 +127,17 @@ fn followed(
 }
 
 /// Puts the tree at the label, if that is the test of a loop.
-fn put(actions: &[Action], trees: &mut [Tree<AffineRank>], label: u32, tree: Tree<AffineRank>)
-    requires { length trees.old ≡ length actions.now }
+fn put(
+    transitions: &[Transition],
+    trees: &mut [Tree<AffineRank>],
+    label: u32,
+    tree: Tree<AffineRank>,
+)
+    requires { length trees.old ≡ length transitions.now }
     ensures labels { length trees.new ≡ length trees.old }
     ensures others { (other : ℕ) → (other ≡ label → ⊥) → tree_at (plans trees.new) other ≡ tree_at (plans trees.old) other }
 {
-    let Some(Action::Test { is_head, .. }) = actions.get(label as usize) else {
+    let Some(Transition::Test { is_head, .. }) = transitions.get(label as usize) else {
         return;
     };
     if *is_head {

@@ -6,10 +6,10 @@ use Rattle.decision_tree.specs.declared.tree.Tree.{Tree}
 use Rattle.backward_transfer.specs.AffineShapes.{plans, tree_at}
 use Rattle.backward_transfer.proofs.Putting.{plans_more}
 use Rattle.backward_sweeps.specs.Claiming.{reranked}
-use Rattle.backward_sweeps.specs.Doing.{LeadsWithin, first_target, second_target}
+use Rattle.transitions.specs.Transitions.{LeadsWithin, first_target, second_target}
 use Rattle.backward_sweeps.specs.Remaking.{Parts}
-use Rattle.backward_sweeps.specs.declared.action.Action.{Action}
-use Rattle.backward_sweeps.specs.declared.action.Action.TheVariants.{Assign, Choose, Dead, End, Pass, Test}
+use Rattle.transitions.specs.declared.transition.Transition.{Transition}
+use Rattle.transitions.specs.declared.transition.Transition.TheVariants.{Assign, Choose, Dead, End, Pass, Test}
 use Rattle.backward_sweeps.proofs.Passing.{both_carried}
 use Rattle.part_trees.specs.Next.{AreReranked, IsNext, IsStep}
 
@@ -28,15 +28,15 @@ one_more_made f trees made i tree one low is same before =
 
 -- a step's trees, with the rank 0
 module _ (all : Bool) (part behind : List (Plan AffineRank)) (n : ℕ) (are : AreReranked n part behind) (plan : Plan AffineRank) where
-  stepped : (action : Action) → LeadsWithin n action → IsStep all action (tree_at behind (first_target action)) (tree_at behind (second_target action)) plan
-      → IsStep all action (reranked (tree_at part (first_target action))) (reranked (tree_at part (second_target action))) plan
-  stepped action low step =
-      both_carried (λ this that. IsStep all action this that plan) (tree_at behind (first_target action)) (reranked (tree_at part (first_target action)))
-      (tree_at behind (second_target action)) (reranked (tree_at part (second_target action))) (are (first_target action) low.0)
-      (are (second_target action) low.1) step
+  stepped : (transition : Transition) → LeadsWithin n transition → IsStep all transition (tree_at behind (first_target transition)) (tree_at behind (second_target transition)) plan
+      → IsStep all transition (reranked (tree_at part (first_target transition))) (reranked (tree_at part (second_target transition))) plan
+  stepped transition low step =
+      both_carried (λ this that. IsStep all transition this that plan) (tree_at behind (first_target transition)) (reranked (tree_at part (first_target transition)))
+      (tree_at behind (second_target transition)) (reranked (tree_at part (second_target transition))) (are (first_target transition) low.0)
+      (are (second_target transition) low.1) step
 
-  pub next_of : (label : ℕ) (action : Action) → (action ≡ End → ⊥) → LeadsWithin n action
-      → IsStep all action (tree_at behind (first_target action)) (tree_at behind (second_target action)) plan → IsNext all part label action plan
+  pub next_of : (label : ℕ) (transition : Transition) → (transition ≡ End → ⊥) → LeadsWithin n transition
+      → IsStep all transition (tree_at behind (first_target transition)) (tree_at behind (second_target transition)) plan → IsNext all part label transition plan
   next_of label End going low step = absurd (going refl)
   next_of label Dead going low step = stepped Dead low step
   next_of label (Pass to) going low step = stepped (Pass to) low step

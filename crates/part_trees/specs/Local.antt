@@ -9,11 +9,11 @@ use Rattle.decision_tree.specs.declared.affine_rank.AffineRank.{AffineRank}
 use Rattle.decision_tree.specs.declared.reason.Why.TheVariants.{Atom, Both, Dead as NeverReached, End as AtEnd, Left, Right}
 use Rattle.backward_transfer.specs.AffineShapes.{tree_at}
 use Rattle.backward_sweeps.specs.Claiming.{claimed, reranked}
-use Rattle.backward_sweeps.specs.Doing.{action_in}
+use Rattle.transitions.specs.Transitions.{transition_in}
 use Rattle.backward_sweeps.specs.Moving.{at_once}
 use Rattle.backward_sweeps.specs.Remaking.{BothFit, EitherFits, IsOrTop, both_of, either_of}
-use Rattle.backward_sweeps.specs.declared.action.Action.{Action}
-use Rattle.backward_sweeps.specs.declared.action.Action.TheVariants.{Dead, End}
+use Rattle.transitions.specs.declared.transition.Transition.{Transition}
+use Rattle.transitions.specs.declared.transition.Transition.TheVariants.{Dead, End}
 
 -- an atom's tree asks its row
 abbrev pub kind_tree : RowKind → Plan AffineRank
@@ -59,13 +59,13 @@ IsReached (Until' all p f q g) is_end first second plan = plan ≡ bottom
 IsReached (Weak' all p f q g) is_end first second plan = plan ≡ bottom
 
 -- The same at a label at which this is done; where no run comes everything is claimed.
-abbrev pub IsLocal : Formula → Action → Plan AffineRank → Plan AffineRank → Plan AffineRank → Type 0
+abbrev pub IsLocal : Formula → Transition → Plan AffineRank → Plan AffineRank → Plan AffineRank → Type 0
 IsLocal formula Dead first second plan = plan ≡ at_once NeverReached
 IsLocal formula End first second plan = IsReached formula true first second plan
-IsLocal formula action first second plan = IsReached formula false first second plan
+IsLocal formula transition first second plan = IsReached formula false first second plan
 
 -- so is the tree of each label, by those of the parts
-abbrev pub AreLocal : Formula → List Action → List (Plan AffineRank) → List (Plan AffineRank) → List (Plan AffineRank) → Type 0
-AreLocal formula actions first second trees =
-    (label : ℕ) → label < length actions
-    → IsLocal formula (action_in actions label) (tree_at first label) (tree_at second label) (tree_at trees label)
+abbrev pub AreLocal : Formula → List Transition → List (Plan AffineRank) → List (Plan AffineRank) → List (Plan AffineRank) → Type 0
+AreLocal formula transitions first second trees =
+    (label : ℕ) → label < length transitions
+    → IsLocal formula (transition_in transitions label) (tree_at first label) (tree_at second label) (tree_at trees label)

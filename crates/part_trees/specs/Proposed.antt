@@ -6,9 +6,9 @@ use Rattle.decision_tree.specs.declared.affine_rank.AffineRank.{AffineRank}
 use Rattle.decision_tree.specs.declared.family.Family.{Family}
 use Rattle.decision_tree.specs.declared.reason.Why.TheVariants.{Now}
 use Rattle.backward_sweeps.specs.Claiming.{claimed, reranked}
-use Rattle.backward_sweeps.specs.Doing.{HasNoHead}
+use Rattle.transitions.specs.Transitions.{HasNoHead}
 use Rattle.backward_sweeps.specs.Remaking.{AreEndsGiven, AreEndsStarted, AreRemadeFrom, Parts}
-use Rattle.backward_sweeps.specs.declared.action.Action.{Action}
+use Rattle.transitions.specs.declared.transition.Transition.{Transition}
 use Rattle.part_trees.specs.Local.{AreLocal}
 use Rattle.part_trees.specs.Next.{AreNexts}
 
@@ -25,20 +25,20 @@ abbrev pub until_of : Bool → List (Plan AffineRank) → List (Plan AffineRank)
 until_of all keeps goals = record { all = all; goals = map (claimed Now) goals; keeps = map reranked keeps }
 
 -- The trees of an until: at the end what the goal claims; and in a program without loops each other is made of those behind it.
-abbrev pub AreSweptFor : Bool → List (Plan AffineRank) → List (Plan AffineRank) → List Action → List (Plan AffineRank) → Type 0
-AreSweptFor all keeps goals actions trees =
-    AreEndsGiven (until_of all keeps goals) actions trees
-    × (HasNoHead actions → AreRemadeFrom 0 false (until_of all keeps goals) actions trees)
+abbrev pub AreSweptFor : Bool → List (Plan AffineRank) → List (Plan AffineRank) → List Transition → List (Plan AffineRank) → Type 0
+AreSweptFor all keeps goals transitions trees =
+    AreEndsGiven (until_of all keeps goals) transitions trees
+    × (HasNoHead transitions → AreRemadeFrom 0 false (until_of all keeps goals) transitions trees)
 
 -- Those of a weak until: at the end what the goal claims, or else what is to be kept; and the others in the same way.
-abbrev pub AreKeptFor : Bool → List (Plan AffineRank) → List (Plan AffineRank) → List Action → List (Plan AffineRank) → Type 0
-AreKeptFor all keeps goals actions trees =
-    AreEndsStarted (until_of all keeps goals) actions trees
-    × (HasNoHead actions → AreRemadeFrom 0 false (until_of all keeps goals) actions trees)
+abbrev pub AreKeptFor : Bool → List (Plan AffineRank) → List (Plan AffineRank) → List Transition → List (Plan AffineRank) → Type 0
+AreKeptFor all keeps goals transitions trees =
+    AreEndsStarted (until_of all keeps goals) transitions trees
+    × (HasNoHead transitions → AreRemadeFrom 0 false (until_of all keeps goals) transitions trees)
 
 -- the trees of a formula, by those of its first and its second part
-abbrev pub AreProposed : Formula → List Action → List (Plan AffineRank) → List (Plan AffineRank) → List (Plan AffineRank) → Type 0
-AreProposed (Next' all p f) actions first second trees = AreNexts all actions first trees
-AreProposed (Until' all p f q g) actions first second trees = AreSweptFor all first second actions trees
-AreProposed (Weak' all p f q g) actions first second trees = AreKeptFor all first second actions trees
-AreProposed formula actions first second trees = AreLocal formula actions first second trees
+abbrev pub AreProposed : Formula → List Transition → List (Plan AffineRank) → List (Plan AffineRank) → List (Plan AffineRank) → Type 0
+AreProposed (Next' all p f) transitions first second trees = AreNexts all transitions first trees
+AreProposed (Until' all p f q g) transitions first second trees = AreSweptFor all first second transitions trees
+AreProposed (Weak' all p f q g) transitions first second trees = AreKeptFor all first second transitions trees
+AreProposed formula transitions first second trees = AreLocal formula transitions first second trees

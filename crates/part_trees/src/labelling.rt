@@ -6,30 +6,31 @@ ghost use Rattle.part_trees.specs.Local.{AreLocal, IsLocal, IsReached};
 
 use crate::atoms::of_kind;
 use crate::joining::{conjunction, disjunction};
-use backward_sweeps::{Action, at_once, tree_at};
+use backward_sweeps::{at_once, tree_at};
 use ctl_formula::Formula;
 use decision_tree::{AffineRank, Tree, Why};
 use std::alloc::{AllocError, Global};
+use transitions::Transition;
 
 /// The trees of an atom, the end, a conjunction or a disjunction of parts that have these; of other formulas there are no claims. One that
 /// can't be made claims nothing. The only error is want of memory.
 pub(crate) fn locals(
     alloc: Global,
-    actions: &[Action],
+    transitions: &[Transition],
     formula: &Formula,
     first: &[Tree<AffineRank>],
     second: &[Tree<AffineRank>],
 ) -> Result<Vec<Tree<AffineRank>>, AllocError>
-    requires few { length actions.now ≤ 1024 }
-    ensures labels { IfOk result (λ trees. length trees.items ≡ length actions.now) }
-    ensures locals { IfOk result (λ trees. AreLocal formula.now actions.now (plans first.now) (plans second.now) (plans trees.items)) }
+    requires few { length transitions.now ≤ 1024 }
+    ensures labels { IfOk result (λ trees. length trees.items ≡ length transitions.now) }
+    ensures locals { IfOk result (λ trees. AreLocal formula.now transitions.now (plans first.now) (plans second.now) (plans trees.items)) }
 {
     let none = Tree::Bottom;
-    let mut trees = Vec::with_capacity(alloc, actions.len())?;
-    for label in 0..actions.len() as u32 {
+    let mut trees = Vec::with_capacity(alloc, transitions.len())?;
+    for label in 0..transitions.len() as u32 {
         let this = tree_at(first, label, &none);
         let that = tree_at(second, label, &none);
-        let tree = local(alloc, &actions[label as usize], formula, this, that)?;
+        let tree = local(alloc, &transitions[label as usize], formula, this, that)?;
         trees.push(tree)?;
     }
     Ok(trees)
@@ -38,16 +39,16 @@ pub(crate) fn locals(
 /// The tree of a label at which this is done, by those of the parts there.
 fn local(
     alloc: Global,
-    action: &Action,
+    transition: &Transition,
     formula: &Formula,
     first: &Tree<AffineRank>,
     second: &Tree<AffineRank>,
 ) -> Result<Tree<AffineRank>, AllocError>
-    ensures { IfOk result (λ tree. IsLocal formula.now action.now (plan_of first.now) (plan_of second.now) (plan_of tree)) }
+    ensures { IfOk result (λ tree. IsLocal formula.now transition.now (plan_of first.now) (plan_of second.now) (plan_of tree)) }
 {
-    match action {
-        Action::Dead => Ok(at_once(Why::Dead)),
-        Action::End => reached(alloc, true, formula, first, second),
+    match transition {
+        Transition::Dead => Ok(at_once(Why::Dead)),
+        Transition::End => reached(alloc, true, formula, first, second),
         _ => reached(alloc, false, formula, first, second),
     }
 }

@@ -1,18 +1,19 @@
 //! The trees that are proposed for a part of a formula.
 ghost use Rattle.std.specs.Prelude.{◌≡◌, ◌≤◌, IfOk, length};
 ghost use Rattle.backward_transfer.specs.AffineShapes.{plans};
-ghost use Rattle.backward_sweeps.specs.Doing.{AreOnward};
+ghost use Rattle.transitions.specs.Transitions.{AreOnward};
 ghost use Rattle.part_trees.specs.Proposed.{AreKeptFor, AreProposed, AreSweptFor, operand};
 
 use crate::claims::Claims;
 use crate::labelling::locals;
 use crate::stepping::nexts;
-use backward_sweeps::{Action, kept, swept};
+use backward_sweeps::{kept, swept};
 use ctl_formula::Formula;
 use decision_tree::{AffineRank, Family, Tree, TreeList};
 use forward_inv::Inv;
 use num_domain::NumDomain;
 use std::alloc::{AllocError, Global};
+use transitions::Transition;
 
 /// Trees for the labels, at which this is done, proposed for a formula in normal form whose parts have these families, as many as it has
 /// parts and in their order; one that is missing claims nothing, and so does a negation, which no normal form has. A label at which no run
@@ -22,28 +23,28 @@ use std::alloc::{AllocError, Global};
 pub fn proposed<D: NumDomain>(
     alloc: Global,
     inv: &Inv<D>,
-    actions: &[Action],
+    transitions: &[Transition],
     formula: &Formula,
     operands: &[Family<AffineRank>],
     delay: u32,
 ) -> Result<TreeList<AffineRank>, AllocError>
-    requires states { length inv.now ≡ length actions.now }
-    requires few { length actions.now ≤ 1024 }
-    requires onward { AreOnward actions.now }
-    ensures labels { IfOk result (λ trees. length trees ≡ length actions.now) }
-    ensures proposed { IfOk result (λ trees. AreProposed formula.now actions.now (operand operands.now 0) (operand operands.now 1) trees) }
+    requires states { length inv.now ≡ length transitions.now }
+    requires few { length transitions.now ≤ 1024 }
+    requires onward { AreOnward transitions.now }
+    ensures labels { IfOk result (λ trees. length trees ≡ length transitions.now) }
+    ensures proposed { IfOk result (λ trees. AreProposed formula.now transitions.now (operand operands.now 0) (operand operands.now 1) trees) }
 {
     let first = operand(operands, 0);
     let second = operand(operands, 1);
     match formula {
         Formula::Next { all, part: _ } => {
-            let trees = nexts(alloc, actions, *all, first)?;
+            let trees = nexts(alloc, transitions, *all, first)?;
             Ok(TreeList::of(trees))
         }
-        Formula::Until { all, .. } => until(alloc, inv, actions, *all, first, second, delay),
-        Formula::Weak { all, .. } => weak(alloc, inv, actions, *all, first, second, delay),
+        Formula::Until { all, .. } => until(alloc, inv, transitions, *all, first, second, delay),
+        Formula::Weak { all, .. } => weak(alloc, inv, transitions, *all, first, second, delay),
         _ => {
-            let trees = locals(alloc, actions, formula, first, second)?;
+            let trees = locals(alloc, transitions, formula, first, second)?;
             Ok(TreeList::of(trees))
         }
     }
@@ -63,38 +64,38 @@ fn operand(operands: &[Family<AffineRank>], number: usize) -> &[Tree<AffineRank>
 fn until<D: NumDomain>(
     alloc: Global,
     inv: &Inv<D>,
-    actions: &[Action],
+    transitions: &[Transition],
     all: bool,
     keep: &[Tree<AffineRank>],
     goal: &[Tree<AffineRank>],
     delay: u32,
 ) -> Result<TreeList<AffineRank>, AllocError>
-    requires states { length inv.now ≡ length actions.now }
-    requires few { length actions.now ≤ 1024 }
-    requires onward { AreOnward actions.now }
-    ensures labels { IfOk result (λ trees. length trees ≡ length actions.now) }
-    ensures swept { IfOk result (λ trees. AreSweptFor all (plans keep.now) (plans goal.now) actions.now trees) }
+    requires states { length inv.now ≡ length transitions.now }
+    requires few { length transitions.now ≤ 1024 }
+    requires onward { AreOnward transitions.now }
+    ensures labels { IfOk result (λ trees. length trees ≡ length transitions.now) }
+    ensures swept { IfOk result (λ trees. AreSweptFor all (plans keep.now) (plans goal.now) transitions.now trees) }
 {
     let claims = Claims::of_trees(alloc, keep, goal)?;
-    swept(alloc, inv, actions, &claims.operands(all), delay)
+    swept(alloc, inv, transitions, &claims.operands(all), delay)
 }
 
 /// The trees of a weak until, by those of what is to be kept and of the goal.
 fn weak<D: NumDomain>(
     alloc: Global,
     inv: &Inv<D>,
-    actions: &[Action],
+    transitions: &[Transition],
     all: bool,
     keep: &[Tree<AffineRank>],
     goal: &[Tree<AffineRank>],
     delay: u32,
 ) -> Result<TreeList<AffineRank>, AllocError>
-    requires states { length inv.now ≡ length actions.now }
-    requires few { length actions.now ≤ 1024 }
-    requires onward { AreOnward actions.now }
-    ensures labels { IfOk result (λ trees. length trees ≡ length actions.now) }
-    ensures kept { IfOk result (λ trees. AreKeptFor all (plans keep.now) (plans goal.now) actions.now trees) }
+    requires states { length inv.now ≡ length transitions.now }
+    requires few { length transitions.now ≤ 1024 }
+    requires onward { AreOnward transitions.now }
+    ensures labels { IfOk result (λ trees. length trees ≡ length transitions.now) }
+    ensures kept { IfOk result (λ trees. AreKeptFor all (plans keep.now) (plans goal.now) transitions.now trees) }
 {
     let claims = Claims::of_trees(alloc, keep, goal)?;
-    kept(alloc, inv, actions, &claims.operands(all), delay)
+    kept(alloc, inv, transitions, &claims.operands(all), delay)
 }

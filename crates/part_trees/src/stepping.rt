@@ -2,31 +2,32 @@
 ghost use Rattle.std.specs.Prelude.{◌≡◌, ◌<◌, ◌≤◌, IfOk, length};
 ghost use Rattle.decision_tree.specs.Plans.{plan_of};
 ghost use Rattle.backward_transfer.specs.AffineShapes.{plans, tree_at};
-ghost use Rattle.backward_sweeps.specs.Doing.{AreOnward, LeadsWithin, first_target, second_target};
+ghost use Rattle.transitions.specs.Transitions.{AreOnward, LeadsWithin, first_target, second_target};
 ghost use Rattle.part_trees.specs.Next.{AreNexts, AreReranked, IsNext, IsStep};
 
-use backward_sweeps::{Action, given_up, moved_back, taken_over, tree_at};
+use backward_sweeps::{given_up, moved_back, taken_over, tree_at};
 use decision_tree::{AffineRank, Tree, Why};
 use std::alloc::{AllocError, Global};
+use transitions::Transition;
 
 /// The trees of a next of the part that has these: what a step claims of them, and at the end what the part does. One that can't be made
 /// claims nothing. The only error is want of memory.
 pub(crate) fn nexts(
     alloc: Global,
-    actions: &[Action],
+    transitions: &[Transition],
     all: bool,
     part: &[Tree<AffineRank>],
 ) -> Result<Vec<Tree<AffineRank>>, AllocError>
-    requires few { length actions.now ≤ 1024 }
-    requires onward { AreOnward actions.now }
-    ensures labels { IfOk result (λ trees. length trees.items ≡ length actions.now) }
-    ensures nexts { IfOk result (λ trees. AreNexts all actions.now (plans part.now) (plans trees.items)) }
+    requires few { length transitions.now ≤ 1024 }
+    requires onward { AreOnward transitions.now }
+    ensures labels { IfOk result (λ trees. length trees.items ≡ length transitions.now) }
+    ensures nexts { IfOk result (λ trees. AreNexts all transitions.now (plans part.now) (plans trees.items)) }
 {
-    let behind = reranked(alloc, part, actions.len() as u32)?;
-    let mut trees = Vec::with_capacity(alloc, actions.len())?;
-    for label in 0..actions.len() as u32 {
-        let action = &actions[label as usize];
-        let tree = next(alloc, all, action, label, part, &behind)?;
+    let behind = reranked(alloc, part, transitions.len() as u32)?;
+    let mut trees = Vec::with_capacity(alloc, transitions.len())?;
+    for label in 0..transitions.len() as u32 {
+        let transition = &transitions[label as usize];
+        let tree = next(alloc, all, transition, label, part, &behind)?;
         trees.push(tree)?;
     }
     Ok(trees)
@@ -54,19 +55,19 @@ fn reranked(
 fn next(
     alloc: Global,
     all: bool,
-    action: &Action,
+    transition: &Transition,
     label: u32,
     part: &[Tree<AffineRank>],
     behind: &[Tree<AffineRank>],
 ) -> Result<Tree<AffineRank>, AllocError>
-    requires leads { LeadsWithin (length behind.now) action.now }
+    requires leads { LeadsWithin (length behind.now) transition.now }
     requires reranked { AreReranked (length behind.now) (plans part.now) (plans behind.now) }
-    ensures { IfOk result (λ tree. IsNext all (plans part.now) label action.now (plan_of tree)) }
+    ensures { IfOk result (λ tree. IsNext all (plans part.now) label transition.now (plan_of tree)) }
 {
     let none = Tree::Bottom;
-    match action {
-        Action::End => taken_over(alloc, tree_at(part, label, &none), Some(Why::Now)),
-        _ => step(alloc, all, action, behind),
+    match transition {
+        Transition::End => taken_over(alloc, tree_at(part, label, &none), Some(Why::Now)),
+        _ => step(alloc, all, transition, behind),
     }
 }
 
@@ -74,14 +75,14 @@ fn next(
 fn step(
     alloc: Global,
     all: bool,
-    action: &Action,
+    transition: &Transition,
     behind: &[Tree<AffineRank>],
 ) -> Result<Tree<AffineRank>, AllocError>
-    requires { LeadsWithin (length behind.now) action.now }
-    ensures { IfOk result (λ tree. IsStep all action.now (tree_at (plans behind.now) (first_target action.now))
-        (tree_at (plans behind.now) (second_target action.now)) (plan_of tree)) }
+    requires { LeadsWithin (length behind.now) transition.now }
+    ensures { IfOk result (λ tree. IsStep all transition.now (tree_at (plans behind.now) (first_target transition.now))
+        (tree_at (plans behind.now) (second_target transition.now)) (plan_of tree)) }
 {
-    match moved_back(alloc, all, action, behind) {
+    match moved_back(alloc, all, transition, behind) {
         Ok(tree) => Ok(tree),
         Err(fault) => given_up(fault),
     }

@@ -1,26 +1,19 @@
 //! Candidates of countdown programs.
-ghost use Rattle.std.specs.Prelude.{◌≡◌};
-ghost use Rattle.step_meaning.specs.Syntax.{statements};
-
 use crate::claims::push_trees;
 use case_text::{Answer, Words};
 use control_flow::Graph;
 use count_down::candidate;
 use std::alloc::{AllocError, Global};
-use step_meaning::Program;
 
 /// Adds the trees of the candidate, or that there is none; and where there is one though the program is no countdown program, or none though it is, that too.
 pub fn push_candidate(
     alloc: Global,
-    program: &Program,
     graph: &Graph,
     words: &mut Words<'_>,
     answer: &mut Answer,
-) -> Result<(), AllocError>
-    requires { statements graph.now.body ≡ statements program.now.body }
-{
-    let found = candidate(alloc, graph, program)?;
-    if found.is_some() != program.is_countdown() {
+) -> Result<(), AllocError> {
+    let found = candidate(alloc, graph)?;
+    if found.is_some() != graph.program().is_countdown() {
         answer.push("against what the program is: ");
     }
     match &found {

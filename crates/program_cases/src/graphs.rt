@@ -5,7 +5,7 @@ use std::alloc::{AllocError, Global};
 use step_meaning::Program;
 
 /// Adds the number of labels, or why there is no graph, with the offset of the statement.
-pub fn push_graph(alloc: Global, program: &Program, answer: &mut Answer) -> Result<(), AllocError> {
+pub fn push_graph(alloc: Global, program: Program, answer: &mut Answer) -> Result<(), AllocError> {
     match Graph::of(alloc, program) {
         Ok(graph) => push_counted(graph.labels(), " labels", answer),
         Err(FlowFault::Labels { at, count }) => {

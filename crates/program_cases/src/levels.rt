@@ -1,27 +1,20 @@
 //! Levels, their weights and their growths.
-ghost use Rattle.std.specs.Prelude.{◌≡◌};
-ghost use Rattle.step_meaning.specs.Syntax.{statements};
-
 use crate::claims::push_trees;
 use case_text::{Answer, Words};
 use control_flow::Graph;
 use decision_tree::Cause;
 use std::alloc::{AllocError, Global};
-use step_meaning::Program;
 use unroll::unroll;
 
 /// Reads a number of tests, and adds the level that is made for it, why no further one is, and its trees.
 pub fn push_level(
     alloc: Global,
-    program: &Program,
     graph: &Graph,
     words: &mut Words<'_>,
     answer: &mut Answer,
-) -> Result<(), AllocError>
-    requires { statements graph.now.body ≡ statements program.now.body }
-{
+) -> Result<(), AllocError> {
     let tests = words.count();
-    if !program.is_plain() {
+    if !graph.program().is_plain() {
         answer.push("not plain");
         return Ok(());
     }
@@ -58,15 +51,12 @@ pub fn push_weight(
 /// Reads a number of tests, and adds the growth of its level.
 pub fn push_growth(
     alloc: Global,
-    program: &Program,
     graph: &Graph,
     words: &mut Words<'_>,
     answer: &mut Answer,
-) -> Result<(), AllocError>
-    requires { statements graph.now.body ≡ statements program.now.body }
-{
+) -> Result<(), AllocError> {
     let tests = words.count();
-    if !program.is_plain() {
+    if !graph.program().is_plain() {
         answer.push("not plain");
         return Ok(());
     }

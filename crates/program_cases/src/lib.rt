@@ -25,14 +25,10 @@ mod levels;
 mod loops;
 mod programs;
 
-ghost use Rattle.std.specs.Prelude.{◌≡◌};
-ghost use Rattle.step_meaning.specs.Syntax.{statements};
-
 use crate::programs::{graph_of, read_program};
 use case_text::{Answer, Words};
 use control_flow::Graph;
 use std::alloc::{AllocError, Global};
-use step_meaning::Program;
 
 /// Makes the call of that name on the items and writes its answer; false where none has the name.
 pub fn answers(
@@ -47,13 +43,13 @@ pub fn answers(
         return Ok(true);
     };
     match name {
-        "graph" => graphs::push_graph(alloc, &program, answer)?,
+        "graph" => graphs::push_graph(alloc, program, answer)?,
         "plain" => answer.push_yes_or_no(program.is_plain()),
         _ => {
-            let Some(graph) = graph_of(alloc, &program, words)? else {
+            let Some(graph) = graph_of(alloc, program, words)? else {
                 return Ok(true);
             };
-            return of_graph(alloc, name, words, &program, &graph, answer);
+            return of_graph(alloc, name, words, &graph, answer);
         }
     }
     Ok(true)
@@ -64,20 +60,17 @@ fn of_graph(
     alloc: Global,
     name: &str,
     words: &mut Words<'_>,
-    program: &Program,
     graph: &Graph,
     answer: &mut Answer,
-) -> Result<bool, AllocError>
-    requires { statements graph.now.body ≡ statements program.now.body }
-{
+) -> Result<bool, AllocError> {
     match name {
         "edges" => graphs::push_edges(graph, answer),
         "labels" => graphs::push_labels(graph, answer),
-        "candidate" => candidates::push_candidate(alloc, program, graph, words, answer)?,
-        "level" => levels::push_level(alloc, program, graph, words, answer)?,
+        "candidate" => candidates::push_candidate(alloc, graph, words, answer)?,
+        "level" => levels::push_level(alloc, graph, words, answer)?,
         "weight" => levels::push_weight(alloc, graph, words, answer)?,
-        "growth" => levels::push_growth(alloc, program, graph, words, answer)?,
-        _ => return of_sets(alloc, name, words, program.vars(), graph, answer),
+        "growth" => levels::push_growth(alloc, graph, words, answer)?,
+        _ => return of_sets(alloc, name, words, graph.program().vars(), graph, answer),
     }
     Ok(true)
 }

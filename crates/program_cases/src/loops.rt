@@ -1,20 +1,21 @@
 //! What sweeps claim, facts of loops, and what hints propose.
 ghost use Rattle.std.specs.Prelude.{◌≡◌, ◌≤◌, length};
-ghost use Rattle.backward_sweeps.specs.Doing.{AreOnward};
+ghost use Rattle.transitions.specs.Transitions.{AreOnward};
 
 use crate::claims::push_claims;
 use advice::{FactKind, Hint, LoopFact};
-use backward_sweeps::{Action, actions, swept};
+use backward_sweeps::swept;
 use case_text::{Answer, Words, read_function, read_rows};
 use control_flow::Graph;
 use ctl_formula::Formula;
 use decision_tree::{AffineRank, TreeList};
-use forward_inv::{Inv, invariants};
+use forward_inv::{Inv, invariants, transitions_of};
 use interval_dom::Boxes;
 use linear_cons::Row;
 use loop_facts::{Facts, holds_under, proposal};
 use part_trees::{Claims, proposed};
 use std::alloc::{AllocError, Global};
+use transitions::Transition;
 
 /// How many sweeps are made before trees are widened.
 pub(crate) const DELAY: u32 = 2;
@@ -27,9 +28,9 @@ pub fn push_swept(
     answer: &mut Answer,
 ) -> Result<(), AllocError> {
     let inv: Inv<Boxes> = invariants(alloc, graph)?;
-    let actions = actions(alloc, graph, &inv)?;
-    let claims = claims_of_end(alloc, &inv, &actions)?;
-    let trees = swept(alloc, &inv, &actions, &claims.operands(true), DELAY)?;
+    let transitions = transitions_of(alloc, graph, &inv)?;
+    let claims = claims_of_end(alloc, &inv, &transitions)?;
+    let trees = swept(alloc, &inv, &transitions, &claims.operands(true), DELAY)?;
     match trees.items().get(graph.entry() as usize) {
         Some(tree) => push_claims(tree, words, answer),
         None => words.fail("no tree at the entry"),
@@ -38,13 +39,17 @@ pub fn push_swept(
 }
 
 /// What the claim that every run ends is made of.
-fn claims_of_end(alloc: Global, inv: &Inv<Boxes>, actions: &[Action]) -> Result<Claims, AllocError>
-    requires states { length inv.now ≡ length actions.now }
-    requires few { length actions.now ≤ 1024 }
-    requires onward { AreOnward actions.now }
+fn claims_of_end(
+    alloc: Global,
+    inv: &Inv<Boxes>,
+    transitions: &[Transition],
+) -> Result<Claims, AllocError>
+    requires states { length inv.now ≡ length transitions.now }
+    requires few { length transitions.now ≤ 1024 }
+    requires onward { AreOnward transitions.now }
 {
-    let keep = proposed(alloc, inv, actions, &Formula::True, &[], DELAY)?;
-    let goal = proposed(alloc, inv, actions, &Formula::Exit, &[], DELAY)?;
+    let keep = proposed(alloc, inv, transitions, &Formula::True, &[], DELAY)?;
+    let goal = proposed(alloc, inv, transitions, &Formula::Exit, &[], DELAY)?;
     Claims::of_trees(alloc, keep.items(), goal.items())
 }
 
@@ -56,8 +61,8 @@ pub fn push_facts(
     answer: &mut Answer,
 ) -> Result<(), AllocError> {
     let inv: Inv<Boxes> = invariants(alloc, graph)?;
-    let actions = actions(alloc, graph, &inv)?;
-    let facts = Facts::of(alloc, graph, &inv, &actions, u32::from(variables))?;
+    let transitions = transitions_of(alloc, graph, &inv)?;
+    let facts = Facts::of(alloc, graph, &inv, &transitions, u32::from(variables))?;
     if facts.guards.is_empty() {
         answer.push("none");
     }
@@ -116,14 +121,14 @@ fn hinted(
     hint: &Hint,
 ) -> Result<Option<TreeList<AffineRank>>, AllocError> {
     let inv: Inv<Boxes> = invariants(alloc, graph)?;
-    let actions = actions(alloc, graph, &inv)?;
-    let claims = claims_of_end(alloc, &inv, &actions)?;
+    let transitions = transitions_of(alloc, graph, &inv)?;
+    let claims = claims_of_end(alloc, &inv, &transitions)?;
     let operands = claims.operands(true);
-    let swept = swept(alloc, &inv, &actions, &operands, DELAY)?;
+    let swept = swept(alloc, &inv, &transitions, &operands, DELAY)?;
     proposal(
         alloc,
         graph,
-        &actions,
+        &transitions,
         &operands,
         swept.items(),
         u32::from(variables),

@@ -1,7 +1,4 @@
 //! Programs and their graphs.
-ghost use Rattle.std.specs.Prelude.{◌≡◌, IfOk, IfSome};
-ghost use Rattle.step_meaning.specs.Syntax.{statements};
-
 use case_text::Words;
 use control_flow::{FlowFault, Graph};
 use source_parse::{ParseFault, parse};
@@ -29,11 +26,9 @@ pub fn read_program(alloc: Global, items: &[u8]) -> Result<Option<Program>, Allo
 /// The graph of the program. None where it has none, which is noted as a fault of the line.
 pub fn graph_of(
     alloc: Global,
-    program: &Program,
+    program: Program,
     words: &mut Words<'_>,
-) -> Result<Option<Graph>, AllocError>
-    ensures { IfOk result (λ found. IfSome found (λ graph. statements graph.body ≡ statements program.now.body)) }
-{
+) -> Result<Option<Graph>, AllocError> {
     match Graph::of(alloc, program) {
         Ok(graph) => Ok(Some(graph)),
         Err(FlowFault::Memory(error)) => Err(error),

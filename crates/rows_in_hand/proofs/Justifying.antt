@@ -12,7 +12,7 @@ use Rattle.decision_tree.specs.declared.rank.Rank.{Ghosts as Ranks}
 use Rattle.tree_support.specs.declared.dropped.Reason.{Reason}
 use Rattle.tree_support.specs.declared.dropped.Reason.TheVariants.{Point, Wide as TooWide, Rows}
 use Rattle.tree_support.specs.Elimination.{IsOpen, IsSeen, IsWhole, Justifies, Shows, row_in_kind, rows_in, rows_of}
-use Rattle.tree_support.specs.Forming.{Formed, FormsWhole, exact}
+use Rattle.transitions.specs.Forming.{Formed, FormsWhole, exact}
 use Rattle.tree_support.specs.Support.{ClaimFits, choices, kinds_of}
 use Rattle.tree_support.specs.Systems.{System}
 use Rattle.rows_in_hand.specs.Hands.{Gives, GivesWith, Held, IsFormed, Item, Refutes, all_asked, all_chosen, asked, chosen, kind_of, kinds, unformed}

@@ -11,7 +11,7 @@ use Rattle.linear_solve.specs.Systems.{HasOpposed, IsOctagonList, IsOpposedToOne
 use Rattle.tree_support.specs.declared.dropped.Reason.{Reason}
 use Rattle.tree_support.specs.declared.dropped.Reason.TheVariants.{Point, Wide as TooWide, Rows}
 use Rattle.tree_support.specs.Elimination.{rows_in}
-use Rattle.tree_support.specs.Forming.{Formed, FormsWhole, exact}
+use Rattle.transitions.specs.Forming.{Formed, FormsWhole, exact}
 use Rattle.rows_in_hand.specs.declared.finding.Finding.{Finding}
 
 -- something that a system asks for: a function that is at least 0, a row of one of its claim's alternatives, or alternatives that can't be

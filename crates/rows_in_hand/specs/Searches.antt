@@ -7,7 +7,7 @@ use Rattle.linear_cons.specs.Exact.{IsOutside}
 use Rattle.decision_tree.specs.declared.rank.Alternatives.{Alternatives}
 use Rattle.decision_tree.specs.declared.rank.Rank.{Ghosts as Ranks}
 use Rattle.tree_support.specs.Elimination.{Justifies}
-use Rattle.tree_support.specs.Forming.{Formed}
+use Rattle.transitions.specs.Forming.{Formed}
 use Rattle.tree_support.specs.Support.{ClaimFits, HasNoStore, choices}
 use Rattle.tree_support.specs.Systems.{Claim, System}
 use Rattle.rows_in_hand.specs.declared.finding.Finding.{Finding}

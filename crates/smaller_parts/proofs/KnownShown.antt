@@ -17,11 +17,11 @@ use Rattle.decision_tree.specs.Extent.{ComplementsFit, IsTreeOver}
 use Rattle.ctl_formula.specs.Formulas.{Ctl, exit, truth}
 use Rattle.tree_check.specs.Checking.{families_of}
 use Rattle.tree_support.specs.Certificates.{IsShown, SparesPlace, affine_ranks}
-use Rattle.tree_support.specs.Flow.{chosen_place}
-use Rattle.tree_support.specs.Setting.{Setting, Trees, trees_in}
+use Rattle.transitions.specs.Arcs.{chosen_place}
+use Rattle.tree_support.specs.Setting.{Setting, Trees, setting_of, trees_in}
 use Rattle.tree_support.specs.Support.{HasNoStore, IsSupported}
 use Rattle.tree_support.specs.Systems.{System, of_leaf, region}
-use Rattle.tree_support.specs.Told.{Told, setting_of}
+use Rattle.transitions.specs.Told.{Told}
 use Rattle.smaller_parts.specs.Families.{IsFamilyFor}
 use Rattle.backward_sweeps.specs.Moving.{at_once}
 use Rattle.smaller_parts.specs.Known.{end_trees, truth_trees}

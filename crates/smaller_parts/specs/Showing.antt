@@ -10,7 +10,7 @@ use Rattle.decision_tree.specs.declared.family.Family.{Family}
 use Rattle.tree_check.specs.Checking.{families_of}
 use Rattle.tree_support.specs.Certificates.{IsShown, ItselfIsShown, SmallerAreShown, operands_from}
 use Rattle.tree_support.specs.Setting.{Trees}
-use Rattle.tree_support.specs.Told.{Told}
+use Rattle.transitions.specs.Told.{Told}
 use Rattle.smaller_parts.specs.Families.{AreNumberedFrom, IsFamilyFor, trees_of}
 use Rattle.smaller_parts.specs.declared.smaller.Shown.{Shown}
 use Rattle.smaller_parts.specs.declared.smaller.SmallerParts.{SmallerParts}

@@ -6,15 +6,13 @@ ghost use Rattle.tree_check.specs.Checking.{families_of};
 ghost use Rattle.tree_support.specs.Certificates.{affine_ranks};
 ghost use Rattle.tree_support.specs.declared.dropped.Dropped.{Dropped};
 ghost use Rattle.tree_support.specs.Elimination.{Eliminates};
-ghost use Rattle.tree_support.specs.Setting.{trees_in};
-ghost use Rattle.tree_support.specs.Told.{setting_of};
+ghost use Rattle.tree_support.specs.Setting.{setting_of, trees_in};
 ghost use Rattle.smaller_parts.specs.Fitting.{IsFit};
 ghost use Rattle.smaller_parts.specs.Knowing.{ArePremises, told_on};
 ghost use Rattle.smaller_parts.specs.Showing.{Shows};
 
 use crate::fitting::fitted;
 use crate::smaller::SmallerParts;
-use backward_sweeps::Action;
 use control_flow::Graph;
 use ctl_formula::Formula;
 use decision_tree::{AffineRank, Family, TreeList};
@@ -22,8 +20,8 @@ use forward_inv::Inv;
 use num_domain::NumDomain;
 use part_trees::proposed;
 use std::alloc::{AllocError, Global};
-use step_meaning::Program;
-use tree_check::check;
+use transitions::Transition;
+use tree_check::check_over;
 use tree_check::laws::eliminations_spare_places;
 
 /// What is known of a program whatever formula it is asked about: its graph with the number of labels, sets that have the states that are
@@ -31,10 +29,9 @@ use tree_check::laws::eliminations_spare_places;
 #[derive(Drop)]
 pub struct Premises<'a, D: NumDomain> {
     pub alloc: Global,
-    pub program: &'a Program,
     pub graph: &'a Graph,
     pub inv: &'a Inv<D>,
-    pub actions: &'a [Action],
+    pub transitions: &'a [Transition],
     pub labels: u32,
     pub delay: u32,
 }
@@ -48,12 +45,12 @@ impl<'a, D: NumDomain> Premises<'a, D> {
         trees: TreeList<AffineRank>,
     ) -> Result<Family<AffineRank>, AllocError>
         requires premises { ArePremises D.NumDomain.own self.now }
-        requires fit { All (IsFit (length self.now.program.now.names)) trees }
+        requires fit { All (IsFit (length self.now.graph.now.names)) trees }
         requires labels { length trees ≡ self.now.labels }
-        ensures shows { IfOk result (Shows self.now.program.now (told_on D.NumDomain.own self.now) (ctl formula.now) smaller.now.number
+        ensures shows { IfOk result (Shows self.now.graph.now (told_on D.NumDomain.own self.now) (ctl formula.now) smaller.now.number
             smaller.now.operands.items) }
         ensures legal { IfOk result (λ family. (drops : List Dropped) × Eliminates affine_ranks
-            (setting_of (statements self.now.program.now.body) (told_on D.NumDomain.own self.now) (ctl formula.now)
+            (setting_of (statements self.now.graph.now.body) (told_on D.NumDomain.own self.now) (ctl formula.now)
             (families_of smaller.now.operands.items)) (trees_in trees) drops (trees_in family.trees)) }
     {
         eliminations_spare_places();
@@ -62,10 +59,11 @@ impl<'a, D: NumDomain> Premises<'a, D> {
             trees,
         };
         // The drops show that what was given up was given up legally; no one reads them beyond that.
-        let _dropped = check(
+        let _dropped = check_over(
             self.alloc,
             self.graph,
             self.inv,
+            self.transitions,
             formula,
             &smaller.operands,
             &mut family,
@@ -82,10 +80,10 @@ impl<'a, D: NumDomain> Premises<'a, D> {
     ) -> Result<Family<AffineRank>, AllocError>
         requires premises { ArePremises D.NumDomain.own self.now }
         requires labels { length trees ≡ self.now.labels }
-        ensures { IfOk result (Shows self.now.program.now (told_on D.NumDomain.own self.now) (ctl formula.now) smaller.now.number
+        ensures { IfOk result (Shows self.now.graph.now (told_on D.NumDomain.own self.now) (ctl formula.now) smaller.now.number
             smaller.now.operands.items) }
     {
-        let fit = fitted(self.alloc, trees, &self.program.names)?;
+        let fit = fitted(self.alloc, trees, &self.graph.program().names)?;
         self.checked(formula, smaller, fit)
     }
 
@@ -96,13 +94,13 @@ impl<'a, D: NumDomain> Premises<'a, D> {
         smaller: &SmallerParts,
     ) -> Result<Family<AffineRank>, AllocError>
         requires premises { ArePremises D.NumDomain.own self.now }
-        ensures { IfOk result (Shows self.now.program.now (told_on D.NumDomain.own self.now) (ctl formula.now) smaller.now.number
+        ensures { IfOk result (Shows self.now.graph.now (told_on D.NumDomain.own self.now) (ctl formula.now) smaller.now.number
             smaller.now.operands.items) }
     {
         let trees = proposed(
             self.alloc,
             self.inv,
-            self.actions,
+            self.transitions,
             formula,
             &smaller.operands,
             self.delay,

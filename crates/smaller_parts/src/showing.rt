@@ -21,7 +21,7 @@ impl<'a, D: NumDomain> Premises<'a, D> {
     /// than 2^32 parts.
     pub fn smaller_parts(&self, formula: &Formula, first: u32) -> Result<SmallerParts, AllocError>
         requires premises { ArePremises D.NumDomain.own self.now }
-        ensures { IfOk result (AreSmaller self.now.program.now (told_on D.NumDomain.own self.now) self.now.labels first (ctl formula.now)) }
+        ensures { IfOk result (AreSmaller self.now.graph.now (told_on D.NumDomain.own self.now) self.now.labels first (ctl formula.now)) }
     {
         match formula {
             Formula::True | Formula::False | Formula::Exit | Formula::NotExit | Formula::Holds(_) =>
@@ -58,8 +58,8 @@ impl<'a, D: NumDomain> Premises<'a, D> {
     /// Families that show the formula and its smaller parts, where those of the latter are given. The only error is want of memory.
     fn shown(&self, formula: &Formula, smaller: SmallerParts) -> Result<Shown, AllocError>
         requires premises { ArePremises D.NumDomain.own self.now }
-        ensures { (k : ℕ) → AreSmaller self.now.program.now (told_on D.NumDomain.own self.now) self.now.labels k (ctl formula.now) smaller
-            → IfOk result (AreShown self.now.program.now (told_on D.NumDomain.own self.now) self.now.labels k (ctl formula.now)) }
+        ensures { (k : ℕ) → AreSmaller self.now.graph.now (told_on D.NumDomain.own self.now) self.now.labels k (ctl formula.now) smaller
+            → IfOk result (AreShown self.now.graph.now (told_on D.NumDomain.own self.now) self.now.labels k (ctl formula.now)) }
     {
         let whole = self.itself(formula, &smaller)?;
         let smaller = smaller.in_order()?;
@@ -74,7 +74,7 @@ impl<'a, D: NumDomain> Premises<'a, D> {
         smaller: &SmallerParts,
     ) -> Result<Family<AffineRank>, AllocError>
         requires premises { ArePremises D.NumDomain.own self.now }
-        ensures shows { IfOk result (Shows self.now.program.now (told_on D.NumDomain.own self.now) (ctl formula.now) smaller.now.number
+        ensures shows { IfOk result (Shows self.now.graph.now (told_on D.NumDomain.own self.now) (ctl formula.now) smaller.now.number
             smaller.now.operands.items) }
         ensures everywhere { ctl formula.now ≡ truth → IfOk result (λ family. (label : ℕ) → label < self.now.labels
             → IsWhole (trees_of family label)) }

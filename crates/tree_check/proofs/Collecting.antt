@@ -8,8 +8,8 @@ use Rattle.decision_tree.specs.Paths.{leaf_numbered, path_of}
 use Rattle.decision_tree.specs.Plans.{Plan, leaves_of, top}
 use Rattle.tree_support.specs.declared.dropped.Dropped.{Dropped}
 use Rattle.tree_support.specs.Elimination.{Eliminates, cause_of, without_dropped}
-use Rattle.tree_support.specs.Flow.{Arc, rows_given}
-use Rattle.tree_support.specs.Forming.{Formed, given}
+use Rattle.transitions.specs.Arcs.{Arc, rows_given}
+use Rattle.transitions.specs.Forming.{Formed, given}
 use Rattle.tree_support.specs.Setting.{Setting, Trees, trees_in}
 use Rattle.tree_support.specs.Support.{HasNoStore}
 use Rattle.tree_support.specs.Systems.{System, of_leaf, region, systems}

@@ -7,3 +7,4 @@ pub mod Narrowing
 pub mod Sparing
 pub mod Reading
 pub mod Counting
+pub mod Doing

@@ -1,14 +1,13 @@
 -- Where a drop makes nothing new that a store meets: beyond the path of the dropped leaf, moved back, whichever of its rows are in hand and in
 -- whichever order.
-use Rattle.std.proofs.Common.{◌≡◌, ◌≢◌, ◌⊎◌, inl, inr, ℕ, zero, suc, ◌+◌, ◌-◌, ◌<◌, ℤ, Bool, true, false, nat_lt, if◌then◌else◌, List, [], ◌∷◌, ◌++◌, map, get_or, All, Contains, Option, None, Some, refl, sym, ap, subst, ◌∙◌, arith}
+use Rattle.std.proofs.Common.{◌≡◌, ◌≢◌, ◌⊎◌, inl, inr, ℕ, zero, suc, ◌+◌, ◌-◌, ◌<◌, ℤ, Bool, true, false, nat_lt, if◌then◌else◌, List, [], ◌∷◌, ◌++◌, map, get_or, All, Contains, Option, None, Some, refl, sym, ap, subst, arith}
 use Rattle.std.proofs.lemmas.Bool.{le-ltb, lt-ltb}
 use Rattle.std.proofs.lemmas.List.Elements.{All-append, All-cons, All-contains, All-tail, All-weaker, Contains-append_cases, Contains-append_left, Contains-append_right}
 use Rattle.std.proofs.lemmas.Simd.{map-map}
 use Rattle.linear_cons.specs.declared.affine.Affine.{Affine}
 use Rattle.linear_cons.specs.declared.row.Row.{Row}
-use Rattle.linear_cons.specs.Functions.{complement_of, variable_at}
+use Rattle.linear_cons.specs.Functions.{complement_of}
 use Rattle.linear_cons.specs.Rows.{MeetsKind, row_kind_of}
-use Rattle.linear_forms.specs.Linearising.{is_exact}
 use Rattle.control_flow.specs.declared.edge.Choice.{Choice}
 use Rattle.control_flow.specs.declared.edge.Choice.TheVariants.{Branch, None as NoChoice, Range}
 use Rattle.ctl_formula.specs.Formulas.{Ctl, next, until, weak}
@@ -20,8 +19,8 @@ use Rattle.decision_tree.specs.declared.reason.Why.TheVariants.{Step}
 use Rattle.decision_tree.specs.Paths.{leaf_numbered, path_of}
 use Rattle.decision_tree.specs.Plans.{Plan, branch, leaf, leaves_of}
 use Rattle.tree_support.specs.declared.dropped.Dropped.{Dropped}
-use Rattle.tree_support.specs.Flow.{Arc, assigning, passing, rows_given, testing}
-use Rattle.tree_support.specs.Forming.{Formed, exact, given}
+use Rattle.transitions.specs.Arcs.{Arc, choosing, passing, putting, rows_given, testing}
+use Rattle.transitions.specs.Forming.{Formed, exact, given}
 use Rattle.tree_support.specs.Setting.{Setting, Trees}
 use Rattle.tree_support.specs.Support.{HasNoStore, choices}
 use Rattle.tree_support.specs.Systems.{is_existential, moved_by, region, systems}
@@ -30,9 +29,10 @@ use Rattle.rows_in_hand.specs.declared.hand.Hand.{Hand}
 use Rattle.rows_in_hand.specs.Hands.{IsMetNowhere, all_asked, asked, kind_of}
 use Rattle.rows_in_hand.specs.Searches.{Holds, IsSame}
 use Rattle.rows_in_hand.proofs.Choosing.{held_same}
-use Rattle.arc_search.specs.declared.moves.Moves.{Moves}
-use Rattle.arc_search.specs.declared.moves.Moves.TheVariants.{Assign, Pass, Test}
-use Rattle.arc_search.specs.Moves.{IsMovesAt, arcs_of, outcome_arcs}
+use Rattle.transitions.specs.Transitions.{arcs_of, outcome_arcs}
+use Rattle.transitions.specs.declared.transition.Transition.{Transition}
+use Rattle.transitions.specs.declared.transition.Transition.TheVariants.{Assign, Choose, Dead, End, Pass, Test}
+use Rattle.arc_search.specs.Arcs.{IsTransitionAt}
 use Rattle.arc_search.specs.Walks.{side_of}
 use Rattle.tree_check.specs.declared.survey.Refuted.{Refuted}
 use Rattle.tree_check.specs.declared.survey.Span.{Span}
@@ -144,11 +144,6 @@ module _ {R : Type 0} (ranks : Ranks R) where
 
 -- ---- the arcs that a leaf follows set what is set at the label
 
-either_sets : (t : Bool) (first second : Arc) (place : ℕ) (a b : Affine) → first.sets ≡ Some (place, a) → second.sets ≡ Some (place, b)
-    → (if t then first else second).sets ≡ Some (place, if t then a else b)
-either_sets true first second place a b here there = here
-either_sets false first second place a b here there = there
-
 sets_tested : (edge target : ℕ) (conjunctions : List (List Row)) (arc : Arc) → Contains (testing edge target conjunctions) arc → arc.sets ≡ None
 sets_tested edge target [] arc member = absurd (let low = member.1 in omega (arith, low))
 sets_tested edge target (rows ∷ more) arc (zero, low, same) = ap (λ (a : Arc). a.sets) (sym same)
@@ -158,21 +153,26 @@ only : (x arc : Arc) → Contains (x ∷ []) arc → arc.sets ≡ x.sets
 only x arc (zero, low, same) = ap (λ (a : Arc). a.sets) (sym same)
 only x arc (suc k, low, same) = absurd (omega (arith, low))
 
-sets_all : (moves : Moves) (arc : Arc) → Contains (arcs_of moves) arc → arc.sets ≡ sets_of moves
-sets_all (Assign place value target) arc member =
-    only (assigning place target value) arc member ∙ either_sets (is_exact value) _ _ place value.affine (variable_at 15) refl refl
-sets_all (Pass target) arc member = only (passing target) arc member
-sets_all (Test then_label else_label then_rows else_rows) arc member =
-    elim (Contains-append_cases (testing 0 then_label then_rows.items) (testing 1 else_label else_rows.items) arc member) [
-      | inl first ↦ sets_tested 0 then_label then_rows.items arc first
-      | inr second ↦ sets_tested 1 else_label else_rows.items arc second
+sets_all : (transition : Transition) (arc : Arc) → Contains (arcs_of transition) arc → arc.sets ≡ sets_of transition
+sets_all End arc member = only (passing 0) arc member
+sets_all Dead arc member = no_arc arc member
+sets_all (Assign place value to) arc member = only (putting place.number to value) arc member
+sets_all (Choose place range choice to) arc member = only (choosing place.number to range) arc member
+sets_all (Pass to) arc member = only (passing to) arc member
+sets_all (Test head choice holds fails to other) arc member =
+    elim (Contains-append_cases (testing 0 to holds.items) (testing 1 other fails.items) arc member) [
+      | inl first ↦ sets_tested 0 to holds.items arc first
+      | inr second ↦ sets_tested 1 other fails.items arc second
     ]
 
-sets_outcome : (moves : Moves) (outcome : Bool) (arc : Arc) → Contains (outcome_arcs moves outcome) arc → arc.sets ≡ sets_of moves
-sets_outcome (Test then_label else_label then_rows else_rows) true arc member = sets_tested 0 then_label then_rows.items arc member
-sets_outcome (Test then_label else_label then_rows else_rows) false arc member = sets_tested 1 else_label else_rows.items arc member
-sets_outcome (Assign place value target) outcome arc member = no_arc arc member
-sets_outcome (Pass target) outcome arc member = no_arc arc member
+sets_outcome : (transition : Transition) (outcome : Bool) (arc : Arc) → Contains (outcome_arcs transition outcome) arc → arc.sets ≡ sets_of transition
+sets_outcome (Test head choice holds fails to other) true arc member = sets_tested 0 to holds.items arc member
+sets_outcome (Test head choice holds fails to other) false arc member = sets_tested 1 other fails.items arc member
+sets_outcome End outcome arc member = no_arc arc member
+sets_outcome Dead outcome arc member = no_arc arc member
+sets_outcome (Pass to) outcome arc member = no_arc arc member
+sets_outcome (Assign place value to) outcome arc member = no_arc arc member
+sets_outcome (Choose place range choice to) outcome arc member = no_arc arc member
 
 unranged : (some : Bool) (choice : Choice) (arcs : List Arc) (arc : Arc) → (some ≡ false) ⊎ ((lo hi : Option ℤ) → choice ≢ Range lo hi)
     → Contains (if some then arcs_ranged choice arcs else []) arc → ⊥
@@ -192,23 +192,23 @@ module _ {R : Type 0} (at : Setting R) where
   some_is (weak false f g) = refl
   some_is other = refl
 
-module _ {R : Type 0} (at : Setting R) (label : ℕ) (moves : Moves) (follows : IsMovesAt at label moves) (none : PicksNoValue at label) where
-  picked_sets : (pick : Pick) (arc : Arc) → Contains (arcs_picked at pick label) arc → arc.sets ≡ sets_of moves
-  picked_sets Every arc member = sets_all moves arc (subst (λ arcs. Contains arcs arc) follows.arcs member)
-  picked_sets Yes arc member = sets_outcome moves true arc (subst (λ arcs. Contains arcs arc) (follows.outcomes true) member)
-  picked_sets No arc member = sets_outcome moves false arc (subst (λ arcs. Contains arcs arc) (follows.outcomes false) member)
+module _ {R : Type 0} (at : Setting R) (label : ℕ) (transition : Transition) (follows : IsTransitionAt at label transition) (none : PicksNoValue at label) where
+  picked_sets : (pick : Pick) (arc : Arc) → Contains (arcs_picked at pick label) arc → arc.sets ≡ sets_of transition
+  picked_sets Every arc member = sets_all transition arc (subst (λ arcs. Contains arcs arc) follows.arcs member)
+  picked_sets Yes arc member = sets_outcome transition true arc (subst (λ arcs. Contains arcs arc) (follows.outcomes true) member)
+  picked_sets No arc member = sets_outcome transition false arc (subst (λ arcs. Contains arcs arc) (follows.outcomes false) member)
   picked_sets (Value a) arc member = absurd (unranged (is_existential at at.formula) (at.flow.choice label) (at.flow.arcs_with label a) arc none member)
 
-  why_sets : (why : Why) (rank : R) (arc : Arc) → Contains (arcs_followed at (leaf why rank) label) arc → arc.sets ≡ sets_of moves
+  why_sets : (why : Why) (rank : R) (arc : Arc) → Contains (arcs_followed at (leaf why rank) label) arc → arc.sets ≡ sets_of transition
   why_sets (Step pick) rank arc member = picked_sets pick arc member
   why_sets other rank arc member = no_arc arc member
 
-  followed_sets : (end : Plan R) (arc : Arc) → Contains (arcs_followed at end label) arc → arc.sets ≡ sets_of moves
+  followed_sets : (end : Plan R) (arc : Arc) → Contains (arcs_followed at end label) arc → arc.sets ≡ sets_of transition
   followed_sets (leaf why rank) arc member = why_sets why rank arc member
   followed_sets other arc member = no_arc arc member
 
   -- what is in hand of the path moved back over what the label sets
-  pub path_held : (hand : Hand) (path : List Affine) → HoldsAmong hand (map (moved_by (sets_of moves)) path) → HoldsPath at label hand path
+  pub path_held : (hand : Hand) (path : List Affine) → HoldsAmong hand (map (moved_by (sets_of transition)) path) → HoldsPath at label hand path
   path_held hand path held = (
     held.0,
     held.1,

@@ -11,9 +11,8 @@ use Rattle.linear_forms.specs.Linearising.{is_exact, linear_of}
 use Rattle.linear_forms.specs.Spreading.{spread_of}
 use Rattle.control_flow.specs.Edges.{edges_from}
 use Rattle.control_flow.specs.Labels.{Action, ends, assigns, passes, tests}
-use Rattle.tree_support.specs.Flow.{Arc, arcs_by, arcs_of_outcome, arcs_putting, assigning, testing}
-use Rattle.arc_search.specs.Moves.{target_of}
-use Rattle.tree_check.specs.Rounds.{Avoid}
+use Rattle.transitions.specs.Arcs.{Arc, arcs_by, arcs_of_outcome, arcs_putting, assigning, testing}
+use Rattle.tree_check.specs.Rounds.{Avoid, target_of}
 
 -- the edge of a number
 abbrev pub edge_to : List (Option Edge) → ℕ → ℕ

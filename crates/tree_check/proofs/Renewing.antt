@@ -20,8 +20,8 @@ use Rattle.control_flow.specs.declared.edge.Choice.TheVariants.{Branch, Range}
 use Rattle.ctl_formula.specs.Formulas.{Ctl, until, weak}
 use Rattle.tree_support.specs.declared.dropped.Dropped.{Dropped}
 use Rattle.tree_support.specs.Elimination.{IsElsewhere, cause_of, without_dropped}
-use Rattle.tree_support.specs.Flow.{Arc, rows_given}
-use Rattle.tree_support.specs.Forming.{Formed, given}
+use Rattle.transitions.specs.Arcs.{Arc, rows_given}
+use Rattle.transitions.specs.Forming.{Formed, given}
 use Rattle.tree_support.specs.Setting.{Setting, Trees}
 use Rattle.tree_support.specs.Systems.{System, above_range, at_leaves, below_range, if_undefined, is_existential, moved_by, nothing, of_arcs, of_keep, of_leaf, of_outcome, of_pick, of_rank, of_value, of_why, plain, region, systems, unedged, unless_less}
 use Rattle.decision_tree.proofs.Replacing.{here, paths_kept}

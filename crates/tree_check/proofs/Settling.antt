@@ -14,7 +14,7 @@ use Rattle.decision_tree.specs.Paths.{leaf_numbered, path_of, with_leaf}
 use Rattle.decision_tree.specs.Plans.{Plan, bottom, branch, is_defined, leaf, leaves_of, plan_of, top}
 use Rattle.tree_support.specs.declared.dropped.Dropped.{Dropped}
 use Rattle.tree_support.specs.Elimination.{Eliminates, cause_of, without_dropped}
-use Rattle.tree_support.specs.Forming.{Formed}
+use Rattle.transitions.specs.Forming.{Formed}
 use Rattle.tree_support.specs.Setting.{Setting, Trees, trees_in}
 use Rattle.tree_support.specs.Support.{HasNoStore}
 use Rattle.tree_support.specs.Systems.{System, of_leaf, region, systems}

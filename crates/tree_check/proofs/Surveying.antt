@@ -15,8 +15,8 @@ use Rattle.decision_tree.specs.declared.reason.Why.{Why}
 use Rattle.decision_tree.specs.Paths.{leaf_numbered, path_of}
 use Rattle.decision_tree.specs.Plans.{Plan, branch, leaf, leaves_of, plan_of}
 use Rattle.decision_tree.specs.declared.tree.Tree.{Tree}
-use Rattle.tree_support.specs.Flow.{rows_given}
-use Rattle.tree_support.specs.Forming.{Formed, given}
+use Rattle.transitions.specs.Arcs.{rows_given}
+use Rattle.transitions.specs.Forming.{Formed, given}
 use Rattle.tree_support.specs.Setting.{Setting, Trees, trees_in}
 use Rattle.tree_support.specs.Support.{HasNoStore}
 use Rattle.tree_support.specs.Systems.{System, of_leaf, systems}

@@ -1,5 +1,5 @@
 -- The rounds: refuted leaves are given up until none is left.
-use Rattle.std.specs.Prelude.{◌≡◌, ◌≢◌, ℕ, ◌+◌, ◌<◌, ◌≤◌, Bool, List, ◌++◌, length, All, Contains, slice_index_or, slice_set}
+use Rattle.std.specs.Prelude.{◌≡◌, ◌≢◌, ℕ, ◌+◌, ◌<◌, ◌≤◌, Bool, true, false, List, ◌++◌, length, All, Contains, Option, None, Some, slice_index_or, slice_set}
 use Rattle.std.specs.List.{sum_by}
 use Rattle.step_meaning.specs.Syntax.{statements}
 use Rattle.linear_cons.specs.declared.affine.Affine.{Affine}
@@ -10,11 +10,16 @@ use Rattle.decision_tree.specs.Plans.{Plan, bottom, branch, leaf, leaves_of, top
 use Rattle.num_domain.specs.declared.domain.NumDomain.{Ghosts as Domain}
 use Rattle.tree_support.specs.declared.dropped.Dropped.{Dropped}
 use Rattle.tree_support.specs.Elimination.{Eliminates, cause_of}
-use Rattle.tree_support.specs.Flow.{Arc}
-use Rattle.tree_support.specs.Setting.{Setting, Trees, trees_in}
+use Rattle.control_flow.specs.declared.edge.Edge.{Edge}
+use Rattle.control_flow.specs.Labels.{all_labels}
+use Rattle.transitions.specs.Arcs.{Arc}
+use Rattle.transitions.specs.Transitions.{AreTold}
+use Rattle.transitions.specs.declared.transition.Transition.{Transition}
+use Rattle.transitions.specs.declared.transition.Transition.TheVariants.{Dead}
+use Rattle.tree_support.specs.Setting.{Setting, Trees, setting_of, trees_in}
 use Rattle.tree_support.specs.Support.{HasNoStore}
 use Rattle.tree_support.specs.Systems.{systems}
-use Rattle.tree_support.specs.Told.{setting_of, told_by}
+use Rattle.transitions.specs.Told.{told_by}
 use Rattle.tree_check.specs.Checking.{families_of}
 use Rattle.tree_check.specs.declared.rounds.Premises.{Premises}
 use Rattle.tree_check.specs.declared.survey.Refuted.{Refuted}
@@ -22,6 +27,16 @@ use Rattle.tree_check.specs.declared.survey.Refuted.{Refuted}
 -- none of the arcs leads to the label
 abbrev pub Avoid : List Arc → ℕ → Type 0
 Avoid arcs other = (arc : Arc) → Contains arcs arc → arc.target ≢ other
+
+-- where an edge leads, and label 0 where there is none
+abbrev pub target_of : Option Edge → ℕ
+target_of None = 0
+target_of (Some edge) = edge.to
+
+-- no run comes to the label
+abbrev pub is_dead : Transition → Bool
+is_dead Dead = true
+is_dead transition = false
 
 -- the drop of a refuted leaf
 abbrev pub dropped_by : ℕ → Refuted → Dropped
@@ -59,6 +74,12 @@ abbrev pub setting_on : {D R : Type 0} → Domain D → Premises D R → Setting
 setting_on domain premises =
     setting_of (statements premises.graph.now.body) (told_by domain.told_bounds domain.told_rows domain.seen_empty premises.inv.now) (ctl premises.formula.now)
     (families_of premises.parts.now)
+
+-- there is a set and a transition for each label, and the transitions are over the sets
+pub record IsReady {D R : Type 0} (domain : Domain D) (premises : Premises D R) : Type 0 where
+  pub states : length premises.inv.now ≡ length (all_labels (statements premises.graph.now.body))
+  pub labels : length premises.transitions.now ≡ length (all_labels (statements premises.graph.now.body))
+  pub told : AreTold (statements premises.graph.now.body) (told_by domain.told_bounds domain.told_rows domain.seen_empty premises.inv.now) premises.transitions.now
 
 module _ {R : Type 0} (ranks : Ranks R) (at : Setting R) where
   -- legal drops lead from the old trees to the new, and were appended to the list

@@ -4,7 +4,7 @@ use Rattle.linear_cons.specs.declared.affine.Affine.{Affine}
 use Rattle.decision_tree.specs.declared.rank.Rank.{Ghosts as Ranks}
 use Rattle.decision_tree.specs.Paths.{leaf_numbered, path_of}
 use Rattle.decision_tree.specs.Plans.{Plan, leaves_of}
-use Rattle.tree_support.specs.Forming.{Formed, given}
+use Rattle.transitions.specs.Forming.{Formed, given}
 use Rattle.tree_support.specs.Setting.{Setting, Trees}
 use Rattle.tree_support.specs.Support.{HasNoStore}
 use Rattle.tree_support.specs.Systems.{System, of_leaf, systems}

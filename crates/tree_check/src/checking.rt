@@ -5,19 +5,21 @@ ghost use Rattle.control_flow.specs.Labels.{all_labels};
 ghost use Rattle.ctl_formula.specs.Mirror.{ctl};
 ghost use Rattle.decision_tree.specs.Plans.{leaves_of};
 ghost use Rattle.tree_support.specs.Elimination.{Eliminates};
-ghost use Rattle.tree_support.specs.Setting.{trees_in};
+ghost use Rattle.tree_support.specs.Setting.{setting_of, trees_in};
 ghost use Rattle.tree_support.specs.Support.{IsSupported};
-ghost use Rattle.tree_support.specs.Told.{setting_of, told_by};
+ghost use Rattle.transitions.specs.Told.{told_by};
+ghost use Rattle.transitions.specs.Transitions.{AreTold};
 ghost use Rattle.tree_check.specs.Checking.{WasCutShort, families_of};
 
 use crate::rounds::Premises;
 use control_flow::Graph;
 use ctl_formula::Formula;
 use decision_tree::{Family, Rank, TreeList};
-use forward_inv::Inv;
+use forward_inv::{Inv, transitions_of};
 use num_domain::NumDomain;
 use std::alloc::{AllocError, Global};
 use std::mem;
+use transitions::Transition;
 use tree_support::Dropped;
 
 /// Of the leaves of the formula's family it leaves those that are supported, over the graph with its invariants and the families of the
@@ -47,10 +49,42 @@ pub fn check<D: NumDomain, R: Rank>(
         (told_by D.told_bounds D.told_rows D.seen_empty inv.now) (ctl formula.now) (families_of parts.now))
         (trees_in family.old.trees) (trees_in family.new.trees)) }
 {
+    let transitions = transitions_of(alloc, graph, inv)?;
+    check_over(alloc, graph, inv, &transitions, formula, parts, family)
+}
+
+/// The same, over what is done at the labels, which is known already.
+pub fn check_over<D: NumDomain, R: Rank>(
+    alloc: Global,
+    graph: &Graph,
+    inv: &Inv<D>,
+    transitions: &[Transition],
+    formula: &Formula,
+    parts: &[Family<R>],
+    family: &mut Family<R>,
+) -> Result<Vec<Dropped>, AllocError>
+    requires states { length inv.now ≡ length (all_labels (statements graph.now.body)) }
+    requires transitions { length transitions.now ≡ length (all_labels (statements graph.now.body)) }
+    requires told { AreTold (statements graph.now.body) (told_by D.told_bounds D.told_rows D.seen_empty inv.now) transitions.now }
+    requires trees { length family.old.trees ≡ length (all_labels (statements graph.now.body)) }
+    requires leaves { (label : ℕ) → leaves_of (trees_in family.old.trees label) < 2 ^ 64 - 1 }
+    ensures legal { IfOk result (λ drops. Eliminates R.Rank.own (setting_of (statements graph.now.body)
+        (told_by D.told_bounds D.told_rows D.seen_empty inv.now) (ctl formula.now) (families_of parts.now))
+        (trees_in family.old.trees) drops.items (trees_in family.new.trees)) }
+    ensures supported { OnOk result (IsSupported R.Rank.own (setting_of (statements graph.now.body)
+        (told_by D.told_bounds D.told_rows D.seen_empty inv.now) (ctl formula.now) (families_of parts.now))
+        (trees_in family.new.trees)) }
+    ensures labels { length family.new.trees ≡ length family.old.trees }
+    ensures part { family.new.part ≡ family.old.part }
+    ensures begun { OnErr result (WasCutShort R.Rank.own (setting_of (statements graph.now.body)
+        (told_by D.told_bounds D.told_rows D.seen_empty inv.now) (ctl formula.now) (families_of parts.now))
+        (trees_in family.old.trees) (trees_in family.new.trees)) }
+{
     let premises = Premises {
         alloc,
         graph,
         inv,
+        transitions,
         formula,
         parts,
     };

@@ -10,5 +10,5 @@ mod narrow;
 mod rounds;
 mod survey;
 
-pub use checking::check;
+pub use checking::{check, check_over};
 pub use tree_support::{Dropped, Reason};

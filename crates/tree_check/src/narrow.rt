@@ -4,47 +4,29 @@ ghost use Rattle.decision_tree.specs.Paths.{path_of};
 ghost use Rattle.decision_tree.specs.Plans.{leaves_of, plan_of};
 ghost use Rattle.tree_support.specs.Systems.{moved_by};
 ghost use Rattle.rows_in_hand.specs.Searches.{Holds, IsSame};
-ghost use Rattle.arc_search.specs.Moves.{HasPlace};
-ghost use Rattle.tree_check.specs.Narrowing.{HoldsAmong, put_of, sets_of};
+ghost use Rattle.tree_check.specs.Narrowing.{HoldsAmong, sets_of};
 
-use arc_search::{Moves, Way};
+use arc_search::Way;
 use decision_tree::{Rank, Tree};
-use linear_cons::{Affine, Linear};
+use linear_cons::Affine;
 use rows_in_hand::Hand;
 use std::alloc::AllocError;
+use transitions::Transition;
 
 /// The place that is no variable's, where a value is kept while it is chosen.
 const CHOSEN_PLACE: u8 = 15;
 
 /// What the arcs of a label set: a place, to the value of a function.
-pub(crate) fn sets(moves: &Moves) -> Option<(u8, Affine)>
-    ensures sets { result ≡ sets_of moves.now }
-    ensures place { HasPlace moves.now → IfSome result (λ s. s.0 < 16) }
+pub(crate) fn sets(transition: &Transition) -> Option<(u8, Affine)>
+    ensures sets { result ≡ sets_of transition.now }
+    ensures place { IfSome result (λ s. s.0 < 16) }
 {
-    match moves {
-        Moves::Assign {
-            place,
-            value,
-            next: _,
-        } => Some((*place, put(value))),
-        Moves::Pass { next: _ } => None,
-        Moves::Test {
-            yes: _,
-            no: _,
-            yes_rows: _,
-            no_rows: _,
-        } => None,
+    match transition {
+        Transition::Assign { place, value, .. } => Some((place.number, *value)),
+        Transition::Choose { place, .. } => Some((place.number, Affine::var(CHOSEN_PLACE))),
+        Transition::End | Transition::Dead | Transition::Pass { .. } | Transition::Test { .. } =>
+            None,
     }
-}
-
-/// The function whose value is put: that of the form where nothing is left out of it, else a chosen value.
-fn put(value: &Linear) -> Affine
-    ensures { result ≡ put_of value.now }
-{
-    if value.lo == Some(0) && value.hi == Some(0) {
-        return value.affine;
-    }
-    Affine::var(CHOSEN_PLACE)
 }
 
 /// Adds the rows of the path to the leaf that `left` others come before, the last one first, and counts `left` down by each leaf that it

@@ -10,16 +10,15 @@ ghost use Rattle.tree_support.specs.Elimination.{cause_of};
 ghost use Rattle.tree_support.specs.Setting.{trees_in};
 ghost use Rattle.tree_support.specs.Support.{IsSupported};
 ghost use Rattle.rows_in_hand.specs.Searches.{WhereAsked};
-ghost use Rattle.arc_search.specs.Moves.{HasPlace, IsMovesAt};
 ghost use Rattle.tree_check.specs.Narrowing.{HoldsPath, PicksNoValue, speaks_of_some};
-ghost use Rattle.tree_check.specs.Rounds.{Advances, AreElsewhere, IsSupportedAt, LeadsElsewhere, dropped_by, setting_on, without_refuted};
+ghost use Rattle.tree_check.specs.Rounds.{Advances, AreElsewhere, IsReady, IsSupportedAt, LeadsElsewhere, dropped_by, is_dead, setting_on, target_of, without_refuted};
 ghost use Rattle.tree_check.specs.Surveys.{AreApart, IsFirst, IsFound, IsReviewed};
 ghost use Rattle.tree_check.specs.Telling.{AreCleared, AreTold, IsTold};
 
 use crate::narrow::{add_path, sets};
 use crate::survey::{Refuted, Span, Survey};
-use arc_search::{Moves, Way, target};
-use control_flow::{Choice, Graph};
+use arc_search::Way;
+use control_flow::{Choice, Edge, Graph};
 use ctl_formula::Formula;
 use decision_tree::{Cause, Family, Rank, Tree};
 use forward_inv::Inv;
@@ -28,17 +27,20 @@ use linear_cons::Row;
 use num_domain::NumDomain;
 use rows_in_hand::Hand;
 use std::alloc::{AllocError, Global};
+use transitions::Transition;
 use tree_support::{Dropped, Reason};
 
 /// A tree that has so many leaves for each drop is rather looked at behind the drops, one by one, than surveyed.
 const LEAVES_TO_A_DROP: u64 = 8;
 
-/// What the leaves of a family are held against: a graph with its invariants, a formula, and the families of its operands.
+/// What the leaves of a family are held against: a graph with its invariants and what is done at its labels over them, a formula, and the
+/// families of its operands.
 #[derive(Drop)]
 pub(crate) struct Premises<'a, D: NumDomain, R: Rank> {
     pub(crate) alloc: Global,
     pub(crate) graph: &'a Graph,
     pub(crate) inv: &'a Inv<D>,
+    pub(crate) transitions: &'a [Transition],
     pub(crate) formula: &'a Formula,
     pub(crate) parts: &'a [Family<R>],
 }
@@ -51,7 +53,7 @@ impl<'a, D: NumDomain, R: Rank> Premises<'a, D, R> {
         drops: &mut Vec<Dropped>,
     ) -> Result<(), AllocError>
         requires trees { length trees.old ≡ length (all_labels (statements self.now.graph.now.body)) }
-        requires states { length self.now.inv.now ≡ length (all_labels (statements self.now.graph.now.body)) }
+        requires ready { IsReady D.NumDomain.own self.now }
         requires leaves { (label : ℕ) → leaves_of (trees_in (map plan_of trees.old) label) < 2 ^ 64 - 1 }
         ensures advances { Advances R.Rank.own (setting_on D.NumDomain.own self.now) (map plan_of trees.old) drops.old.items
             (map plan_of trees.new) drops.new.items }
@@ -70,7 +72,7 @@ impl<'a, D: NumDomain, R: Rank> Premises<'a, D, R> {
         told: &mut [Option<usize>],
     ) -> Result<(), AllocError>
         requires trees { length trees.old ≡ length (all_labels (statements self.now.graph.now.body)) }
-        requires states { length self.now.inv.now ≡ length (all_labels (statements self.now.graph.now.body)) }
+        requires ready { IsReady D.NumDomain.own self.now }
         requires leaves { (label : ℕ) → leaves_of (trees_in (map plan_of trees.old) label) < 2 ^ 64 - 1 }
         requires labels { length told.old ≡ length (all_labels (statements self.now.graph.now.body)) }
         requires told { AreTold R.Rank.own (setting_on D.NumDomain.own self.now) (trees_in (map plan_of trees.old)) drops.old.items told.old }
@@ -95,7 +97,7 @@ impl<'a, D: NumDomain, R: Rank> Premises<'a, D, R> {
         told: &mut [Option<usize>],
     ) -> Result<(), AllocError>
         requires trees { length trees.old ≡ length (all_labels (statements self.now.graph.now.body)) }
-        requires states { length self.now.inv.now ≡ length (all_labels (statements self.now.graph.now.body)) }
+        requires ready { IsReady D.NumDomain.own self.now }
         requires leaves { (label : ℕ) → leaves_of (trees_in (map plan_of trees.old) label) < 2 ^ 64 - 1 }
         requires labels { length told.old ≡ length (all_labels (statements self.now.graph.now.body)) }
         requires told { AreTold R.Rank.own (setting_on D.NumDomain.own self.now) (trees_in (map plan_of trees.old)) drops.old.items told.old }
@@ -123,7 +125,7 @@ impl<'a, D: NumDomain, R: Rank> Premises<'a, D, R> {
     ) -> Result<(), AllocError>
         requires label { label < length (all_labels (statements self.now.graph.now.body)) }
         requires trees { length trees.old ≡ length (all_labels (statements self.now.graph.now.body)) }
-        requires states { length self.now.inv.now ≡ length (all_labels (statements self.now.graph.now.body)) }
+        requires ready { IsReady D.NumDomain.own self.now }
         requires leaves { (label : ℕ) → leaves_of (trees_in (map plan_of trees.old) label) < 2 ^ 64 - 1 }
         requires labels { length told.old ≡ length (all_labels (statements self.now.graph.now.body)) }
         requires told { AreTold R.Rank.own (setting_on D.NumDomain.own self.now) (trees_in (map plan_of trees.old)) drops.old.items told.old }
@@ -174,7 +176,7 @@ impl<'a, D: NumDomain, R: Rank> Premises<'a, D, R> {
     ) -> Result<(), AllocError>
         requires label { label < length (all_labels (statements self.now.graph.now.body)) }
         requires trees { length trees.old ≡ length (all_labels (statements self.now.graph.now.body)) }
-        requires states { length self.now.inv.now ≡ length (all_labels (statements self.now.graph.now.body)) }
+        requires ready { IsReady D.NumDomain.own self.now }
         requires leaves { (label : ℕ) → leaves_of (trees_in (map plan_of trees.old) label) < 2 ^ 64 - 1 }
         requires labels { length told.old ≡ length (all_labels (statements self.now.graph.now.body)) }
         requires told { AreTold R.Rank.own (setting_on D.NumDomain.own self.now) (trees_in (map plan_of trees.old)) drops.old.items told.old }
@@ -203,7 +205,7 @@ impl<'a, D: NumDomain, R: Rank> Premises<'a, D, R> {
     ) -> Result<usize, AllocError>
         requires label { label < length (all_labels (statements self.now.graph.now.body)) }
         requires trees { length trees.old ≡ length (all_labels (statements self.now.graph.now.body)) }
-        requires states { length self.now.inv.now ≡ length (all_labels (statements self.now.graph.now.body)) }
+        requires ready { IsReady D.NumDomain.own self.now }
         requires leaves { (label : ℕ) → leaves_of (trees_in (map plan_of trees.old) label) < 2 ^ 64 - 1 }
         requires elsewhere { LeadsElsewhere (setting_on D.NumDomain.own self.now) label label }
         requires told { IsTold R.Rank.own (setting_on D.NumDomain.own self.now) (trees_in (map plan_of trees.old)) drops.old.items from label }
@@ -231,7 +233,7 @@ impl<'a, D: NumDomain, R: Rank> Premises<'a, D, R> {
     ) -> Result<(), AllocError>
         requires label { label < length (all_labels (statements self.now.graph.now.body)) }
         requires trees { length trees.old ≡ length (all_labels (statements self.now.graph.now.body)) }
-        requires states { length self.now.inv.now ≡ length (all_labels (statements self.now.graph.now.body)) }
+        requires ready { IsReady D.NumDomain.own self.now }
         requires leaves { (label : ℕ) → leaves_of (trees_in (map plan_of trees.old) label) < 2 ^ 64 - 1 }
         requires elsewhere { LeadsElsewhere (setting_on D.NumDomain.own self.now) label label }
         ensures advances { Advances R.Rank.own (setting_on D.NumDomain.own self.now) (map plan_of trees.old) drops.old.items
@@ -242,21 +244,18 @@ impl<'a, D: NumDomain, R: Rank> Premises<'a, D, R> {
         if !self.leads(label, dropped.label) {
             return Ok(());
         }
-        let state = self.inv.at(label);
-        if state.is_empty() {
+        if is_dead(&self.transitions[label as usize]) {
             return Ok(());
         }
-        let rows = state.rows(self.alloc)?;
-        let moves = Moves::of(self.alloc, self.graph, label, &state.bounds())?;
-        self.renew(label, dropped, &moves, &rows, trees, drops)
+        let rows = self.inv.at(label).rows(self.alloc)?;
+        self.renew(label, dropped, &rows, trees, drops)
     }
 
-    /// The same for a label at which a store may be, with what is done there and what its invariant says, where an edge may lead to the drop.
+    /// The same for a label at which a store may be, with what its invariant says, where an edge may lead to the drop.
     fn renew(
         &self,
         label: u32,
         dropped: &Dropped,
-        moves: &Moves,
         rows: &[Row],
         trees: &mut [Tree<R>],
         drops: &mut Vec<Dropped>,
@@ -265,38 +264,31 @@ impl<'a, D: NumDomain, R: Rank> Premises<'a, D, R> {
         requires trees { length trees.old ≡ length (all_labels (statements self.now.graph.now.body)) }
         requires leaves { (label : ℕ) → leaves_of (trees_in (map plan_of trees.old) label) < 2 ^ 64 - 1 }
         requires elsewhere { LeadsElsewhere (setting_on D.NumDomain.own self.now) label label }
-        requires place { HasPlace moves.now }
+        requires ready { IsReady D.NumDomain.own self.now }
         requires alive { (setting_on D.NumDomain.own self.now).dead label ≡ false }
-        requires moves { IsMovesAt (setting_on D.NumDomain.own self.now) label moves.now }
         requires rows { (setting_on D.NumDomain.own self.now).rows label ≡ rows.now }
         ensures advances { Advances R.Rank.own (setting_on D.NumDomain.own self.now) (map plan_of trees.old) drops.old.items
             (map plan_of trees.new) drops.new.items }
         ensures cleared { OnOk result (AreCleared R.Rank.own (setting_on D.NumDomain.own self.now)
             (trees_in (map plan_of trees.new)) (Some dropped.now) label []) }
     {
-        let mut narrow = self.path_to(label, dropped, moves, trees)?;
+        let mut narrow = self.path_to(label, dropped, trees)?;
         let span = Span {
             first: 0,
             collects: true,
             narrows: true,
         };
-        let found = self.refuted(label, span, &mut narrow, moves, rows, trees)?;
+        let found = self.refuted(label, span, &mut narrow, rows, trees)?;
         self.give_up_each(label, &found, trees, drops)?;
         Ok(())
     }
 
     /// The rows of the dropped leaf's path, moved back over what is done at the label. Without rows where a leaf of the label may put a
     /// value of its own.
-    fn path_to(
-        &self,
-        label: u32,
-        dropped: &Dropped,
-        moves: &Moves,
-        trees: &[Tree<R>],
-    ) -> Result<Hand, AllocError>
+    fn path_to(&self, label: u32, dropped: &Dropped, trees: &[Tree<R>]) -> Result<Hand, AllocError>
         requires label { label < length (all_labels (statements self.now.graph.now.body)) }
-        requires place { HasPlace moves.now }
-        requires moves { IsMovesAt (setting_on D.NumDomain.own self.now) label moves.now }
+        requires ready { IsReady D.NumDomain.own self.now }
+        requires alive { (setting_on D.NumDomain.own self.now).dead label ≡ false }
         ensures { IfOk result (λ hand. HoldsPath (setting_on D.NumDomain.own self.now) label hand
             (path_of (trees_in (map plan_of trees.now) dropped.now.label) dropped.now.leaf)) }
     {
@@ -309,7 +301,7 @@ impl<'a, D: NumDomain, R: Rank> Premises<'a, D, R> {
         };
         let way = Way {
             edge: UNEDGED,
-            sets: sets(moves),
+            sets: sets(&self.transitions[label as usize]),
             limit: None,
         };
         let mut left = dropped.leaf;
@@ -346,27 +338,24 @@ impl<'a, D: NumDomain, R: Rank> Premises<'a, D, R> {
     ) -> Result<bool, AllocError>
         requires label { label < length (all_labels (statements self.now.graph.now.body)) }
         requires trees { length trees.old ≡ length (all_labels (statements self.now.graph.now.body)) }
-        requires states { length self.now.inv.now ≡ length (all_labels (statements self.now.graph.now.body)) }
+        requires ready { IsReady D.NumDomain.own self.now }
         requires leaves { (label : ℕ) → leaves_of (trees_in (map plan_of trees.old) label) < 2 ^ 64 - 1 }
         ensures advances { Advances R.Rank.own (setting_on D.NumDomain.own self.now) (map plan_of trees.old) drops.old.items
             (map plan_of trees.new) drops.new.items }
         ensures supported { IfOk result (λ whole. (whole ≡ true) ⊎ (drops.new.items ≡ drops.old.items)
             → IsSupportedAt R.Rank.own (setting_on D.NumDomain.own self.now) (trees_in (map plan_of trees.new)) label) }
     {
-        let state = self.inv.at(label);
-        if state.is_empty() {
+        if is_dead(&self.transitions[label as usize]) {
             return Ok(true);
         }
-        let rows = state.rows(self.alloc)?;
-        let moves = Moves::of(self.alloc, self.graph, label, &state.bounds())?;
-        self.settle_alive(label, &moves, &rows, trees, drops)
+        let rows = self.inv.at(label).rows(self.alloc)?;
+        self.settle_alive(label, &rows, trees, drops)
     }
 
-    /// The same for a label at which a store may be, with what is done there and what its invariant says.
+    /// The same for a label at which a store may be, with what its invariant says.
     fn settle_alive(
         &self,
         label: u32,
-        moves: &Moves,
         rows: &[Row],
         trees: &mut [Tree<R>],
         drops: &mut Vec<Dropped>,
@@ -374,9 +363,8 @@ impl<'a, D: NumDomain, R: Rank> Premises<'a, D, R> {
         requires label { label < length (all_labels (statements self.now.graph.now.body)) }
         requires trees { length trees.old ≡ length (all_labels (statements self.now.graph.now.body)) }
         requires leaves { (label : ℕ) → leaves_of (trees_in (map plan_of trees.old) label) < 2 ^ 64 - 1 }
-        requires place { HasPlace moves.now }
+        requires ready { IsReady D.NumDomain.own self.now }
         requires alive { (setting_on D.NumDomain.own self.now).dead label ≡ false }
-        requires moves { IsMovesAt (setting_on D.NumDomain.own self.now) label moves.now }
         requires rows { (setting_on D.NumDomain.own self.now).rows label ≡ rows.now }
         ensures advances { Advances R.Rank.own (setting_on D.NumDomain.own self.now) (map plan_of trees.old) drops.old.items
             (map plan_of trees.new) drops.new.items }
@@ -384,16 +372,15 @@ impl<'a, D: NumDomain, R: Rank> Premises<'a, D, R> {
             → IsSupportedAt R.Rank.own (setting_on D.NumDomain.own self.now) (trees_in (map plan_of trees.new)) label) }
     {
         if self.leads(label, label) {
-            return self.settle_in_turn(label, moves, rows, trees, drops);
+            return self.settle_in_turn(label, rows, trees, drops);
         }
-        self.settle_at_once(label, moves, rows, trees, drops)
+        self.settle_at_once(label, rows, trees, drops)
     }
 
     /// The same of a label whose systems read its own tree: each leaf that is given up may change what is to be shown at the others.
     fn settle_in_turn(
         &self,
         label: u32,
-        moves: &Moves,
         rows: &[Row],
         trees: &mut [Tree<R>],
         drops: &mut Vec<Dropped>,
@@ -401,9 +388,8 @@ impl<'a, D: NumDomain, R: Rank> Premises<'a, D, R> {
         requires label { label < length (all_labels (statements self.now.graph.now.body)) }
         requires trees { length trees.old ≡ length (all_labels (statements self.now.graph.now.body)) }
         requires leaves { (label : ℕ) → leaves_of (trees_in (map plan_of trees.old) label) < 2 ^ 64 - 1 }
-        requires place { HasPlace moves.now }
+        requires ready { IsReady D.NumDomain.own self.now }
         requires alive { (setting_on D.NumDomain.own self.now).dead label ≡ false }
-        requires moves { IsMovesAt (setting_on D.NumDomain.own self.now) label moves.now }
         requires rows { (setting_on D.NumDomain.own self.now).rows label ≡ rows.now }
         ensures advances { Advances R.Rank.own (setting_on D.NumDomain.own self.now) (map plan_of trees.old) drops.old.items
             (map plan_of trees.new) drops.new.items }
@@ -411,7 +397,7 @@ impl<'a, D: NumDomain, R: Rank> Premises<'a, D, R> {
             → IsSupportedAt R.Rank.own (setting_on D.NumDomain.own self.now) (trees_in (map plan_of trees.new)) label) }
     {
         let mut first = 0;
-        while let Some(refuted) = self.first_refuted(label, first, moves, rows, trees)? {
+        while let Some(refuted) = self.first_refuted(label, first, rows, trees)? {
             give_up(trees, label, &refuted, drops)?;
             first = refuted.leaf + 1;
         }
@@ -422,7 +408,6 @@ impl<'a, D: NumDomain, R: Rank> Premises<'a, D, R> {
     fn settle_at_once(
         &self,
         label: u32,
-        moves: &Moves,
         rows: &[Row],
         trees: &mut [Tree<R>],
         drops: &mut Vec<Dropped>,
@@ -430,9 +415,8 @@ impl<'a, D: NumDomain, R: Rank> Premises<'a, D, R> {
         requires label { label < length (all_labels (statements self.now.graph.now.body)) }
         requires trees { length trees.old ≡ length (all_labels (statements self.now.graph.now.body)) }
         requires leaves { (label : ℕ) → leaves_of (trees_in (map plan_of trees.old) label) < 2 ^ 64 - 1 }
-        requires place { HasPlace moves.now }
+        requires ready { IsReady D.NumDomain.own self.now }
         requires alive { (setting_on D.NumDomain.own self.now).dead label ≡ false }
-        requires moves { IsMovesAt (setting_on D.NumDomain.own self.now) label moves.now }
         requires rows { (setting_on D.NumDomain.own self.now).rows label ≡ rows.now }
         requires elsewhere { LeadsElsewhere (setting_on D.NumDomain.own self.now) label label }
         ensures advances { Advances R.Rank.own (setting_on D.NumDomain.own self.now) (map plan_of trees.old) drops.old.items
@@ -446,7 +430,7 @@ impl<'a, D: NumDomain, R: Rank> Premises<'a, D, R> {
             collects: true,
             narrows: false,
         };
-        let found = self.refuted(label, span, &mut nothing, moves, rows, trees)?;
+        let found = self.refuted(label, span, &mut nothing, rows, trees)?;
         self.give_up_each(label, &found, trees, drops)?;
         Ok(true)
     }
@@ -481,15 +465,13 @@ impl<'a, D: NumDomain, R: Rank> Premises<'a, D, R> {
         &self,
         label: u32,
         first: u64,
-        moves: &Moves,
         rows: &[Row],
         trees: &[Tree<R>],
     ) -> Result<Option<Refuted>, AllocError>
         requires label { label < length (all_labels (statements self.now.graph.now.body)) }
         requires leaves { leaves_of (trees_in (map plan_of trees.now) label) < 2 ^ 64 - 1 }
-        requires place { HasPlace moves.now }
+        requires ready { IsReady D.NumDomain.own self.now }
         requires alive { (setting_on D.NumDomain.own self.now).dead label ≡ false }
-        requires moves { IsMovesAt (setting_on D.NumDomain.own self.now) label moves.now }
         requires rows { (setting_on D.NumDomain.own self.now).rows label ≡ rows.now }
         ensures { IfOk result (λ refuted.
             IsFirst R.Rank.own (setting_on D.NumDomain.own self.now) (trees_in (map plan_of trees.now)) label first refuted) }
@@ -500,7 +482,7 @@ impl<'a, D: NumDomain, R: Rank> Premises<'a, D, R> {
             collects: false,
             narrows: false,
         };
-        let refuted = self.refuted(label, span, &mut nothing, moves, rows, trees)?;
+        let refuted = self.refuted(label, span, &mut nothing, rows, trees)?;
         match refuted.first() {
             Some(refuted) => Ok(Some(*refuted)),
             None => Ok(None),
@@ -513,15 +495,13 @@ impl<'a, D: NumDomain, R: Rank> Premises<'a, D, R> {
         label: u32,
         span: Span,
         narrow: &mut Hand,
-        moves: &Moves,
         rows: &[Row],
         trees: &[Tree<R>],
     ) -> Result<Vec<Refuted>, AllocError>
         requires label { label < length (all_labels (statements self.now.graph.now.body)) }
         requires leaves { leaves_of (trees_in (map plan_of trees.now) label) < 2 ^ 64 - 1 }
-        requires place { HasPlace moves.now }
+        requires ready { IsReady D.NumDomain.own self.now }
         requires alive { (setting_on D.NumDomain.own self.now).dead label ≡ false }
-        requires moves { IsMovesAt (setting_on D.NumDomain.own self.now) label moves.now }
         requires rows { (setting_on D.NumDomain.own self.now).rows label ≡ rows.now }
         ensures { IfOk result (λ refuted. WhereAsked narrow.old (λ within. IsReviewed R.Rank.own (setting_on D.NumDomain.own self.now)
             (trees_in (map plan_of trees.now)) label span within refuted.items)) }
@@ -531,7 +511,7 @@ impl<'a, D: NumDomain, R: Rank> Premises<'a, D, R> {
                 part: Part::of(self.formula),
                 label,
                 choice: self.graph.choice(label),
-                moves,
+                transition: &self.transitions[label as usize],
                 family: trees,
                 parts: self.parts,
             },
@@ -539,6 +519,26 @@ impl<'a, D: NumDomain, R: Rank> Premises<'a, D, R> {
         };
         let refuted = survey.refuted(self.alloc, rows, narrow)?;
         Ok(refuted)
+    }
+}
+
+/// Where the edge leads, and label 0 where there is none.
+fn target(edge: &Option<Edge>) -> u32
+    ensures { result ≡ target_of edge.now }
+{
+    match edge {
+        Some(edge) => edge.to,
+        None => 0,
+    }
+}
+
+/// No run comes to the label.
+fn is_dead(transition: &Transition) -> bool
+    ensures { result ≡ is_dead transition.now }
+{
+    match transition {
+        Transition::Dead => true,
+        _ => false,
     }
 }
 

@@ -1,11 +1,10 @@
 //! The leaves of a label's tree, one after the other.
 ghost use Rattle.std.specs.Prelude.{◌≡◌, List, ◌+◌, ◌-◌, ◌^◌, ◌<◌, ◌≤◌, ◌++◌, ◌∷◌, [], true, false, IfOk, OnOk, map};
 ghost use Rattle.decision_tree.specs.Plans.{leaf, leaves_of, plan_of};
-ghost use Rattle.tree_support.specs.Forming.{Formed, given};
+ghost use Rattle.transitions.specs.Forming.{Formed, given};
 ghost use Rattle.tree_support.specs.Setting.{trees_in};
 ghost use Rattle.rows_in_hand.specs.Hands.{IsMetNowhere, all_asked};
 ghost use Rattle.leaf_search.specs.Leaves.{WhereStood};
-ghost use Rattle.arc_search.specs.Moves.{HasPlace};
 ghost use Rattle.rows_in_hand.specs.Searches.{Holds, IsLonger, IsSame, WhereAsked};
 ghost use Rattle.tree_check.specs.Surveys.{IsReviewed, IsSurveyed, LooksOn};
 ghost use Rattle.arc_search.specs.Walks.{side_of};
@@ -48,7 +47,6 @@ impl<'a, R: Rank> Survey<'a, R> {
         rows: &[Row],
         narrow: &mut Hand,
     ) -> Result<Vec<Refuted>, AllocError>
-        requires place { HasPlace self.now.stand.moves.now }
         requires few { leaves_of (trees_in (map plan_of self.now.stand.family.now) self.now.stand.label) < 2 ^ 64 - 1 }
         ensures { IfOk result (λ refuted. WhereStood self.now.stand (λ at. at.dead self.now.stand.label ≡ false
             → at.rows self.now.stand.label ≡ rows.now → WhereAsked narrow.old (λ within.
@@ -77,7 +75,6 @@ impl<'a, R: Rank> Survey<'a, R> {
         narrow: &mut Hand,
         refuted: &mut Vec<Refuted>,
     ) -> Result<(), AllocError>
-        requires place { HasPlace self.now.stand.moves.now }
         requires few { passed.old + leaves_of (plan_of tree.now) < 2 ^ 64 - 1 }
         ensures same { OnOk result (IsSame hand.old hand.new) }
         ensures narrow { OnOk result (IsSame narrow.old narrow.new) }
@@ -114,7 +111,6 @@ impl<'a, R: Rank> Survey<'a, R> {
         hand: &mut Hand,
         refuted: &mut Vec<Refuted>,
     ) -> Result<(), AllocError>
-        requires { HasPlace self.now.stand.moves.now }
         ensures same { OnOk result (IsSame hand.old hand.new) }
         ensures surveyed { OnOk result (WhereStood self.now.stand (λ at. WhereAsked hand.old (λ asks. (within : List Formed)
             → IsSurveyed R.Rank.own at (trees_in (map plan_of self.now.stand.family.now)) self.now.stand.label self.now.span
@@ -177,7 +173,6 @@ impl<'a, R: Rank> Survey<'a, R> {
         narrow: &mut Hand,
         refuted: &mut Vec<Refuted>,
     ) -> Result<(), AllocError>
-        requires place { HasPlace self.now.stand.moves.now }
         requires few { passed.old + leaves_of (plan_of side.now) < 2 ^ 64 - 1 }
         ensures same { OnOk result (IsSame hand.old hand.new) }
         ensures narrow { OnOk result (IsSame narrow.old narrow.new) }
@@ -213,7 +208,6 @@ impl<'a, R: Rank> Survey<'a, R> {
         narrow: &mut Hand,
         refuted: &mut Vec<Refuted>,
     ) -> Result<(), AllocError>
-        requires place { HasPlace self.now.stand.moves.now }
         requires few { passed.old + leaves_of (plan_of side.now) < 2 ^ 64 - 1 }
         ensures same { OnOk result (IsSame hand.old hand.new) }
         ensures narrow { OnOk result (IsSame narrow.old narrow.new) }

@@ -28,11 +28,11 @@ use Rattle.control_flow.specs.Edges.{Leads}
 use Rattle.control_flow.specs.Labels.{Action, ends, assigns, passes, tests, action_at, all_labels, rest}
 use Rattle.control_flow.proofs.LabelLaws.{labels_are_sorted, only_end_is_final}
 use Rattle.control_flow.proofs.Taken.{each_successor}
-use Rattle.forward_inv.specs.States.{IsReachedState, followed}
-use Rattle.forward_inv.proofs.Reached.{Follows, reached_label, reached_places}
-use Rattle.tree_support.specs.Flow.{Arc, above_end, arcs_by, assigning, below_end, flow_of, passing, rows_given, testing}
-use Rattle.tree_support.specs.Forming.{exact, given}
-use Rattle.tree_support.specs.Told.{IsTrueOfReached, Told}
+use Rattle.control_flow.specs.States.{IsReachedState, followed}
+use Rattle.control_flow.proofs.Reached.{Follows, reached_label, reached_places}
+use Rattle.transitions.specs.Arcs.{Arc, above_end, arcs_by, assigning, below_end, flow_of, passing, rows_given, testing}
+use Rattle.transitions.specs.Forming.{exact, given}
+use Rattle.transitions.specs.Told.{IsTrueOfReached, Told}
 use Rattle.tree_support.proofs.Lists.{all_none, all_one, contains_first, contains_later}
 use Rattle.tree_support.proofs.Moving.{LeadsOver, SetsVariable, StoreMeets, Taken, store_after}
 

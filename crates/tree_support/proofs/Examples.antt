@@ -8,8 +8,8 @@ use Rattle.decision_tree.specs.declared.reason.Why.TheVariants.{End, Now, Dead, 
 use Rattle.decision_tree.specs.Plans.{Plan, bottom, branch, leaf}
 use Rattle.control_flow.specs.declared.edge.Choice.TheVariants.{None as NoChoice}
 use Rattle.ctl_formula.specs.Formulas.{af_exit}
-use Rattle.tree_support.specs.Flow.{Arc, passing}
-use Rattle.tree_support.specs.Forming.{Formed, given, put}
+use Rattle.transitions.specs.Arcs.{Arc, passing}
+use Rattle.transitions.specs.Forming.{Formed, given, put}
 use Rattle.tree_support.specs.Setting.{Setting, Trees}
 use Rattle.tree_support.specs.Systems.{Claim, System, exceeding, nothing, systems, unnatural}
 

@@ -22,8 +22,8 @@ use Rattle.ctl_formula.specs.Formulas.{Ctl, until, weak}
 use Rattle.tree_support.specs.declared.dropped.Dropped.{Dropped}
 use Rattle.tree_support.specs.declared.dropped.Reason.TheVariants.{Point}
 use Rattle.tree_support.specs.Elimination.{EachOfSet, Eliminates, IsByPoint, IsByStore, IsDrop, IsElsewhere, Justifies, KeepsSet, cause_of, restricted, within, without_dropped}
-use Rattle.tree_support.specs.Flow.{Arc, rows_given}
-use Rattle.tree_support.specs.Forming.{Formed, exact, given}
+use Rattle.transitions.specs.Arcs.{Arc, rows_given}
+use Rattle.transitions.specs.Forming.{Formed, exact, given}
 use Rattle.tree_support.specs.Setting.{Setting, Trees}
 use Rattle.tree_support.specs.Support.{HasNoPoint, HasNoStore, IsFirm, IsSupported, choices, kinds_of}
 use Rattle.tree_support.specs.Systems.{Claim, System, above_range, at_leaves, below_range, exceeding, if_undefined, is_existential, moved_by, nothing, of_arcs, of_keep, of_leaf, of_outcome, of_pick, of_rank, of_value, of_why, systems, unless_less}

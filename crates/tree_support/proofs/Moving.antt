@@ -12,10 +12,10 @@ use Rattle.linear_cons.specs.Rows.{MeetsAll}
 use Rattle.control_flow.specs.declared.edge.Choice.TheVariants.{Branch, Range}
 use Rattle.control_flow.specs.Edges.{configuration}
 use Rattle.control_flow.specs.Labels.{rest}
-use Rattle.forward_inv.specs.States.{IsReachedState}
-use Rattle.tree_support.specs.Flow.{Arc, flow_of}
-use Rattle.tree_support.specs.Forming.{Formed, exact}
-use Rattle.tree_support.specs.Told.{Told}
+use Rattle.control_flow.specs.States.{IsReachedState}
+use Rattle.transitions.specs.Arcs.{Arc, flow_of}
+use Rattle.transitions.specs.Forming.{Formed, exact}
+use Rattle.transitions.specs.Told.{Told}
 
 -- the store meets what is asked
 abbrev pub StoreMeets : Store → List Formed → Type 0

@@ -10,8 +10,8 @@ use Rattle.ctl_formula.specs.Formulas.{Ctl, truth, falsity, exit, not_exit, alwa
 use Rattle.decision_tree.specs.declared.reason.Pick.TheVariants.{All as Every, Yes, No, Value}
 use Rattle.decision_tree.specs.declared.reason.Why.TheVariants.{End, Atom, Both, Left, Right, Now, Dead, Step}
 use Rattle.decision_tree.specs.Plans.{Plan, bottom, branch, leaf}
-use Rattle.tree_support.specs.Flow.{Arc, passing}
-use Rattle.tree_support.specs.Forming.{Formed, given, minus, put}
+use Rattle.transitions.specs.Arcs.{Arc, passing}
+use Rattle.transitions.specs.Forming.{Formed, given, minus, put}
 use Rattle.tree_support.specs.Setting.{Setting, Trees}
 use Rattle.tree_support.specs.Systems.{Claim, System, exceeding, nothing, systems, unnatural}
 

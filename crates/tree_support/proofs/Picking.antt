@@ -18,12 +18,12 @@ use Rattle.control_flow.specs.Edges.{LandsAt, choice_by, choice_of_test, choice_
 use Rattle.control_flow.specs.Labels.{Action, assigns, tests, action_at, all_labels}
 use Rattle.control_flow.proofs.LabelLaws.{labels_are_sorted}
 use Rattle.control_flow.proofs.Taken.{both_taken, value_taken}
-use Rattle.forward_inv.specs.States.{IsReachedState, followed}
-use Rattle.forward_inv.proofs.Reached.{Follows, reached_label, reached_places}
-use Rattle.forward_inv.proofs.Unstuck.{some_successor}
-use Rattle.tree_support.specs.Flow.{Arc, arcs_of_outcome, arcs_putting, testing}
-use Rattle.tree_support.specs.Forming.{exact}
-use Rattle.tree_support.specs.Told.{IsTrueOfReached, Told}
+use Rattle.control_flow.specs.States.{IsReachedState, followed}
+use Rattle.control_flow.proofs.Reached.{Follows, reached_label, reached_places}
+use Rattle.control_flow.proofs.Unstuck.{some_successor}
+use Rattle.transitions.specs.Arcs.{Arc, arcs_of_outcome, arcs_putting, testing}
+use Rattle.transitions.specs.Forming.{exact}
+use Rattle.transitions.specs.Told.{IsTrueOfReached, Told}
 use Rattle.tree_support.proofs.Arcs.{busy, lies, over_arcs, put_back, same_store, tested}
 use Rattle.tree_support.proofs.Lists.{all_none, contains_first}
 use Rattle.tree_support.proofs.Moving.{LeadsOn, LeadsOver, Moves}

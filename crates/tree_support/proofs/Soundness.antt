@@ -22,15 +22,15 @@ use Rattle.ctl_formula.specs.Parts.{number_from}
 use Rattle.ctl_formula.specs.Satisfaction.{Sat}
 use Rattle.ctl_formula.proofs.Alike.{sat_respects, within_respects}
 use Rattle.ctl_formula.proofs.Classical.{classically}
-use Rattle.forward_inv.specs.States.{IsReachedState, entered}
+use Rattle.control_flow.specs.States.{IsReachedState, entered}
 use Rattle.tree_support.specs.Certificates.{IsShown, SmallerAreShown, affine_ranks, operands_from}
-use Rattle.tree_support.specs.Flow.{Arc, flow_of}
-use Rattle.tree_support.specs.Forming.{Formed, given}
-use Rattle.tree_support.specs.Setting.{Setting, Trees}
+use Rattle.transitions.specs.Arcs.{Arc, flow_of}
+use Rattle.transitions.specs.Forming.{Formed, given}
+use Rattle.tree_support.specs.Setting.{Setting, Trees, setting_of}
 use Rattle.tree_support.specs.Soundness.{IsSound, IsSoundWithin}
 use Rattle.tree_support.specs.Support.{HasNoStore, IsSupported}
 use Rattle.tree_support.specs.Systems.{is_existential, of_arcs, of_outcome, of_pick, of_value, of_why, plain, undefined_at, unedged}
-use Rattle.tree_support.specs.Told.{IsTrueOfReached, Told, setting_of}
+use Rattle.transitions.specs.Told.{IsTrueOfReached, Told}
 use Rattle.tree_support.proofs.Following.{with_one}
 use Rattle.tree_support.proofs.Leaves.{not_plain}
 use Rattle.tree_support.proofs.Lists.{all_left, all_right}

@@ -16,7 +16,7 @@ use Rattle.decision_tree.specs.Paths.{leaf_numbered, with_leaf}
 use Rattle.tree_support.specs.declared.dropped.Dropped.{Dropped}
 use Rattle.tree_support.specs.declared.dropped.Reason.{Reason}
 use Rattle.tree_support.specs.declared.dropped.Reason.TheVariants.{Point, Wide as TooWide, Rows}
-use Rattle.tree_support.specs.Forming.{Formed, FormsWhole, exact}
+use Rattle.transitions.specs.Forming.{Formed, FormsWhole, exact}
 use Rattle.tree_support.specs.Setting.{Setting, Trees}
 use Rattle.tree_support.specs.Support.{ClaimFits, choices, kinds_of}
 use Rattle.tree_support.specs.Systems.{System, systems}

@@ -4,7 +4,9 @@ use Rattle.std.specs.Prelude.{ℕ, Bool, List, slice_index_or}
 use Rattle.linear_cons.specs.declared.row.Row.{Row}
 use Rattle.decision_tree.specs.Plans.{Plan, bottom}
 use Rattle.ctl_formula.specs.Formulas.{Ctl}
-use Rattle.tree_support.specs.Flow.{Flow}
+use Rattle.step_meaning.specs.Syntax.{Statements}
+use Rattle.transitions.specs.Arcs.{Flow, flow_of}
+use Rattle.transitions.specs.Told.{Told}
 
 -- a family: a tree for each label
 abbrev pub Trees : Type 0 → Type 0
@@ -22,3 +24,13 @@ pub record Setting (R : Type 0) : Type 0 where
   pub rows : ℕ → List Row
   pub formula : Ctl
   pub parts : ℕ → Trees R
+
+-- what a family for the part of a formula is held against, given the families of its direct smaller parts
+abbrev pub setting_of : {R : Type 0} → Statements → Told → Ctl → (ℕ → Trees R) → Setting R
+setting_of body told formula parts = record {
+  flow = flow_of body told.bounds;
+  dead = told.dead;
+  rows = told.rows;
+  formula = formula;
+  parts = parts;
+}

@@ -12,7 +12,7 @@ use Rattle.decision_tree.specs.Evaluation.{eval}
 use Rattle.decision_tree.specs.Plans.{leaf}
 use Rattle.ctl_formula.specs.Formulas.{Ctl}
 use Rattle.ctl_formula.specs.Satisfaction.{Sat, WithinBound}
-use Rattle.forward_inv.specs.States.{IsReachedState}
+use Rattle.control_flow.specs.States.{IsReachedState}
 use Rattle.tree_support.specs.Setting.{Trees}
 
 -- Wherever the family is defined the formula holds: of each state that is reached, by the tree of its label, and so of the start with each

@@ -7,7 +7,7 @@ use Rattle.linear_cons.specs.Rows.{MeetsKind, PointMeetsKind, row_kind_of}
 use Rattle.decision_tree.specs.declared.rank.Alternatives.{Alternatives}
 use Rattle.decision_tree.specs.declared.rank.Rank.{Ghosts as Ranks}
 use Rattle.decision_tree.specs.Plans.{leaves_of}
-use Rattle.tree_support.specs.Forming.{exact}
+use Rattle.transitions.specs.Forming.{exact}
 use Rattle.tree_support.specs.Setting.{Setting, Trees}
 use Rattle.tree_support.specs.Systems.{Claim, nothing, unnatural, exceeding, System, systems}
 

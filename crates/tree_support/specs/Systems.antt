@@ -13,8 +13,8 @@ use Rattle.decision_tree.specs.Paths.{leaf_numbered, path_of}
 use Rattle.control_flow.specs.declared.edge.Choice.{Choice}
 use Rattle.control_flow.specs.declared.edge.Choice.TheVariants.{None as NoChoice, Branch, Range}
 use Rattle.ctl_formula.specs.Formulas.{Ctl, truth, falsity, exit, not_exit, always, never, least, negation, both, either, next, until, weak}
-use Rattle.tree_support.specs.Flow.{Arc, rows_given}
-use Rattle.tree_support.specs.Forming.{Formed, given, put, minus}
+use Rattle.transitions.specs.Arcs.{Arc, rows_given}
+use Rattle.transitions.specs.Forming.{Formed, given, put, minus}
 use Rattle.tree_support.specs.Setting.{Setting, Trees}
 
 -- what a system asks of ranks besides its rows: nothing; that the rank is no natural; or that the first rank, moved back over what an arc

@@ -6,14 +6,14 @@ ghost use Rattle.ctl_formula.specs.Formulas.{Ctl, until};
 ghost use Rattle.decision_tree.specs.declared.affine_rank.AffineRank.{AffineRank};
 ghost use Rattle.decision_tree.specs.Paths.{leaf_numbered, path_of};
 ghost use Rattle.decision_tree.specs.Plans.{leaves_of, top};
-ghost use Rattle.forward_inv.specs.Invariants.{AreInvariants};
+ghost use Rattle.control_flow.specs.Invariants.{AreInvariants};
 ghost use Rattle.tree_support.specs.Certificates.{IsShown, SmallerAreShown, operands_from};
 ghost use Rattle.tree_support.specs.Elimination.{EachOfSet, Eliminates, IsByPoint, IsByStore, IsElsewhere, KeepsSet, cause_of, within};
 ghost use Rattle.tree_support.specs.Setting.{Setting, Trees};
 ghost use Rattle.tree_support.specs.Soundness.{IsSound, IsSoundWithin};
 ghost use Rattle.tree_support.specs.declared.dropped.Dropped.{Dropped};
 ghost use Rattle.tree_support.specs.Support.{IsFirm, IsSupported};
-ghost use Rattle.tree_support.specs.Told.{IsTrueOfReached, Told, told_by};
+ghost use Rattle.transitions.specs.Told.{IsTrueOfReached, Told, told_by};
 
 use decision_tree::Rank;
 use num_domain::NumDomain;

@@ -205,7 +205,7 @@ fn tree(
         → result ≡ Err (TooLarge operands) → 2 ^ 100 < growth_of (statements graph.now.body) tests }
     ensures refusal { IfErr result IsRefusal }
 {
-    match graph.done_at(label) {
+    match graph.action(label) {
         Action::End => Ok(ended()),
         Action::Assign { place, value, next } => {
             let tree = assigned(alloc, place, value, &behind[next as usize])?;

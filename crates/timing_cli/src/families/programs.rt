@@ -26,7 +26,7 @@ fn graph(alloc: Global, body: Block) -> Result<Graph, Fault>
     requires inside { (within : Bool) → IsInside within (statements body) }
 {
     let program = program(alloc, body)?;
-    let graph = Graph::of(alloc, &program)?;
+    let graph = Graph::of(alloc, program)?;
     Ok(graph)
 }
 

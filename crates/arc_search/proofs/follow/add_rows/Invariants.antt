@@ -1,6 +1,6 @@
 use Rattle.std.proofs.Common.{List, ◌++◌, take}
-use Rattle.tree_support.specs.Flow.{rows_given}
-use Rattle.tree_support.specs.Forming.{Formed}
+use Rattle.transitions.specs.Arcs.{rows_given}
+use Rattle.transitions.specs.Forming.{Formed}
 use Rattle.rows_in_hand.specs.Hands.{Held, all_asked}
 use Rattle.rows_in_hand.specs.Searches.{IsLonger}
 use Rattle.arc_search.proofs.follow.add_rows.Given as goal

@@ -1,6 +1,6 @@
 use Rattle.std.proofs.Common.{◌++◌, map}
 use Rattle.decision_tree.specs.Plans.{plan_of}
-use Rattle.tree_support.specs.Flow.{above_end, below_end}
+use Rattle.transitions.specs.Arcs.{above_end, below_end}
 use Rattle.tree_support.specs.Setting.{trees_in}
 use Rattle.arc_search.proofs.Following.{nowhere_more}
 use Rattle.arc_search.proofs.Walking.{nowhere_behind}

@@ -1,6 +1,6 @@
 use Rattle.std.proofs.Common.{◌++◌, map}
 use Rattle.decision_tree.specs.Plans.{plan_of}
-use Rattle.tree_support.specs.Flow.{rows_given}
+use Rattle.transitions.specs.Arcs.{rows_given}
 use Rattle.tree_support.specs.Setting.{trees_in}
 use Rattle.arc_search.proofs.Walking.{nowhere_behind}
 use Rattle.arc_search.proofs.follow.refute_behind.Goals as goal

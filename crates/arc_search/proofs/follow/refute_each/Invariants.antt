@@ -1,11 +1,11 @@
 use Rattle.std.proofs.Common.{List, All, map, take}
 use Rattle.decision_tree.specs.Plans.{plan_of}
-use Rattle.tree_support.specs.Flow.{testing}
-use Rattle.tree_support.specs.Forming.{Formed}
+use Rattle.transitions.specs.Arcs.{testing}
+use Rattle.transitions.specs.Forming.{Formed}
 use Rattle.tree_support.specs.Setting.{trees_in}
 use Rattle.tree_support.specs.Support.{HasNoStore}
 use Rattle.rows_in_hand.specs.Hands.{Held, all_asked}
-use Rattle.arc_search.specs.Moves.{over_each}
+use Rattle.arc_search.specs.Arcs.{over_each}
 use Rattle.rows_in_hand.specs.Searches.{IsSame}
 use Rattle.arc_search.proofs.follow.refute_each.Given as goal
 

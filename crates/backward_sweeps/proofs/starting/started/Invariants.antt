@@ -1,6 +1,6 @@
 use Rattle.std.proofs.Common.{◌≡◌, ℕ, ◌<◌, length}
 use Rattle.backward_transfer.specs.AffineShapes.{plans, tree_at}
-use Rattle.backward_sweeps.specs.Doing.{action_in}
+use Rattle.transitions.specs.Transitions.{transition_in}
 use Rattle.backward_sweeps.specs.Remaking.{IsStarted, parts_of}
 use Rattle.backward_sweeps.proofs.starting.started.Given as goal
 
@@ -9,4 +9,4 @@ abbrev pub invariant-loop-label : goal.invariant-loop-label
 invariant-loop-label l =
     (length l.trees.items ≡ l.label)
     × ((label : ℕ) → label < length l.trees.items
-    → IsStarted (parts_of l.operands) label (action_in l.actions label) (tree_at (plans l.trees.items) label))
+    → IsStarted (parts_of l.operands) label (transition_in l.transitions label) (tree_at (plans l.trees.items) label))

@@ -4,7 +4,7 @@ use Rattle.decision_tree.specs.declared.tree.Tree.{Tree}
 use Rattle.std.proofs.Common.{List}
 use Rattle.backward_transfer.specs.AffineShapes.{plans}
 use Rattle.backward_transfer.proofs.Putting.{written_back}
-use Rattle.backward_sweeps.specs.Doing.{is_idle}
+use Rattle.transitions.specs.Transitions.{is_idle}
 use Rattle.backward_sweeps.specs.Remaking.{AreEndsGiven, AreKept, AreRemadeFrom, parts_of}
 use Rattle.backward_sweeps.proofs.Passing.{ends_given, still_remade}
 use Rattle.backward_sweeps.proofs.sweep.swept.Given as given
@@ -25,13 +25,13 @@ swept_on g c =
 pub returns-then-not-has_head-clause-remade : goal.returns-then-not-has_head-clause-remade
 returns-then-not-has_head-clause-remade g c free =
     let parts = parts_of c.args.operands.now in
-    subst (λ t. AreRemadeFrom 0 false parts c.args.actions.now t) (sym (passed g c))
-    (still_remade 0 c.in_ok-follow.field-0 parts c.args.actions.now (plans c.follow.new.trees) c.in_ok-follow.ensures.remade)
+    subst (λ t. AreRemadeFrom 0 false parts c.args.transitions.now t) (sym (passed g c))
+    (still_remade 0 c.in_ok-follow.field-0 parts c.args.transitions.now (plans c.follow.new.trees) c.in_ok-follow.ensures.remade)
 
 pub returns-clause-given : goal.returns-clause-given
 returns-clause-given g c =
     let parts = parts_of c.args.operands.now in
-    let actions = c.args.actions.now in
-    subst (λ t. AreEndsGiven parts actions t) (sym (swept_on g c))
-    (ends_given parts actions [] (plans c.in_ok-trees.trees.items) (plans c.run.new.trees) c.in_ok-trees.ensures.given
-    (subst (λ (list : List (Tree AffineRank)). AreKept is_idle actions (plans list) (plans c.run.new.trees)) c.deref_mut-2.ensures.value c.in_ok-run.ensures.ends))
+    let transitions = c.args.transitions.now in
+    subst (λ t. AreEndsGiven parts transitions t) (sym (swept_on g c))
+    (ends_given parts transitions [] (plans c.in_ok-trees.trees.items) (plans c.run.new.trees) c.in_ok-trees.ensures.given
+    (subst (λ (list : List (Tree AffineRank)). AreKept is_idle transitions (plans list) (plans c.run.new.trees)) c.deref_mut-2.ensures.value c.in_ok-run.ensures.ends))

@@ -6,9 +6,9 @@ use Rattle.control_flow.proofs.growth.factor.Goals as goal
 pub affine_of-requires-clause-affine : goal.affine_of-requires-clause-affine
 affine_of-requires-clause-affine c =
     let valid = c.args.graph.now.valid in
-    (is_assigned (statements c.args.graph.now.body) (length c.args.graph.now.names) valid.few valid.well_sorted c.requires.plain c.args.label c.requires.within _ _ _ c.in-Assign.ensures).affine
+    (is_assigned (statements c.args.graph.now.body) (length c.args.graph.now.names) valid.few valid.well_sorted c.requires.plain c.args.label c.requires.within _ _ _ c.in-Assign.ensures.action).affine
 
 pub affine_of-requires-clause-names : goal.affine_of-requires-clause-names
 affine_of-requires-clause-names c =
     let valid = c.args.graph.now.valid in
-    (is_assigned (statements c.args.graph.now.body) (length c.args.graph.now.names) valid.few valid.well_sorted c.requires.plain c.args.label c.requires.within _ _ _ c.in-Assign.ensures).names
+    (is_assigned (statements c.args.graph.now.body) (length c.args.graph.now.names) valid.few valid.well_sorted c.requires.plain c.args.label c.requires.within _ _ _ c.in-Assign.ensures.action).names

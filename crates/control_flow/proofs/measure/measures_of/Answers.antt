@@ -5,7 +5,7 @@ use Rattle.control_flow.specs.Labels.{action_at, all_labels}
 use Rattle.control_flow.specs.Measures.{greatest_below}
 use Rattle.control_flow.specs.Sizing.{held, held_at, leaves_at}
 use Rattle.control_flow.specs.Tables.{action_of}
-use Rattle.control_flow.proofs.Measuring.{is_named, length_more, one_more}
+use Rattle.control_flow.proofs.Measuring.{is_placed, length_more, one_more}
 use Rattle.control_flow.proofs.Readers.{node_at, table_length}
 use Rattle.control_flow.proofs.measure.measures_of.Goals as goal
 
@@ -16,7 +16,7 @@ measure_of-requires c =
     let count = table_length c.args.nodes.now body c.requires in
     let test = c.loop-label-test.true in
     let low : c.loop-label.label < length (all_labels body) = omega (arith, count, test) in
-    is_named (length c.args.program.now.names) valid.few body valid.well_sorted c.loop-label.label low (action_of c.index-nodes-label.result)
+    is_placed (length c.args.program.now.names) valid.few body valid.well_sorted c.loop-label.label low (action_of c.index-nodes-label.result)
     (ap action_of c.index-nodes-label.is ∙ node_at c.args.nodes.now body c.requires c.loop-label.label c.index-nodes-label.result low)
 
 pub loop-label-preserved : goal.loop-label-preserved

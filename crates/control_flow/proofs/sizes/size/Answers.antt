@@ -11,26 +11,26 @@ leads body l low action is = subst (LeadsBelow (length (all_labels body))) (sym 
 
 pub bounds-behind-yes : goal.bounds-behind-yes
 bounds-behind-yes c =
-    let below = leads (statements c.args.graph.now.body) c.args.label c.requires.within _ c.in-Test.ensures in
+    let below = leads (statements c.args.graph.now.body) c.args.label c.requires.within _ c.in-Test.ensures.action in
     let inside = below.0 in
     let count = c.requires.count in
     omega (arith, inside, count)
 
 pub bounds-behind-no : goal.bounds-behind-no
 bounds-behind-no c =
-    let below = leads (statements c.args.graph.now.body) c.args.label c.requires.within _ c.in-Test.ensures in
+    let below = leads (statements c.args.graph.now.body) c.args.label c.requires.within _ c.in-Test.ensures.action in
     let inside = below.1 in
     let count = c.requires.count in
     omega (arith, inside, count)
 
 pub bounds-behind-next : goal.bounds-behind-next
 bounds-behind-next c =
-    let inside = leads (statements c.args.graph.now.body) c.args.label c.requires.within _ c.in-Assign.ensures in
+    let inside = leads (statements c.args.graph.now.body) c.args.label c.requires.within _ c.in-Assign.ensures.action in
     let count = c.requires.count in
     omega (arith, inside, count)
 
 pub bounds-behind-next-in-Pass : goal.bounds-behind-next-in-Pass
 bounds-behind-next-in-Pass c =
-    let inside = leads (statements c.args.graph.now.body) c.args.label c.requires.within _ c.in-Pass.ensures in
+    let inside = leads (statements c.args.graph.now.body) c.args.label c.requires.within _ c.in-Pass.ensures.action in
     let count = c.requires.count in
     omega (arith, inside, count)

@@ -2,8 +2,7 @@ use Rattle.count_down.proofs.Blocked.{blocked_keeps, blocked_supports}
 use Rattle.count_down.proofs.Settled.{candidate_blocked}
 use Rattle.step_meaning.specs.Syntax.{statements}
 use Rattle.ctl_formula.specs.Formulas.{af_exit}
-use Rattle.tree_support.specs.Setting.{trees_in}
-use Rattle.tree_support.specs.Told.{setting_of}
+use Rattle.tree_support.specs.Setting.{setting_of, trees_in}
 use Rattle.count_down.proofs.laws.candidates_are_kept.Goals as goal
 
 pub returns : goal.returns

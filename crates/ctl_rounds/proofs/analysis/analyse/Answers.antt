@@ -7,8 +7,8 @@ use Rattle.ctl_rounds.proofs.Asking.{unasked}
 use Rattle.ctl_rounds.proofs.CoverLaws.{is_the_cover}
 use Rattle.ctl_rounds.proofs.analysis.analyse.Goals as goal
 
-pub returns-in_err-actions-clause-asked : goal.returns-in_err-actions-clause-asked
-returns-in_err-actions-clause-asked g c =
+pub returns-in_err-transitions-clause-asked : goal.returns-in_err-transitions-clause-asked
+returns-in_err-transitions-clause-asked g c =
     (0, omega (arith), unasked (λ adviser. (goal.Adviser-dyn g (adviser.vtable, adviser.value)).asked_of adviser.value) c.args.advisers.now.items, search rules)
 
 pub returns-in_err-smaller-clause-asked : goal.returns-in_err-smaller-clause-asked
@@ -27,7 +27,7 @@ returns-clause-asked g c =
 pub returns-clause-turns : goal.returns-clause-turns
 returns-clause-turns g c = λ advised cover is.
     let found = c.in_ok-found.found in
-    let body = statements c.args.program.now.body in
+    let body = statements c.args.graph.now.body in
     let same : claims_of (option_map plan_of found.cover) ≡ cover =
     is_the_cover body found.tops.items (option_map plan_of found.cover) cover c.in_ok-found.ensures.covers
     (subst (λ tops. IsCover body tops cover) c.certificate.ensures.tops is) in
@@ -39,7 +39,7 @@ returns-clause-turns g c = λ advised cover is.
 pub returns-clause-countdown : goal.returns-clause-countdown
 returns-clause-countdown g c = λ formula counted cover is.
     let found = c.in_ok-found.found in
-    let body = statements c.args.program.now.body in
+    let body = statements c.args.graph.now.body in
     subst IsWhole
     (is_the_cover body found.tops.items (option_map plan_of found.cover) cover c.in_ok-found.ensures.covers
     (subst (λ tops. IsCover body tops cover) c.certificate.ensures.tops is))
@@ -48,7 +48,7 @@ returns-clause-countdown g c = λ formula counted cover is.
 pub returns-clause-loopless : goal.returns-clause-loopless
 returns-clause-loopless g c = λ formula free cover is.
     let found = c.in_ok-found.found in
-    let body = statements c.args.program.now.body in
+    let body = statements c.args.graph.now.body in
     sym
     (ap rank_of
     (is_the_cover body found.tops.items (option_map plan_of found.cover) cover c.in_ok-found.ensures.covers

@@ -1,7 +1,7 @@
 use Rattle.std.proofs.Common.{ℕ, ◌<◌, length}
 use Rattle.step_meaning.specs.Syntax.{statements}
 use Rattle.forward_inv.specs.Behind.{MeetsBehind}
-use Rattle.forward_inv.specs.Invariants.{AreInvariants}
+use Rattle.control_flow.specs.Invariants.{AreInvariants}
 use Rattle.forward_inv.proofs.behind.meet_rows.Given as goal
 
 abbrev pub invariant-loop-label : goal.invariant-loop-label

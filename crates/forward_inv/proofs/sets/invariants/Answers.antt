@@ -1,6 +1,6 @@
 use Rattle.std.proofs.Common.{length, sym, subst}
 use Rattle.step_meaning.specs.Syntax.{statements}
-use Rattle.forward_inv.specs.Invariants.{AreInvariants}
+use Rattle.control_flow.specs.Invariants.{AreInvariants}
 use Rattle.forward_inv.proofs.Members.{are_invariants}
 use Rattle.forward_inv.proofs.sets.invariants.Goals as goal
 

@@ -1,4 +1,6 @@
-use Rattle.std.proofs.Common.{◌∙◌}
+use Rattle.std.proofs.Common.{subst, ◌∙◌}
+use Rattle.step_meaning.specs.declared.program.Program.{Program}
+use Rattle.report_text.specs.Printed.{IsReportText}
 use Rattle.function_top.specs.Order.{task_of}
 use Rattle.function_top.proofs.Reported.{report_due}
 use Rattle.function_top.proofs.answer.analysed.Goals as goal
@@ -7,8 +9,9 @@ pub returns-clause-due : goal.returns-clause-due
 returns-clause-due g c = λ text short derived stand.
     let asked = c.requires.formula in
     let shows = c.in_ok-due.ensures.shows in
-    report_due (task_of c.args.order.now) text c.args.program.now asked.meant c.in_ok-found.found shows.0 c.in_ok-due.due.turns c.in_ok-due.due.bytes.items
-    short derived asked.is asked.limited (c.in_ok-found.ensures.finds asked.meant asked.normal_form) c.in_ok-due.ensures.turns shows.1 shows.2
+    report_due (task_of c.args.order.now) text c.args.graph.now asked.meant c.in_ok-found.found shows.0 c.in_ok-due.due.turns c.in_ok-due.due.bytes.items
+    short derived asked.is asked.limited (c.in_ok-found.ensures.finds asked.meant asked.normal_form) c.in_ok-due.ensures.turns shows.1
+    (subst (λ (program : Program). IsReportText program.names shows.0 c.in_ok-due.due.bytes.items) c.program.ensures shows.2)
     c.in_ok-due.due.status shows.3
 
 pub returns-clause-asked : goal.returns-clause-asked

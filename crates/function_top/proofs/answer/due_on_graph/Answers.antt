@@ -1,16 +1,20 @@
-use Rattle.std.proofs.Common.{rules, ◌≡◌, ◌∙◌, refl, sym, Some, arith}
+use Rattle.std.proofs.Common.{rules, ◌≡◌, ◌∙◌, refl, subst, sym, Some, arith}
+use Rattle.step_meaning.specs.declared.program.Program.{Program}
 use Rattle.formula_parse.specs.Laws.{numbered}
 use Rattle.ctl_rounds.proofs.Asking.{unasked}
+use Rattle.function_top.specs.Asking.{IsFaultAsked}
 use Rattle.function_top.specs.Order.{task_of}
 use Rattle.function_top.proofs.Refusing.{asked_refused}
 use Rattle.function_top.proofs.answer.due_on_graph.Goals as goal
 
 pub returns-in_ok-no_formula-in-Some-clause-due : goal.returns-in_ok-no_formula-in-Some-clause-due
 returns-in_ok-no_formula-in-Some-clause-due g c = λ text short derived stand.
-    let program = c.args.program.now in
+    let program = c.args.graph.now in
     let told : numbered c.in-Err.fault ≡ Some (c.in-Some.number, c.in-Some.offset) = sym c.numbered.ensures ∙ c.in-Some.is in
     let refused = asked_refused program.names (task_of c.args.order.now).formula c.in-Err.fault c.in-Some.number c.in-Some.offset
-    c.in_ok-no_formula-in-Some.field-0.bytes.items c.a_formula_has_no_fault.ensures c.in-Err.ensures.fault told c.in_ok-no_formula-in-Some.ensures.line
+    c.in_ok-no_formula-in-Some.field-0.bytes.items c.a_formula_has_no_fault.ensures
+    (subst (λ (program : Program). IsFaultAsked program.names (task_of c.args.order.now).formula c.in-Err.fault) c.program.ensures c.in-Err.ensures.fault)
+    told c.in_ok-no_formula-in-Some.ensures.line
     in
     rw (c.in_ok-no_formula-in-Some.ensures.status) (
       record {

@@ -8,7 +8,7 @@ returns-in_ok-no_program-in-Err-Labels-clause-due g c = λ text short derived st
     rw c.in_ok-no_program-in-Err-Labels.ensures.status (
       inr (inr record {
         short = short;
-        program = c.args.program.now;
+        program = c.args.program;
         derived = derived;
         stand = stand;
         fault = c.in-Err-Labels.field-0;
@@ -26,7 +26,7 @@ returns-in_ok-no_program-in-Err-Conjunctions-clause-due g c = λ text short deri
     rw c.in_ok-no_program-in-Err-Conjunctions.ensures.status (
       inr (inr record {
         short = short;
-        program = c.args.program.now;
+        program = c.args.program;
         derived = derived;
         stand = stand;
         fault = c.in-Err-Conjunctions.field-0;

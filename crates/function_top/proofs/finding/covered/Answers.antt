@@ -1,4 +1,4 @@
-use Rattle.std.proofs.Common.{◌≡◌, All, length, rules, refl, sym, subst, arith}
+use Rattle.std.proofs.Common.{◌≡◌, length, rules, refl, subst, arith}
 use Rattle.step_meaning.specs.Syntax.{statements}
 use Rattle.control_flow.specs.Labels.{all_labels}
 use Rattle.count_down.proofs.Leads.{all_weaken}
@@ -6,8 +6,7 @@ use Rattle.ctl_formula.specs.Formulas.{Ctl, until}
 use Rattle.ctl_formula.specs.Mirror.{ctl}
 use Rattle.decision_tree.specs.Extent.{ComplementsFit, IsTreeOver}
 use Rattle.decision_tree.specs.Plans.{plan_of}
-use Rattle.forward_inv.specs.Invariants.{AreInvariants}
-use Rattle.tree_support.specs.Told.{IsTrueOfReached, told_by}
+use Rattle.transitions.specs.Told.{IsTrueOfReached, told_by}
 use Rattle.ctl_rounds.specs.Certified.{Certifies, IsFamilyFor}
 use Rattle.ctl_rounds.specs.Covers.{IsCover}
 use Rattle.ctl_rounds.proofs.Asking.{unasked}
@@ -20,24 +19,23 @@ returns-in_err-inv-clause-asked g c =
 
 pub cover-requires : goal.cover-requires
 cover-requires g c =
-    let program = c.args.program.now in
+    let program = c.args.graph.now in
     let body = statements program.body in
     let certificate = c.in_ok-certificate.certificate in
     let whole = c.in_ok-certificate.ensures.certified.whole in record {
-      labels = subst (λ b. All (λ family. length family.trees ≡ length (all_labels b)) certificate.tops) (sym c.requires.body)
-          (all_weaken (IsFamilyFor (length program.names) body) (λ family. length family.trees ≡ length (all_labels body)) certificate.tops
-          (λ family fit. fit.labels) whole);
+      labels = all_weaken (IsFamilyFor (length program.names) body) (λ family. length family.trees ≡ length (all_labels body)) certificate.tops
+          (λ family fit. fit.labels) whole;
     }
 
 -- the tree is the cover of the program's certificate, and can be printed
 covers : (g : given.Over) (c : goal.After-drop-inv-inside-2 g)
-    → IsCover (statements c.args.program.now.body) c.in_ok-certificate.certificate.tops (plan_of c.in_ok-cover.cover)
-covers g c = subst (λ b. IsCover b c.in_ok-certificate.certificate.tops (plan_of c.in_ok-cover.cover)) c.requires.body c.in_ok-cover.ensures
+    → IsCover (statements c.args.graph.now.body) c.in_ok-certificate.certificate.tops (plan_of c.in_ok-cover.cover)
+covers g c = c.in_ok-cover.ensures
 
 printable : (g : given.Over) (c : goal.After-drop-inv-inside-2 g)
-    → IsTreeOver (length c.args.program.now.names) (plan_of c.in_ok-cover.cover) × ComplementsFit (plan_of c.in_ok-cover.cover)
+    → IsTreeOver (length c.args.graph.now.names) (plan_of c.in_ok-cover.cover) × ComplementsFit (plan_of c.in_ok-cover.cover)
 printable g c =
-    let program = c.args.program.now in
+    let program = c.args.graph.now in
     let told = told_by g.D.NumDomain.told_bounds g.D.NumDomain.told_rows g.D.NumDomain.seen_empty c.in_ok-inv.inv in
     let certificate = c.in_ok-certificate.certificate in
     c.covers_can_be_printed.ensures (length program.names) (statements program.body) told (ctl c.args.formula.now) certificate.parts certificate.tops
@@ -48,30 +46,23 @@ returns-clause-printable g c = let both = printable g c in record { over = both.
 
 -- the certificate is one of the formula, over invariants that are true
 certifies : (g : given.Over) (c : goal.After-drop-inv-inside-2 g) → (f : Ctl) → ctl c.args.formula.now ≡ f
-    → Certifies (length c.args.program.now.names) (statements c.args.program.now.body)
+    → Certifies (length c.args.graph.now.names) (statements c.args.graph.now.body)
     (told_by g.D.NumDomain.told_bounds g.D.NumDomain.told_rows g.D.NumDomain.seen_empty c.in_ok-inv.inv) f c.in_ok-certificate.certificate.parts
     c.in_ok-certificate.certificate.tops
 certifies g c f is =
-    subst (λ formula. Certifies (length c.args.program.now.names) (statements c.args.program.now.body)
+    subst (λ formula. Certifies (length c.args.graph.now.names) (statements c.args.graph.now.body)
     (told_by g.D.NumDomain.told_bounds g.D.NumDomain.told_rows g.D.NumDomain.seen_empty c.in_ok-inv.inv) formula c.in_ok-certificate.certificate.parts
     c.in_ok-certificate.certificate.tops) is c.in_ok-certificate.ensures.certified
 
 true_of_reached : (g : given.Over) (c : goal.After-drop-inv-inside-2 g)
-    → IsTrueOfReached (length c.args.program.now.names) (statements c.args.program.now.body)
+    → IsTrueOfReached (length c.args.graph.now.names) (statements c.args.graph.now.body)
     (told_by g.D.NumDomain.told_bounds g.D.NumDomain.told_rows g.D.NumDomain.seen_empty c.in_ok-inv.inv)
 true_of_reached g c =
-    let program = c.args.program.now in
-    let graph = c.args.graph.now in
-    let body = statements program.body in
-    let inv = c.in_ok-inv.inv in
-    let invariants : AreInvariants g.D.NumDomain.has (length program.names) body inv =
-    subst (λ names. AreInvariants g.D.NumDomain.has (length names) body inv) c.requires.names
-    (subst (λ b. AreInvariants g.D.NumDomain.has (length graph.names) b inv) c.requires.body c.in_ok-inv.ensures.members) in
-    c.invariants_tell_the_truth.ensures (length program.names) body inv invariants
+    c.invariants_tell_the_truth.ensures (length c.args.graph.now.names) (statements c.args.graph.now.body) c.in_ok-inv.inv c.in_ok-inv.ensures.members
 
 pub returns-clause-satisfied : goal.returns-clause-satisfied
 returns-clause-satisfied g c =
-    let program = c.args.program.now in
+    let program = c.args.graph.now in
     let certificate = c.in_ok-certificate.certificate in
     c.covers_hold.ensures.satisfied (length program.names) (statements program.body)
     (told_by g.D.NumDomain.told_bounds g.D.NumDomain.told_rows g.D.NumDomain.seen_empty c.in_ok-inv.inv) program.valid.few program.valid.well_sorted
@@ -80,7 +71,7 @@ returns-clause-satisfied g c =
 
 pub returns-clause-bounded : goal.returns-clause-bounded
 returns-clause-bounded g c = λ all keep goal is.
-    let program = c.args.program.now in
+    let program = c.args.graph.now in
     let certificate = c.in_ok-certificate.certificate in
     c.covers_hold.ensures.bounded (length program.names) (statements program.body)
     (told_by g.D.NumDomain.told_bounds g.D.NumDomain.told_rows g.D.NumDomain.seen_empty c.in_ok-inv.inv) program.valid.few program.valid.well_sorted

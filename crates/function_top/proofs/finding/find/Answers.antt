@@ -15,7 +15,7 @@ returns-in_err-exact-clause-asked g c = (0, omega (arith), unasked (λ a. (goal.
 pub returns-clause-finds : goal.returns-clause-finds
 returns-clause-finds g c = λ meant is.
     let asked = c.in_ok-cover.ensures.asked in
-    let subject = subject_of c.args.program.now meant in
+    let subject = subject_of c.args.graph.now meant in
     let f = ctl c.args.formula.now in
     record {
       exact = c.in_ok-exact.ensures.exact meant;

@@ -3,7 +3,7 @@ use Rattle.decision_tree.specs.declared.affine_rank.AffineRank.{AffineRank}
 use Rattle.decision_tree.specs.declared.tree.Tree.{Tree}
 use Rattle.backward_transfer.specs.AffineShapes.{plans, tree_at}
 use Rattle.backward_transfer.proofs.Putting.{written_back}
-use Rattle.backward_sweeps.specs.Doing.{action_in}
+use Rattle.transitions.specs.Transitions.{transition_in}
 use Rattle.backward_sweeps.specs.Remaking.{IsMade, parts_of}
 use Rattle.loop_facts.proofs.proposing.followed.Goals as goal
 
@@ -27,7 +27,7 @@ returns-then-branch-clause-given c other apart below given =
 
 pub returns-then-branch-clause-follows : goal.returns-then-branch-clause-follows
 returns-then-branch-clause-follows c label below given =
-    subst (λ list. IsMade (parts_of c.args.operands.now) label (action_in c.args.actions.now label) list (tree_at list label)) (sym (passed c))
-    (⊎_elim {C = IsMade (parts_of c.args.operands.now) label (action_in c.args.actions.now label) (plans c.follow.new.trees) (tree_at (plans c.follow.new.trees) label)}
+    subst (λ list. IsMade (parts_of c.args.operands.now) label (transition_in c.args.transitions.now label) list (tree_at list label)) (sym (passed c))
+    (⊎_elim {C = IsMade (parts_of c.args.operands.now) label (transition_in c.args.transitions.now label) (plans c.follow.new.trees) (tree_at (plans c.follow.new.trees) label)}
     (λ made. made) (λ refused. let all = c.if-branch.true in let some = refused.0 in absurd (cc))
     (c.in_ok-follow.ensures.remade label (omega arith) below given))

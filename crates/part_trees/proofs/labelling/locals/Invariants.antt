@@ -1,6 +1,6 @@
 use Rattle.std.proofs.Common.{◌≡◌, ℕ, ◌<◌, length}
 use Rattle.backward_transfer.specs.AffineShapes.{plans, tree_at}
-use Rattle.backward_sweeps.specs.Doing.{action_in}
+use Rattle.transitions.specs.Transitions.{transition_in}
 use Rattle.part_trees.specs.Local.{IsLocal}
 use Rattle.part_trees.proofs.labelling.locals.Given as goal
 
@@ -9,5 +9,5 @@ abbrev pub invariant-loop-label : goal.invariant-loop-label
 invariant-loop-label l =
     (length l.trees.items ≡ l.label)
     × ((label : ℕ) → label < length l.trees.items
-    → IsLocal l.formula (action_in l.actions label) (tree_at (plans l.first) label) (tree_at (plans l.second) label)
+    → IsLocal l.formula (transition_in l.transitions label) (tree_at (plans l.first) label) (tree_at (plans l.second) label)
     (tree_at (plans l.trees.items) label))

@@ -1,6 +1,6 @@
 use Rattle.std.proofs.Common.{false, IfOk, subst, ◌∙◌}
 use Rattle.backward_transfer.specs.AffineShapes.{plans}
-use Rattle.backward_sweeps.specs.Doing.{HasNoHead}
+use Rattle.transitions.specs.Transitions.{HasNoHead}
 use Rattle.backward_sweeps.specs.Remaking.{AreEndsGiven, AreRemadeFrom, parts_of}
 use Rattle.part_trees.specs.Proposed.{until_of}
 use Rattle.part_trees.proofs.Making.{same_parts, with_premise}
@@ -8,10 +8,10 @@ use Rattle.part_trees.proofs.proposing.until.Goals as goal
 
 pub returns-clause-swept : goal.returns-clause-swept
 returns-clause-swept g c =
-    let actions = c.args.actions.now in
+    let transitions = c.args.transitions.now in
     let own = parts_of c.operands.result in
-    subst (λ parts. IfOk c.swept.result (λ trees. AreEndsGiven parts actions trees × (HasNoHead actions → AreRemadeFrom 0 false parts actions trees)))
+    subst (λ parts. IfOk c.swept.result (λ trees. AreEndsGiven parts transitions trees × (HasNoHead transitions → AreRemadeFrom 0 false parts transitions trees)))
     (same_parts own (until_of c.args.all (plans c.args.keep.now) (plans c.args.goal.now)) c.operands.ensures.all
     (c.operands.ensures.goal ∙ c.in_ok-claims.ensures.goal) (c.operands.ensures.keep ∙ c.in_ok-claims.ensures.keep))
-    (with_premise c.swept.result (λ trees. AreEndsGiven own actions trees) (λ trees. AreRemadeFrom 0 false own actions trees) (HasNoHead actions)
+    (with_premise c.swept.result (λ trees. AreEndsGiven own transitions trees) (λ trees. AreRemadeFrom 0 false own transitions trees) (HasNoHead transitions)
     c.swept.ensures.given c.swept.ensures.remade)

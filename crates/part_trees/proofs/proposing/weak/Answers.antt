@@ -1,6 +1,6 @@
 use Rattle.std.proofs.Common.{false, IfOk, subst, ◌∙◌}
 use Rattle.backward_transfer.specs.AffineShapes.{plans}
-use Rattle.backward_sweeps.specs.Doing.{HasNoHead}
+use Rattle.transitions.specs.Transitions.{HasNoHead}
 use Rattle.backward_sweeps.specs.Remaking.{AreEndsStarted, AreRemadeFrom, parts_of}
 use Rattle.part_trees.specs.Proposed.{until_of}
 use Rattle.part_trees.proofs.Making.{same_parts, with_premise}
@@ -8,10 +8,10 @@ use Rattle.part_trees.proofs.proposing.weak.Goals as goal
 
 pub returns-clause-kept : goal.returns-clause-kept
 returns-clause-kept g c =
-    let actions = c.args.actions.now in
+    let transitions = c.args.transitions.now in
     let own = parts_of c.operands.result in
-    subst (λ parts. IfOk c.kept.result (λ trees. AreEndsStarted parts actions trees × (HasNoHead actions → AreRemadeFrom 0 false parts actions trees)))
+    subst (λ parts. IfOk c.kept.result (λ trees. AreEndsStarted parts transitions trees × (HasNoHead transitions → AreRemadeFrom 0 false parts transitions trees)))
     (same_parts own (until_of c.args.all (plans c.args.keep.now) (plans c.args.goal.now)) c.operands.ensures.all
     (c.operands.ensures.goal ∙ c.in_ok-claims.ensures.goal) (c.operands.ensures.keep ∙ c.in_ok-claims.ensures.keep))
-    (with_premise c.kept.result (λ trees. AreEndsStarted own actions trees) (λ trees. AreRemadeFrom 0 false own actions trees) (HasNoHead actions)
+    (with_premise c.kept.result (λ trees. AreEndsStarted own transitions trees) (λ trees. AreRemadeFrom 0 false own transitions trees) (HasNoHead transitions)
     c.kept.ensures.started c.kept.ensures.remade)

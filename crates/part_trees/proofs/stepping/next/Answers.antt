@@ -9,5 +9,5 @@ pub returns : goal.returns
 returns c =
     IfOk-weaker c.step.result _ _
     (λ tree step. next_of c.args.all (plans c.args.part.now) (plans c.args.behind.now) (length c.args.behind.now) c.requires.reranked (plan_of tree)
-    c.args.label c.args.action.now c.in_default.not-End c.requires.leads step)
+    c.args.label c.args.transition.now c.in_default.not-End c.requires.leads step)
     c.step.ensures

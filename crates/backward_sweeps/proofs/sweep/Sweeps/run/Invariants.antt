@@ -1,11 +1,11 @@
 use Rattle.std.proofs.Common.{◌≡◌, length}
 use Rattle.backward_transfer.specs.AffineShapes.{plans}
-use Rattle.backward_sweeps.specs.Doing.{is_idle}
+use Rattle.transitions.specs.Transitions.{is_idle}
 use Rattle.backward_sweeps.specs.Remaking.{AreKept}
 use Rattle.backward_sweeps.proofs.sweep.Sweeps.run.Given as goal
 
 -- the trees stay where nothing is done
 abbrev pub invariant-loop-number : goal.invariant-loop-number
 invariant-loop-number g l =
-    (length l.trees ≡ length l.initial.trees) × (length l.changed.items ≡ length l.self.actions.now)
-    × AreKept is_idle l.self.actions.now (plans l.initial.trees) (plans l.trees)
+    (length l.trees ≡ length l.initial.trees) × (length l.changed.items ≡ length l.self.transitions.now)
+    × AreKept is_idle l.self.transitions.now (plans l.initial.trees) (plans l.trees)

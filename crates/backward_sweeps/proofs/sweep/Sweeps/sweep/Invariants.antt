@@ -1,6 +1,6 @@
 use Rattle.std.proofs.Common.{◌≡◌, length}
 use Rattle.backward_transfer.specs.AffineShapes.{plans}
-use Rattle.backward_sweeps.specs.Doing.{is_idle}
+use Rattle.transitions.specs.Transitions.{is_idle}
 use Rattle.backward_sweeps.specs.Remaking.{AreKept}
 use Rattle.backward_sweeps.proofs.sweep.Sweeps.sweep.Given as goal
 
@@ -8,4 +8,4 @@ use Rattle.backward_sweeps.proofs.sweep.Sweeps.sweep.Given as goal
 abbrev pub invariant-loop-label : goal.invariant-loop-label
 invariant-loop-label g l =
     (length l.trees ≡ length l.initial.trees) × (length l.changed ≡ length l.initial.changed)
-    × AreKept is_idle l.self.actions.now (plans l.initial.trees) (plans l.trees)
+    × AreKept is_idle l.self.transitions.now (plans l.initial.trees) (plans l.trees)

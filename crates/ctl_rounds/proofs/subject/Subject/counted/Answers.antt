@@ -8,8 +8,7 @@ use Rattle.tree_check.specs.Checking.{families_of}
 use Rattle.tree_support.specs.Certificates.{affine_ranks}
 use Rattle.tree_support.specs.declared.dropped.Dropped.{Dropped}
 use Rattle.tree_support.specs.Elimination.{Eliminates}
-use Rattle.tree_support.specs.Setting.{trees_in}
-use Rattle.tree_support.specs.Told.{setting_of}
+use Rattle.tree_support.specs.Setting.{setting_of, trees_in}
 use Rattle.smaller_parts.specs.Knowing.{told_on}
 use Rattle.smaller_parts.proofs.Fit.{all_fit}
 use Rattle.ctl_rounds.specs.Covers.{Covers, MayBegin, at_entry, claims_of}
@@ -20,7 +19,7 @@ use Rattle.ctl_rounds.proofs.subject.Subject.counted.Goals as goal
 
 pub checked-requires-clause-fit : goal.checked-requires-clause-fit
 checked-requires-clause-fit g c =
-    let program = c.args.self.now.premises.now.program.now in
+    let program = c.args.self.now.premises.now.graph.now in
     let body = statements program.body in
     let vars = length program.names in
     let valid = program.valid in
@@ -41,10 +40,10 @@ tops_are g c = c.in_ok-keep.ensures.tops ∙ ap (λ list. list ++ c.in_ok-family
 -- what it claims is the tree at the entry, of which nothing was dropped
 claims_are : (g : given.Over) (c : goal.In_ok-keep g)
     → claims_of (option_map plan_of c.keep.new.found.cover)
-    ≡ trees_in c.args.family.trees (entry_of (statements c.args.self.now.premises.now.program.now.body))
+    ≡ trees_in c.args.family.trees (entry_of (statements c.args.self.now.premises.now.graph.now.body))
 claims_are g c =
     let subject = c.args.self.now in
-    let program = subject.premises.now.program.now in
+    let program = subject.premises.now.graph.now in
     let body = statements program.body in
     let vars = length program.names in
     let valid = program.valid in
@@ -77,7 +76,7 @@ returns-clause-whole g c = subst IsWhole (sym (claims_are g c)) c.requires.entry
 
 pub returns-clause-loopless : goal.returns-clause-loopless
 returns-clause-loopless g c = λ free. ap rank_of (claims_are g c)
-    ∙ c.loopless_candidates_promise_the_most_steps.ensures c.args.family.trees (statements c.args.self.now.premises.now.program.now.body) free
+    ∙ c.loopless_candidates_promise_the_most_steps.ensures c.args.family.trees (statements c.args.self.now.premises.now.graph.now.body) free
     c.requires.candidate
 
 pub returns-clause-some : goal.returns-clause-some

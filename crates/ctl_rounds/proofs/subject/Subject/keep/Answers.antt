@@ -1,4 +1,4 @@
-use Rattle.std.proofs.Common.{◌≡◌, option_map, Some, subst}
+use Rattle.std.proofs.Common.{option_map, Some, subst}
 use Rattle.step_meaning.specs.Syntax.{statements}
 use Rattle.control_flow.specs.Labels.{entry_of}
 use Rattle.decision_tree.specs.Plans.{plan_of}
@@ -15,9 +15,8 @@ returns-clause-found g c =
     let subject = c.args.self.now in
     let tops = c.args.found.now.tops.items in
     let old = option_map plan_of c.args.found.now.cover in
-    let tree = trees_in c.args.family.trees (entry_of (statements subject.premises.now.program.now.body)) in
-    let entry = subst (λ b. plan_of c.tree_at_entry-entry.result.now ≡ trees_in c.args.family.trees (entry_of b)) c.requires.subject.premises.body
-    c.tree_at_entry-entry.ensures in
+    let tree = trees_in c.args.family.trees (entry_of (statements subject.premises.now.graph.now.body)) in
+    let entry = c.tree_at_entry-entry.ensures in
     let last = subst (λ plan. Extends old plan (next_of old (option_map plan_of c.in_ok-next.field-0))) entry c.in_ok-next.ensures in
     elim c.match-branch-2.branch [
       | in-Some+in-Some-1 w ↦ rw (c.in_ok-push.ensures.items, w.found-is)

@@ -8,7 +8,7 @@ use Rattle.smaller_parts.proofs.premises.Premises.+smaller_parts.Goals as goal
 
 pub returns-in_ok-found-in-And : goal.returns-in_ok-found-in-And
 returns-in_ok-found-in-And g t c =
-    let program = c.args.self.now.program.now in
+    let program = c.args.self.now.graph.now in
     let told = told_on g.D.NumDomain c.args.self.now in
     let count = c.args.self.now.labels in
     let k = c.args.first in
@@ -39,7 +39,7 @@ returns-in_ok-found-in-And g t c =
 
 pub returns-in_ok-found-in-Not : goal.returns-in_ok-found-in-Not
 returns-in_ok-found-in-Not g t c =
-    let program = c.args.self.now.program.now in
+    let program = c.args.self.now.graph.now in
     let told = told_on g.D.NumDomain c.args.self.now in
     let count = c.args.self.now.labels in
     let k = c.args.first in

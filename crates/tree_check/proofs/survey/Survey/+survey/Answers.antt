@@ -1,6 +1,6 @@
 use Rattle.std.proofs.Common.{map, refl, ⊎_elim, ◌++◌, ◌∷◌, []}
 use Rattle.decision_tree.specs.Plans.{bottom, plan_of, top}
-use Rattle.tree_support.specs.Forming.{given}
+use Rattle.transitions.specs.Forming.{given}
 use Rattle.tree_support.specs.Setting.{trees_in}
 use Rattle.tree_support.specs.Support.{HasNoStore}
 use Rattle.tree_support.proofs.Lists.{all_none}

@@ -1,0 +1,4 @@
+pub mod Forming
+pub mod Arcs
+pub mod Told
+pub mod Transitions

@@ -1,0 +1,30 @@
+use Rattle.std.proofs.Common.{◌≡◌, List, ap, length, map, rules, subst, sym, ◌∙◌}
+use Rattle.step_meaning.specs.Syntax.{statements}
+use Rattle.ctl_formula.specs.Mirror.{ctl}
+use Rattle.decision_tree.specs.Plans.{Plan, plan_of}
+use Rattle.tree_support.specs.Setting.{setting_of, trees_in}
+use Rattle.tree_support.specs.Support.{IsSupported}
+use Rattle.transitions.specs.Told.{told_by}
+use Rattle.tree_check.specs.Checking.{families_of}
+use Rattle.tree_check.proofs.Settling.{cut_short, on_err, written_back}
+use Rattle.tree_check.proofs.checking.check_over.Goals as goal
+
+pub returns-in_err-settled-clause-begun : goal.returns-in_err-settled-clause-begun
+returns-in_err-settled-clause-begun g c =
+    let first : map plan_of c.deref_mut.result.now ≡ c.args.family.now.trees = search rules in
+    let count : length c.settle-settled.new.trees ≡ length c.into_vec-trees.result.items = search rules in
+    let len : c.into_vec-trees.result.len ≡ length c.into_vec-trees.result.items = search rules in
+    let last : map plan_of c.settle-settled.new.trees ≡ c.of-2.result =
+    ap (map plan_of) (sym (written_back c.settle-settled.new.trees c.into_vec-trees.result.items c.into_vec-trees.result.len count len)) ∙ sym c.of-2.ensures in
+    on_err _ c.from_residual.result
+    (cut_short g.R.Rank _ (map plan_of c.deref_mut.result.now) (map plan_of c.settle-settled.new.trees) c.args.family.now.trees c.of-2.result c.new-drops.result.items c.settle-settled.new.drops.items first last c.settle-settled.ensures.advances)
+
+pub returns-clause-supported : goal.returns-clause-supported
+returns-clause-supported g c =
+    let told = told_by g.D.NumDomain.told_bounds g.D.NumDomain.told_rows g.D.NumDomain.seen_empty c.args.inv.now in
+    let count : length c.settle-settled.new.trees ≡ length c.into_vec-trees.result.items = search rules in
+    let len : c.into_vec-trees.result.len ≡ length c.into_vec-trees.result.items = search rules in
+    let last : map plan_of c.settle-settled.new.trees ≡ c.of-2.result =
+    ap (map plan_of) (sym (written_back c.settle-settled.new.trees c.into_vec-trees.result.items c.into_vec-trees.result.len count len)) ∙ sym c.of-2.ensures in
+    subst (λ (plans : List (Plan g.row.R.Denot)). IsSupported g.R.Rank (setting_of (statements c.args.graph.now.body) told (ctl c.args.formula.now) (families_of c.args.parts.now)) (trees_in plans)) last
+    c.in_ok-settled.ensures.supported
