@@ -1,12 +1,13 @@
 //! Families that may be checked and printed.
 ghost use Rattle.std.specs.Prelude.{◌≡◌, All, IfOk, IsTrue, length};
-ghost use Rattle.linear_cons.specs.Functions.{IsOver};
+ghost use Rattle.linear_cons.specs.Functions.{IsOver, NumbersFit, complement_of};
 ghost use Rattle.decision_tree.specs.Extent.{ComplementsFit, IsTreeOver, PickIs};
 ghost use Rattle.decision_tree.specs.Plans.{plan_of};
 ghost use Rattle.smaller_parts.specs.Fitting.{IsFit};
 
 use decision_tree::{AffineRank, Pick, Tree, TreeList, Why};
 use line_text::is_over;
+use linear_cons::Row;
 use std::alloc::{AllocError, Global};
 use std::mem;
 use step_meaning::Names;
@@ -44,11 +45,19 @@ pub(crate) fn is_fit(tree: &Tree<AffineRank>, names: &Names) -> bool
         Tree::Leaf { why, rank } => is_over(&rank.value, names) && is_pick_over(why, names),
         Tree::Node { row, yes, no } => {
             is_over(&row.affine, names)
-                && row.not().is_ok()
+                && has_complement(row)
                 && is_fit(yes, names)
                 && is_fit(no, names)
         }
     }
+}
+
+/// True only where the row's complement fits 128 bits. It stands apart, since `is_fit` recurs along a tree.
+#[inline(never)]
+fn has_complement(row: &Row) -> bool
+    ensures { IsTrue result → NumbersFit (complement_of row.now.affine) }
+{
+    row.not().is_ok()
 }
 
 /// True only where the function whose value the leaf picks, if it picks one, is over the names.

@@ -6,24 +6,16 @@ use Rattle.control_flow.specs.Fitting.{IsFitting}
 use Rattle.control_flow.specs.Growth.{growth_of}
 use Rattle.control_flow.specs.Measures.{IsHeavy, IsLight}
 use Rattle.tree_unify.specs.declared.fault.TreeFault.{TreeFault}
-use Rattle.tree_unify.specs.declared.fault.TreeFault.TheVariants.{Full as TooFull, Memory as NoMemory, Wide as TooWide}
-use Rattle.unroll.specs.declared.moving.Refusal.{Refusal}
-use Rattle.unroll.specs.declared.moving.Refusal.TheVariants.{Full, Memory, Wide}
+use Rattle.tree_unify.specs.declared.fault.TreeFault.TheVariants.{Full, Memory, Wide}
 
 -- it would have more than 65,536 nodes, or an exact number lies outside 128 bits
-abbrev pub IsRefusal : Refusal → Type 0
+abbrev pub IsRefusal : TreeFault → Type 0
 IsRefusal (Full count) = 65536 < count
 IsRefusal (Wide operands) = IsOutside operands
 IsRefusal (Memory error) = ⊤
 
--- the same of the fault of a call that joins or moves trees
-abbrev pub IsFault : TreeFault → Type 0
-IsFault (TooFull count) = 65536 < count
-IsFault (TooWide operands) = IsOutside operands
-IsFault (NoMemory error) = ⊤
-
 -- it would have more than 65,536 nodes
-abbrev pub IsNodes : Refusal → Type 0
+abbrev pub IsNodes : TreeFault → Type 0
 IsNodes (Full count) = 65536 < count
 IsNodes (Wide operands) = ⊥
 IsNodes (Memory error) = ⊥
@@ -33,7 +25,7 @@ abbrev pub IsWide : Statements → ℕ → Type 0
 IsWide body level = (IsFitting body → ⊥) ⊎ (2 ^ 100 < growth_of body level)
 
 -- why a level isn't made: its weight is above 65,536; or it isn't, its numbers may be wide, and an exact one lies outside 128 bits
-abbrev pub IsRefusalAt : Statements → ℕ → Refusal → Type 0
+abbrev pub IsRefusalAt : Statements → ℕ → TreeFault → Type 0
 IsRefusalAt body level (Full count) = (65536 < count) × IsHeavy body level
 IsRefusalAt body level (Wide operands) = IsOutside operands × IsLight body level × IsWide body level
 IsRefusalAt body level (Memory error) = ⊤

@@ -13,12 +13,12 @@ ghost use Rattle.unroll.specs.Refusals.{IsNodes, IsRefusalAt};
 ghost use Rattle.control_flow.specs.Sizing.{HasSizes};
 ghost use Rattle.unroll.specs.Stopping.{IsCause, IsMade, next_level};
 
-use crate::moving::Refusal;
 use crate::sizes::{first_sizes, next_sizes};
 use crate::trees::{first_trees, next_trees};
 use control_flow::Graph;
 use decision_tree::{AffineRank, Cause, Family, Tree, TreeList};
 use std::alloc::{AllocError, Global};
+use tree_unify::TreeFault;
 
 /// The most nodes of a tree.
 const NODES: u128 = 65536;
@@ -110,20 +110,20 @@ fn unrolled_to(level: Level, tests: u32, stopped: Option<Cause>) -> Unrolled
 }
 
 /// What the refusal gave up for.
-fn cause(refusal: Refusal) -> Result<Cause, AllocError>
+fn cause(refusal: TreeFault) -> Result<Cause, AllocError>
     ensures { (body : Statements) (level : ℕ) → IsRefusalAt body level refusal → IfOk result (IsCause body level) }
 {
     match refusal {
-        Refusal::Full { count } => Ok(Cause::Nodes {
+        TreeFault::Full { count } => Ok(Cause::Nodes {
             count: count.min(u32::MAX as u64) as u32,
         }),
-        Refusal::Wide(wide) => Ok(Cause::Wide(wide)),
-        Refusal::Memory(error) => Err(error),
+        TreeFault::Wide(wide) => Ok(Cause::Wide(wide)),
+        TreeFault::Memory(error) => Err(error),
     }
 }
 
 /// Level 0.
-fn first(alloc: Global, graph: &Graph) -> Result<Level, Refusal>
+fn first(alloc: Global, graph: &Graph) -> Result<Level, TreeFault>
     requires plain { IsPlain (statements graph.now.body) }
     ensures tells { IfOk result (λ level. AtAll (statements graph.now.body) (TellsAt 0 (statements graph.now.body) (plans level.trees.items))) }
     ensures sizes { IfOk result (λ level. HasSizes (statements graph.now.body) 0 level.sizes.items) }
@@ -137,14 +137,14 @@ fn first(alloc: Global, graph: &Graph) -> Result<Level, Refusal>
     check_sizes(graph, &sizes)?;
     match graph.check_numbers() {
         Ok(()) => {}
-        Err(wide) => return Err(Refusal::Wide(wide)),
+        Err(wide) => return Err(TreeFault::Wide(wide)),
     }
     let trees = first_trees(alloc, graph)?;
     Ok(Level { sizes, trees })
 }
 
 /// The level behind the last one.
-fn next(alloc: Global, graph: &Graph, last: &Level) -> Result<Level, Refusal>
+fn next(alloc: Global, graph: &Graph, last: &Level) -> Result<Level, TreeFault>
     requires fitting { IsFitting (statements graph.now.body) }
     requires sizes_count { length last.now.sizes.items ≡ length (all_labels (statements graph.now.body)) }
     requires count { length last.now.trees.items ≡ length (all_labels (statements graph.now.body)) }
@@ -167,7 +167,7 @@ fn next(alloc: Global, graph: &Graph, last: &Level) -> Result<Level, Refusal>
 }
 
 /// No size is above the most nodes.
-fn check_sizes(graph: &Graph, sizes: &[u128]) -> Result<(), Refusal>
+fn check_sizes(graph: &Graph, sizes: &[u128]) -> Result<(), TreeFault>
     requires { length sizes.now ≡ length (all_labels (statements graph.now.body)) }
     ensures light { (level : ℕ) → HasSizes (statements graph.now.body) level sizes.now → OnOk result (IsLight (statements graph.now.body) level) }
     ensures heavy { (level : ℕ) → HasSizes (statements graph.now.body) level sizes.now → OnErr result (IsHeavy (statements graph.now.body) level) }
@@ -175,7 +175,7 @@ fn check_sizes(graph: &Graph, sizes: &[u128]) -> Result<(), Refusal>
 {
     let most = graph.weight_of(sizes);
     if most > NODES {
-        return Err(Refusal::Full {
+        return Err(TreeFault::Full {
             count: most.min(u64::MAX as u128) as u64,
         });
     }

@@ -20,39 +20,17 @@ ghost use Rattle.unroll.specs.Levels.{RanksCount};
 ghost use Rattle.control_flow.specs.Measures.{anywhere, size_of_test};
 ghost use Rattle.unroll.specs.Plain.{IsFittingTest};
 ghost use Rattle.unroll.specs.Within.{AreWithin, IsNarrow};
-ghost use Rattle.tree_unify.specs.declared.fault.TreeFault.TheVariants.{Full as TooFull, Wide as TooWide};
-ghost use Rattle.unroll.specs.Refusals.{IsFault, IsRefusal};
-ghost use Rattle.unroll.specs.declared.moving.Refusal.TheVariants.{Full, Wide as TooLarge};
+ghost use Rattle.tree_unify.specs.declared.fault.TreeFault.TheVariants.{Full, Wide as TooLarge};
+ghost use Rattle.unroll.specs.Refusals.{IsRefusal};
 
 use backward_transfer::{back_assign, back_skip, back_test};
 use control_flow::anywhere;
 use decision_tree::{AffineRank, Tree};
-use linear_cons::{Affine, Wide};
+use linear_cons::Affine;
 use linear_forms::{affine_of, spread};
-use std::alloc::{AllocError, Global};
+use std::alloc::Global;
 use step_meaning::Expr;
 use tree_unify::TreeFault;
-
-/// Why a tree isn't made.
-#[derive(Clone, Copy)]
-pub(crate) enum Refusal {
-    /// It would have more than 65,536 nodes; the count is above that.
-    Full { count: u64 },
-    /// A number lies outside `i128`.
-    Wide(Wide),
-    Memory(AllocError),
-}
-
-impl From<AllocError> for Refusal {
-    ghost use Rattle.std.specs.Prelude.{◌≡◌};
-    ghost use Rattle.unroll.specs.declared.moving.Refusal.TheVariants.{Memory};
-
-    ghost from_gives = { λ error refusal. refusal ≡ Memory error };
-
-    fn from(error: AllocError) -> Refusal {
-        Refusal::Memory(error)
-    }
-}
 
 /// The tree before the value is assigned to the variable at the place: a step more than where the store behind it stands.
 pub(crate) fn assigned(
@@ -60,7 +38,7 @@ pub(crate) fn assigned(
     place: u8,
     value: &Expr,
     behind: &Tree<AffineRank>,
-) -> Result<Tree<AffineRank>, Refusal>
+) -> Result<Tree<AffineRank>, TreeFault>
     requires place { place < 16 }
     requires affine { IsAffine (expression value.now) }
     requires names { NamesBelow 16 (expression value.now) }
@@ -79,14 +57,15 @@ pub(crate) fn assigned(
     ensures refusal { IfErr result IsRefusal }
 {
     let function = function(value)?;
-    match back_assign(alloc, behind, place, &function) {
-        Ok(tree) => Ok(tree),
-        Err(fault) => Err(refused(fault)),
-    }
+    let tree = back_assign(alloc, behind, place, &function)?;
+    Ok(tree)
 }
 
 /// The tree before a step that changes nothing: a step more.
-pub(crate) fn passed(alloc: Global, behind: &Tree<AffineRank>) -> Result<Tree<AffineRank>, Refusal>
+pub(crate) fn passed(
+    alloc: Global,
+    behind: &Tree<AffineRank>,
+) -> Result<Tree<AffineRank>, TreeFault>
     ensures variables { (vars : ℕ) → RanksCount (plan_of behind.now) → IsTreeOver vars (plan_of behind.now)
         → IfOk result (λ tree. IsTreeOver vars (plan_of tree)) }
     ensures before { IfOk result (λ tree. (s : Store) → IsBefore (eval (plan_of behind.now) s) (eval (plan_of tree) s)) }
@@ -99,10 +78,8 @@ pub(crate) fn passed(alloc: Global, behind: &Tree<AffineRank>) -> Result<Tree<Af
         → result ≡ Err (TooLarge operands) → ⊥ }
     ensures refusal { IfErr result IsRefusal }
 {
-    match back_skip(alloc, behind) {
-        Ok(tree) => Ok(tree),
-        Err(fault) => Err(refused(fault)),
-    }
+    let tree = back_skip(alloc, behind)?;
+    Ok(tree)
 }
 
 /// The tree before the test, with those behind its outcomes: a step more than behind the one that is possible, or than the greater where
@@ -112,7 +89,7 @@ pub(crate) fn tested(
     test: &Expr,
     yes: &Tree<AffineRank>,
     no: &Tree<AffineRank>,
-) -> Result<Tree<AffineRank>, Refusal>
+) -> Result<Tree<AffineRank>, TreeFault>
     requires { NamesBelow 16 (expression test.now) }
     ensures variables { (vars : ℕ) → IsTest vars (expression test.now) → RanksCount (plan_of yes.now) → RanksCount (plan_of no.now)
         → IsTreeOver vars (plan_of yes.now) → IsTreeOver vars (plan_of no.now) → IfOk result (λ tree. IsTreeOver vars (plan_of tree)) }
@@ -139,14 +116,12 @@ pub(crate) fn tested(
 {
     let holds = spread(alloc, test, true, &anywhere())?;
     let fails = spread(alloc, test, false, &anywhere())?;
-    match back_test(alloc, yes, no, &holds, &fails) {
-        Ok(tree) => Ok(tree),
-        Err(fault) => Err(refused(fault)),
-    }
+    let tree = back_test(alloc, yes, no, &holds, &fails)?;
+    Ok(tree)
 }
 
 /// The function that the value is.
-fn function(value: &Expr) -> Result<Affine, Refusal>
+fn function(value: &Expr) -> Result<Affine, TreeFault>
     requires affine { IsAffine (expression value.now) }
     requires names { NamesBelow 16 (expression value.now) }
     ensures function { IfOk result (λ function. function ≡ form_of (expression value.now)) }
@@ -156,20 +131,6 @@ fn function(value: &Expr) -> Result<Affine, Refusal>
 {
     match affine_of(value) {
         Ok(function) => Ok(function),
-        Err(wide) => Err(Refusal::Wide(wide)),
-    }
-}
-
-/// What a fault refuses.
-fn refused(fault: TreeFault) -> Refusal
-    requires { IsFault fault }
-    ensures refusal { IsRefusal result }
-    ensures full { (count : ℕ) → result ≡ Full count → fault ≡ TooFull count }
-    ensures wide { (operands : Operands) → result ≡ TooLarge operands → fault ≡ TooWide operands }
-{
-    match fault {
-        TreeFault::Full { count } => Refusal::Full { count },
-        TreeFault::Wide(wide) => Refusal::Wide(wide),
-        TreeFault::Memory(error) => Refusal::Memory(error),
+        Err(wide) => Err(TreeFault::Wide(wide)),
     }
 }

@@ -14,16 +14,17 @@ ghost use Rattle.backward_transfer.specs.AffineShapes.{tree_at, plans};
 ghost use Rattle.unroll.specs.Levels.{counted};
 ghost use Rattle.control_flow.specs.Measures.{AreSizes, IsHeavy};
 ghost use Rattle.unroll.specs.Refusals.{IsRefusal};
-ghost use Rattle.unroll.specs.declared.moving.Refusal.TheVariants.{Full, Wide as TooLarge};
+ghost use Rattle.tree_unify.specs.declared.fault.TreeFault.TheVariants.{Full, Wide as TooLarge};
 
-use crate::moving::{Refusal, assigned, passed, tested};
+use crate::moving::{assigned, passed, tested};
 use control_flow::{Action, Graph};
 use decision_tree::{AffineRank, Tree, Why};
 use linear_cons::Affine;
 use std::alloc::{AllocError, Global};
+use tree_unify::TreeFault;
 
 /// The trees of level 0: at the test of a loop nothing is claimed.
-pub(crate) fn first_trees(alloc: Global, graph: &Graph) -> Result<Vec<Tree<AffineRank>>, Refusal>
+pub(crate) fn first_trees(alloc: Global, graph: &Graph) -> Result<Vec<Tree<AffineRank>>, TreeFault>
     requires { IsFitting (statements graph.now.body) }
     ensures tells { IfOk result (λ trees. AtAll (statements graph.now.body) (TellsAt 0 (statements graph.now.body) (plans trees.items))) }
     ensures count { IfOk result (λ trees. length trees.items ≡ length (all_labels (statements graph.now.body))) }
@@ -41,7 +42,7 @@ pub(crate) fn next_trees(
     alloc: Global,
     graph: &Graph,
     last: &[Tree<AffineRank>],
-) -> Result<Vec<Tree<AffineRank>>, Refusal>
+) -> Result<Vec<Tree<AffineRank>>, TreeFault>
     requires fitting { IsFitting (statements graph.now.body) }
     requires count { length last.now ≡ length (all_labels (statements graph.now.body)) }
     ensures tells { (tests : ℕ) → AtAll (statements graph.now.body) (TellsAt tests (statements graph.now.body) (plans last.now))
@@ -79,7 +80,7 @@ fn fill_heads(
     graph: &Graph,
     last: &[Tree<AffineRank>],
     trees: &mut [Tree<AffineRank>],
-) -> Result<(), Refusal>
+) -> Result<(), TreeFault>
     requires fitting { IsFitting (statements graph.now.body) }
     requires last_count { length last.now ≡ length (all_labels (statements graph.now.body)) }
     requires count { length trees.old ≡ length (all_labels (statements graph.now.body)) }
@@ -106,7 +107,7 @@ fn fill_head(
     label: u32,
     last: &[Tree<AffineRank>],
     trees: &mut [Tree<AffineRank>],
-) -> Result<(), Refusal>
+) -> Result<(), TreeFault>
     requires fitting { IsFitting (statements graph.now.body) }
     requires some { 0 < label }
     requires within { label < length (all_labels (statements graph.now.body)) }
@@ -132,7 +133,7 @@ fn fill_head(
 }
 
 /// Puts in the trees at the labels but label 0 and those of loops' tests, from the last on.
-fn fill(alloc: Global, graph: &Graph, trees: &mut [Tree<AffineRank>]) -> Result<(), Refusal>
+fn fill(alloc: Global, graph: &Graph, trees: &mut [Tree<AffineRank>]) -> Result<(), TreeFault>
     requires fitting { IsFitting (statements graph.now.body) }
     requires count { length trees.old ≡ length (all_labels (statements graph.now.body)) }
     ensures tells { (tests : ℕ)
@@ -159,7 +160,7 @@ fn fill_one(
     graph: &Graph,
     label: u32,
     trees: &mut [Tree<AffineRank>],
-) -> Result<(), Refusal>
+) -> Result<(), TreeFault>
     requires fitting { IsFitting (statements graph.now.body) }
     requires some { 0 < label }
     requires within { label < length (all_labels (statements graph.now.body)) }
@@ -188,7 +189,7 @@ fn tree(
     graph: &Graph,
     label: u32,
     behind: &[Tree<AffineRank>],
-) -> Result<Tree<AffineRank>, Refusal>
+) -> Result<Tree<AffineRank>, TreeFault>
     requires fitting { IsFitting (statements graph.now.body) }
     requires some { 0 < label }
     requires within { label < length (all_labels (statements graph.now.body)) }

@@ -19,6 +19,7 @@ use Rattle.linear_cons.specs.Sizes.{total_size}
 use Rattle.unroll.specs.Within.{AreWithin}
 use Rattle.unroll.proofs.Variables.{assigned_over}
 use Rattle.unroll.proofs.WithinTrees.{assigned_fits, assigned_within}
+use Rattle.unroll.proofs.Refusing.{same_error}
 use Rattle.unroll.proofs.moving.assigned.Goals as goal
 
 -- the tree behind is within, by the function that the value is
@@ -26,50 +27,50 @@ within_by : (by form : Affine) → by ≡ form → (k most steps : ℕ) (plan : 
     → AreWithin ((1 + total_size by) * k) most steps plan
 within_by by form is k most steps plan within = subst (λ (a : Affine). AreWithin ((1 + total_size a) * k) most steps plan) (sym is) within
 
-pub returns-in-Ok-clause-before : goal.returns-in-Ok-clause-before
-returns-in-Ok-clause-before c s long =
+pub returns-clause-before : goal.returns-clause-before
+returns-clause-before c s long =
     let plan = plan_of c.args.behind.now in
-    let made = plan_of c.in-Ok.tree in
-    let is : made ≡ cut (assigned_shape c.args.place c.in_ok-function.function plan) = c.in-Ok.ensures.tree in
+    let made = plan_of c.in_ok-tree.tree in
+    let is : made ≡ cut (assigned_shape c.args.place c.in_ok-function.function plan) = c.in_ok-tree.ensures.tree in
     subst (λ (by : Affine). IsBefore (eval plan (slice_set s c.args.place (value_at by s))) (eval made s)) c.in_ok-function.ensures.function
     (subst (λ (t : Plan AffineRank). IsBefore (eval plan (slice_set s c.args.place (value_at c.in_ok-function.function s))) (eval t s)) (sym is)
     (assigned_before c.args.place c.in_ok-function.function plan s c.requires.place long))
 
-pub returns-in-Ok-clause-ranks : goal.returns-in-Ok-clause-ranks
-returns-in-Ok-clause-ranks c ranks =
+pub returns-clause-ranks : goal.returns-clause-ranks
+returns-clause-ranks c ranks =
     let plan = plan_of c.args.behind.now in
-    let is : plan_of c.in-Ok.tree ≡ cut (assigned_shape c.args.place c.in_ok-function.function plan) = c.in-Ok.ensures.tree in
+    let is : plan_of c.in_ok-tree.tree ≡ cut (assigned_shape c.args.place c.in_ok-function.function plan) = c.in_ok-tree.ensures.tree in
     subst RanksCount (sym is) (assigned_count c.args.place c.in_ok-function.function plan c.requires.place ranks)
 
-pub returns-in-Ok-clause-complements : goal.returns-in-Ok-clause-complements
-returns-in-Ok-clause-complements c =
+pub returns-clause-complements : goal.returns-clause-complements
+returns-clause-complements c =
     let shape = assigned_shape c.args.place c.in_ok-function.function (plan_of c.args.behind.now) in
-    let is : plan_of c.in-Ok.tree ≡ cut shape = c.in-Ok.ensures.tree in
-    subst ComplementsFit (sym is) (trimmed_complements [] shape c.in-Ok.ensures.rows)
+    let is : plan_of c.in_ok-tree.tree ≡ cut shape = c.in_ok-tree.ensures.tree in
+    subst ComplementsFit (sym is) (trimmed_complements [] shape c.in_ok-tree.ensures.rows)
 
-pub returns-in-Ok-clause-variables : goal.returns-in-Ok-clause-variables
-returns-in-Ok-clause-variables c vars sorted ranks over =
+pub returns-clause-variables : goal.returns-clause-variables
+returns-clause-variables c vars sorted ranks over =
     let by = c.in_ok-function.function in
     let plan = plan_of c.args.behind.now in
-    let is : plan_of c.in-Ok.tree ≡ cut (assigned_shape c.args.place by plan) = c.in-Ok.ensures.tree in
+    let is : plan_of c.in_ok-tree.tree ≡ cut (assigned_shape c.args.place by plan) = c.in_ok-tree.ensures.tree in
     let own = subst (IsOver vars) (sym c.in_ok-function.ensures.function) (over_form vars (expression c.args.value.now) sorted) in
     subst (IsTreeOver vars) (sym is) (assigned_over vars c.args.place by plan c.requires.place own ranks over)
 
-pub returns-in-Ok-clause-small : goal.returns-in-Ok-clause-small
-returns-in-Ok-clause-small c =
+pub returns-clause-small : goal.returns-clause-small
+returns-clause-small c =
     let plan = plan_of c.args.behind.now in
     let shape = assigned_shape c.args.place c.in_ok-function.function plan in
-    let is : plan_of c.in-Ok.tree ≡ cut shape = c.in-Ok.ensures.tree in
+    let is : plan_of c.in_ok-tree.tree ≡ cut shape = c.in_ok-tree.ensures.tree in
     let made = ap size_of is in
     let less = trimmed_size same_rank [] shape in
     let most = assigned_size same_rank affine_ranks.substituted affine_ranks.one_more c.args.place c.in_ok-function.function plan in
     omega (arith, made, less, most)
 
-pub returns-in-Err-clause-full : goal.returns-in-Err-clause-full
-returns-in-Err-clause-full c count is =
+pub returns-in_err-tree-clause-full : goal.returns-in_err-tree-clause-full
+returns-in_err-tree-clause-full c count is =
     let plan = plan_of c.args.behind.now in
     let most = assigned_size same_rank affine_ranks.substituted affine_ranks.one_more c.args.place c.in_ok-function.function plan in
-    let more = (c.in-Err.ensures.full count (ap Err (c.refused.ensures.full count cc))).1 in
+    let more = (c.in_err-tree.ensures.full count (ap Err (same_error _ _ _ c.from_residual-in_err-tree.ensures.1 is))).1 in
     omega (arith, most, more)
 
 pub returns-in_err-function-clause-full : goal.returns-in_err-function-clause-full
@@ -77,22 +78,22 @@ returns-in_err-function-clause-full c count is =
     let gives = rw is at c.from_residual.ensures.1 in
     absurd (c.in_err-function.ensures.full count (cc))
 
-pub returns-in-Ok-clause-within : goal.returns-in-Ok-clause-within
-returns-in-Ok-clause-within c k most steps within =
+pub returns-clause-within : goal.returns-clause-within
+returns-clause-within c k most steps within =
     let by = c.in_ok-function.function in
     let plan = plan_of c.args.behind.now in
-    let is : plan_of c.in-Ok.tree ≡ cut (assigned_shape c.args.place by plan) = c.in-Ok.ensures.tree in
+    let is : plan_of c.in_ok-tree.tree ≡ cut (assigned_shape c.args.place by plan) = c.in_ok-tree.ensures.tree in
     subst (AreWithin k most (suc steps)) (sym is)
     (assigned_within k most steps c.args.place c.requires.place by plan
     (within_by by (form_of (expression c.args.value.now)) c.in_ok-function.ensures.function k most steps plan within))
 
-pub returns-in-Err-clause-wide : goal.returns-in-Err-clause-wide
-returns-in-Err-clause-wide c operands k most steps known narrow within is =
+pub returns-in_err-tree-clause-wide : goal.returns-in_err-tree-clause-wide
+returns-in_err-tree-clause-wide c operands k most steps known narrow within is =
     let by = c.in_ok-function.function in
     let plan = plan_of c.args.behind.now in
     let fits = assigned_fits k most steps c.args.place c.requires.place by narrow plan
     (within_by by (form_of (expression c.args.value.now)) c.in_ok-function.ensures.function k most steps plan within) in
-    c.in-Err.ensures.wide operands (ap Err (c.refused.ensures.wide operands cc)) fits.0 fits.1
+    c.in_err-tree.ensures.wide operands (ap Err (same_error _ _ _ c.from_residual-in_err-tree.ensures.1 is)) fits.0 fits.1
 
 pub returns-in_err-function-clause-wide : goal.returns-in_err-function-clause-wide
 returns-in_err-function-clause-wide c operands k most steps known narrow within is =

@@ -13,55 +13,56 @@ use Rattle.unroll.proofs.Standing.{stepped_before, trimmed_complements}
 use Rattle.unroll.specs.Within.{AreWithin}
 use Rattle.unroll.proofs.Variables.{stepped_over}
 use Rattle.unroll.proofs.WithinTrees.{stepped_fits, stepped_within}
+use Rattle.unroll.proofs.Refusing.{same_error}
 use Rattle.unroll.proofs.moving.passed.Goals as goal
 
-pub returns-in-Ok-clause-before : goal.returns-in-Ok-clause-before
-returns-in-Ok-clause-before c s =
+pub returns-clause-before : goal.returns-clause-before
+returns-clause-before c s =
     let plan = plan_of c.args.behind.now in
-    let is : plan_of c.in-Ok.tree ≡ cut (stepped_shape plan) = c.in-Ok.ensures.tree in
+    let is : plan_of c.in_ok-tree.tree ≡ cut (stepped_shape plan) = c.in_ok-tree.ensures.tree in
     subst (λ (t : Plan AffineRank). IsBefore (eval plan s) (eval t s)) (sym is) (stepped_before plan s)
 
-pub returns-in-Ok-clause-ranks : goal.returns-in-Ok-clause-ranks
-returns-in-Ok-clause-ranks c ranks =
+pub returns-clause-ranks : goal.returns-clause-ranks
+returns-clause-ranks c ranks =
     let plan = plan_of c.args.behind.now in
-    let is : plan_of c.in-Ok.tree ≡ cut (stepped_shape plan) = c.in-Ok.ensures.tree in
+    let is : plan_of c.in_ok-tree.tree ≡ cut (stepped_shape plan) = c.in_ok-tree.ensures.tree in
     subst RanksCount (sym is) (stepped_count plan ranks)
 
-pub returns-in-Ok-clause-complements : goal.returns-in-Ok-clause-complements
-returns-in-Ok-clause-complements c =
+pub returns-clause-complements : goal.returns-clause-complements
+returns-clause-complements c =
     let shape = stepped_shape (plan_of c.args.behind.now) in
-    let is : plan_of c.in-Ok.tree ≡ cut shape = c.in-Ok.ensures.tree in
-    subst ComplementsFit (sym is) (trimmed_complements [] shape c.in-Ok.ensures.rows)
+    let is : plan_of c.in_ok-tree.tree ≡ cut shape = c.in_ok-tree.ensures.tree in
+    subst ComplementsFit (sym is) (trimmed_complements [] shape c.in_ok-tree.ensures.rows)
 
-pub returns-in-Ok-clause-variables : goal.returns-in-Ok-clause-variables
-returns-in-Ok-clause-variables c vars ranks over =
+pub returns-clause-variables : goal.returns-clause-variables
+returns-clause-variables c vars ranks over =
     let plan = plan_of c.args.behind.now in
-    let is : plan_of c.in-Ok.tree ≡ cut (stepped_shape plan) = c.in-Ok.ensures.tree in
+    let is : plan_of c.in_ok-tree.tree ≡ cut (stepped_shape plan) = c.in_ok-tree.ensures.tree in
     subst (IsTreeOver vars) (sym is) (stepped_over vars plan ranks over)
 
-pub returns-in-Ok-clause-small : goal.returns-in-Ok-clause-small
-returns-in-Ok-clause-small c =
+pub returns-clause-small : goal.returns-clause-small
+returns-clause-small c =
     let plan = plan_of c.args.behind.now in
-    let is : plan_of c.in-Ok.tree ≡ cut (stepped_shape plan) = c.in-Ok.ensures.tree in
+    let is : plan_of c.in_ok-tree.tree ≡ cut (stepped_shape plan) = c.in_ok-tree.ensures.tree in
     let made = ap size_of is in
     let less = trimmed_size same_rank [] (stepped_shape plan) in
     let most = stepped_size same_rank affine_ranks.one_more plan in
     omega (arith, made, less, most)
 
-pub returns-in-Err-clause-full : goal.returns-in-Err-clause-full
-returns-in-Err-clause-full c count is =
+pub returns-in_err-tree-clause-full : goal.returns-in_err-tree-clause-full
+returns-in_err-tree-clause-full c count is =
     let plan = plan_of c.args.behind.now in
     let most = stepped_size same_rank affine_ranks.one_more plan in
-    let more = (c.in-Err.ensures.full count (ap Err (c.refused.ensures.full count cc))).1 in
+    let more = (c.in_err-tree.ensures.full count (ap Err (same_error _ _ _ c.from_residual.ensures.1 is))).1 in
     omega (arith, most, more)
 
-pub returns-in-Ok-clause-within : goal.returns-in-Ok-clause-within
-returns-in-Ok-clause-within c k most steps within =
+pub returns-clause-within : goal.returns-clause-within
+returns-clause-within c k most steps within =
     let plan = plan_of c.args.behind.now in
-    let is : plan_of c.in-Ok.tree ≡ cut (stepped_shape plan) = c.in-Ok.ensures.tree in
+    let is : plan_of c.in_ok-tree.tree ≡ cut (stepped_shape plan) = c.in_ok-tree.ensures.tree in
     subst (AreWithin k most (suc steps)) (sym is) (stepped_within k most steps plan within)
 
-pub returns-in-Err-clause-wide : goal.returns-in-Err-clause-wide
-returns-in-Err-clause-wide c operands k most steps narrow within is =
+pub returns-in_err-tree-clause-wide : goal.returns-in_err-tree-clause-wide
+returns-in_err-tree-clause-wide c operands k most steps narrow within is =
     let fits = stepped_fits k most steps narrow (plan_of c.args.behind.now) within in
-    c.in-Err.ensures.wide operands (ap Err (c.refused.ensures.wide operands cc)) fits.0 fits.1
+    c.in_err-tree.ensures.wide operands (ap Err (same_error _ _ _ c.from_residual.ensures.1 is)) fits.0 fits.1

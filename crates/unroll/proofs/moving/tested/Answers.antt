@@ -22,6 +22,7 @@ use Rattle.unroll.specs.Within.{AreWithin, IsNarrow}
 use Rattle.unroll.proofs.GrownLabels.{asked_within}
 use Rattle.unroll.proofs.Variables.{tested_over}
 use Rattle.unroll.proofs.WithinTrees.{tested_fits, tested_within}
+use Rattle.unroll.proofs.Refusing.{same_error}
 use Rattle.unroll.proofs.moving.tested.Goals as goal
 
 rows_are : (e : Expression) (t : Bool) (bounds : Bounds) (rows items : List (List Row)) → rows ≡ items → items ≡ spread_of bounds e t → bounds ≡ anywhere
@@ -34,91 +35,91 @@ made_is this that made e holds fails one two is =
     is ∙ ap (λ (list : List (List Row)). cut (tested_shape this that list fails)) one
     ∙ ap (λ (list : List (List Row)). cut (tested_shape this that (spread_of anywhere e true) list)) two
 
-pub returns-in-Ok-clause-both : goal.returns-in-Ok-clause-both
-returns-in-Ok-clause-both c s met also =
+pub returns-clause-both : goal.returns-clause-both
+returns-clause-both c s met also =
     let this = plan_of c.args.yes.now in
     let that = plan_of c.args.no.now in
     let e = expression c.args.test.now in
-    let is = made_is this that (plan_of c.in-Ok.tree) e c.deref.result.now c.deref-2.result.now
+    let is = made_is this that (plan_of c.in_ok-tree.tree) e c.deref.result.now c.deref-2.result.now
     (rows_are e true c.anywhere.result _ _ c.deref.ensures.value c.in_ok-holds.ensures c.anywhere.ensures)
-    (rows_are e false c.anywhere-2.result _ _ c.deref-2.ensures.value c.in_ok-fails.ensures c.anywhere-2.ensures) c.in-Ok.ensures.tree in
+    (rows_are e false c.anywhere-2.result _ _ c.deref-2.ensures.value c.in_ok-fails.ensures c.anywhere-2.ensures) c.in_ok-tree.ensures.tree in
     subst (λ (t : Plan AffineRank). IsBeforeBoth (eval this s) (eval that s) (eval t s)) (sym is)
     (both_before this that (spread_of anywhere e true) (spread_of anywhere e false) s met also)
 
-pub returns-in-Ok-clause-holds : goal.returns-in-Ok-clause-holds
-returns-in-Ok-clause-holds c s met missed =
+pub returns-clause-holds : goal.returns-clause-holds
+returns-clause-holds c s met missed =
     let this = plan_of c.args.yes.now in
     let that = plan_of c.args.no.now in
     let e = expression c.args.test.now in
-    let is = made_is this that (plan_of c.in-Ok.tree) e c.deref.result.now c.deref-2.result.now
+    let is = made_is this that (plan_of c.in_ok-tree.tree) e c.deref.result.now c.deref-2.result.now
     (rows_are e true c.anywhere.result _ _ c.deref.ensures.value c.in_ok-holds.ensures c.anywhere.ensures)
-    (rows_are e false c.anywhere-2.result _ _ c.deref-2.ensures.value c.in_ok-fails.ensures c.anywhere-2.ensures) c.in-Ok.ensures.tree in
+    (rows_are e false c.anywhere-2.result _ _ c.deref-2.ensures.value c.in_ok-fails.ensures c.anywhere-2.ensures) c.in_ok-tree.ensures.tree in
     subst (λ (t : Plan AffineRank). IsBefore (eval this s) (eval t s)) (sym is)
     (first_before this that (spread_of anywhere e true) (spread_of anywhere e false) s met missed)
 
-pub returns-in-Ok-clause-fails : goal.returns-in-Ok-clause-fails
-returns-in-Ok-clause-fails c s missed met =
+pub returns-clause-fails : goal.returns-clause-fails
+returns-clause-fails c s missed met =
     let this = plan_of c.args.yes.now in
     let that = plan_of c.args.no.now in
     let e = expression c.args.test.now in
-    let is = made_is this that (plan_of c.in-Ok.tree) e c.deref.result.now c.deref-2.result.now
+    let is = made_is this that (plan_of c.in_ok-tree.tree) e c.deref.result.now c.deref-2.result.now
     (rows_are e true c.anywhere.result _ _ c.deref.ensures.value c.in_ok-holds.ensures c.anywhere.ensures)
-    (rows_are e false c.anywhere-2.result _ _ c.deref-2.ensures.value c.in_ok-fails.ensures c.anywhere-2.ensures) c.in-Ok.ensures.tree in
+    (rows_are e false c.anywhere-2.result _ _ c.deref-2.ensures.value c.in_ok-fails.ensures c.anywhere-2.ensures) c.in_ok-tree.ensures.tree in
     subst (λ (t : Plan AffineRank). IsBefore (eval that s) (eval t s)) (sym is)
     (second_before this that (spread_of anywhere e true) (spread_of anywhere e false) s missed met)
 
-pub returns-in-Ok-clause-ranks : goal.returns-in-Ok-clause-ranks
-returns-in-Ok-clause-ranks c first second =
+pub returns-clause-ranks : goal.returns-clause-ranks
+returns-clause-ranks c first second =
     let this = plan_of c.args.yes.now in
     let that = plan_of c.args.no.now in
-    let is : plan_of c.in-Ok.tree ≡ cut (tested_shape this that c.deref.result.now c.deref-2.result.now) = c.in-Ok.ensures.tree in
+    let is : plan_of c.in_ok-tree.tree ≡ cut (tested_shape this that c.deref.result.now c.deref-2.result.now) = c.in_ok-tree.ensures.tree in
     subst RanksCount (sym is) (tested_count this that c.deref.result.now c.deref-2.result.now first second)
 
-pub returns-in-Ok-clause-complements : goal.returns-in-Ok-clause-complements
-returns-in-Ok-clause-complements c =
+pub returns-clause-complements : goal.returns-clause-complements
+returns-clause-complements c =
     let shape = tested_shape (plan_of c.args.yes.now) (plan_of c.args.no.now) c.deref.result.now c.deref-2.result.now in
-    let is : plan_of c.in-Ok.tree ≡ cut shape = c.in-Ok.ensures.tree in
-    subst ComplementsFit (sym is) (trimmed_complements [] shape c.in-Ok.ensures.rows)
+    let is : plan_of c.in_ok-tree.tree ≡ cut shape = c.in_ok-tree.ensures.tree in
+    subst ComplementsFit (sym is) (trimmed_complements [] shape c.in_ok-tree.ensures.rows)
 
-pub returns-in-Ok-clause-variables : goal.returns-in-Ok-clause-variables
-returns-in-Ok-clause-variables c vars sorted one two first second =
+pub returns-clause-variables : goal.returns-clause-variables
+returns-clause-variables c vars sorted one two first second =
     let this = plan_of c.args.yes.now in
     let that = plan_of c.args.no.now in
     let e = expression c.args.test.now in
-    let is = made_is this that (plan_of c.in-Ok.tree) e c.deref.result.now c.deref-2.result.now
+    let is = made_is this that (plan_of c.in_ok-tree.tree) e c.deref.result.now c.deref-2.result.now
     (rows_are e true c.anywhere.result _ _ c.deref.ensures.value c.in_ok-holds.ensures c.anywhere.ensures)
-    (rows_are e false c.anywhere-2.result _ _ c.deref-2.ensures.value c.in_ok-fails.ensures c.anywhere-2.ensures) c.in-Ok.ensures.tree in
+    (rows_are e false c.anywhere-2.result _ _ c.deref-2.ensures.value c.in_ok-fails.ensures c.anywhere-2.ensures) c.in_ok-tree.ensures.tree in
     subst (IsTreeOver vars) (sym is) (tested_over vars this that e sorted one two first second)
 
-pub returns-in-Ok-clause-small : goal.returns-in-Ok-clause-small
-returns-in-Ok-clause-small c fits first second =
+pub returns-clause-small : goal.returns-clause-small
+returns-clause-small c fits first second =
     let this = plan_of c.args.yes.now in
     let that = plan_of c.args.no.now in
     let e = expression c.args.test.now in
-    let is = made_is this that (plan_of c.in-Ok.tree) e c.deref.result.now c.deref-2.result.now
+    let is = made_is this that (plan_of c.in_ok-tree.tree) e c.deref.result.now c.deref-2.result.now
     (rows_are e true c.anywhere.result _ _ c.deref.ensures.value c.in_ok-holds.ensures c.anywhere.ensures)
-    (rows_are e false c.anywhere-2.result _ _ c.deref-2.ensures.value c.in_ok-fails.ensures c.anywhere-2.ensures) c.in-Ok.ensures.tree in
+    (rows_are e false c.anywhere-2.result _ _ c.deref-2.ensures.value c.in_ok-fails.ensures c.anywhere-2.ensures) c.in_ok-tree.ensures.tree in
     let made = ap size_of is in
     let less = trimmed_size same_rank [] (tested_shape this that (spread_of anywhere e true) (spread_of anywhere e false)) in
     let most = shape_size e fits this that first second in
     omega (arith, made, less, most)
 
-pub returns-clause-full : goal.returns-clause-full
-returns-clause-full c count fits first second is =
+pub returns-in_err-tree-clause-full : goal.returns-in_err-tree-clause-full
+returns-in_err-tree-clause-full c count fits first second is =
     let e = expression c.args.test.now in
     shape_full e fits (plan_of c.args.yes.now) (plan_of c.args.no.now) first second c.deref.result.now c.deref-2.result.now
     (rows_are e true c.anywhere.result _ _ c.deref.ensures.value c.in_ok-holds.ensures c.anywhere.ensures)
     (rows_are e false c.anywhere-2.result _ _ c.deref-2.ensures.value c.in_ok-fails.ensures c.anywhere-2.ensures)
-    (c.in-Err.ensures.full count (ap Err (c.refused.ensures.full count cc))).1
+    (c.in_err-tree.ensures.full count (ap Err (same_error _ _ _ c.from_residual-in_err-tree.ensures.1 is))).1
 
-pub returns-in-Ok-clause-within : goal.returns-in-Ok-clause-within
-returns-in-Ok-clause-within c k most steps fits small first second =
+pub returns-clause-within : goal.returns-clause-within
+returns-clause-within c k most steps fits small first second =
     let this = plan_of c.args.yes.now in
     let that = plan_of c.args.no.now in
     let e = expression c.args.test.now in
-    let is = made_is this that (plan_of c.in-Ok.tree) e c.deref.result.now c.deref-2.result.now
+    let is = made_is this that (plan_of c.in_ok-tree.tree) e c.deref.result.now c.deref-2.result.now
     (rows_are e true c.anywhere.result _ _ c.deref.ensures.value c.in_ok-holds.ensures c.anywhere.ensures)
-    (rows_are e false c.anywhere-2.result _ _ c.deref-2.ensures.value c.in_ok-fails.ensures c.anywhere-2.ensures) c.in-Ok.ensures.tree in
+    (rows_are e false c.anywhere-2.result _ _ c.deref-2.ensures.value c.in_ok-fails.ensures c.anywhere-2.ensures) c.in_ok-tree.ensures.tree in
     subst (AreWithin k most (suc steps)) (sym is)
     (tested_within k most steps this that first second (spread_of anywhere e true) (spread_of anywhere e false) (asked_within e fits k most small))
 
@@ -136,10 +137,10 @@ fitting_test e fits k most steps narrow small this that first second holds fails
     (subst (λ (list : List (List Row)). Fits (spread_of anywhere e true) list) (sym two)
     (tested_fits k most steps this that first second (spread_of anywhere e true) (spread_of anywhere e false) (asked_within e fits k most small) narrow))
 
-pub returns-clause-wide : goal.returns-clause-wide
-returns-clause-wide c operands k most steps fits narrow small first second is =
+pub returns-in_err-tree-clause-wide : goal.returns-in_err-tree-clause-wide
+returns-in_err-tree-clause-wide c operands k most steps fits narrow small first second is =
     let e = expression c.args.test.now in
     let fit = fitting_test e fits k most steps narrow small (plan_of c.args.yes.now) (plan_of c.args.no.now) first second c.deref.result.now c.deref-2.result.now
     (rows_are e true c.anywhere.result _ _ c.deref.ensures.value c.in_ok-holds.ensures c.anywhere.ensures)
     (rows_are e false c.anywhere-2.result _ _ c.deref-2.ensures.value c.in_ok-fails.ensures c.anywhere-2.ensures) in
-    c.in-Err.ensures.wide operands (ap Err (c.refused.ensures.wide operands cc)) fit.0 fit.1
+    c.in_err-tree.ensures.wide operands (ap Err (same_error _ _ _ c.from_residual-in_err-tree.ensures.1 is)) fit.0 fit.1
