@@ -2,13 +2,14 @@
 """Sees that the pages agree with the code: ends with 1 and a line for each place where they don't.
 
 - docs/ARCHITECTURE.md has the layers of crates.txt, each with its crates in their order, and names at each crate exactly the crates of the repository that it
-  stands on.
+  stands on, but for those on which another of them stands.
 - Each word in backquotes that looks like a name of the code occurs in the code.
 - Each program under examples/ stands in docs/EXAMPLES.md with its report, as the files have them, and in the table on top of that page, and each one under
   examples/formulas/ with its formula too; README.md shows programs as the files have them.
 - Behind the dash of each claim in docs/PROOFS.md stand functions and clauses: each function is one of the code, and each clause stands at a function that the claim
   names before it, or is a field of a record in that function's contract. Where a claim names no function, the clause is one of the heading's crates.
 """
+import functools
 import re
 import sys
 from pathlib import Path
@@ -28,6 +29,16 @@ def crates():
             name, _, rest = line.partition(":")
             found[name.strip()] = rest.split()
     return {name: [other for other in rest if other in found] for name, rest in found.items()}
+
+
+def not_implied(listed):
+    """Of the crates that each stands on, those on which none of the others stands."""
+
+    @functools.cache
+    def below(name):
+        return set(listed[name]).union(*map(below, listed[name]))
+
+    return {name: [other for other in others if not any(other in below(third) for third in others)] for name, others in listed.items()}
 
 
 def layers(lines, heading, row):
@@ -54,7 +65,7 @@ def wrong_layers():
 
 def wrong_rows():
     """What the map of the crates says otherwise than crates.txt."""
-    listed = crates()
+    listed = not_implied(crates())
     rows = {}
     for line in (TOP / "docs/ARCHITECTURE.md").read_text().splitlines():
         cells = [cell.strip() for cell in line.strip().strip("|").split("|")]

@@ -11,9 +11,9 @@ use Rattle.tree_unify.specs.declared.fault.TreeFault.{TreeFault}
 use Rattle.tree_unify.specs.declared.fault.TreeFault.TheVariants.{Full as TooFull, Memory, Wide as TooWide}
 use Rattle.backward_transfer.specs.AffineShapes.{plans, tree_at}
 use Rattle.backward_transfer.proofs.Putting.{more_each, plans_length, plans_more, put_other, put_same, same_or}
-use Rattle.transitions.specs.declared.transition.Transition.{Transition}
-use Rattle.transitions.specs.declared.transition.Transition.TheVariants.{Assign, Choose, Dead, End, Pass, Test}
-use Rattle.transitions.specs.Transitions.{AreOnward, IsOn, transition_in, first_target, is_given, is_idle, second_target}
+use Rattle.control_flow.specs.declared.transition.Transition.{Transition}
+use Rattle.control_flow.specs.declared.transition.Transition.TheVariants.{Assign, Choose, Dead, End, Pass, Test}
+use Rattle.control_flow.specs.Transitions.{AreOnward, IsOn, transition_in, first_target, is_given, is_idle, second_target}
 use Rattle.backward_sweeps.specs.Remaking.{AreEndsGiven, AreEndsStarted, AreGiven, AreKept, AreRemadeFrom, IsOrTop, IsRefused, IsRemade, IsStarted, IsTop, Parts, end_for, given_for, goal_at, remade}
 
 module _ (parts : Parts) where

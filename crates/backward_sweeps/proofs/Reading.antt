@@ -5,8 +5,8 @@ use Rattle.decision_tree.specs.declared.affine_rank.AffineRank.{AffineRank}
 use Rattle.decision_tree.specs.declared.tree.Tree.{Tree}
 use Rattle.backward_transfer.specs.AffineShapes.{plans, tree_at}
 use Rattle.backward_transfer.proofs.Putting.{plan_at}
-use Rattle.transitions.specs.declared.transition.Transition.{Transition}
-use Rattle.transitions.specs.Transitions.{LeadsWithin, first_target, second_target}
+use Rattle.control_flow.specs.declared.transition.Transition.{Transition}
+use Rattle.control_flow.specs.Transitions.{LeadsWithin, first_target, second_target}
 
 module _ (trees : List (Tree AffineRank)) where
   -- what was read at a label is the tree of the label

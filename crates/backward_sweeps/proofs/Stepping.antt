@@ -6,11 +6,11 @@ use Rattle.decision_tree.specs.Plans.{Plan}
 use Rattle.decision_tree.specs.declared.affine_rank.AffineRank.{AffineRank}
 use Rattle.backward_transfer.specs.AffineShapes.{assigned_shape, chosen_shape, cut, picked_shape, ranged_shape, same_rank, stepped_shape, tested_shape}
 use Rattle.backward_sweeps.specs.Before.{before}
-use Rattle.transitions.specs.Transitions.{choice_in}
+use Rattle.control_flow.specs.Transitions.{choice_in}
 use Rattle.backward_sweeps.specs.Moving.{before_all}
 use Rattle.backward_sweeps.specs.Picking.{before_choice, before_outcome, before_value}
-use Rattle.transitions.specs.declared.transition.Transition.{Transition}
-use Rattle.transitions.specs.declared.transition.Transition.TheVariants.{Assign, Choose, Dead, End, Pass, Test}
+use Rattle.control_flow.specs.declared.transition.Transition.{Transition}
+use Rattle.control_flow.specs.declared.transition.Transition.TheVariants.{Assign, Choose, Dead, End, Pass, Test}
 use Rattle.backward_sweeps.proofs.Trimming.{trimmed_again}
 
 all_cut : (transition : Transition) (this that : Plan AffineRank) → cut (before_all transition this that) ≡ before_all transition this that

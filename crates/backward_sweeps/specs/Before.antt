@@ -4,7 +4,7 @@ use Rattle.decision_tree.specs.Plans.{Plan}
 use Rattle.decision_tree.specs.declared.affine_rank.AffineRank.{AffineRank}
 use Rattle.backward_sweeps.specs.Moving.{AllFit, AreAllSmall, before_all}
 use Rattle.backward_sweeps.specs.Picking.{AreSomeSmall, SomeFit, before_some}
-use Rattle.transitions.specs.declared.transition.Transition.{Transition}
+use Rattle.control_flow.specs.declared.transition.Transition.{Transition}
 
 -- the tree for all next states, or for some
 abbrev pub before : Bool → Transition → Plan AffineRank → Plan AffineRank → Plan AffineRank

@@ -10,8 +10,8 @@ use Rattle.backward_transfer.specs.AffineShapes.{CutFits, affine_ranks, assigned
 use Rattle.backward_transfer.specs.Ranges.{AreSmall, RangeFits}
 use Rattle.backward_transfer.specs.Steps.{AssignFits, StepFits}
 use Rattle.backward_transfer.specs.Tests.{ComplementFits, EnabledFits, IsLaterSmall, TestAsks}
-use Rattle.transitions.specs.declared.transition.Transition.{Transition}
-use Rattle.transitions.specs.declared.transition.Transition.TheVariants.{Assign, Choose, Dead, End, Pass, Test}
+use Rattle.control_flow.specs.declared.transition.Transition.{Transition}
+use Rattle.control_flow.specs.declared.transition.Transition.TheVariants.{Assign, Choose, Dead, End, Pass, Test}
 
 -- the rank of a claim that needs no step
 abbrev pub nought : AffineRank

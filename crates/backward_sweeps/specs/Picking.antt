@@ -8,10 +8,10 @@ use Rattle.backward_transfer.specs.AffineShapes.{CutFits, affine_ranks, chosen_s
 use Rattle.backward_transfer.specs.Chosen.{IsSomeSmall, SomeFits}
 use Rattle.backward_transfer.specs.Picks.{ArePicksSmall, PickFits}
 use Rattle.backward_transfer.specs.Values.{RootsFit, tried_values}
-use Rattle.transitions.specs.Transitions.{choice_in}
+use Rattle.control_flow.specs.Transitions.{choice_in}
 use Rattle.backward_sweeps.specs.Moving.{AllFit, AreAllSmall, before_all}
-use Rattle.transitions.specs.declared.transition.Transition.{Transition}
-use Rattle.transitions.specs.declared.transition.Transition.TheVariants.{Choose, Test}
+use Rattle.control_flow.specs.declared.transition.Transition.{Transition}
+use Rattle.control_flow.specs.declared.transition.Transition.TheVariants.{Choose, Test}
 
 -- before a test of which one outcome is picked; all else is as for all next states
 abbrev pub before_outcome : Transition → Plan AffineRank → Plan AffineRank → Plan AffineRank

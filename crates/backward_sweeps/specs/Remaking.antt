@@ -11,11 +11,11 @@ use Rattle.tree_unify.specs.Shapes.{JoinedFits, joined}
 use Rattle.tree_unify.specs.declared.join.Join.TheVariants.{Both, Either}
 use Rattle.backward_transfer.specs.AffineShapes.{affine_ranks, plans, same_rank, tree_at}
 use Rattle.backward_sweeps.specs.Claiming.{claimed}
-use Rattle.transitions.specs.Transitions.{transition_in, first_target, is_given, is_idle, second_target}
+use Rattle.control_flow.specs.Transitions.{transition_in, first_target, is_given, is_idle, second_target}
 use Rattle.backward_sweeps.specs.Before.{BeforeFits, IsBeforeSmall, before}
 use Rattle.backward_sweeps.specs.Moving.{at_once}
-use Rattle.transitions.specs.declared.transition.Transition.{Transition}
-use Rattle.transitions.specs.declared.transition.Transition.TheVariants.{Dead, End}
+use Rattle.control_flow.specs.declared.transition.Transition.{Transition}
+use Rattle.control_flow.specs.declared.transition.Transition.TheVariants.{Dead, End}
 use Rattle.backward_sweeps.specs.declared.operands.Operands.{Operands}
 
 -- What an until or a weak until is made of: whether it speaks of all next states, and for the labels the trees of the goal and of what is to

@@ -5,18 +5,17 @@ ghost use Rattle.linear_cons.specs.declared.exact.Wide.{Wide};
 ghost use Rattle.decision_tree.specs.Plans.{plan_of};
 ghost use Rattle.tree_unify.specs.declared.fault.TreeFault.TheVariants.{Full as TooFull, Wide as TooWide};
 ghost use Rattle.backward_transfer.specs.AffineShapes.{plans, tree_at};
-ghost use Rattle.transitions.specs.Transitions.{LeadsWithin, first_target, second_target};
+ghost use Rattle.control_flow.specs.Transitions.{LeadsWithin, first_target, second_target};
 ghost use Rattle.backward_sweeps.specs.Before.{BeforeFits, IsBeforeSmall, before};
 ghost use Rattle.backward_sweeps.specs.Moving.{AllFit, AreAllSmall, at_once, before_all};
 ghost use Rattle.backward_sweeps.specs.Picking.{AreOutcomesSmall, AreSomeSmall, AreValuesSmall, OutcomesFit, SomeFit, ValuesFit};
 ghost use Rattle.backward_sweeps.specs.Picking.{before_outcome, before_some, before_value};
 
 use backward_transfer::{back_assign, back_pick, back_range, back_skip, back_some, back_test};
-use control_flow::Choice;
+use control_flow::{Choice, Transition};
 use decision_tree::{AffineRank, Tree, Why};
 use linear_cons::Affine;
 use std::alloc::Global;
-use transitions::Transition;
 use tree_unify::TreeFault;
 
 /// The tree before what is done at a label, with the trees of all labels given, for all next states or, where `all` is false, for some: then

@@ -2,15 +2,15 @@
 ghost use Rattle.std.specs.Prelude.{◌≡◌, ◌&&◌, suc, ◌<◌, ◌≤◌, Bool, false, true, IfOk, OnOk, length};
 ghost use Rattle.decision_tree.specs.Plans.{plan_of};
 ghost use Rattle.backward_transfer.specs.AffineShapes.{plans, tree_at};
-ghost use Rattle.transitions.specs.Transitions.{AreOnward, transition_in, is_given, is_idle};
+ghost use Rattle.control_flow.specs.Transitions.{AreOnward, transition_in, is_given, is_idle};
 ghost use Rattle.backward_sweeps.specs.Remaking.{AreGiven, AreKept, AreRemadeFrom, given_for, goal_at, parts_of};
 
 use crate::moving::at_once;
 use crate::operands::Operands;
 use crate::remaking::{given_up, remade};
+use control_flow::Transition;
 use decision_tree::{AffineRank, Tree, Why};
 use std::alloc::{AllocError, Global};
-use transitions::Transition;
 
 /// The trees before a pass: at the test of a loop the one at hand, what the goal claims where nothing is done, and elsewhere no claim. The
 /// only error is want of memory.

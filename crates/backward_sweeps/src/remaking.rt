@@ -6,14 +6,14 @@ ghost use Rattle.decision_tree.specs.Plans.{bottom, plan_of, top};
 ghost use Rattle.decision_tree.specs.declared.reason.Cause.TheVariants.{Nodes, Wide as WideNumber};
 ghost use Rattle.tree_unify.specs.declared.fault.TreeFault.TheVariants.{Full as TooFull, Memory, Wide as TooWide};
 ghost use Rattle.backward_transfer.specs.AffineShapes.{cut, plans, tree_at};
-ghost use Rattle.transitions.specs.Transitions.{LeadsWithin, first_target, second_target};
+ghost use Rattle.control_flow.specs.Transitions.{LeadsWithin, first_target, second_target};
 ghost use Rattle.backward_sweeps.specs.Remaking.{IsMade, IsMadeSmall, IsRemadeSmall, MadeFits, RemadeFits, made, parts_of};
 
 use crate::moving::moved_back;
 use crate::operands::Operands;
+use control_flow::Transition;
 use decision_tree::{AffineRank, Cause, Tree};
 use std::alloc::{AllocError, Global};
-use transitions::Transition;
 use tree_unify::{TreeFault, both, either};
 
 /// The tree of a label at which this is done, with the trees of all labels given: what the goal claims there, or else what the trees behind

@@ -8,9 +8,9 @@ use crate::claiming::taken_over;
 use crate::moving::at_once;
 use crate::operands::Operands;
 use crate::remaking::{given_up, tree_at};
+use control_flow::Transition;
 use decision_tree::{AffineRank, Pick, Tree, Why};
 use std::alloc::{AllocError, Global};
-use transitions::Transition;
 use tree_unify::either;
 
 /// The trees before a weak until's sweeps: what the goal claims, or else that what is to be kept is kept behind each step. One that can't be

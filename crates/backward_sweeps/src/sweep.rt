@@ -1,18 +1,18 @@
 //! Sweeps over the labels.
 ghost use Rattle.std.specs.Prelude.{◌≡◌, ◌<◌, ◌≤◌, [], false, IfOk, OnOk, length};
 ghost use Rattle.backward_transfer.specs.AffineShapes.{plans};
-ghost use Rattle.transitions.specs.Transitions.{AreOnward, HasNoHead, LeadsWithin, is_head, is_idle};
+ghost use Rattle.control_flow.specs.Transitions.{AreOnward, HasNoHead, LeadsWithin, is_head, is_idle};
 ghost use Rattle.backward_sweeps.specs.Remaking.{AreEndsGiven, AreEndsStarted, AreKept, AreRemadeFrom, parts_of};
 
 use crate::operands::Operands;
 use crate::pass::{begun, follow, is_idle};
 use crate::remaking::{given_up, remade};
 use crate::starting::started;
+use control_flow::Transition;
 use decision_tree::{AffineRank, Tree, TreeList};
 use forward_inv::Inv;
 use num_domain::NumDomain;
 use std::alloc::{AllocError, Global};
-use transitions::Transition;
 use tree_unify::{TreeFault, prune};
 use tree_widening::widen;
 

@@ -14,9 +14,10 @@ use ctl_formula::Formula;
 use decision_tree::{AffineRank, Family, Tree, TreeList};
 use forward_inv::{Inv, invariants};
 use interval_dom::Boxes;
+use rows_in_hand::Reason;
 use std::alloc::{AllocError, Global};
 use tree_check::check;
-use tree_support::{Dropped, Reason};
+use tree_support::Dropped;
 
 /// The number of the family that is checked, which the check doesn't read.
 const CHECKED: u32 = 2;

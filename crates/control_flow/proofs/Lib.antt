@@ -16,3 +16,4 @@ pub mod Existing
 pub mod Measuring
 pub mod Reached
 pub mod Unstuck
+pub mod Doing

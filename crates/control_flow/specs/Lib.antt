@@ -11,3 +11,5 @@ pub mod Tables
 pub mod Faults
 pub mod States
 pub mod Invariants
+pub mod Told
+pub mod Transitions

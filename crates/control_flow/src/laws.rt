@@ -1,6 +1,6 @@
 //! Laws of the definitions, each the contract of a function that does nothing: what labels, edges and steps have to do with each other.
 
-ghost use Rattle.std.specs.Prelude.{◌≡◌, ◌⊎◌, ℕ, ℤ, ◌<◌, ◌+◌, Bool, [], length, slice_set};
+ghost use Rattle.std.specs.Prelude.{◌≡◌, ◌⊎◌, ℕ, ℤ, ◌<◌, ◌+◌, Bool, List, [], length, slice_set};
 ghost use Rattle.step_meaning.specs.Syntax.{Expression, Statements, free, size_of};
 ghost use Rattle.step_meaning.specs.Outcome.{Store, May};
 ghost use Rattle.step_meaning.specs.Run.{IsInput};
@@ -11,6 +11,9 @@ ghost use Rattle.control_flow.specs.Edges.{EdgesAreSteps, Reached, SomeEdge, Bot
 ghost use Rattle.control_flow.specs.Labels.{action_at, all_labels, assigns, entry_of, rest, tests};
 ghost use Rattle.control_flow.specs.Measures.{AreSizes};
 ghost use Rattle.control_flow.specs.States.{IsReachedState};
+ghost use Rattle.control_flow.specs.Told.{Told};
+ghost use Rattle.control_flow.specs.Transitions.{AreOnward, AreTold};
+ghost use Rattle.control_flow.specs.declared.transition.Transition.{Transition};
 
 /// The steps of the configurations of a label, its statements with a store, are those of its edges and no others. Each leads to a list
 /// with the same front as that of the edge's target. A run begins with the front of the entry.
@@ -66,4 +69,10 @@ pub fn reached_states_are_of_the_program()
     ensures labels { (vars : ℕ) (body : Statements) (label : ℕ) (store : Store) → IsReachedState vars body label store → label < length (all_labels body) }
     ensures places { (vars : ℕ) (body : Statements) (label : ℕ) (store : Store) → IsReachedState vars body label store → length store ≡ 16 }
     ensures inputs { (vars : ℕ) (body : Statements) → IsBody vars body → (label : ℕ) (store : Store) → IsReachedState vars body label store → IsInput vars store }
+{}
+
+/// The transitions of a program lead to labels, and but for those at labels with given trees they lead on.
+pub fn transitions_lead_on()
+    ensures { (body : Statements) (told : Told) (transitions : List Transition) → length transitions ≡ length (all_labels body)
+        → AreTold body told transitions → AreOnward transitions }
 {}

@@ -13,7 +13,7 @@ use Rattle.linear_cons.specs.Ends.{exactly}
 use Rattle.linear_forms.specs.Linearising.{linear_of}
 use Rattle.linear_forms.proofs.Exactness.{linear_exact}
 use Rattle.step_meaning.specs.declared.expression.Op2.{Op2}
-use Rattle.step_meaning.specs.declared.expression.Op2.TheVariants.{Add, Sub, Mul, Less, LessEqual, Greater, GreaterEqual, Equal, NotEqual, And, Or}
+use Rattle.step_meaning.specs.declared.expression.Op2.TheVariants.{Add, Sub}
 use Rattle.step_meaning.specs.Syntax.{Expression, number, variable, pair}
 use Rattle.step_meaning.specs.AffineExpressions.{ExpressionFits, IsAffine, coefficient_in, constant_in}
 use Rattle.step_meaning.specs.Countdown.{IsShort, IsSmall, added, added_by, amount, change_by, form_of}
@@ -61,15 +61,7 @@ small_known op x z units constant affine =
 known_by : (op : Op2) (x : ℕ) (z : ℤ) → IsShort (added_by op (Some z)) → IsKnown (pair op (variable x) (number z))
 known_by Add x z short = small_known Add x z (λ place. let unit = unit_size place x in omega (arith, ints)) (omega (arith, ints)) (tt, tt, tt)
 known_by Sub x z short = small_known Sub x z (λ place. let unit = unit_size place x in omega (arith, ints)) (omega (arith, ints)) (tt, tt, tt)
-known_by Mul x z short = absurd short
-known_by Less x z short = absurd short
-known_by LessEqual x z short = absurd short
-known_by Greater x z short = absurd short
-known_by GreaterEqual x z short = absurd short
-known_by Equal x z short = absurd short
-known_by NotEqual x z short = absurd short
-known_by And x z short = absurd short
-known_by Or x z short = absurd short
+known_by other x z short = absurd short
 
 short_known : (x : ℕ) (v : Expression) → IsShort (added x v) → IsKnown v
 short_known x v short = let found = short_form x v short in subst IsKnown (sym found.2) (known_by found.0 x found.1 found.3)

@@ -13,8 +13,8 @@ use Rattle.linear_forms.specs.Spreading.{Claim, all_rows_of, before, claims, kep
 use Rattle.linear_forms.proofs.Exactness.{linear_exact}
 use Rattle.linear_forms.proofs.SpreadExactness.{claimed, exact_constraint}
 use Rattle.step_meaning.specs.declared.expression.Op2.{Op2}
-use Rattle.step_meaning.specs.declared.expression.Op2.TheVariants.{Add, Sub, Mul, Less, LessEqual, Greater, GreaterEqual, Equal, NotEqual, And, Or}
-use Rattle.step_meaning.specs.Syntax.{Expression, number, variable, free, range, truth, negative, negation, pair, divided}
+use Rattle.step_meaning.specs.declared.expression.Op2.TheVariants.{Less, LessEqual, Greater, GreaterEqual, Equal, NotEqual, And}
+use Rattle.step_meaning.specs.Syntax.{Expression, pair}
 use Rattle.step_meaning.specs.AffineExpressions.{ComparisonFits, FunctionFits, IsAffine, less}
 use Rattle.count_down.specs.Asking.{EachHas, Has}
 
@@ -92,12 +92,7 @@ compared_has LessEqual l r row fit asks = single_has false r l row fit.opposite 
 compared_has Less l r row fit asks = single_has true r l row fit.opposite fit.strict_opposite asks
 compared_has Equal l r row fit (inl asks) = equal_first l r row fit asks
 compared_has Equal l r row fit (inr asks) = equal_second l r row fit asks
-compared_has NotEqual l r row fit asks = absurd asks
-compared_has Add l r row fit asks = absurd asks
-compared_has Sub l r row fit asks = absurd asks
-compared_has Mul l r row fit asks = absurd asks
-compared_has And l r row fit asks = absurd asks
-compared_has Or l r row fit asks = absurd asks
+compared_has other l r row fit asks = absurd asks
 
 module _ (bounds : Bounds) (row : Row) where
   affine_has : (op : Op2) (l r : Expression) → IsAffine l → IsAffine r → ComparisonFits l r → AsksByComparing op l r row → EachHas row (all_rows_of (claims op (linear_of bounds l) (linear_of bounds r)))
@@ -113,15 +108,4 @@ module _ (bounds : Bounds) (row : Row) where
   each_has (pair GreaterEqual l r) asks = affine_has GreaterEqual l r asks.0 asks.1 asks.2 asks.3
   each_has (pair Equal l r) asks = affine_has Equal l r asks.0 asks.1 asks.2 asks.3
   each_has (pair NotEqual l r) asks = absurd asks.3
-  each_has (pair Or l r) asks = absurd asks
-  each_has (pair Add l r) asks = absurd asks
-  each_has (pair Sub l r) asks = absurd asks
-  each_has (pair Mul l r) asks = absurd asks
-  each_has (number z) asks = absurd asks
-  each_has (variable x) asks = absurd asks
-  each_has free asks = absurd asks
-  each_has (range lo hi) asks = absurd asks
-  each_has (truth b) asks = absurd asks
-  each_has (negative e) asks = absurd asks
-  each_has (negation c) asks = absurd asks
-  each_has (divided division e b) asks = absurd asks
+  each_has other asks = absurd asks

@@ -10,14 +10,16 @@ use Rattle.linear_cons.specs.Rows.{MeetsKind, PointMeetsKind, row_kind_of}
 use Rattle.linear_cons.proofs.RowLaws.{opposed_never}
 use Rattle.decision_tree.specs.declared.affine_rank.AffineRank.{AffineRank}
 use Rattle.tree_support.specs.declared.dropped.Dropped.{Dropped}
-use Rattle.tree_support.specs.declared.dropped.Reason.{Reason}
-use Rattle.tree_support.specs.declared.dropped.Reason.TheVariants.{Point, Wide as TooWide, Rows}
+use Rattle.rows_in_hand.specs.declared.reason.Reason.{Reason}
+use Rattle.rows_in_hand.specs.declared.reason.Reason.TheVariants.{Point, Wide as TooWide, Rows}
 use Rattle.tree_support.specs.Certificates.{affine_ranks}
-use Rattle.tree_support.specs.Elimination.{Eliminates, IsOpen, IsSeen, Justifies, Shows, rows_in}
-use Rattle.transitions.specs.Forming.{Formed, exact}
+use Rattle.tree_support.specs.Elimination.{Eliminates}
+use Rattle.rows_in_hand.specs.Reasons.{IsOpen, IsSeen, Justifies, Shows, rows_in}
+use Rattle.rows_in_hand.specs.Forming.{Formed, exact}
 use Rattle.tree_support.specs.Setting.{Setting, Trees}
-use Rattle.tree_support.specs.Support.{ClaimFits, HasNoStore, IsSupported, choices, kinds_of}
-use Rattle.tree_support.specs.Systems.{Claim, nothing, unnatural, exceeding, System, systems}
+use Rattle.rows_in_hand.specs.Claims.{ClaimFits, HasNoStore, choices, kinds_of, Claim, nothing, unnatural, exceeding, System}
+use Rattle.tree_support.specs.Support.{IsSupported}
+use Rattle.tree_support.specs.Systems.{systems}
 use Rattle.count_down.specs.Blocking.{AllBlocked, AsksFor, ClaimAsks, IsBlocked}
 use Rattle.count_down.specs.Cancelling.{Clash}
 use Rattle.count_down.proofs.Clashing.{clash}

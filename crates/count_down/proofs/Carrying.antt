@@ -11,7 +11,7 @@ use Rattle.linear_forms.specs.Linearising.{is_exact, linear_of}
 use Rattle.step_meaning.specs.Countdown.{form_of, added, amount, change_by}
 use Rattle.step_meaning.specs.Syntax.{Expression}
 use Rattle.step_meaning.specs.Turns.{MayAssign}
-use Rattle.transitions.specs.Arcs.{Arc, assigning}
+use Rattle.tree_support.specs.Arcs.{Arc, assigning}
 use Rattle.tree_support.proofs.Moving.{store_after}
 use Rattle.count_down.specs.Trees.{shifted}
 use Rattle.count_down.proofs.Moving.{changes}

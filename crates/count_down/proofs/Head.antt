@@ -20,11 +20,11 @@ use Rattle.step_meaning.specs.Countdown.{Asks, IsSmall, form_of}
 use Rattle.linear_cons.specs.Sizes.{total_size}
 use Rattle.step_meaning.specs.Syntax.{Expression, Statements, assign, sequence}
 use Rattle.decision_tree.specs.declared.affine_rank.AffineRank.{AffineRank}
-use Rattle.transitions.specs.Arcs.{assigning, rows_given, testing}
-use Rattle.transitions.specs.Forming.{Formed}
+use Rattle.tree_support.specs.Arcs.{assigning, rows_given, testing}
+use Rattle.rows_in_hand.specs.Forming.{Formed}
 use Rattle.tree_support.specs.Setting.{Trees}
 use Rattle.tree_support.specs.Systems.{at_leaves, moved_by, unless_less}
-use Rattle.transitions.specs.Told.{Told}
+use Rattle.control_flow.specs.Told.{Told}
 use Rattle.tree_support.proofs.Lists.{all_one}
 use Rattle.tree_support.proofs.Moving.{store_after}
 use Rattle.count_down.specs.Asking.{Has}

@@ -11,10 +11,10 @@ use Rattle.linear_cons.proofs.Ring.{mul_add, mul_one, one_mul}
 use Rattle.decision_tree.specs.declared.reason.Why.{Why}
 use Rattle.decision_tree.specs.Plans.{leaf}
 use Rattle.tree_support.specs.Certificates.{affine_ranks}
-use Rattle.transitions.specs.Arcs.{rows_given}
-use Rattle.transitions.specs.Forming.{Formed, given}
-use Rattle.tree_support.specs.Support.{ClaimFits}
-use Rattle.tree_support.specs.Systems.{at_leaves, exceeding, moved_by, unless_less}
+use Rattle.tree_support.specs.Arcs.{rows_given}
+use Rattle.rows_in_hand.specs.Forming.{Formed, given}
+use Rattle.rows_in_hand.specs.Claims.{ClaimFits, exceeding}
+use Rattle.tree_support.specs.Systems.{at_leaves, moved_by, unless_less}
 use Rattle.tree_support.proofs.Lists.{all_one, contains_first, contains_later}
 use Rattle.tree_support.proofs.Moving.{store_after}
 use Rattle.count_down.specs.Asking.{Has}

@@ -19,10 +19,10 @@ use Rattle.step_meaning.specs.Countdown.{IsShort, IsSmall, added, amount, change
 use Rattle.step_meaning.specs.Syntax.{Expression, Statements}
 use Rattle.step_meaning.specs.Turns.{MayAssign}
 use Rattle.decision_tree.specs.declared.affine_rank.AffineRank.{AffineRank}
-use Rattle.transitions.specs.Arcs.{Arc, assigning, rows_given, testing}
-use Rattle.transitions.specs.Forming.{Formed}
+use Rattle.tree_support.specs.Arcs.{Arc, assigning, rows_given, testing}
+use Rattle.rows_in_hand.specs.Forming.{Formed}
 use Rattle.tree_support.specs.Setting.{Trees}
-use Rattle.transitions.specs.Told.{Told}
+use Rattle.control_flow.specs.Told.{Told}
 use Rattle.tree_support.proofs.Lists.{all_one}
 use Rattle.count_down.specs.Building.{IsFew, IsModest}
 use Rattle.count_down.specs.Candidates.{inside}

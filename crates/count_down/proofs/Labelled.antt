@@ -21,12 +21,12 @@ use Rattle.decision_tree.specs.Paths.{leaf_numbered}
 use Rattle.decision_tree.specs.Plans.{Plan, bottom, top, leaf, branch}
 use Rattle.ctl_formula.specs.Formulas.{af_exit}
 use Rattle.tree_support.specs.Certificates.{affine_ranks}
-use Rattle.transitions.specs.Arcs.{Arc, flow_of, rows_given}
-use Rattle.transitions.specs.Forming.{Formed, given}
+use Rattle.tree_support.specs.Arcs.{Arc, flow_of, rows_given}
+use Rattle.rows_in_hand.specs.Forming.{Formed, given}
 use Rattle.tree_support.specs.Setting.{Setting, Trees, setting_of}
-use Rattle.tree_support.specs.Support.{ClaimFits}
-use Rattle.tree_support.specs.Systems.{System, at_leaves, moved_by, of_leaf, region, systems, undefined_at, unedged, unless_less, unnatural}
-use Rattle.transitions.specs.Told.{Told}
+use Rattle.rows_in_hand.specs.Claims.{ClaimFits, System, unnatural}
+use Rattle.tree_support.specs.Systems.{at_leaves, moved_by, of_leaf, region, systems, undefined_at, unedged, unless_less}
+use Rattle.control_flow.specs.Told.{Told}
 use Rattle.tree_support.proofs.Lists.{all_none, contains_first, contains_later}
 use Rattle.count_down.specs.Blocking.{IsBlocked}
 use Rattle.count_down.specs.Trees.{bound, count_tree, ranked, split, within}

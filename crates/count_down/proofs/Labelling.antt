@@ -77,13 +77,7 @@ length_counting row p (sequence (while_loop test body step) more) counts =
     let turn = length_turn e body step counts.1 in
     let last = length_behind more counts.2 in
     omega arith
-length_counting row p (sequence skip more) counts = absurd counts
-length_counting row p (sequence return more) counts = absurd counts
-length_counting row p (sequence break more) counts = absurd counts
-length_counting row p (sequence continue more) counts = absurd counts
-length_counting row p (sequence (if_else test first second) more) counts = absurd counts
-length_counting row p (sequence (do_while body test) more) counts = absurd counts
-length_counting row p empty counts = absurd counts
+length_counting row p other counts = absurd counts
 
 -- as many trees as labels
 pub length_candidate : (countdown : Countdown) (body : Statements) → IsCountdownBy countdown body → length (candidate_by countdown body) ≡ 1 + size_of body
@@ -112,13 +106,7 @@ counting_whole e (sequence (assign x v) more) = All-cons IsWhole _ (counting e m
 counting_whole e (sequence (while_loop test body step) more) =
     All-cons IsWhole _ _ (tree_whole _ _ e 0)
     (All-append IsWhole _ (behind more) (map_whole _ (λ c. tree_whole _ _ _ _) (turn_counts e body step)) (behind_whole more))
-counting_whole e (sequence skip more) = λ k d low. absurd (omega arith)
-counting_whole e (sequence return more) = λ k d low. absurd (omega arith)
-counting_whole e (sequence break more) = λ k d low. absurd (omega arith)
-counting_whole e (sequence continue more) = λ k d low. absurd (omega arith)
-counting_whole e (sequence (if_else test first second) more) = λ k d low. absurd (omega arith)
-counting_whole e (sequence (do_while body test) more) = λ k d low. absurd (omega arith)
-counting_whole e empty = λ k d low. absurd (omega arith)
+counting_whole e other = λ k d low. absurd (omega arith)
 
 -- no leaf is undefined
 pub whole_candidate : (countdown : Countdown) (body : Statements) → All IsWhole (candidate_by countdown body)

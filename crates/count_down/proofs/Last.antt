@@ -16,12 +16,11 @@ use Rattle.decision_tree.specs.declared.reason.Pick.TheVariants.{All as Every}
 use Rattle.decision_tree.specs.declared.reason.Why.TheVariants.{Step}
 use Rattle.decision_tree.specs.Plans.{leaf}
 use Rattle.tree_support.specs.Certificates.{affine_ranks}
-use Rattle.transitions.specs.Arcs.{Arc, arcs_by, assigning, rows_given, testing}
-use Rattle.transitions.specs.Forming.{Formed}
+use Rattle.tree_support.specs.Arcs.{Arc, arcs_by, assigning, rows_given, testing}
+use Rattle.rows_in_hand.specs.Forming.{Formed}
 use Rattle.tree_support.specs.Setting.{Trees}
-use Rattle.tree_support.specs.Support.{ClaimFits}
-use Rattle.tree_support.specs.Systems.{exceeding}
-use Rattle.transitions.specs.Told.{Told}
+use Rattle.rows_in_hand.specs.Claims.{ClaimFits, exceeding}
+use Rattle.control_flow.specs.Told.{Told}
 use Rattle.tree_support.proofs.Lists.{all_one}
 use Rattle.count_down.specs.Building.{IsFew}
 use Rattle.count_down.specs.Candidates.{most_within, nothing}

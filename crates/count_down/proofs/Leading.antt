@@ -26,13 +26,7 @@ factors_small row p (sequence (assign x v) more) small counts =
     let later = factors_small row (p * (1 + total_size (form_of v))) more counts.2 counts.3 in
     rw mul_assoc at later
 factors_small row p (sequence (while_loop test body step) more) small counts = omega arith
-factors_small row p (sequence skip more) small counts = absurd counts
-factors_small row p (sequence return more) small counts = absurd counts
-factors_small row p (sequence break more) small counts = absurd counts
-factors_small row p (sequence continue more) small counts = absurd counts
-factors_small row p (sequence (if_else test first second) more) small counts = absurd counts
-factors_small row p (sequence (do_while body test) more) small counts = absurd counts
-factors_small row p empty small counts = absurd counts
+factors_small row p other small counts = absurd counts
 
 -- how large the function is before the assignments
 abbrev pub size_before : Statements → ℕ
@@ -54,13 +48,7 @@ sizes_carried row p vars (sequence (assign x v) more) counts few sorted =
     (omega arith) own)
 sizes_carried row p vars (sequence (while_loop test body step) more) counts few sorted = sizes_grown (2 ^ 31) (2 ^ 31 * 1) row.affine (omega arith)
     (small_sizes row.affine counts.1.small)
-sizes_carried row p vars (sequence skip more) counts few sorted = absurd counts
-sizes_carried row p vars (sequence return more) counts few sorted = absurd counts
-sizes_carried row p vars (sequence break more) counts few sorted = absurd counts
-sizes_carried row p vars (sequence continue more) counts few sorted = absurd counts
-sizes_carried row p vars (sequence (if_else test first second) more) counts few sorted = absurd counts
-sizes_carried row p vars (sequence (do_while body test) more) counts few sorted = absurd counts
-sizes_carried row p vars empty counts few sorted = absurd counts
+sizes_carried row p vars other counts few sorted = absurd counts
 
 size_limit : (row : Row) (s : Statements) → IsLed row s → size_before s ≤ 2 ^ 91
 size_limit row s led =

@@ -15,11 +15,11 @@ use Rattle.step_meaning.specs.Syntax.{Statements, size_of}
 use Rattle.step_meaning.specs.Valid.{IsBody}
 use Rattle.decision_tree.specs.declared.affine_rank.AffineRank.{AffineRank}
 use Rattle.ctl_formula.specs.Formulas.{af_exit}
-use Rattle.transitions.specs.Arcs.{Arc, above_end, arcs_by, assigning, below_end, rows_given, testing}
-use Rattle.transitions.specs.Forming.{Formed}
+use Rattle.tree_support.specs.Arcs.{Arc, above_end, arcs_by, assigning, below_end, rows_given, testing}
+use Rattle.rows_in_hand.specs.Forming.{Formed}
 use Rattle.tree_support.specs.Setting.{Trees, setting_of}
 use Rattle.tree_support.specs.Systems.{at_leaves, moved_by, systems, unless_less}
-use Rattle.transitions.specs.Told.{Told}
+use Rattle.control_flow.specs.Told.{Told}
 use Rattle.tree_support.proofs.Lists.{all_none}
 use Rattle.tree_support.proofs.Moving.{store_after}
 use Rattle.count_down.specs.Asking.{EachHas, Has}

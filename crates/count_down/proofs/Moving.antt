@@ -47,15 +47,7 @@ literal_value Sub x z store low h =
     ∙ value_difference (form_of (variable x)) (form_of (number z)) store
     ∙ ap (λ t. t -ℤ value_at (constant_of z) store) (value_variable x store low)
     ∙ ap (λ t. number_at store x -ℤ t) (value_constant z store)
-literal_value Mul x z store low h = absurd h
-literal_value Less x z store low h = absurd h
-literal_value LessEqual x z store low h = absurd h
-literal_value Greater x z store low h = absurd h
-literal_value GreaterEqual x z store low h = absurd h
-literal_value Equal x z store low h = absurd h
-literal_value NotEqual x z store low h = absurd h
-literal_value And x z store low h = absurd h
-literal_value Or x z store low h = absurd h
+literal_value other x z store low h = absurd h
 
 -- a literal is added by an assignment of `x + c` or `x - c` alone
 pub short_form : (x : ℕ) (v : Expression) → IsShort (added x v)
@@ -74,22 +66,7 @@ short_form x (pair op (variable y) (negative e)) h = no_literal op x y h
 short_form x (pair op (variable y) (negation c)) h = no_literal op x y h
 short_form x (pair op (variable y) (pair other l r)) h = no_literal op x y h
 short_form x (pair op (variable y) (divided division e z)) h = no_literal op x y h
-short_form x (pair op (number z) b) h = absurd h
-short_form x (pair op free b) h = absurd h
-short_form x (pair op (range lo hi) b) h = absurd h
-short_form x (pair op (truth t) b) h = absurd h
-short_form x (pair op (negative e) b) h = absurd h
-short_form x (pair op (negation c) b) h = absurd h
-short_form x (pair op (pair other l r) b) h = absurd h
-short_form x (pair op (divided division e z) b) h = absurd h
-short_form x (number z) h = absurd h
-short_form x (variable y) h = absurd h
-short_form x free h = absurd h
-short_form x (range lo hi) h = absurd h
-short_form x (truth t) h = absurd h
-short_form x (negative e) h = absurd h
-short_form x (negation c) h = absurd h
-short_form x (divided division e z) h = absurd h
+short_form x other h = absurd h
 
 eqb_same : (x : ℕ) → eqb x x ≡ true
 eqb_same x = ⊎_elim

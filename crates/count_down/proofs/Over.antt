@@ -19,7 +19,7 @@ use Rattle.step_meaning.specs.declared.expression.Op2.TheVariants.{Add, Sub, Mul
 use Rattle.step_meaning.specs.AffineExpressions.{less, strictly_less}
 use Rattle.step_meaning.specs.Countdown.{Asks, AsksByComparing, CountsFrom, IsCountdownBy, form_of}
 use Rattle.linear_cons.specs.Sizes.{total_size}
-use Rattle.step_meaning.specs.Syntax.{Expression, Statements, number, variable, free, range, truth, negative, negation, pair, divided, assign, skip, return, break, continue, if_else, while_loop, do_while, empty, sequence, size_of}
+use Rattle.step_meaning.specs.Syntax.{Expression, Statements, pair, assign, while_loop, sequence, size_of}
 use Rattle.step_meaning.specs.Valid.{IsBody, IsNumber, IsTest}
 use Rattle.decision_tree.specs.Paths.{PathFits, complements_on}
 use Rattle.decision_tree.specs.Plans.{Plan, bottom, top, leaf, branch, leaves_of}
@@ -61,12 +61,7 @@ module _ (vars : ℕ) where
       (over_form vars (strictly_less b a) ((two, one), tt))
   compared_over Equal a b row one two (inl asks) = over_quotient vars (form_of (less a b)) row.affine asks (over_form vars (less a b) (one, two))
   compared_over Equal a b row one two (inr asks) = over_quotient vars (form_of (less b a)) row.affine asks (over_form vars (less b a) (two, one))
-  compared_over NotEqual a b row one two asks = absurd asks
-  compared_over Add a b row one two asks = absurd asks
-  compared_over Sub a b row one two asks = absurd asks
-  compared_over Mul a b row one two asks = absurd asks
-  compared_over And a b row one two asks = absurd asks
-  compared_over Or a b row one two asks = absurd asks
+  compared_over other a b row one two asks = absurd asks
 
   -- a row that a test asks for
   pub asked_over : (test : Expression) (row : Row) → IsTest vars test → Asks test row → IsOver vars row.affine
@@ -82,14 +77,7 @@ module _ (vars : ℕ) where
   asked_over (pair Add l r) row sorted asks = absurd sorted
   asked_over (pair Sub l r) row sorted asks = absurd sorted
   asked_over (pair Mul l r) row sorted asks = absurd sorted
-  asked_over (number z) row sorted asks = absurd asks
-  asked_over (variable x) row sorted asks = absurd asks
-  asked_over free row sorted asks = absurd asks
-  asked_over (range lo hi) row sorted asks = absurd asks
-  asked_over (truth b) row sorted asks = absurd asks
-  asked_over (negative e) row sorted asks = absurd asks
-  asked_over (negation c) row sorted asks = absurd asks
-  asked_over (divided division e b) row sorted asks = absurd asks
+  asked_over other row sorted asks = absurd asks
 
   over_carried : (row : Row) (p : ℕ) (s : Statements) → IsBody vars s → CountsFrom row p s
       → IsOver vars row.affine × IsOver vars (carried row.affine s)
@@ -97,13 +85,7 @@ module _ (vars : ℕ) where
       let later = over_carried row (p * (1 + total_size (form_of v))) more sorted.1 counts.3 in
       (later.0, over_put vars (carried row.affine more) x (form_of v) later.1 (over_form vars v sorted.0.1))
   over_carried row p (sequence (while_loop test body step) more) sorted counts = let own = asked_over test row sorted.0.0 counts.0 in (own, own)
-  over_carried row p (sequence skip more) sorted counts = absurd counts
-  over_carried row p (sequence return more) sorted counts = absurd counts
-  over_carried row p (sequence break more) sorted counts = absurd counts
-  over_carried row p (sequence continue more) sorted counts = absurd counts
-  over_carried row p (sequence (if_else test first second) more) sorted counts = absurd counts
-  over_carried row p (sequence (do_while body test) more) sorted counts = absurd counts
-  over_carried row p empty sorted counts = absurd counts
+  over_carried row p other sorted counts = absurd counts
 
   -- ---- trees
 
@@ -162,13 +144,7 @@ module _ (vars : ℕ) where
         (over_shifted e c.change own))
         (turn_counts e body step) (few_turn_counts vars few_vars e body step counts sorted.0.1 sorted.0.2 (omega arith)))
         (last_fine _))
-    counting_fine row (sequence skip more) sorted led few = absurd led.counts
-    counting_fine row (sequence return more) sorted led few = absurd led.counts
-    counting_fine row (sequence break more) sorted led few = absurd led.counts
-    counting_fine row (sequence continue more) sorted led few = absurd led.counts
-    counting_fine row (sequence (if_else test first second) more) sorted led few = absurd led.counts
-    counting_fine row (sequence (do_while body test) more) sorted led few = absurd led.counts
-    counting_fine row empty sorted led few = absurd led.counts
+    counting_fine row other sorted led few = absurd led.counts
 
     candidate_fine : (countdown : Countdown) (body : Statements) → IsBody vars body → size_of body < 1024 → IsCountdownBy countdown body
         → All IsFine (candidate_by countdown body)

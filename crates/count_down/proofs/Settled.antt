@@ -18,7 +18,7 @@ use Rattle.step_meaning.specs.Counts.{HasNoLoop, before, none}
 use Rattle.step_meaning.specs.Countdown.{Asks, CountsDown, CountsFrom, IsCountdownBy, change_by, form_of}
 use Rattle.linear_cons.specs.Sizes.{total_size}
 use Rattle.step_meaning.specs.Step.{Todo, behind_body, items_of, one}
-use Rattle.step_meaning.specs.Syntax.{Expression, Statements, statements, assign, skip, return, break, continue, if_else, while_loop, do_while, empty, sequence, size_of}
+use Rattle.step_meaning.specs.Syntax.{Expression, Statements, statements, assign, while_loop, sequence, size_of}
 use Rattle.step_meaning.specs.Valid.{IsBody}
 use Rattle.decision_tree.specs.Plans.{Plan, bottom}
 use Rattle.decision_tree.specs.Paths.{leaf_numbered}
@@ -27,7 +27,7 @@ use Rattle.decision_tree.specs.declared.reason.Why.TheVariants.{End}
 use Rattle.ctl_formula.specs.Formulas.{af_exit}
 use Rattle.tree_support.specs.Setting.{Trees, setting_of, trees_in}
 use Rattle.tree_support.specs.Systems.{of_leaf, region}
-use Rattle.transitions.specs.Told.{Told}
+use Rattle.control_flow.specs.Told.{Told}
 use Rattle.tree_support.proofs.Lists.{all_none}
 use Rattle.count_down.specs.Blocking.{AllBlocked, IsBlocked, IsGround}
 use Rattle.count_down.specs.Building.{IsFew, IsLed}
@@ -269,26 +269,14 @@ module _ (body : Statements) (told : Told) (parts : ℕ → Trees AffineRank) (f
   turn_some : (row : Row) (p : ℕ) (s : Statements) → CountsFrom row p s → 0 < turn_of_loop row.affine s
   turn_some row p (sequence (assign x v) more) counts = turn_some row (p * (1 + total_size (form_of v))) more counts.3
   turn_some row p (sequence (while_loop test round step) more) counts = omega arith
-  turn_some row p (sequence skip more) counts = absurd counts
-  turn_some row p (sequence return more) counts = absurd counts
-  turn_some row p (sequence break more) counts = absurd counts
-  turn_some row p (sequence continue more) counts = absurd counts
-  turn_some row p (sequence (if_else test first second) more) counts = absurd counts
-  turn_some row p (sequence (do_while round test) more) counts = absurd counts
-  turn_some row p empty counts = absurd counts
+  turn_some row p other counts = absurd counts
 
   -- the tree where the statements are entered
   entered_tree : (row : Row) (p n : ℕ) (s : Statements) → CountsFrom row p s → StandAt Is n (counting row.affine s)
       → family (entry_label n 0 s) ≡ count_tree (turn_of_loop row.affine s) (last_of_loop s) (carried row.affine s) (steps_before s)
   entered_tree row p n (sequence (assign x v) more) counts trees = trees.0
   entered_tree row p n (sequence (while_loop test round step) more) counts trees = trees.0
-  entered_tree row p n (sequence skip more) counts trees = absurd counts
-  entered_tree row p n (sequence return more) counts trees = absurd counts
-  entered_tree row p n (sequence break more) counts trees = absurd counts
-  entered_tree row p n (sequence continue more) counts trees = absurd counts
-  entered_tree row p n (sequence (if_else test first second) more) counts trees = absurd counts
-  entered_tree row p n (sequence (do_while round test) more) counts trees = absurd counts
-  entered_tree row p n empty counts trees = absurd counts
+  entered_tree row p n other counts trees = absurd counts
 
   counting_settled : (row : Row) (n : ℕ) (left : Todo) (s : Statements) (led : IsLed row s) → IsBody ground.vars s → size_of s < 1024
       → StandAt Is n (counting row.affine s)
@@ -312,13 +300,7 @@ module _ (body : Statements) (told : Told) (parts : ℕ → Trees AffineRank) (f
       )
   counting_settled row n left (sequence (while_loop test round step) more) led sorted few trees =
       loop_settled row n left test round step more led.counts.0 led.counts.1 led.counts.2 sorted few trees
-  counting_settled row n left (sequence skip more) led sorted few trees = absurd led.counts
-  counting_settled row n left (sequence return more) led sorted few trees = absurd led.counts
-  counting_settled row n left (sequence break more) led sorted few trees = absurd led.counts
-  counting_settled row n left (sequence continue more) led sorted few trees = absurd led.counts
-  counting_settled row n left (sequence (if_else test first second) more) led sorted few trees = absurd led.counts
-  counting_settled row n left (sequence (do_while round test) more) led sorted few trees = absurd led.counts
-  counting_settled row n left empty led sorted few trees = absurd led.counts
+  counting_settled row n left other led sorted few trees = absurd led.counts
 
   -- ---- all labels
 

@@ -20,9 +20,9 @@ use Rattle.linear_cons.proofs.Sums.{value_is}
 use Rattle.decision_tree.specs.declared.affine_rank.AffineRank.{AffineRank}
 use Rattle.decision_tree.specs.AffineRanks.{excess_of}
 use Rattle.tree_support.specs.Certificates.{affine_ranks}
-use Rattle.transitions.specs.Forming.{Formed, FormsWhole, exact}
-use Rattle.tree_support.specs.Support.{ClaimFits, moved_rank}
-use Rattle.tree_support.specs.Systems.{System, at_leaves, exceeding, moved_by, unless_less}
+use Rattle.rows_in_hand.specs.Forming.{Formed, FormsWhole, exact}
+use Rattle.rows_in_hand.specs.Claims.{ClaimFits, moved_rank, System, exceeding}
+use Rattle.tree_support.specs.Systems.{at_leaves, moved_by, unless_less}
 use Rattle.tree_support.proofs.Lists.{all_one}
 use Rattle.tree_support.proofs.Moving.{store_after}
 use Rattle.count_down.specs.Blocking.{IsBlocked}

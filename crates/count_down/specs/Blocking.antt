@@ -10,10 +10,10 @@ use Rattle.control_flow.specs.Labels.{all_labels}
 use Rattle.decision_tree.specs.declared.affine_rank.AffineRank.{AffineRank}
 use Rattle.decision_tree.specs.AffineRanks.{excess_of}
 use Rattle.tree_support.specs.Certificates.{affine_ranks}
-use Rattle.transitions.specs.Forming.{Formed, FormsWhole, exact}
+use Rattle.rows_in_hand.specs.Forming.{Formed, FormsWhole, exact}
 use Rattle.tree_support.specs.Setting.{Setting, Trees}
-use Rattle.tree_support.specs.Support.{ClaimFits, moved_rank}
-use Rattle.tree_support.specs.Systems.{Claim, nothing, unnatural, exceeding, System, systems}
+use Rattle.rows_in_hand.specs.Claims.{ClaimFits, moved_rank, Claim, nothing, unnatural, exceeding, System}
+use Rattle.tree_support.specs.Systems.{systems}
 use Rattle.count_down.specs.Cancelling.{Cancel}
 use Rattle.decision_tree.specs.Extent.{IsWhole}
 

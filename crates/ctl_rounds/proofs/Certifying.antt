@@ -20,11 +20,11 @@ use Rattle.tree_support.specs.Certificates.{IsShown, affine_ranks, operands_from
 use Rattle.tree_support.specs.declared.dropped.Dropped.{Dropped}
 use Rattle.tree_support.specs.Elimination.{Eliminates}
 use Rattle.tree_support.specs.Setting.{Setting, Trees, trees_in}
-use Rattle.transitions.specs.Told.{Told}
-use Rattle.smaller_parts.specs.Families.{AreNumberedFrom, IsFamilyFor, trees_of}
-use Rattle.smaller_parts.specs.Knowing.{told_on}
-use Rattle.smaller_parts.specs.Showing.{AreAt, all_of}
-use Rattle.smaller_parts.proofs.Placing.{own_places}
+use Rattle.control_flow.specs.Told.{Told}
+use Rattle.ctl_rounds.specs.Families.{AreNumberedFrom, IsFamilyFor, trees_of}
+use Rattle.ctl_rounds.specs.Knowing.{told_on}
+use Rattle.ctl_rounds.specs.Showing.{AreAt, all_of}
+use Rattle.ctl_rounds.proofs.Placing.{own_places}
 use Rattle.ctl_rounds.specs.Certified.{Certifies}
 use Rattle.ctl_rounds.specs.Covers.{Extends}
 use Rattle.ctl_rounds.specs.Finding.{AreFoundSoFar, IsSubject, IsTop}

@@ -1,3 +1,8 @@
+pub mod Kept
+pub mod Fit
+pub mod KnownShown
+pub mod Placing
+pub mod Combining
 pub mod CoverLaws
 pub mod Certifying
 pub mod Asking

@@ -6,8 +6,8 @@ use Rattle.decision_tree.specs.declared.affine_rank.AffineRank.{AffineRank}
 use Rattle.decision_tree.specs.declared.family.Family.{Family}
 use Rattle.decision_tree.specs.Plans.{Plan}
 use Rattle.num_domain.specs.declared.domain.NumDomain.{Ghosts as Domain}
-use Rattle.smaller_parts.specs.Knowing.{ArePremises, told_on}
-use Rattle.smaller_parts.specs.Showing.{AreSmaller, Shows}
+use Rattle.ctl_rounds.specs.Knowing.{ArePremises, told_on}
+use Rattle.ctl_rounds.specs.Showing.{AreSmaller, Shows}
 use Rattle.ctl_rounds.specs.Covers.{Covers, at_entry}
 use Rattle.ctl_rounds.specs.declared.subject.Subject.{Subject}
 

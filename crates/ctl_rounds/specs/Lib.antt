@@ -1,3 +1,8 @@
+pub mod Families
+pub mod Fitting
+pub mod Known
+pub mod Knowing
+pub mod Showing
 pub mod Covers
 pub mod Bounds
 pub mod Certified

@@ -14,9 +14,9 @@ ghost use Rattle.decision_tree.specs.Plans.{Plan, plan_of, rank_of};
 ghost use Rattle.control_flow.specs.Labels.{entry_of};
 ghost use Rattle.control_flow.specs.Invariants.{AreInvariants};
 ghost use Rattle.tree_support.specs.Setting.{trees_in};
-ghost use Rattle.transitions.specs.Told.{told_by};
-ghost use Rattle.smaller_parts.specs.Knowing.{told_on};
-ghost use Rattle.smaller_parts.specs.Showing.{all_of};
+ghost use Rattle.control_flow.specs.Told.{told_by};
+ghost use Rattle.ctl_rounds.specs.Knowing.{told_on};
+ghost use Rattle.ctl_rounds.specs.Showing.{all_of};
 ghost use Rattle.ctl_rounds.specs.Asked.{IsAdvised, RoseBy};
 ghost use Rattle.ctl_rounds.specs.Certified.{Certifies};
 ghost use Rattle.ctl_rounds.specs.Covers.{Covers, IsCover, at_entry, claims_of};
@@ -24,6 +24,7 @@ ghost use Rattle.ctl_rounds.specs.Finding.{AreFoundSoFar, IsSubject};
 
 use crate::certificate::Certificate;
 use crate::found::Found;
+use crate::premises::Premises;
 use crate::subject::Subject;
 use advice::Adviser;
 use control_flow::Graph;
@@ -36,7 +37,6 @@ use ctl_formula::Formula;
 use decision_tree::{AffineRank, Family};
 use forward_inv::{Inv, transitions_of};
 use num_domain::NumDomain;
-use smaller_parts::Premises;
 use std::alloc::{AllocError, Global};
 
 /// A certificate of the formula: families of trees for its parts, each supported over those of its operands. The smaller parts have one family

@@ -7,7 +7,7 @@ ghost use Rattle.decision_tree.specs.declared.affine_rank.AffineRank.{AffineRank
 ghost use Rattle.decision_tree.specs.declared.family.Family.{Family};
 ghost use Rattle.decision_tree.specs.Extent.{ComplementsFit, IsTreeOver};
 ghost use Rattle.decision_tree.specs.Plans.{Plan};
-ghost use Rattle.transitions.specs.Told.{IsTrueOfReached, Told};
+ghost use Rattle.control_flow.specs.Told.{IsTrueOfReached, Told};
 ghost use Rattle.ctl_rounds.specs.Bounds.{BoundsInputs, SatisfiesInputs, SatisfiesWithin};
 ghost use Rattle.ctl_rounds.specs.Certified.{Certifies};
 ghost use Rattle.ctl_rounds.specs.Covers.{IsCover};

@@ -1,20 +1,29 @@
 //! The analysis: for a formula and each label of a program trees that claim where the formula holds, and the trees for its smaller parts that
 //! bear them out.
 //!
-//! The families of the smaller parts come from `smaller_parts`. For `AF exit` a countdown program has a candidate (`count_down`); for any
-//! other formula or program a family of the whole is proposed, and for an `A[f U g]` the advisers' hints propose more (`loop_facts`, `advice`).
-//! Whoever proposes it, what is answered is what the check leaves of it. The front door: `analyse`, which answers a `Certificate`, `cover`, the
-//! first claim of its families for each input, and `laws`, which says why the cover is true.
+//! The families of the smaller parts come first, part by part from the inside: of the trees that are proposed for a part, over the families of
+//! its operands, each family is what the check leaves, and those of the truth and of `exit` are known by their shape. For `AF exit` a countdown
+//! program has a candidate (`count_down`); for any other formula or program a family of the whole is proposed (`part_trees`), and for an
+//! `A[f U g]` the advisers' hints propose more (`loop_facts`, `advice`). Whoever proposes it, what is answered is what the check leaves of it.
+//! The front door: `analyse`, which answers a `Certificate`, `cover`, the first claim of its families for each input, `Premises`, which answers
+//! the families of the smaller parts alone, and `laws`, which says why the cover is true.
 #![tactic(auto)]
 
 mod analysis;
 mod certificate;
 mod covering;
+mod fitting;
 mod found;
+mod known;
 pub mod laws;
+mod premises;
 mod rounds;
+mod showing;
+mod smaller;
 mod subject;
 
 pub use analysis::analyse;
 pub use certificate::Certificate;
 pub use covering::cover;
+pub use premises::Premises;
+pub use smaller::SmallerParts;

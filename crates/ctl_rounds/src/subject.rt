@@ -1,8 +1,9 @@
 //! What is analysed.
 
+use crate::premises::Premises;
+use crate::smaller::SmallerParts;
 use ctl_formula::Formula;
 use num_domain::NumDomain;
-use smaller_parts::{Premises, SmallerParts};
 
 /// A formula, what is known of the program that it is asked of, and families that show the formula's smaller parts.
 #[derive(Drop)]

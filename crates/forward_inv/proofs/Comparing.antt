@@ -1,7 +1,7 @@
 -- A comparison of affine expressions is that of their functions, whatever the bounds are.
 use Rattle.std.proofs.Common.{◌≡◌, Bool, refl, ap, ◌∙◌}
 use Rattle.step_meaning.specs.declared.expression.Op2.{Op2}
-use Rattle.step_meaning.specs.declared.expression.Op2.TheVariants.{Add, Sub, Mul, Less, LessEqual, Greater, GreaterEqual, Equal, NotEqual, And, Or}
+use Rattle.step_meaning.specs.declared.expression.Op2.TheVariants.{Less, LessEqual, Greater, GreaterEqual}
 use Rattle.step_meaning.specs.AffineExpressions.{ComparisonFits, IsAffine}
 use Rattle.step_meaning.specs.Syntax.{Expression, pair}
 use Rattle.linear_cons.specs.declared.bounds.Bounds.{Bounds}
@@ -20,13 +20,7 @@ by_sides bounds Less l r outcome is = refl
 by_sides bounds LessEqual l r outcome is = refl
 by_sides bounds Greater l r outcome is = refl
 by_sides bounds GreaterEqual l r outcome is = refl
-by_sides bounds Equal l r outcome is = absurd is
-by_sides bounds NotEqual l r outcome is = absurd is
-by_sides bounds Add l r outcome is = absurd is
-by_sides bounds Sub l r outcome is = absurd is
-by_sides bounds Mul l r outcome is = absurd is
-by_sides bounds And l r outcome is = absurd is
-by_sides bounds Or l r outcome is = absurd is
+by_sides bounds other l r outcome is = absurd is
 
 pub compared_exactly : (bounds : Bounds) (op : Op2) (l r : Expression) (outcome : Bool) → IsInequality op → IsAffine l → IsAffine r
     → ComparisonFits l r → spread_of bounds (pair op l r) outcome ≡ compared op (form_of l) (form_of r) outcome

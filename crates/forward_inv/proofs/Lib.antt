@@ -1,6 +1,11 @@
+pub mod Taking
+pub mod Marking
+pub mod Meeting
+pub mod Flowing
+pub mod Holding
 pub mod Spared
 pub mod Members
 pub mod Entering
 pub mod Arriving
 pub mod Comparing
-pub mod MadeAll
+pub mod ToldHere

@@ -8,8 +8,8 @@ use Rattle.control_flow.specs.declared.edge.Edge.{Edge}
 use Rattle.control_flow.specs.Edges.{EachEdge, Leads, SomeEdge, edges_from}
 use Rattle.control_flow.specs.Labels.{action_at, entry_of}
 use Rattle.control_flow.proofs.LabelLaws.{labels_are_sorted}
-use Rattle.inductive_sets.specs.Sets.{AreInductive, KeepsEdge, LeadsInto}
-use Rattle.inductive_sets.proofs.Holding.{some_weaker}
+use Rattle.forward_inv.specs.Sets.{AreInductive, KeepsEdge, LeadsInto}
+use Rattle.forward_inv.proofs.Holding.{some_weaker}
 use Rattle.control_flow.specs.Invariants.{AreInvariants}
 use Rattle.control_flow.specs.States.{IsReachedState, entered, followed}
 use Rattle.control_flow.proofs.Reached.{reached_label, reached_places}

@@ -9,7 +9,7 @@ use Rattle.control_flow.specs.Actions.{IsSorted}
 use Rattle.control_flow.specs.declared.edge.EdgeKind.{EdgeKind}
 use Rattle.control_flow.specs.declared.edge.EdgeKind.TheVariants.{Assign, Skip, Test}
 use Rattle.control_flow.specs.Edges.{Leads}
-use Rattle.control_flow.specs.Labels.{Action, ends, assigns, passes, tests}
+use Rattle.control_flow.specs.Labels.{Action, assigns, passes, tests}
 
 module _ (store : Store) (z : ℤ) where
   may_spared : (e : Expression) → NamesBelow 15 e → (v : ℤ) → May e store v → May e (slice_set store 15 z) v
@@ -39,18 +39,12 @@ module _ (store : Store) (z : ℤ) where
 
   pub leads_spared : (vars : ℕ) → vars ≤ 15 → (action : Action) → IsSorted vars action → (kind : EdgeKind) (next : Store)
       → Leads action kind store next → Leads action kind (slice_set store 15 z) (slice_set next 15 z)
-  leads_spared vars few ends sorted kind next leads = absurd leads
   leads_spared vars few (assigns x e to) sorted Assign next leads = (
     leads.0,
     may_spared e (number_names vars 15 few e sorted.1) leads.0 leads.1,
     ap (λ (s : Store). slice_set s 15 z) leads.2 ∙ set_comm store x 15 leads.0 z (λ is. let low = sorted.0 in omega (arith, few, is, low)),
   )
-  leads_spared vars few (assigns x e to) sorted (Test outcome) next leads = absurd leads
-  leads_spared vars few (assigns x e to) sorted Skip next leads = absurd leads
-  leads_spared vars few (passes to) sorted Assign next leads = absurd leads
-  leads_spared vars few (passes to) sorted (Test outcome) next leads = absurd leads
   leads_spared vars few (passes to) sorted Skip next leads = ap (λ (s : Store). slice_set s 15 z) leads
-  leads_spared vars few (tests head c to other) sorted Assign next leads = absurd leads
   leads_spared vars few (tests head c to other) sorted (Test outcome) next leads =
       (test_spared c (test_names vars 15 few c sorted) outcome leads.0, ap (λ (s : Store). slice_set s 15 z) leads.1)
-  leads_spared vars few (tests head c to other) sorted Skip next leads = absurd leads
+  leads_spared vars few action sorted kind next leads = absurd leads

@@ -7,12 +7,11 @@ ghost use Rattle.forward_inv.specs.Behind.{AreEntering, AreUnentered, IsBehind, 
 ghost use Rattle.control_flow.specs.Invariants.{AreInvariants};
 
 use control_flow::laws::edges_lead_to_labels;
-use control_flow::{Edge, EdgeKind, Graph};
+use control_flow::{Edge, EdgeKind, Graph, Transition};
 use linear_cons::{Row, Rows};
 use linear_forms::laws::spreadings_cover;
 use num_domain::NumDomain;
 use std::alloc::{AllocError, Global};
-use transitions::Transition;
 
 /// The edges that lead to a label.
 #[derive(Clone, Copy)]

@@ -2,15 +2,14 @@
 ghost use Rattle.std.specs.Prelude.{◌≡◌, ◌<◌, ◌≤◌, IfOk, length};
 ghost use Rattle.step_meaning.specs.Syntax.{statements};
 ghost use Rattle.control_flow.specs.Labels.{action_at, all_labels};
-ghost use Rattle.transitions.specs.Told.{told_by};
-ghost use Rattle.transitions.specs.Transitions.{AreOnward, AreTold, IsTold};
+ghost use Rattle.control_flow.specs.Told.{told_by};
+ghost use Rattle.control_flow.specs.Transitions.{AreOnward, AreTold, IsTold};
 
 use crate::sets::Inv;
-use control_flow::Graph;
+use control_flow::laws::transitions_lead_on;
+use control_flow::{Graph, Transition};
 use num_domain::NumDomain;
 use std::alloc::{AllocError, Global};
-use transitions::Transition;
-use transitions::laws::transitions_lead_on;
 
 /// The transitions of the labels over the bounds of their sets; at a label whose set is seen to be empty no run comes. The only error is
 /// want of memory.

@@ -5,9 +5,9 @@ ghost use Rattle.forward_inv.specs.Behind.{MeetsBehind};
 ghost use Rattle.control_flow.specs.Invariants.{AreInvariants};
 
 use crate::behind::meet_rows;
+use crate::keeping::inductive;
 use crate::sweeps::guesses;
 use control_flow::Graph;
-use inductive_sets::inductive;
 use num_domain::NumDomain;
 use std::alloc::{AllocError, Global};
 use std::marker::Model;

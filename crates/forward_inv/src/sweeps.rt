@@ -4,12 +4,11 @@ ghost use Rattle.std.specs.Prelude.{◌<◌, length};
 ghost use Rattle.step_meaning.specs.Syntax.{statements};
 ghost use Rattle.control_flow.specs.Labels.{all_labels};
 
-use control_flow::{Edge, Graph};
-use inductive_sets::flow;
+use crate::transfer::flow;
+use control_flow::{Edge, Graph, Transition};
 use linear_cons::{Affine, Row, RowKind};
 use num_domain::NumDomain;
 use std::alloc::{AllocError, Global};
-use transitions::Transition;
 
 /// The most sweeps in which sets grow.
 const GROWING: u32 = 14;

@@ -8,12 +8,12 @@ use Rattle.control_flow.specs.declared.edge.Choice.TheVariants.{None as NoChoice
 use Rattle.decision_tree.specs.declared.family.Family.{Family}
 use Rattle.decision_tree.specs.declared.rank.Rank.{Ghosts as Ranks}
 use Rattle.decision_tree.specs.Plans.{bottom}
-use Rattle.transitions.specs.Arcs.{Arc}
-use Rattle.transitions.specs.Forming.{Formed, given}
+use Rattle.tree_support.specs.Arcs.{Arc}
+use Rattle.rows_in_hand.specs.Forming.{Formed, given}
 use Rattle.tree_support.specs.Setting.{Setting, Trees, trees_in}
-use Rattle.tree_support.specs.Support.{HasNoStore}
+use Rattle.rows_in_hand.specs.Claims.{HasNoStore, System, unnatural}
 use Rattle.tree_support.specs.Systems as systems
-use Rattle.tree_support.specs.Systems.{System, above_range, below_range, of_arcs, of_atom, of_both, of_end, of_keep, of_now, of_outcome, of_rank, of_side, of_value, plain, undefined_at, unedged, unnatural}
+use Rattle.tree_support.specs.Systems.{above_range, below_range, of_arcs, of_atom, of_both, of_end, of_keep, of_now, of_outcome, of_rank, of_side, of_value, plain, undefined_at, unedged}
 use Rattle.rows_in_hand.specs.declared.finding.Finding.{Finding}
 use Rattle.rows_in_hand.specs.Hands.{IsTried, all_asked}
 use Rattle.rows_in_hand.specs.Searches.{IsSearched}
@@ -21,9 +21,9 @@ use Rattle.leaf_search.specs.Operands.{families_of}
 use Rattle.leaf_search.specs.declared.part.Part.{Part}
 use Rattle.leaf_search.specs.declared.part.Part.TheVariants.{Next, Until, Weak}
 use Rattle.leaf_search.specs.Leaves.{IsPastTried, above_ends, below_ends, where_some}
-use Rattle.arc_search.specs.Arcs.{over_each}
+use Rattle.leaf_search.specs.Arcs.{over_each}
 use Rattle.leaf_search.specs.Parts.{function, has_bound, holds_at, is_both, is_either, is_existential, is_exit, keeps, may_end, met_now, part_of}
-use Rattle.arc_search.proofs.Walking.{plain_searched, searched_first, searched_none, searched_then}
+use Rattle.leaf_search.proofs.Walking.{plain_searched, searched_first, searched_none, searched_then}
 
 -- past the last part nothing is defined
 pub past_part : {R : Type 0} (parts : List (Family R)) (number label : ℕ) → length parts ≤ number → families_of parts number label ≡ bottom

@@ -5,18 +5,19 @@ use Rattle.linear_cons.specs.Functions.{constant_of}
 use Rattle.control_flow.specs.declared.edge.Choice.{Choice}
 use Rattle.decision_tree.specs.declared.family.Family.{Family}
 use Rattle.decision_tree.specs.Plans.{plan_of}
-use Rattle.transitions.specs.Arcs.{Arc}
-use Rattle.transitions.specs.Forming.{Formed, given, minus}
+use Rattle.tree_support.specs.Arcs.{Arc}
+use Rattle.rows_in_hand.specs.Forming.{Formed, given, minus}
 use Rattle.tree_support.specs.Setting.{Setting, trees_in}
-use Rattle.tree_support.specs.Systems.{System, is_existential, plain, unedged}
+use Rattle.rows_in_hand.specs.Claims.{System}
+use Rattle.tree_support.specs.Systems.{is_existential, plain, unedged}
 use Rattle.rows_in_hand.specs.Hands.{IsTried, all_asked}
 use Rattle.rows_in_hand.specs.declared.finding.Finding.{Finding}
 use Rattle.leaf_search.specs.Operands.{families_of}
 use Rattle.leaf_search.specs.declared.leaf.Stand.{Stand}
 use Rattle.leaf_search.specs.declared.step.Targets.{Targets}
-use Rattle.transitions.specs.declared.transition.Transition.{Transition}
+use Rattle.control_flow.specs.declared.transition.Transition.{Transition}
 use Rattle.leaf_search.specs.declared.part.Part.{Part}
-use Rattle.arc_search.specs.Arcs.{IsTransitionAt, over_each}
+use Rattle.leaf_search.specs.Arcs.{IsTransitionAt, over_each}
 use Rattle.leaf_search.specs.Parts.{part_of}
 
 module _ {R : Type 0} where

@@ -1,3 +1,5 @@
+pub mod Walks
+pub mod Arcs
 pub mod Operands
 pub mod Parts
 pub mod Leaves

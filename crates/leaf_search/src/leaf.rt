@@ -2,22 +2,23 @@
 ghost use Rattle.std.specs.Prelude.{◌∷◌, ◌++◌, [], IfOk, OnOk, map};
 ghost use Rattle.linear_cons.specs.Functions.{complement_of};
 ghost use Rattle.decision_tree.specs.Plans.{leaf, plan_of};
-ghost use Rattle.transitions.specs.Forming.{Formed, given};
+ghost use Rattle.rows_in_hand.specs.Forming.{Formed, given};
 ghost use Rattle.tree_support.specs.Setting.{trees_in};
-ghost use Rattle.tree_support.specs.Systems.{of_atom, of_both, of_end, of_keep, of_leaf, of_now, of_rank, of_side, of_why, unedged, unnatural, undefined_at};
+ghost use Rattle.tree_support.specs.Systems.{of_atom, of_both, of_end, of_keep, of_leaf, of_now, of_rank, of_side, of_why, unedged, undefined_at};
+ghost use Rattle.rows_in_hand.specs.Claims.{unnatural};
 ghost use Rattle.rows_in_hand.specs.Hands.{Forms, IsTried, all_asked, asked};
 ghost use Rattle.rows_in_hand.specs.Searches.{IsClaimFormed, IsSame, IsSearched, WhereAsked};
 ghost use Rattle.leaf_search.specs.Operands.{families_of};
 ghost use Rattle.leaf_search.specs.Leaves.{WhereStood};
 
+use crate::follow::refute_at;
 use crate::part::Part;
-use arc_search::{Way, refute_at};
-use control_flow::Choice;
+use crate::walk::Way;
+use control_flow::{Choice, Transition};
 use decision_tree::{Alternatives, Family, Rank, Tree, Why};
 use linear_cons::{Affine, Row, RowKind, Wide};
 use rows_in_hand::{Finding, Hand, try_claim};
 use std::alloc::AllocError;
-use transitions::Transition;
 
 /// The edge number of a system that has no edge.
 pub const UNEDGED: u32 = 2;

@@ -2,8 +2,8 @@
 ghost use Rattle.std.specs.Prelude.{◌≡◌, List, pos, IfOk, OnOk, map};
 ghost use Rattle.linear_cons.specs.Functions.{constant_of};
 ghost use Rattle.decision_tree.specs.Plans.{plan_of};
-ghost use Rattle.transitions.specs.Arcs.{Arc};
-ghost use Rattle.transitions.specs.Forming.{Formed, given, minus};
+ghost use Rattle.tree_support.specs.Arcs.{Arc};
+ghost use Rattle.rows_in_hand.specs.Forming.{Formed, given, minus};
 ghost use Rattle.tree_support.specs.Setting.{trees_in};
 ghost use Rattle.tree_support.specs.Systems.{of_arcs, of_outcome, of_pick, of_value};
 ghost use Rattle.rows_in_hand.specs.Hands.{Forms, asked};
@@ -11,9 +11,9 @@ ghost use Rattle.rows_in_hand.specs.Searches.{IsSame, IsSearched, WhereAsked};
 ghost use Rattle.leaf_search.specs.Operands.{families_of};
 ghost use Rattle.leaf_search.specs.Leaves.{IsPastTried, WhereStood, above_ends, below_ends, over_targets, where_some};
 
+use crate::follow::{refute_arcs, refute_outcome, refute_value};
 use crate::leaf::{Stand, refute_plain, refute_with};
 use crate::part::Part;
-use arc_search::{refute_arcs, refute_outcome, refute_value};
 use control_flow::Choice;
 use decision_tree::{Pick, Rank, Tree};
 use linear_cons::{Affine, Row, RowKind, Wide};

@@ -6,10 +6,10 @@ use Rattle.decision_tree.specs.declared.tree.Tree.{Tree}
 use Rattle.backward_transfer.specs.AffineShapes.{plans, tree_at}
 use Rattle.backward_transfer.proofs.Putting.{plans_more}
 use Rattle.backward_sweeps.specs.Claiming.{reranked}
-use Rattle.transitions.specs.Transitions.{LeadsWithin, first_target, second_target}
+use Rattle.control_flow.specs.Transitions.{LeadsWithin, first_target, second_target}
 use Rattle.backward_sweeps.specs.Remaking.{Parts}
-use Rattle.transitions.specs.declared.transition.Transition.{Transition}
-use Rattle.transitions.specs.declared.transition.Transition.TheVariants.{Assign, Choose, Dead, End, Pass, Test}
+use Rattle.control_flow.specs.declared.transition.Transition.{Transition}
+use Rattle.control_flow.specs.declared.transition.Transition.TheVariants.{Assign, Choose, Dead, End, Pass, Test}
 use Rattle.backward_sweeps.proofs.Passing.{both_carried}
 use Rattle.part_trees.specs.Next.{AreReranked, IsNext, IsStep}
 

@@ -9,11 +9,11 @@ use Rattle.decision_tree.specs.declared.affine_rank.AffineRank.{AffineRank}
 use Rattle.decision_tree.specs.declared.reason.Why.TheVariants.{Atom, Both, Dead as NeverReached, End as AtEnd, Left, Right}
 use Rattle.backward_transfer.specs.AffineShapes.{tree_at}
 use Rattle.backward_sweeps.specs.Claiming.{claimed, reranked}
-use Rattle.transitions.specs.Transitions.{transition_in}
+use Rattle.control_flow.specs.Transitions.{transition_in}
 use Rattle.backward_sweeps.specs.Moving.{at_once}
 use Rattle.backward_sweeps.specs.Remaking.{BothFit, EitherFits, IsOrTop, both_of, either_of}
-use Rattle.transitions.specs.declared.transition.Transition.{Transition}
-use Rattle.transitions.specs.declared.transition.Transition.TheVariants.{Dead, End}
+use Rattle.control_flow.specs.declared.transition.Transition.{Transition}
+use Rattle.control_flow.specs.declared.transition.Transition.TheVariants.{Dead, End}
 
 -- an atom's tree asks its row
 abbrev pub kind_tree : RowKind → Plan AffineRank

@@ -5,11 +5,11 @@ use Rattle.decision_tree.specs.declared.affine_rank.AffineRank.{AffineRank}
 use Rattle.decision_tree.specs.declared.reason.Why.TheVariants.{Now}
 use Rattle.backward_transfer.specs.AffineShapes.{tree_at}
 use Rattle.backward_sweeps.specs.Claiming.{claimed, reranked}
-use Rattle.transitions.specs.Transitions.{transition_in, first_target, second_target}
+use Rattle.control_flow.specs.Transitions.{transition_in, first_target, second_target}
 use Rattle.backward_sweeps.specs.Before.{BeforeFits, IsBeforeSmall, before}
 use Rattle.backward_sweeps.specs.Remaking.{IsOrTop}
-use Rattle.transitions.specs.declared.transition.Transition.{Transition}
-use Rattle.transitions.specs.declared.transition.Transition.TheVariants.{End}
+use Rattle.control_flow.specs.declared.transition.Transition.{Transition}
+use Rattle.control_flow.specs.declared.transition.Transition.TheVariants.{End}
 
 -- what a step claims of the trees behind it
 abbrev pub IsStep : Bool → Transition → Plan AffineRank → Plan AffineRank → Plan AffineRank → Type 0

@@ -6,9 +6,9 @@ use Rattle.decision_tree.specs.declared.affine_rank.AffineRank.{AffineRank}
 use Rattle.decision_tree.specs.declared.family.Family.{Family}
 use Rattle.decision_tree.specs.declared.reason.Why.TheVariants.{Now}
 use Rattle.backward_sweeps.specs.Claiming.{claimed, reranked}
-use Rattle.transitions.specs.Transitions.{HasNoHead}
+use Rattle.control_flow.specs.Transitions.{HasNoHead}
 use Rattle.backward_sweeps.specs.Remaking.{AreEndsGiven, AreEndsStarted, AreRemadeFrom, Parts}
-use Rattle.transitions.specs.declared.transition.Transition.{Transition}
+use Rattle.control_flow.specs.declared.transition.Transition.{Transition}
 use Rattle.part_trees.specs.Local.{AreLocal}
 use Rattle.part_trees.specs.Next.{AreNexts}
 

@@ -7,10 +7,10 @@ ghost use Rattle.part_trees.specs.Local.{AreLocal, IsLocal, IsReached};
 use crate::atoms::of_kind;
 use crate::joining::{conjunction, disjunction};
 use backward_sweeps::{at_once, tree_at};
+use control_flow::Transition;
 use ctl_formula::Formula;
 use decision_tree::{AffineRank, Tree, Why};
 use std::alloc::{AllocError, Global};
-use transitions::Transition;
 
 /// The trees of an atom, the end, a conjunction or a disjunction of parts that have these; of other formulas there are no claims. One that
 /// can't be made claims nothing. The only error is want of memory.

@@ -1,19 +1,19 @@
 //! The trees that are proposed for a part of a formula.
 ghost use Rattle.std.specs.Prelude.{◌≡◌, ◌≤◌, IfOk, length};
 ghost use Rattle.backward_transfer.specs.AffineShapes.{plans};
-ghost use Rattle.transitions.specs.Transitions.{AreOnward};
+ghost use Rattle.control_flow.specs.Transitions.{AreOnward};
 ghost use Rattle.part_trees.specs.Proposed.{AreKeptFor, AreProposed, AreSweptFor, operand};
 
 use crate::claims::Claims;
 use crate::labelling::locals;
 use crate::stepping::nexts;
 use backward_sweeps::{kept, swept};
+use control_flow::Transition;
 use ctl_formula::Formula;
 use decision_tree::{AffineRank, Family, Tree, TreeList};
 use forward_inv::Inv;
 use num_domain::NumDomain;
 use std::alloc::{AllocError, Global};
-use transitions::Transition;
 
 /// Trees for the labels, at which this is done, proposed for a formula in normal form whose parts have these families, as many as it has
 /// parts and in their order; one that is missing claims nothing, and so does a negation, which no normal form has. A label at which no run

@@ -2,13 +2,13 @@
 ghost use Rattle.std.specs.Prelude.{◌≡◌, ◌<◌, ◌≤◌, IfOk, length};
 ghost use Rattle.decision_tree.specs.Plans.{plan_of};
 ghost use Rattle.backward_transfer.specs.AffineShapes.{plans, tree_at};
-ghost use Rattle.transitions.specs.Transitions.{AreOnward, LeadsWithin, first_target, second_target};
+ghost use Rattle.control_flow.specs.Transitions.{AreOnward, LeadsWithin, first_target, second_target};
 ghost use Rattle.part_trees.specs.Next.{AreNexts, AreReranked, IsNext, IsStep};
 
 use backward_sweeps::{given_up, moved_back, taken_over, tree_at};
+use control_flow::Transition;
 use decision_tree::{AffineRank, Tree, Why};
 use std::alloc::{AllocError, Global};
-use transitions::Transition;
 
 /// The trees of a next of the part that has these: what a step claims of them, and at the end what the part does. One that can't be made
 /// claims nothing. The only error is want of memory.

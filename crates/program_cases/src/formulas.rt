@@ -1,18 +1,17 @@
 //! Trees that are proposed for formulas.
 ghost use Rattle.std.specs.Prelude.{◌≡◌, ◌≤◌, length};
-ghost use Rattle.transitions.specs.Transitions.{AreOnward};
+ghost use Rattle.control_flow.specs.Transitions.{AreOnward};
 
 use crate::claims::push_trees;
 use crate::loops::DELAY;
 use case_text::{Answer, Words, read_formula};
-use control_flow::Graph;
+use control_flow::{Graph, Transition};
 use ctl_formula::Formula;
 use decision_tree::{AffineRank, Family, TreeList};
 use forward_inv::{Inv, invariants, transitions_of};
 use interval_dom::Boxes;
 use part_trees::proposed;
 use std::alloc::{AllocError, Global};
-use transitions::Transition;
 
 /// Reads a formula, and adds the trees that are proposed for it where nothing is checked on the way, of the labels that the line asks for.
 pub fn push_proposed(

@@ -1,8 +1,7 @@
 //! What is found at labels, and what edges keep of guesses.
 use case_text::{Answer, Words, read_ends};
 use control_flow::Graph;
-use forward_inv::{Inv, invariants};
-use inductive_sets::inductive;
+use forward_inv::{Inv, inductive, invariants};
 use interval_dom::Boxes;
 use linear_cons::{Affine, Bounds, PLACES, Row, RowKind};
 use num_domain::NumDomain;

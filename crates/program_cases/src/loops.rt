@@ -1,12 +1,12 @@
 //! What sweeps claim, facts of loops, and what hints propose.
 ghost use Rattle.std.specs.Prelude.{◌≡◌, ◌≤◌, length};
-ghost use Rattle.transitions.specs.Transitions.{AreOnward};
+ghost use Rattle.control_flow.specs.Transitions.{AreOnward};
 
 use crate::claims::push_claims;
 use advice::{FactKind, Hint, LoopFact};
 use backward_sweeps::swept;
 use case_text::{Answer, Words, read_function, read_rows};
-use control_flow::Graph;
+use control_flow::{Graph, Transition};
 use ctl_formula::Formula;
 use decision_tree::{AffineRank, TreeList};
 use forward_inv::{Inv, invariants, transitions_of};
@@ -15,7 +15,6 @@ use linear_cons::Row;
 use loop_facts::{Facts, holds_under, proposal};
 use part_trees::{Claims, proposed};
 use std::alloc::{AllocError, Global};
-use transitions::Transition;
 
 /// How many sweeps are made before trees are widened.
 pub(crate) const DELAY: u32 = 2;

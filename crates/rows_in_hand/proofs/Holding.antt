@@ -13,7 +13,7 @@ use Rattle.linear_cons.proofs.RowLaws.{opposed_never}
 use Rattle.linear_solve.proofs.Lists.{all_of, in_map, member_of}
 use Rattle.linear_solve.specs.Answers.{HasNoStore}
 use Rattle.linear_solve.specs.Systems.{HasOpposed}
-use Rattle.tree_support.specs.Elimination.{row_in_kind, rows_in}
+use Rattle.rows_in_hand.specs.Reasons.{row_in_kind, rows_in}
 use Rattle.rows_in_hand.specs.Hands.{Adds, Forms, Held, IsFormed, IsMetNowhere, Item, KeepsApart, first_of, kind_of, kinds, may_form}
 
 kinds_more : (items : List Item) (item : Item) → kinds (items ++ item ∷ []) ≡ kinds items ++ kind_of item ∷ []

@@ -9,12 +9,11 @@ use Rattle.linear_cons.specs.declared.row.RowKind.TheVariants.{Always, Never, Ro
 use Rattle.linear_cons.specs.Rows.{PointMeetsAll, PointMeetsKind, row_kind_of}
 use Rattle.linear_solve.proofs.Lists.{in_map}
 use Rattle.decision_tree.specs.declared.rank.Rank.{Ghosts as Ranks}
-use Rattle.tree_support.specs.declared.dropped.Reason.{Reason}
-use Rattle.tree_support.specs.declared.dropped.Reason.TheVariants.{Point, Wide as TooWide, Rows}
-use Rattle.tree_support.specs.Elimination.{IsOpen, IsSeen, IsWhole, Justifies, Shows, row_in_kind, rows_in, rows_of}
-use Rattle.transitions.specs.Forming.{Formed, FormsWhole, exact}
-use Rattle.tree_support.specs.Support.{ClaimFits, choices, kinds_of}
-use Rattle.tree_support.specs.Systems.{System}
+use Rattle.rows_in_hand.specs.declared.reason.Reason.{Reason}
+use Rattle.rows_in_hand.specs.declared.reason.Reason.TheVariants.{Point, Wide as TooWide, Rows}
+use Rattle.rows_in_hand.specs.Reasons.{IsOpen, IsSeen, IsWhole, Justifies, Shows, row_in_kind, rows_in, rows_of}
+use Rattle.rows_in_hand.specs.Forming.{Formed, FormsWhole, exact}
+use Rattle.rows_in_hand.specs.Claims.{ClaimFits, choices, kinds_of, System}
 use Rattle.rows_in_hand.specs.Hands.{Gives, GivesWith, Held, IsFormed, Item, Refutes, all_asked, all_chosen, asked, chosen, kind_of, kinds, unformed}
 
 kinds_asked : (asks : List Formed) → kinds (all_asked asks) ≡ map (λ a. row_kind_of (exact a)) asks

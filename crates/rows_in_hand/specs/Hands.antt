@@ -8,10 +8,10 @@ use Rattle.linear_cons.specs.Exact.{IsOutside}
 use Rattle.linear_cons.specs.Rows.{MeetsKind, row_kind_of}
 use Rattle.linear_solve.specs.Answers.{IsPointOf, MayOutgrow, MayOverflow}
 use Rattle.linear_solve.specs.Systems.{HasOpposed, IsOctagonList, IsOpposedToOne, occurring}
-use Rattle.tree_support.specs.declared.dropped.Reason.{Reason}
-use Rattle.tree_support.specs.declared.dropped.Reason.TheVariants.{Point, Wide as TooWide, Rows}
-use Rattle.tree_support.specs.Elimination.{rows_in}
-use Rattle.transitions.specs.Forming.{Formed, FormsWhole, exact}
+use Rattle.rows_in_hand.specs.declared.reason.Reason.{Reason}
+use Rattle.rows_in_hand.specs.declared.reason.Reason.TheVariants.{Point, Wide as TooWide, Rows}
+use Rattle.rows_in_hand.specs.Reasons.{rows_in}
+use Rattle.rows_in_hand.specs.Forming.{Formed, FormsWhole, exact}
 use Rattle.rows_in_hand.specs.declared.finding.Finding.{Finding}
 
 -- something that a system asks for: a function that is at least 0, a row of one of its claim's alternatives, or alternatives that can't be

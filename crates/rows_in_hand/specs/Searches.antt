@@ -6,10 +6,9 @@ use Rattle.linear_cons.specs.declared.row.RowKind.{RowKind}
 use Rattle.linear_cons.specs.Exact.{IsOutside}
 use Rattle.decision_tree.specs.declared.rank.Alternatives.{Alternatives}
 use Rattle.decision_tree.specs.declared.rank.Rank.{Ghosts as Ranks}
-use Rattle.tree_support.specs.Elimination.{Justifies}
-use Rattle.transitions.specs.Forming.{Formed}
-use Rattle.tree_support.specs.Support.{ClaimFits, HasNoStore, choices}
-use Rattle.tree_support.specs.Systems.{Claim, System}
+use Rattle.rows_in_hand.specs.Reasons.{Justifies}
+use Rattle.rows_in_hand.specs.Forming.{Formed}
+use Rattle.rows_in_hand.specs.Claims.{ClaimFits, HasNoStore, choices, Claim, System}
 use Rattle.rows_in_hand.specs.declared.finding.Finding.{Finding}
 use Rattle.rows_in_hand.specs.declared.hand.Hand.{Hand}
 use Rattle.rows_in_hand.specs.Hands.{Held, IsMetNowhere, IsTried, Item, Refutes, all_asked, all_chosen, is_there, restored, unformed}

@@ -1,6 +1,6 @@
 //! What refutes a leaf.
 
-use tree_support::Reason;
+use crate::reason::Reason;
 
 /// A reason against a leaf, and the number of the edge of the system that it holds for.
 #[derive(Clone, Copy)]

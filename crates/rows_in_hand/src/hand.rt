@@ -5,11 +5,11 @@ ghost use Rattle.linear_solve.specs.Answers.{HasNoStore};
 ghost use Rattle.rows_in_hand.specs.Hands.{Adds, Gives, IsTried, is_there, restored};
 
 use crate::finding::Finding;
+use crate::reason::Reason;
 use decision_tree::Trail;
 use linear_cons::{MOST_ROWS, Row, RowKind, Wide};
 use linear_solve::{Answer, decide_tightest, opposes_one};
 use std::alloc::{AllocError, Global};
-use tree_support::Reason;
 
 /// The rows of a system as far as they could be formed, the first one first, and the first call that left 128 bits where one did.
 #[derive(Drop)]

@@ -4,7 +4,7 @@ use Rattle.std.proofs.lemmas.Bool.{cases_lt}
 use Rattle.decision_tree.specs.declared.tree.Tree.{Tree}
 use Rattle.decision_tree.specs.Plans.{leaves_of, plan_of}
 use Rattle.tree_support.specs.Setting.{trees_in}
-use Rattle.arc_search.proofs.Following.{past_none}
+use Rattle.leaf_search.proofs.Following.{past_none}
 use Rattle.tree_check.proofs.Surveying.{tree_at}
 
 module _ {R : Type 0} (most : ℕ) where

@@ -19,21 +19,20 @@ use Rattle.decision_tree.specs.declared.reason.Why.TheVariants.{Step}
 use Rattle.decision_tree.specs.Paths.{leaf_numbered, path_of}
 use Rattle.decision_tree.specs.Plans.{Plan, branch, leaf, leaves_of}
 use Rattle.tree_support.specs.declared.dropped.Dropped.{Dropped}
-use Rattle.transitions.specs.Arcs.{Arc, choosing, passing, putting, rows_given, testing}
-use Rattle.transitions.specs.Forming.{Formed, exact, given}
+use Rattle.tree_support.specs.Arcs.{Arc, choosing, passing, putting, rows_given, testing, arcs_of, outcome_arcs}
+use Rattle.rows_in_hand.specs.Forming.{Formed, exact, given}
 use Rattle.tree_support.specs.Setting.{Setting, Trees}
-use Rattle.tree_support.specs.Support.{HasNoStore, choices}
+use Rattle.rows_in_hand.specs.Claims.{HasNoStore, choices}
 use Rattle.tree_support.specs.Systems.{is_existential, moved_by, region, systems}
 use Rattle.tree_support.proofs.Lists.{all_first, all_left, all_none, all_one, contains_first, contains_later}
 use Rattle.rows_in_hand.specs.declared.hand.Hand.{Hand}
 use Rattle.rows_in_hand.specs.Hands.{IsMetNowhere, all_asked, asked, kind_of}
 use Rattle.rows_in_hand.specs.Searches.{Holds, IsSame}
 use Rattle.rows_in_hand.proofs.Choosing.{held_same}
-use Rattle.transitions.specs.Transitions.{arcs_of, outcome_arcs}
-use Rattle.transitions.specs.declared.transition.Transition.{Transition}
-use Rattle.transitions.specs.declared.transition.Transition.TheVariants.{Assign, Choose, Dead, End, Pass, Test}
-use Rattle.arc_search.specs.Arcs.{IsTransitionAt}
-use Rattle.arc_search.specs.Walks.{side_of}
+use Rattle.control_flow.specs.declared.transition.Transition.{Transition}
+use Rattle.control_flow.specs.declared.transition.Transition.TheVariants.{Assign, Choose, Dead, End, Pass, Test}
+use Rattle.leaf_search.specs.Arcs.{IsTransitionAt}
+use Rattle.leaf_search.specs.Walks.{side_of}
 use Rattle.tree_check.specs.declared.survey.Refuted.{Refuted}
 use Rattle.tree_check.specs.declared.survey.Span.{Span}
 use Rattle.tree_check.specs.Narrowing.{HoldsAmong, HoldsPath, PicksNoValue, sets_of, speaks_of_some}

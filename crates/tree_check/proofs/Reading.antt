@@ -11,7 +11,7 @@ use Rattle.linear_forms.specs.Linearising.{is_exact, linear_of}
 use Rattle.linear_forms.specs.Spreading.{spread_of}
 use Rattle.control_flow.specs.Edges.{edges_from}
 use Rattle.control_flow.specs.Labels.{Action, ends, assigns, passes, tests}
-use Rattle.transitions.specs.Arcs.{Arc, arcs_by, arcs_of_outcome, arcs_putting, assigning, testing}
+use Rattle.tree_support.specs.Arcs.{Arc, arcs_by, arcs_of_outcome, arcs_putting, assigning, testing}
 use Rattle.tree_check.specs.Rounds.{Avoid, target_of}
 
 -- the edge of a number

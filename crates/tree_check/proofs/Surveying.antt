@@ -15,11 +15,11 @@ use Rattle.decision_tree.specs.declared.reason.Why.{Why}
 use Rattle.decision_tree.specs.Paths.{leaf_numbered, path_of}
 use Rattle.decision_tree.specs.Plans.{Plan, branch, leaf, leaves_of, plan_of}
 use Rattle.decision_tree.specs.declared.tree.Tree.{Tree}
-use Rattle.transitions.specs.Arcs.{rows_given}
-use Rattle.transitions.specs.Forming.{Formed, given}
+use Rattle.tree_support.specs.Arcs.{rows_given}
+use Rattle.rows_in_hand.specs.Forming.{Formed, given}
 use Rattle.tree_support.specs.Setting.{Setting, Trees, trees_in}
-use Rattle.tree_support.specs.Support.{HasNoStore}
-use Rattle.tree_support.specs.Systems.{System, of_leaf, systems}
+use Rattle.rows_in_hand.specs.Claims.{HasNoStore, System}
+use Rattle.tree_support.specs.Systems.{of_leaf, systems}
 use Rattle.rows_in_hand.specs.declared.finding.Finding.{Finding}
 use Rattle.rows_in_hand.specs.Hands.{Held, IsMetNowhere, all_asked, asked, kind_of}
 use Rattle.rows_in_hand.specs.Searches.{Finds}
@@ -27,9 +27,9 @@ use Rattle.tree_check.specs.declared.survey.Refuted.{Refuted}
 use Rattle.tree_check.specs.declared.survey.Span.{Span}
 use Rattle.tree_check.specs.Surveys.{AreApart, IsAside, IsFound, IsFoundWithin, IsReviewed, IsBeyond, IsSurveyed, LooksOn, systems_within}
 use Rattle.tree_support.proofs.Lists.{all_first, all_left, all_one, all_right}
-use Rattle.arc_search.specs.Walks.{side_of}
+use Rattle.leaf_search.specs.Walks.{side_of}
 use Rattle.tree_support.proofs.Nowhere.{leaf_nowhere}
-use Rattle.arc_search.proofs.Following.{nowhere_more}
+use Rattle.leaf_search.proofs.Following.{nowhere_more}
 
 module _ {X : Type 0} (Rel : X → X → Type 0) where
   no_pairs : AllPairs Rel []

@@ -5,15 +5,15 @@ use Rattle.linear_cons.specs.Functions.{variable_at}
 use Rattle.control_flow.specs.declared.edge.Choice.TheVariants.{Range}
 use Rattle.ctl_formula.specs.Formulas.{Ctl, next, until, weak}
 use Rattle.decision_tree.specs.Plans.{Plan}
-use Rattle.transitions.specs.Arcs.{Arc}
-use Rattle.transitions.specs.Forming.{Formed}
+use Rattle.tree_support.specs.Arcs.{Arc}
+use Rattle.rows_in_hand.specs.Forming.{Formed}
 use Rattle.tree_support.specs.Setting.{Setting}
 use Rattle.tree_support.specs.Systems.{is_existential, moved_by}
 use Rattle.rows_in_hand.specs.declared.hand.Hand.{Hand}
 use Rattle.rows_in_hand.specs.Hands.{all_asked}
 use Rattle.rows_in_hand.specs.Searches.{Holds}
-use Rattle.transitions.specs.declared.transition.Transition.{Transition}
-use Rattle.transitions.specs.declared.transition.Transition.TheVariants.{Assign, Choose}
+use Rattle.control_flow.specs.declared.transition.Transition.{Transition}
+use Rattle.control_flow.specs.declared.transition.Transition.TheVariants.{Assign, Choose}
 use Rattle.tree_check.specs.Telling.{arcs_followed}
 
 -- the formula speaks of some successor

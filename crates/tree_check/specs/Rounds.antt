@@ -12,14 +12,14 @@ use Rattle.tree_support.specs.declared.dropped.Dropped.{Dropped}
 use Rattle.tree_support.specs.Elimination.{Eliminates, cause_of}
 use Rattle.control_flow.specs.declared.edge.Edge.{Edge}
 use Rattle.control_flow.specs.Labels.{all_labels}
-use Rattle.transitions.specs.Arcs.{Arc}
-use Rattle.transitions.specs.Transitions.{AreTold}
-use Rattle.transitions.specs.declared.transition.Transition.{Transition}
-use Rattle.transitions.specs.declared.transition.Transition.TheVariants.{Dead}
+use Rattle.tree_support.specs.Arcs.{Arc}
+use Rattle.control_flow.specs.Transitions.{AreTold}
+use Rattle.control_flow.specs.declared.transition.Transition.{Transition}
+use Rattle.control_flow.specs.declared.transition.Transition.TheVariants.{Dead}
 use Rattle.tree_support.specs.Setting.{Setting, Trees, setting_of, trees_in}
-use Rattle.tree_support.specs.Support.{HasNoStore}
+use Rattle.rows_in_hand.specs.Claims.{HasNoStore}
 use Rattle.tree_support.specs.Systems.{systems}
-use Rattle.transitions.specs.Told.{told_by}
+use Rattle.control_flow.specs.Told.{told_by}
 use Rattle.tree_check.specs.Checking.{families_of}
 use Rattle.tree_check.specs.declared.rounds.Premises.{Premises}
 use Rattle.tree_check.specs.declared.survey.Refuted.{Refuted}

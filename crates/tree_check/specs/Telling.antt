@@ -10,11 +10,11 @@ use Rattle.decision_tree.specs.declared.reason.Why.TheVariants.{Step}
 use Rattle.decision_tree.specs.Paths.{leaf_numbered, path_of}
 use Rattle.decision_tree.specs.Plans.{Plan, leaf, leaves_of}
 use Rattle.tree_support.specs.declared.dropped.Dropped.{Dropped}
-use Rattle.transitions.specs.Arcs.{Arc}
-use Rattle.transitions.specs.Forming.{Formed}
+use Rattle.tree_support.specs.Arcs.{Arc}
+use Rattle.rows_in_hand.specs.Forming.{Formed}
 use Rattle.tree_support.specs.Setting.{Setting, Trees}
-use Rattle.tree_support.specs.Support.{HasNoStore}
-use Rattle.tree_support.specs.Systems.{System, is_existential, moved_by, nothing, region, systems}
+use Rattle.rows_in_hand.specs.Claims.{HasNoStore, System, nothing}
+use Rattle.tree_support.specs.Systems.{is_existential, moved_by, region, systems}
 use Rattle.tree_check.specs.declared.survey.Refuted.{Refuted}
 use Rattle.tree_check.specs.Surveys.{IsAside}
 

@@ -7,19 +7,18 @@ ghost use Rattle.decision_tree.specs.Plans.{leaves_of};
 ghost use Rattle.tree_support.specs.Elimination.{Eliminates};
 ghost use Rattle.tree_support.specs.Setting.{setting_of, trees_in};
 ghost use Rattle.tree_support.specs.Support.{IsSupported};
-ghost use Rattle.transitions.specs.Told.{told_by};
-ghost use Rattle.transitions.specs.Transitions.{AreTold};
+ghost use Rattle.control_flow.specs.Told.{told_by};
+ghost use Rattle.control_flow.specs.Transitions.{AreTold};
 ghost use Rattle.tree_check.specs.Checking.{WasCutShort, families_of};
 
 use crate::rounds::Premises;
-use control_flow::Graph;
+use control_flow::{Graph, Transition};
 use ctl_formula::Formula;
 use decision_tree::{Family, Rank, TreeList};
 use forward_inv::{Inv, transitions_of};
 use num_domain::NumDomain;
 use std::alloc::{AllocError, Global};
 use std::mem;
-use transitions::Transition;
 use tree_support::Dropped;
 
 /// Of the leaves of the formula's family it leaves those that are supported, over the graph with its invariants and the families of the

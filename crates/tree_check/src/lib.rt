@@ -11,4 +11,5 @@ mod rounds;
 mod survey;
 
 pub use checking::{check, check_over};
-pub use tree_support::{Dropped, Reason};
+pub use rows_in_hand::Reason;
+pub use tree_support::Dropped;

@@ -6,12 +6,12 @@ ghost use Rattle.tree_support.specs.Systems.{moved_by};
 ghost use Rattle.rows_in_hand.specs.Searches.{Holds, IsSame};
 ghost use Rattle.tree_check.specs.Narrowing.{HoldsAmong, sets_of};
 
-use arc_search::Way;
+use control_flow::Transition;
 use decision_tree::{Rank, Tree};
+use leaf_search::Way;
 use linear_cons::Affine;
 use rows_in_hand::Hand;
 use std::alloc::AllocError;
-use transitions::Transition;
 
 /// The place that is no variable's, where a value is kept while it is chosen.
 const CHOSEN_PLACE: u8 = 15;

@@ -17,18 +17,16 @@ ghost use Rattle.tree_check.specs.Telling.{AreCleared, AreTold, IsTold};
 
 use crate::narrow::{add_path, sets};
 use crate::survey::{Refuted, Span, Survey};
-use arc_search::Way;
-use control_flow::{Choice, Edge, Graph};
+use control_flow::{Choice, Edge, Graph, Transition};
 use ctl_formula::Formula;
 use decision_tree::{Cause, Family, Rank, Tree};
 use forward_inv::Inv;
-use leaf_search::{Part, Stand, UNEDGED};
+use leaf_search::{Part, Stand, UNEDGED, Way};
 use linear_cons::Row;
 use num_domain::NumDomain;
-use rows_in_hand::Hand;
+use rows_in_hand::{Hand, Reason};
 use std::alloc::{AllocError, Global};
-use transitions::Transition;
-use tree_support::{Dropped, Reason};
+use tree_support::Dropped;
 
 /// A tree that has so many leaves for each drop is rather looked at behind the drops, one by one, than surveyed.
 const LEAVES_TO_A_DROP: u64 = 8;

@@ -1,17 +1,16 @@
 //! The leaves of a label's tree, one after the other.
 ghost use Rattle.std.specs.Prelude.{◌≡◌, List, ◌+◌, ◌-◌, ◌^◌, ◌<◌, ◌≤◌, ◌++◌, ◌∷◌, [], true, false, IfOk, OnOk, map};
 ghost use Rattle.decision_tree.specs.Plans.{leaf, leaves_of, plan_of};
-ghost use Rattle.transitions.specs.Forming.{Formed, given};
+ghost use Rattle.rows_in_hand.specs.Forming.{Formed, given};
 ghost use Rattle.tree_support.specs.Setting.{trees_in};
 ghost use Rattle.rows_in_hand.specs.Hands.{IsMetNowhere, all_asked};
 ghost use Rattle.leaf_search.specs.Leaves.{WhereStood};
 ghost use Rattle.rows_in_hand.specs.Searches.{Holds, IsLonger, IsSame, WhereAsked};
 ghost use Rattle.tree_check.specs.Surveys.{IsReviewed, IsSurveyed, LooksOn};
-ghost use Rattle.arc_search.specs.Walks.{side_of};
+ghost use Rattle.leaf_search.specs.Walks.{side_of};
 
-use arc_search::{Way, add_rows};
 use decision_tree::{Rank, Tree, Why};
-use leaf_search::{Stand, UNEDGED};
+use leaf_search::{Stand, UNEDGED, Way, add_rows};
 use linear_cons::Row;
 use rows_in_hand::{Finding, Hand};
 use std::alloc::{AllocError, Global};

@@ -20,9 +20,10 @@ use Rattle.ctl_formula.proofs.Ends.{af_exit_ends}
 use Rattle.linear_cons.proofs.Places.{number_at_places}
 use Rattle.tree_support.specs.Certificates.{IsCertificate, IsShown, SparesPlace, affine_ranks, operands_from}
 use Rattle.tree_support.specs.Setting.{Trees, setting_of}
-use Rattle.tree_support.specs.Support.{HasNoStore, IsSupported}
-use Rattle.tree_support.specs.Systems.{System, exceeding, unedged, unnatural}
-use Rattle.transitions.specs.Told.{IsTrueOfReached, Told, no_bounds}
+use Rattle.rows_in_hand.specs.Claims.{HasNoStore, System, exceeding, unnatural}
+use Rattle.tree_support.specs.Support.{IsSupported}
+use Rattle.tree_support.specs.Systems.{unedged}
+use Rattle.control_flow.specs.Told.{IsTrueOfReached, Told, no_bounds}
 use Rattle.tree_support.proofs.Soundness.{sound_within}
 use Rattle.tree_support.proofs.Lists.{all_first, all_none, all_one}
 

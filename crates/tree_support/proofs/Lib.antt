@@ -1,6 +1,7 @@
 pub mod Lists
 pub mod Telling
 pub mod Moving
+pub mod Arcing
 pub mod Arcs
 pub mod Sparing
 pub mod Leaves

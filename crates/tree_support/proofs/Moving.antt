@@ -13,9 +13,9 @@ use Rattle.control_flow.specs.declared.edge.Choice.TheVariants.{Branch, Range}
 use Rattle.control_flow.specs.Edges.{configuration}
 use Rattle.control_flow.specs.Labels.{rest}
 use Rattle.control_flow.specs.States.{IsReachedState}
-use Rattle.transitions.specs.Arcs.{Arc, flow_of}
-use Rattle.transitions.specs.Forming.{Formed, exact}
-use Rattle.transitions.specs.Told.{Told}
+use Rattle.tree_support.specs.Arcs.{Arc, flow_of}
+use Rattle.rows_in_hand.specs.Forming.{Formed, exact}
+use Rattle.control_flow.specs.Told.{Told}
 
 -- the store meets what is asked
 abbrev pub StoreMeets : Store → List Formed → Type 0

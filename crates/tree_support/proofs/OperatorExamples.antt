@@ -10,10 +10,11 @@ use Rattle.ctl_formula.specs.Formulas.{Ctl, truth, falsity, exit, not_exit, alwa
 use Rattle.decision_tree.specs.declared.reason.Pick.TheVariants.{All as Every, Yes, No, Value}
 use Rattle.decision_tree.specs.declared.reason.Why.TheVariants.{End, Atom, Both, Left, Right, Now, Dead, Step}
 use Rattle.decision_tree.specs.Plans.{Plan, bottom, branch, leaf}
-use Rattle.transitions.specs.Arcs.{Arc, passing}
-use Rattle.transitions.specs.Forming.{Formed, given, minus, put}
+use Rattle.tree_support.specs.Arcs.{Arc, passing}
+use Rattle.rows_in_hand.specs.Forming.{Formed, given, minus, put}
 use Rattle.tree_support.specs.Setting.{Setting, Trees}
-use Rattle.tree_support.specs.Systems.{Claim, System, exceeding, nothing, systems, unnatural}
+use Rattle.rows_in_hand.specs.Claims.{Claim, System, exceeding, nothing, unnatural}
+use Rattle.tree_support.specs.Systems.{systems}
 
 -- the function that an arc of label 2 puts, one that a leaf picks, the row at the root of a part's trees, and ranks
 module _ {R : Type 0} (by a : Affine) (row : Row) (r s t : R) where

@@ -21,9 +21,9 @@ use Rattle.control_flow.proofs.Taken.{both_taken, value_taken}
 use Rattle.control_flow.specs.States.{IsReachedState, followed}
 use Rattle.control_flow.proofs.Reached.{Follows, reached_label, reached_places}
 use Rattle.control_flow.proofs.Unstuck.{some_successor}
-use Rattle.transitions.specs.Arcs.{Arc, arcs_of_outcome, arcs_putting, testing}
-use Rattle.transitions.specs.Forming.{exact}
-use Rattle.transitions.specs.Told.{IsTrueOfReached, Told}
+use Rattle.tree_support.specs.Arcs.{Arc, arcs_of_outcome, arcs_putting, testing}
+use Rattle.rows_in_hand.specs.Forming.{exact}
+use Rattle.control_flow.specs.Told.{IsTrueOfReached, Told}
 use Rattle.tree_support.proofs.Arcs.{busy, lies, over_arcs, put_back, same_store, tested}
 use Rattle.tree_support.proofs.Lists.{all_none, contains_first}
 use Rattle.tree_support.proofs.Moving.{LeadsOn, LeadsOver, Moves}

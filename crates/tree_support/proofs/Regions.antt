@@ -17,12 +17,13 @@ use Rattle.decision_tree.proofs.Standing.{eval_is, met_below, standing}
 use Rattle.ctl_formula.specs.Formulas.{Ctl}
 use Rattle.control_flow.specs.States.{IsReachedState}
 use Rattle.tree_support.specs.Certificates.{SparesPlace, affine_ranks}
-use Rattle.transitions.specs.Arcs.{rows_given}
-use Rattle.transitions.specs.Forming.{Formed, exact, given}
+use Rattle.tree_support.specs.Arcs.{rows_given}
+use Rattle.rows_in_hand.specs.Forming.{Formed, exact, given}
 use Rattle.tree_support.specs.Setting.{Setting, Trees, setting_of}
-use Rattle.tree_support.specs.Support.{HasNoStore, IsSupported}
-use Rattle.tree_support.specs.Systems.{System, if_undefined, of_leaf, of_rank, of_why, undefined_at, unedged}
-use Rattle.transitions.specs.Told.{Told}
+use Rattle.rows_in_hand.specs.Claims.{HasNoStore, System}
+use Rattle.tree_support.specs.Support.{IsSupported}
+use Rattle.tree_support.specs.Systems.{if_undefined, of_leaf, of_rank, of_why, undefined_at, unedged}
+use Rattle.control_flow.specs.Told.{Told}
 use Rattle.tree_support.proofs.Leaves.{defined_there, stands}
 use Rattle.tree_support.proofs.Moving.{Moves, StoreMeets}
 use Rattle.tree_support.proofs.Sparing.{same_number}

@@ -6,7 +6,7 @@ use Rattle.linear_cons.specs.declared.row.Row.{Row}
 use Rattle.linear_cons.specs.Bounds.{LiesIn}
 use Rattle.linear_cons.specs.Rows.{MeetsAll}
 use Rattle.control_flow.specs.Invariants.{AreInvariants}
-use Rattle.transitions.specs.Told.{IsTrueOfReached, no_bounds, told_at, told_by}
+use Rattle.control_flow.specs.Told.{IsTrueOfReached, no_bounds, told_at, told_by}
 
 -- what holds of what each state with a store tells, and where there is no state
 told_holds : {D A : Type 0} (P : A → Type 0) (tells : D → A) (none : A) (has : D → Type 0) (state : Option D) → P none

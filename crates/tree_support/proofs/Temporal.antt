@@ -17,12 +17,13 @@ use Rattle.ctl_formula.proofs.Alike.{Respects, sat_respects, until_respects, wea
 use Rattle.ctl_formula.proofs.Classical.{Property, classically, until_met}
 use Rattle.control_flow.specs.States.{IsReachedState}
 use Rattle.tree_support.specs.Certificates.{SparesPlace, affine_ranks}
-use Rattle.transitions.specs.Arcs.{Arc}
-use Rattle.transitions.specs.Forming.{Formed}
+use Rattle.tree_support.specs.Arcs.{Arc}
+use Rattle.rows_in_hand.specs.Forming.{Formed}
 use Rattle.tree_support.specs.Setting.{Setting, Trees, setting_of}
-use Rattle.tree_support.specs.Support.{HasNoStore, IsSupported}
-use Rattle.tree_support.specs.Systems.{of_end, of_pick, of_rank, of_why, plain, undefined_at, unedged, unnatural}
-use Rattle.transitions.specs.Told.{Told}
+use Rattle.rows_in_hand.specs.Claims.{HasNoStore, unnatural}
+use Rattle.tree_support.specs.Support.{IsSupported}
+use Rattle.tree_support.specs.Systems.{of_end, of_pick, of_rank, of_why, plain, undefined_at, unedged}
+use Rattle.control_flow.specs.Told.{Told}
 use Rattle.tree_support.proofs.Following.{ahead, defined_ahead, descends, no_dead_end}
 use Rattle.tree_support.proofs.Leaves.{natural, not_plain}
 use Rattle.tree_support.proofs.Lists.{all_first, all_left, all_right}

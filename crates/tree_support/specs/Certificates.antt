@@ -9,10 +9,9 @@ use Rattle.decision_tree.specs.Extent.{PickIs}
 use Rattle.decision_tree.specs.Plans.{Plan, bottom, top, leaf, branch}
 use Rattle.ctl_formula.specs.Formulas.{Ctl, truth, falsity, exit, not_exit, always, never, least, negation, both, either, next, until, weak}
 use Rattle.ctl_formula.specs.Parts.{number_from, operand_from}
-use Rattle.transitions.specs.Arcs.{chosen_place}
+use Rattle.control_flow.specs.Told.{chosen_place, Told}
 use Rattle.tree_support.specs.Setting.{Trees, setting_of}
 use Rattle.tree_support.specs.Support.{IsSupported}
-use Rattle.transitions.specs.Told.{Told}
 
 -- what affine functions are as ranks
 abbrev pub affine_ranks : Ranks AffineRank

@@ -1,3 +1,4 @@
+pub mod Arcs
 pub mod Setting
 pub mod Systems
 pub mod Support

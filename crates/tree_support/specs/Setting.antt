@@ -5,8 +5,8 @@ use Rattle.linear_cons.specs.declared.row.Row.{Row}
 use Rattle.decision_tree.specs.Plans.{Plan, bottom}
 use Rattle.ctl_formula.specs.Formulas.{Ctl}
 use Rattle.step_meaning.specs.Syntax.{Statements}
-use Rattle.transitions.specs.Arcs.{Flow, flow_of}
-use Rattle.transitions.specs.Told.{Told}
+use Rattle.tree_support.specs.Arcs.{Flow, flow_of}
+use Rattle.control_flow.specs.Told.{Told}
 
 -- a family: a tree for each label
 abbrev pub Trees : Type 0 → Type 0

@@ -13,22 +13,10 @@ use Rattle.decision_tree.specs.Paths.{leaf_numbered, path_of}
 use Rattle.control_flow.specs.declared.edge.Choice.{Choice}
 use Rattle.control_flow.specs.declared.edge.Choice.TheVariants.{None as NoChoice, Branch, Range}
 use Rattle.ctl_formula.specs.Formulas.{Ctl, truth, falsity, exit, not_exit, always, never, least, negation, both, either, next, until, weak}
-use Rattle.transitions.specs.Arcs.{Arc, rows_given}
-use Rattle.transitions.specs.Forming.{Formed, given, put, minus}
+use Rattle.tree_support.specs.Arcs.{Arc, rows_given}
+use Rattle.rows_in_hand.specs.Forming.{Formed, given, put, minus}
+use Rattle.rows_in_hand.specs.Claims.{nothing, unnatural, exceeding, System}
 use Rattle.tree_support.specs.Setting.{Setting, Trees}
-
--- what a system asks of ranks besides its rows: nothing; that the rank is no natural; or that the first rank, moved back over what an arc
--- sets, and one more, exceeds the second
-pub data Claim (R : Type 0) : Type 0 where
-  nothing : Claim R
-  unnatural : R → Claim R
-  exceeding : R → Option (ℕ × Affine) → R → Claim R
-
--- a system: the number of its edge, the functions that it asks to be at least 0, and its claim, whose alternatives each make a list of rows
-pub record System (R : Type 0) : Type 0 where
-  pub edge : ℕ
-  pub asks : List Formed
-  pub claim : Claim R
 
 -- the edge number of a system that has no edge
 abbrev pub unedged : ℕ

@@ -1,17 +1,6 @@
-//! Leaves that are given up, and why.
+//! Leaves that are given up.
 
-use linear_cons::Wide;
-
-/// Why a leaf isn't supported, or isn't found to be.
-#[derive(Clone, Copy, PartialEq, Eq, Debug)]
-pub enum Reason {
-    /// The point `num / den` meets one of the leaf's systems.
-    Point { num: [i128; 16], den: i128 },
-    /// A number lies outside `i128`; the two operands have an exact result outside.
-    Wide(Wide),
-    /// A system has, or an elimination may leave, this many rows, which are above 4,096.
-    Rows { count: u32 },
-}
+use rows_in_hand::Reason;
 
 /// A leaf that was given up: its label, its number at the label, the number of the edge of the system that refuted it (0 or 1, and 2 for
 /// a system without an edge), and the reason.

@@ -13,7 +13,7 @@ ghost use Rattle.tree_support.specs.Setting.{Setting, Trees};
 ghost use Rattle.tree_support.specs.Soundness.{IsSound, IsSoundWithin};
 ghost use Rattle.tree_support.specs.declared.dropped.Dropped.{Dropped};
 ghost use Rattle.tree_support.specs.Support.{IsFirm, IsSupported};
-ghost use Rattle.transitions.specs.Told.{IsTrueOfReached, Told, told_by};
+ghost use Rattle.control_flow.specs.Told.{IsTrueOfReached, Told, told_by};
 
 use decision_tree::Rank;
 use num_domain::NumDomain;

@@ -7,4 +7,4 @@
 mod dropped;
 pub mod laws;
 
-pub use dropped::{Dropped, Reason};
+pub use dropped::Dropped;

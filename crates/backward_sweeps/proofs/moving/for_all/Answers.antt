@@ -2,7 +2,7 @@ use Rattle.std.proofs.Common.{◌≡◌, ℕ, Err, IfOk, sym, subst, refl, arith
 use Rattle.linear_cons.specs.declared.exact.Wide.{Wide}
 use Rattle.decision_tree.specs.Plans.{plan_of}
 use Rattle.tree_unify.specs.declared.fault.TreeFault.TheVariants.{Full as TooFull, Wide as TooWide}
-use Rattle.transitions.specs.declared.transition.Transition.TheVariants.{Assign, Choose, Pass, Test}
+use Rattle.control_flow.specs.declared.transition.Transition.TheVariants.{Assign, Choose, Pass, Test}
 use Rattle.backward_transfer.specs.AffineShapes.{cut, tested_shape}
 use Rattle.backward_sweeps.specs.Moving.{AllFit, AreAllSmall, AreTestsSmall, TestsFit, before_all}
 use Rattle.backward_sweeps.proofs.Reading.{one_carries, two_carry}

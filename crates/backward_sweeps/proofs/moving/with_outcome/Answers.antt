@@ -2,7 +2,7 @@ use Rattle.std.proofs.Common.{◌≡◌, ℕ, Err, IfOk}
 use Rattle.linear_cons.specs.declared.exact.Wide.{Wide}
 use Rattle.decision_tree.specs.Plans.{plan_of}
 use Rattle.tree_unify.specs.declared.fault.TreeFault.TheVariants.{Full as TooFull, Wide as TooWide}
-use Rattle.transitions.specs.declared.transition.Transition.TheVariants.{Test}
+use Rattle.control_flow.specs.declared.transition.Transition.TheVariants.{Test}
 use Rattle.backward_sweeps.specs.Picking.{AreOutcomesSmall, OutcomesFit, before_outcome}
 use Rattle.backward_sweeps.proofs.Reading.{two_carry}
 use Rattle.backward_sweeps.proofs.moving.with_outcome.Goals as goal

@@ -2,7 +2,7 @@ use Rattle.std.proofs.Common.{◌≡◌, ℕ, Err, IfOk, refl}
 use Rattle.linear_cons.specs.declared.exact.Wide.{Wide}
 use Rattle.decision_tree.specs.Plans.{plan_of}
 use Rattle.tree_unify.specs.declared.fault.TreeFault.TheVariants.{Full as TooFull, Wide as TooWide}
-use Rattle.transitions.specs.declared.transition.Transition.TheVariants.{Choose}
+use Rattle.control_flow.specs.declared.transition.Transition.TheVariants.{Choose}
 use Rattle.backward_sweeps.specs.Picking.{AreValuesSmall, ValuesFit, before_value}
 use Rattle.backward_sweeps.proofs.Reading.{one_carries}
 use Rattle.backward_sweeps.proofs.moving.with_value.Goals as goal

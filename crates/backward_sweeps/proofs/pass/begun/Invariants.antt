@@ -1,6 +1,6 @@
 use Rattle.std.proofs.Common.{◌≡◌, ℕ, ◌<◌, true, length}
 use Rattle.backward_transfer.specs.AffineShapes.{plans, tree_at}
-use Rattle.transitions.specs.Transitions.{transition_in, is_given}
+use Rattle.control_flow.specs.Transitions.{transition_in, is_given}
 use Rattle.backward_sweeps.specs.Remaking.{given_for, goal_at, parts_of}
 use Rattle.backward_sweeps.proofs.pass.begun.Given as goal
 

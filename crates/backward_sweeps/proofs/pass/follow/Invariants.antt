@@ -1,6 +1,6 @@
 use Rattle.std.proofs.Common.{◌≡◌, length}
 use Rattle.backward_transfer.specs.AffineShapes.{plans}
-use Rattle.transitions.specs.Transitions.{is_given}
+use Rattle.control_flow.specs.Transitions.{is_given}
 use Rattle.backward_sweeps.specs.Remaking.{AreKept, AreRemadeFrom, parts_of}
 use Rattle.backward_sweeps.proofs.pass.follow.Given as goal
 

@@ -2,7 +2,7 @@ use Rattle.std.proofs.Common.{inl, inr, true, false, Err, refl, sym, ap, subst, 
 use Rattle.decision_tree.specs.Plans.{plan_of}
 use Rattle.backward_transfer.specs.AffineShapes.{plans, tree_at}
 use Rattle.backward_transfer.proofs.Putting.{plans_length, plans_set}
-use Rattle.transitions.specs.Transitions.{first_target, is_given, second_target}
+use Rattle.control_flow.specs.Transitions.{first_target, is_given, second_target}
 use Rattle.backward_sweeps.specs.Remaking.{AreKept, AreRemadeFrom, IsRemade, IsRemadeSmall, RemadeFits, parts_of}
 use Rattle.backward_sweeps.proofs.Passing.{action_read, put_kept, put_made, top_by}
 use Rattle.backward_sweeps.proofs.pass.remake.Goals as goal

@@ -1,6 +1,6 @@
 use Rattle.std.proofs.Common.{◌≡◌, sym, subst}
 use Rattle.backward_transfer.specs.AffineShapes.{cut, plans, tree_at}
-use Rattle.transitions.specs.Transitions.{first_target, second_target}
+use Rattle.control_flow.specs.Transitions.{first_target, second_target}
 use Rattle.backward_sweeps.proofs.Stepping.{before_cut}
 use Rattle.backward_sweeps.proofs.remaking.remade.Goals as goal
 

@@ -1,6 +1,6 @@
 use Rattle.std.proofs.Common.{◌≡◌, ℕ, ◌<◌, length}
 use Rattle.backward_transfer.specs.AffineShapes.{plans, tree_at}
-use Rattle.transitions.specs.Transitions.{transition_in}
+use Rattle.control_flow.specs.Transitions.{transition_in}
 use Rattle.backward_sweeps.specs.Remaking.{IsStarted, parts_of}
 use Rattle.backward_sweeps.proofs.starting.started.Given as goal
 

@@ -4,7 +4,7 @@ use Rattle.decision_tree.specs.declared.tree.Tree.{Tree}
 use Rattle.std.proofs.Common.{List}
 use Rattle.backward_transfer.specs.AffineShapes.{plans}
 use Rattle.backward_transfer.proofs.Putting.{written_back}
-use Rattle.transitions.specs.Transitions.{is_idle}
+use Rattle.control_flow.specs.Transitions.{is_idle}
 use Rattle.backward_sweeps.specs.Remaking.{AreEndsStarted, AreKept, AreRemadeFrom, parts_of}
 use Rattle.backward_sweeps.proofs.Passing.{ends_started, still_remade}
 use Rattle.backward_sweeps.proofs.sweep.kept.Given as given

@@ -4,8 +4,8 @@ use Rattle.step_meaning.specs.Syntax.{statements}
 use Rattle.linear_forms.specs.Spreading.{spread_of}
 use Rattle.control_flow.specs.Actions.{IsPlaced}
 use Rattle.control_flow.specs.Labels.{action_at}
-use Rattle.transitions.specs.Transitions.{IsOver, conjunctions_in}
-use Rattle.transitions.proofs.Arcing.{over_tests}
+use Rattle.control_flow.specs.Transitions.{IsOver, conjunctions_in}
+use Rattle.control_flow.proofs.Doing.{over_tests}
 use Rattle.forward_inv.specs.Behind.{IsEdgeOf, IsEntering, IsMetOnArrival, IsOnlyEdge}
 use Rattle.forward_inv.proofs.Arriving.{arrival_meets, asked_over, behind_spreads, if_found, test_placed}
 use Rattle.forward_inv.proofs.Entering.{from_a_label}

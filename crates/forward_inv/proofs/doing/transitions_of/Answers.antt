@@ -1,11 +1,12 @@
 use Rattle.std.proofs.Common.{ℕ, [], ◌∷◌, length, length-append, ap, subst, sym, ◌∙◌, arith}
 use Rattle.step_meaning.specs.Syntax.{statements}
 use Rattle.control_flow.specs.Labels.{action_at}
-use Rattle.transitions.specs.Told.{Told, told_by}
-use Rattle.transitions.specs.Transitions.{AreTold, IsTold, transition_in}
-use Rattle.transitions.specs.declared.transition.Transition.{Transition}
-use Rattle.transitions.specs.declared.transition.Transition.TheVariants.{End}
-use Rattle.forward_inv.proofs.MadeAll.{made_more, told_here}
+use Rattle.control_flow.specs.Told.{Told, told_by}
+use Rattle.control_flow.specs.Transitions.{AreTold, IsTold, transition_in}
+use Rattle.control_flow.specs.declared.transition.Transition.{Transition}
+use Rattle.control_flow.specs.declared.transition.Transition.TheVariants.{End}
+use Rattle.control_flow.proofs.Doing.{made_more}
+use Rattle.forward_inv.proofs.ToldHere.{told_here}
 use Rattle.forward_inv.proofs.doing.transitions_of.Given as given
 use Rattle.forward_inv.proofs.doing.transitions_of.Goals as goal
 

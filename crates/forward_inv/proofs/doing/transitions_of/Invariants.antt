@@ -1,8 +1,8 @@
 use Rattle.std.proofs.Common.{◌≡◌, ℕ, ◌<◌, length}
 use Rattle.step_meaning.specs.Syntax.{statements}
 use Rattle.control_flow.specs.Labels.{action_at}
-use Rattle.transitions.specs.Told.{Told, told_by}
-use Rattle.transitions.specs.Transitions.{IsTold, transition_in}
+use Rattle.control_flow.specs.Told.{Told, told_by}
+use Rattle.control_flow.specs.Transitions.{IsTold, transition_in}
 use Rattle.forward_inv.proofs.doing.transitions_of.Given as goal
 
 -- each label so far has its transition

@@ -6,7 +6,7 @@ use Rattle.ctl_formula.specs.Formulas.{Ctl, until}
 use Rattle.ctl_formula.specs.Mirror.{ctl}
 use Rattle.decision_tree.specs.Extent.{ComplementsFit, IsTreeOver}
 use Rattle.decision_tree.specs.Plans.{plan_of}
-use Rattle.transitions.specs.Told.{IsTrueOfReached, told_by}
+use Rattle.control_flow.specs.Told.{IsTrueOfReached, told_by}
 use Rattle.ctl_rounds.specs.Certified.{Certifies, IsFamilyFor}
 use Rattle.ctl_rounds.specs.Covers.{IsCover}
 use Rattle.ctl_rounds.proofs.Asking.{unasked}

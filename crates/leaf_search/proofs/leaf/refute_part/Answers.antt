@@ -1,7 +1,7 @@
 use Rattle.std.proofs.Common.{◌<◌, None, length, sym}
 use Rattle.std.proofs.lemmas.Bool.{ltb-true}
 use Rattle.leaf_search.proofs.Leaving.{part_is, past_part}
-use Rattle.arc_search.proofs.Walking.{bottom_searched}
+use Rattle.leaf_search.proofs.Walking.{bottom_searched}
 use Rattle.leaf_search.proofs.leaf.refute_part.Goals as goal
 
 pub returns-in_ok-refuted-in-Some-clause-searched :

@@ -1,6 +1,6 @@
-use Rattle.tree_support.specs.Systems.{unnatural}
+use Rattle.rows_in_hand.specs.Claims.{unnatural}
 use Rattle.rows_in_hand.specs.Hands.{all_asked}
-use Rattle.arc_search.proofs.Walking.{claim_searched}
+use Rattle.leaf_search.proofs.Walking.{claim_searched}
 use Rattle.leaf_search.proofs.leaf.refute_rank.Goals as goal
 
 pub returns-clause-searched : goal.returns-clause-searched

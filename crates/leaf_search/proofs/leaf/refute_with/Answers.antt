@@ -1,7 +1,7 @@
 use Rattle.std.proofs.Common.{[], ◌∷◌, ◌++◌, subst, sym}
 use Rattle.rows_in_hand.specs.Hands.{IsMetNowhere, IsTried, all_asked, asked}
 use Rattle.rows_in_hand.proofs.Holding.{held_more, nowhere_added}
-use Rattle.arc_search.proofs.Walking.{asked_more}
+use Rattle.leaf_search.proofs.Walking.{asked_more}
 use Rattle.leaf_search.proofs.leaf.refute_with.Goals as goal
 
 pub returns-then-not-branch-clause-tried : goal.returns-then-not-branch-clause-tried

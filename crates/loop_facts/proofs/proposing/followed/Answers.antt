@@ -3,7 +3,7 @@ use Rattle.decision_tree.specs.declared.affine_rank.AffineRank.{AffineRank}
 use Rattle.decision_tree.specs.declared.tree.Tree.{Tree}
 use Rattle.backward_transfer.specs.AffineShapes.{plans, tree_at}
 use Rattle.backward_transfer.proofs.Putting.{written_back}
-use Rattle.transitions.specs.Transitions.{transition_in}
+use Rattle.control_flow.specs.Transitions.{transition_in}
 use Rattle.backward_sweeps.specs.Remaking.{IsMade, parts_of}
 use Rattle.loop_facts.proofs.proposing.followed.Goals as goal
 

@@ -1,6 +1,6 @@
 use Rattle.std.proofs.Common.{◌≡◌, ℕ, ◌<◌, length}
 use Rattle.backward_transfer.specs.AffineShapes.{plans, tree_at}
-use Rattle.transitions.specs.Transitions.{transition_in}
+use Rattle.control_flow.specs.Transitions.{transition_in}
 use Rattle.part_trees.specs.Local.{IsLocal}
 use Rattle.part_trees.proofs.labelling.locals.Given as goal
 

@@ -1,6 +1,6 @@
 use Rattle.std.proofs.Common.{false, IfOk, subst, ◌∙◌}
 use Rattle.backward_transfer.specs.AffineShapes.{plans}
-use Rattle.transitions.specs.Transitions.{HasNoHead}
+use Rattle.control_flow.specs.Transitions.{HasNoHead}
 use Rattle.backward_sweeps.specs.Remaking.{AreEndsGiven, AreRemadeFrom, parts_of}
 use Rattle.part_trees.specs.Proposed.{until_of}
 use Rattle.part_trees.proofs.Making.{same_parts, with_premise}

@@ -2,7 +2,7 @@ use Rattle.std.proofs.Common.{ℕ, suc, ◌<◌, [], ◌∷◌, length, length-a
 use Rattle.decision_tree.specs.Plans.{Plan, plan_of}
 use Rattle.decision_tree.specs.declared.affine_rank.AffineRank.{AffineRank}
 use Rattle.backward_transfer.specs.AffineShapes.{plans, tree_at}
-use Rattle.transitions.specs.Transitions.{transition_in}
+use Rattle.control_flow.specs.Transitions.{transition_in}
 use Rattle.backward_sweeps.proofs.Passing.{action_read, plans_each}
 use Rattle.part_trees.specs.Next.{IsNext}
 use Rattle.part_trees.proofs.stepping.nexts.Goals as goal

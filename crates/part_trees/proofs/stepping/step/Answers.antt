@@ -1,6 +1,6 @@
 use Rattle.std.proofs.Common.{Err, ap, ◌∙◌}
 use Rattle.backward_transfer.specs.AffineShapes.{plans, tree_at}
-use Rattle.transitions.specs.Transitions.{first_target, second_target}
+use Rattle.control_flow.specs.Transitions.{first_target, second_target}
 use Rattle.backward_sweeps.specs.Before.{BeforeFits, IsBeforeSmall, before}
 use Rattle.backward_sweeps.proofs.Passing.{or_top}
 use Rattle.part_trees.proofs.stepping.step.Goals as goal

@@ -4,7 +4,7 @@ use Rattle.ctl_formula.specs.Mirror.{ctl}
 use Rattle.decision_tree.specs.Plans.{Plan, plan_of}
 use Rattle.tree_support.specs.Setting.{setting_of, trees_in}
 use Rattle.tree_support.specs.Support.{IsSupported}
-use Rattle.transitions.specs.Told.{told_by}
+use Rattle.control_flow.specs.Told.{told_by}
 use Rattle.tree_check.specs.Checking.{families_of}
 use Rattle.tree_check.proofs.Settling.{cut_short, on_err, written_back}
 use Rattle.tree_check.proofs.checking.check_over.Goals as goal

@@ -2,7 +2,7 @@ use Rattle.std.proofs.Common.{◌≡◌, false, sym, subst, ◌∙◌}
 use Rattle.decision_tree.specs.Plans.{plan_of}
 use Rattle.backward_transfer.specs.AffineShapes.{plans}
 use Rattle.backward_transfer.proofs.Putting.{plans_set}
-use Rattle.transitions.specs.Transitions.{is_idle}
+use Rattle.control_flow.specs.Transitions.{is_idle}
 use Rattle.backward_sweeps.specs.Remaking.{AreKept}
 use Rattle.backward_sweeps.proofs.Passing.{action_read, put_kept}
 use Rattle.backward_sweeps.proofs.sweep.Sweeps.remake.Goals as goal

@@ -1,6 +1,6 @@
 use Rattle.std.proofs.Common.{◌≡◌, length}
 use Rattle.backward_transfer.specs.AffineShapes.{plans}
-use Rattle.transitions.specs.Transitions.{is_idle}
+use Rattle.control_flow.specs.Transitions.{is_idle}
 use Rattle.backward_sweeps.specs.Remaking.{AreKept}
 use Rattle.backward_sweeps.proofs.sweep.Sweeps.run.Given as goal
 

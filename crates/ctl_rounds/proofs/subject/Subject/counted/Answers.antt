@@ -9,8 +9,8 @@ use Rattle.tree_support.specs.Certificates.{affine_ranks}
 use Rattle.tree_support.specs.declared.dropped.Dropped.{Dropped}
 use Rattle.tree_support.specs.Elimination.{Eliminates}
 use Rattle.tree_support.specs.Setting.{setting_of, trees_in}
-use Rattle.smaller_parts.specs.Knowing.{told_on}
-use Rattle.smaller_parts.proofs.Fit.{all_fit}
+use Rattle.ctl_rounds.specs.Knowing.{told_on}
+use Rattle.ctl_rounds.proofs.Fit.{all_fit}
 use Rattle.ctl_rounds.specs.Covers.{Covers, MayBegin, at_entry, claims_of}
 use Rattle.ctl_rounds.proofs.Certifying.{grounded, short, unchanged}
 use Rattle.ctl_rounds.proofs.CoverLaws.{begins, nodes_of}

@@ -1,6 +1,6 @@
 use Rattle.std.proofs.Common.{option_map, refl, rules, arith}
 use Rattle.decision_tree.specs.Plans.{plan_of}
-use Rattle.smaller_parts.specs.Showing.{all_of}
+use Rattle.ctl_rounds.specs.Showing.{all_of}
 use Rattle.ctl_rounds.proofs.Asking.{unasked}
 use Rattle.ctl_rounds.proofs.Certifying.{certified}
 use Rattle.ctl_rounds.proofs.subject.Subject.found.Goals as goal

@@ -1,4 +1,4 @@
-use Rattle.arc_search.proofs.Walking.{plain_searched}
+use Rattle.leaf_search.proofs.Walking.{plain_searched}
 use Rattle.leaf_search.proofs.leaf.Stand.refute_branch.Goals as goal
 
 pub returns-in_ok-refuted-in-Some-clause-searched : goal.returns-in_ok-refuted-in-Some-clause-searched

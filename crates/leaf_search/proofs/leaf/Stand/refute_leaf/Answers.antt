@@ -4,7 +4,7 @@ use Rattle.tree_support.specs.Setting.{trees_in}
 use Rattle.tree_support.specs.Systems.{of_rank, of_why}
 use Rattle.rows_in_hand.specs.Hands.{all_asked}
 use Rattle.rows_in_hand.proofs.Choosing.{held_same}
-use Rattle.arc_search.proofs.Walking.{searched_first, searched_then}
+use Rattle.leaf_search.proofs.Walking.{searched_first, searched_then}
 use Rattle.leaf_search.proofs.leaf.Stand.refute_leaf.Goals as goal
 
 pub returns-then-branch-clause-searched : goal.returns-then-branch-clause-searched

@@ -6,7 +6,7 @@ use Rattle.rows_in_hand.specs.Hands.{all_asked}
 use Rattle.rows_in_hand.specs.Searches.{IsSearched}
 use Rattle.rows_in_hand.proofs.Choosing.{held_same}
 use Rattle.leaf_search.proofs.Leaving.{no_value, some_fails, some_searched, value_above, value_below, value_put}
-use Rattle.arc_search.proofs.Walking.{plain_searched}
+use Rattle.leaf_search.proofs.Walking.{plain_searched}
 use Rattle.leaf_search.proofs.leaf.Stand.refute_value.Goals as goal
 
 pub returns-then-not-is_existential-clause-searched : goal.returns-then-not-is_existential-clause-searched

@@ -2,7 +2,7 @@ use Rattle.std.proofs.Common.{ℕ, None, ap, map, sym, ◌∙◌}
 use Rattle.decision_tree.specs.Plans.{plan_of}
 use Rattle.tree_support.specs.Setting.{Trees, trees_in}
 use Rattle.leaf_search.specs.declared.part.Part.TheVariants.{Next}
-use Rattle.arc_search.specs.Arcs.{over_each}
+use Rattle.leaf_search.specs.Arcs.{over_each}
 use Rattle.leaf_search.proofs.Leaving.{ahead_is}
 use Rattle.leaf_search.proofs.leaf.Stand.targets.Goals as goal
 

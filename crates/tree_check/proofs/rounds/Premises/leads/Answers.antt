@@ -1,7 +1,7 @@
 use Rattle.std.proofs.Common.{slice_get}
 use Rattle.step_meaning.specs.Syntax.{statements}
 use Rattle.control_flow.specs.Labels.{action_at}
-use Rattle.transitions.specs.Told.{no_bounds, told_at}
+use Rattle.control_flow.specs.Told.{no_bounds, told_at}
 use Rattle.tree_check.proofs.Reading.{arcs_avoid, outcome_avoids, value_avoids}
 use Rattle.tree_check.proofs.rounds.Premises.leads.Goals as goal
 

@@ -1,14 +1,15 @@
 use Rattle.std.proofs.Common.{◌≡◌, length, map, ap, subst, sym, ◌∙◌, arith}
 use Rattle.std.proofs.lemmas.Bool.{ltb-true}
-use Rattle.transitions.specs.Transitions.{transition_in}
-use Rattle.transitions.specs.declared.transition.Transition.TheVariants.{End}
+use Rattle.control_flow.specs.Transitions.{transition_in}
+use Rattle.control_flow.specs.declared.transition.Transition.TheVariants.{End}
 use Rattle.decision_tree.specs.Paths.{path_of}
 use Rattle.decision_tree.specs.Plans.{plan_of}
 use Rattle.tree_support.specs.Setting.{trees_in}
 use Rattle.tree_support.specs.Systems.{moved_by}
 use Rattle.tree_check.specs.Narrowing.{HoldsAmong, sets_of}
 use Rattle.tree_check.specs.Rounds.{setting_on}
-use Rattle.tree_check.proofs.Doing.{read_in, stands_at}
+use Rattle.std.proofs.lemmas.List.{get_or_default}
+use Rattle.tree_check.proofs.Doing.{stands_at}
 use Rattle.tree_check.proofs.Narrowing.{found_among, path_empty, path_held}
 use Rattle.tree_check.proofs.Settling.{plan_got}
 use Rattle.tree_check.proofs.Surveying.{held_empty}
@@ -31,7 +32,7 @@ returns g c =
     (ltb-true c.args.dropped.now.label (length c.args.trees.now) (sym c.in-Some.ensures.lookup.0)) c.in-Some.ensures.lookup.1 in
     let labels = c.requires.ready.labels in
     let inside = c.requires.label in
-    let read = read_in c.args.self.now.transitions.now c.args.label c.index-self-label.result End (omega (arith, labels, inside)) in
+    let read = get_or_default c.args.self.now.transitions.now c.args.label c.index-self-label.result End (omega (arith, labels, inside)) in
     path_held at c.args.label (transition_in c.args.self.now.transitions.now c.args.label)
     (stands_at g.D.NumDomain c.args.self.now c.requires.ready c.args.label c.requires.label c.requires.alive) (c.picks_values.ensures c.if-picks_values.false) c.add_path.new.hand path
     (subst (λ s. HoldsAmong c.add_path.new.hand (map (moved_by s) path)) (c.sets.ensures.sets ∙ ap sets_of read)

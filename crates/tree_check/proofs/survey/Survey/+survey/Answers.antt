@@ -1,11 +1,11 @@
 use Rattle.std.proofs.Common.{map, refl, ⊎_elim, ◌++◌, ◌∷◌, []}
 use Rattle.decision_tree.specs.Plans.{bottom, plan_of, top}
-use Rattle.transitions.specs.Forming.{given}
+use Rattle.rows_in_hand.specs.Forming.{given}
 use Rattle.tree_support.specs.Setting.{trees_in}
-use Rattle.tree_support.specs.Support.{HasNoStore}
+use Rattle.rows_in_hand.specs.Claims.{HasNoStore}
 use Rattle.tree_support.proofs.Lists.{all_none}
 use Rattle.rows_in_hand.specs.Hands.{all_asked}
-use Rattle.arc_search.specs.Walks.{side_of}
+use Rattle.leaf_search.specs.Walks.{side_of}
 use Rattle.rows_in_hand.proofs.Choosing.{held_same}
 use Rattle.tree_check.proofs.Surveying.{surveyed_before, surveyed_beyond, surveyed_both, surveyed_nowhere, surveyed_undefined, surveyed_wholly}
 use Rattle.tree_check.proofs.survey.Survey.+survey.Goals as goal

@@ -1,7 +1,7 @@
 use Rattle.std.proofs.Common.{◌≡◌, [], length, map, rules, subst, sym}
 use Rattle.std.proofs.lemmas.Bool.{ltb-true}
 use Rattle.decision_tree.specs.Plans.{plan_of}
-use Rattle.transitions.specs.Arcs.{rows_given}
+use Rattle.tree_support.specs.Arcs.{rows_given}
 use Rattle.tree_support.specs.Setting.{trees_in}
 use Rattle.rows_in_hand.specs.Hands.{IsMetNowhere, all_asked}
 use Rattle.tree_check.specs.Surveys.{IsReviewed, IsSurveyed}

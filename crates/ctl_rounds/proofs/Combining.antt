@@ -1,0 +1,259 @@
+-- What is shown of a formula's operands is shown of its smaller parts.
+use Rattle.std.proofs.Common.{◌≡◌, ◌⊎◌, inl, inr, ℕ, zero, suc, ◌+◌, ◌<◌, Bool, List, [], ◌∷◌, ◌++◌, All, length, refl, sym, ap, subst, ◌∙◌, arith, length-append, append_assoc}
+use Rattle.std.proofs.Math.Path.{fun_ext}
+use Rattle.std.proofs.lemmas.List.Elements.{All-append, All-push}
+use Rattle.step_meaning.specs.Syntax.{Statements, statements}
+use Rattle.step_meaning.specs.declared.program.Program.{Program}
+use Rattle.ctl_formula.specs.Formulas.{Ctl, af_exit, both, either, negation, next, truth, until, weak}
+use Rattle.ctl_formula.specs.Parts.{number_from}
+use Rattle.decision_tree.specs.Extent.{IsWhole}
+use Rattle.decision_tree.specs.declared.affine_rank.AffineRank.{AffineRank}
+use Rattle.decision_tree.specs.declared.family.Family.{Family}
+use Rattle.decision_tree.specs.Plans.{bottom}
+use Rattle.tree_check.specs.Checking.{families_of}
+use Rattle.tree_support.specs.Certificates.{IsShown, ItselfIsShown, SmallerAreShown, operands_from}
+use Rattle.tree_support.specs.Setting.{Trees}
+use Rattle.control_flow.specs.Told.{Told}
+use Rattle.ctl_rounds.specs.Families.{AreNumberedFrom, IsFamilyFor, trees_of}
+use Rattle.ctl_rounds.specs.Showing.{AreAt, AreShown, AreSmaller, Shows, all_of, arity, in_order}
+use Rattle.ctl_rounds.specs.declared.smaller.Shown.{Shown}
+use Rattle.ctl_rounds.specs.declared.smaller.SmallerParts.{SmallerParts}
+use Rattle.ctl_rounds.proofs.Placing.{front_at, numbered_behind, rest_at}
+
+-- the trees of the operands by their places
+abbrev no_trees : Trees AffineRank
+no_trees label = bottom
+
+abbrev one_of : Trees AffineRank → ℕ → Trees AffineRank
+one_of first zero = first
+one_of first (suc place) = no_trees
+
+abbrev two_of : Trees AffineRank → Trees AffineRank → ℕ → Trees AffineRank
+two_of first second zero = first
+two_of first second (suc zero) = second
+two_of first second (suc (suc place)) = no_trees
+
+families_of_one : (first : Family AffineRank) (place : ℕ) → families_of (first ∷ []) place ≡ one_of (trees_of first) place
+families_of_one first zero = refl
+families_of_one first (suc place) = refl
+
+families_of_two : (first second : Family AffineRank) (place : ℕ)
+    → families_of (first ∷ second ∷ []) place ≡ two_of (trees_of first) (trees_of second) place
+families_of_two first second zero = refl
+families_of_two first second (suc zero) = refl
+families_of_two first second (suc (suc place)) = refl
+
+-- the formula has this operand, or these
+abbrev pub HasOne : Ctl → Ctl → Type 0
+HasOne h f = (h ≡ negation f) ⊎ ((all : Bool) × (h ≡ next all f))
+
+abbrev pub HasTwo : Ctl → Ctl → Ctl → Type 0
+HasTwo h f g = (h ≡ both f g) ⊎ ((h ≡ either f g) ⊎ (((all : Bool) × (h ≡ until all f g)) ⊎ ((all : Bool) × (h ≡ weak all f g))))
+
+-- where its operands' families are by the numbers
+module _ (families : ℕ → Trees AffineRank) (k : ℕ) (f g : Ctl) where
+  abbrev first_of : Trees AffineRank
+  first_of = families (number_from k f)
+
+  abbrev second_of : Trees AffineRank
+  second_of = families (number_from (suc (number_from k f)) g)
+
+  by_negation : (place : ℕ) → operands_from families k (negation f) place ≡ one_of first_of place
+  by_negation zero = refl
+  by_negation (suc place) = refl
+
+  by_next : (all : Bool) (place : ℕ) → operands_from families k (next all f) place ≡ one_of first_of place
+  by_next all zero = refl
+  by_next all (suc place) = refl
+
+  by_both : (place : ℕ) → operands_from families k (both f g) place ≡ two_of first_of second_of place
+  by_both zero = refl
+  by_both (suc zero) = refl
+  by_both (suc (suc place)) = refl
+
+  by_either : (place : ℕ) → operands_from families k (either f g) place ≡ two_of first_of second_of place
+  by_either zero = refl
+  by_either (suc zero) = refl
+  by_either (suc (suc place)) = refl
+
+  by_until : (all : Bool) (place : ℕ) → operands_from families k (until all f g) place ≡ two_of first_of second_of place
+  by_until all zero = refl
+  by_until all (suc zero) = refl
+  by_until all (suc (suc place)) = refl
+
+  by_weak : (all : Bool) (place : ℕ) → operands_from families k (weak all f g) place ≡ two_of first_of second_of place
+  by_weak all zero = refl
+  by_weak all (suc zero) = refl
+  by_weak all (suc (suc place)) = refl
+
+-- what is kept by an until
+abbrev kept_by : Ctl → Ctl
+kept_by (until all f g) = f
+kept_by f = f
+
+module _ (program : Program) (told : Told) (count : ℕ) where
+  abbrev body : Statements
+  body = statements program.body
+
+  abbrev Fits : Family AffineRank → Type 0
+  Fits family = IsFamilyFor (length program.names) body family
+
+  -- the formula itself is shown besides its smaller parts
+  pub shown_with : (k : ℕ) (f : Ctl) (smaller : SmallerParts) (found : Shown) → AreSmaller program told count k f smaller
+      → found.smaller.items ≡ all_of smaller → Shows program told f smaller.number smaller.operands.items found.whole
+      → (f ≡ truth → (label : ℕ) → label < count → IsWhole (trees_of found.whole label)) → AreShown program told count k f found
+  shown_with k f smaller found below is own everywhere =
+      let each : k + length found.smaller.items ≡ number_from k f = subst (λ list. k + length list ≡ number_from k f) (sym is) below.each_part in
+      let before : (families : ℕ → Trees AffineRank) → AreAt families k (found.smaller.items ++ found.whole ∷ []) → AreAt families k (all_of smaller) =
+      λ families at. subst (AreAt families k) is (front_at families k found.smaller.items (found.whole ∷ []) at) in
+      let last : (families : ℕ → Trees AffineRank) → AreAt families k (found.smaller.items ++ found.whole ∷ []) → families (number_from k f) ≡ trees_of found.whole =
+      λ families at. (rest_at families k (number_from k f) found.smaller.items (found.whole ∷ []) each at).0 in
+      let itself : (families : ℕ → Trees AffineRank) → AreAt families k (found.smaller.items ++ found.whole ∷ []) → ItselfIsShown body told families k f =
+      λ families at. subst (λ trees. IsShown body told f (operands_from families k f) trees) (sym (last families at))
+      (subst (λ operands. IsShown body told f operands (trees_of found.whole)) (below.operands families (before families at)) own.shown) in
+      record {
+        shown = λ families at. (below.shown families (before families at), itself families at);
+        number = own.number ∙ below.number;
+        each_part = each;
+        part_numbers = subst (AreNumberedFrom k) (sym is) below.part_numbers;
+        fit = All-push Fits found.smaller.items found.whole (subst (All Fits) (sym is) below.fit) own.fits;
+        everywhere = everywhere;
+      }
+
+  -- ---- a formula with one operand
+
+  module _ (k : ℕ) (f : Ctl) (part : Shown) (one : AreShown program told count k f part) (found : SmallerParts)
+      (operands : found.operands.items ≡ part.whole ∷ []) (of_first : found.of_first.items ≡ part.smaller.items)
+      (of_second : found.of_second.items ≡ []) (number : found.number ≡ suc part.whole.part) where
+    abbrev own : List (Family AffineRank)
+    own = part.smaller.items ++ part.whole ∷ []
+
+    all_are_own : all_of found ≡ own
+    all_are_own =
+        ap (λ list. in_order list found.operands.items found.of_second.items) of_first
+        ∙ ap (λ list. in_order part.smaller.items list found.of_second.items) operands
+        ∙ ap (λ list. in_order part.smaller.items (part.whole ∷ []) list) of_second
+
+    own_at : (families : ℕ → Trees AffineRank) → AreAt families k (all_of found) → AreAt families k own
+    own_at families at = subst (AreAt families k) all_are_own at
+
+    whole_at : (families : ℕ → Trees AffineRank) → AreAt families k (all_of found) → families (number_from k f) ≡ trees_of part.whole
+    whole_at families at = (rest_at families k (number_from k f) part.smaller.items (part.whole ∷ []) one.each_part (own_at families at)).0
+
+    pub of_one : (h : Ctl)
+        → ((families : ℕ → Trees AffineRank) → SmallerAreShown body told families k f × ItselfIsShown body told families k f
+        → SmallerAreShown body told families k h)
+        → ((families : ℕ → Trees AffineRank) (place : ℕ) → operands_from families k h place ≡ one_of (families (number_from k f)) place)
+        → number_from k h ≡ suc (number_from k f) → arity h ≡ 1 → (h ≡ af_exit → ⊥) → AreSmaller program told count k h found
+    of_one h shown places behind unary other =
+        let long = length-append part.smaller.items (part.whole ∷ []) in
+        let each = one.each_part in record {
+          shown = λ families at. shown families (one.shown families (own_at families at));
+          operands = λ families at. ap families_of operands
+              ∙ fun_ext (λ place. families_of_one part.whole place ∙ ap (λ trees. one_of trees place) (sym (whole_at families at)) ∙ sym (places families place));
+          number = number ∙ ap suc one.number ∙ sym behind;
+          each_part = ap (λ list. k + length list) all_are_own ∙ (let e : k + length own ≡ suc (number_from k f) = omega (arith, long, each) in e) ∙ sym behind;
+          part_numbers = subst (AreNumberedFrom k) (sym all_are_own)
+              (numbered_behind k (number_from k f) part.smaller.items (part.whole ∷ []) one.each_part one.part_numbers (one.number, tt));
+          fit = subst (All Fits) (sym all_are_own) one.fit;
+          as_many = ap length operands ∙ sym unary;
+          keeps = λ is. absurd (other is);
+        }
+
+    pub with_one : (h : Ctl) → HasOne h f → AreSmaller program told count k h found
+    with_one h (inl is) = subst (λ formula. AreSmaller program told count k formula found) (sym is)
+        (of_one (negation f) (λ families shown. shown) (λ families place. by_negation families k f f place) refl refl (λ is. absurd (cc)))
+    with_one h (inr (all, is)) = subst (λ formula. AreSmaller program told count k formula found) (sym is)
+        (of_one (next all f) (λ families shown. shown) (λ families place. by_next families k f f all place) refl refl (λ is. absurd (cc)))
+
+  -- ---- a formula with two operands
+
+  module _ (k : ℕ) (f g : Ctl) (first second : Shown) (one : AreShown program told count k f first)
+      (two : AreShown program told count (suc (number_from k f)) g second) (found : SmallerParts)
+      (operands : found.operands.items ≡ first.whole ∷ second.whole ∷ []) (of_first : found.of_first.items ≡ first.smaller.items)
+      (of_second : found.of_second.items ≡ second.smaller.items) (number : found.number ≡ suc second.whole.part) where
+    abbrev left : List (Family AffineRank)
+    left = first.smaller.items ++ first.whole ∷ []
+
+    abbrev right : List (Family AffineRank)
+    right = second.smaller.items ++ second.whole ∷ []
+
+    -- the number of the second operand
+    abbrev last : ℕ
+    last = number_from (suc (number_from k f)) g
+
+    all_are_both : all_of found ≡ left ++ right
+    all_are_both =
+        ap (λ list. in_order list found.operands.items found.of_second.items) of_first
+        ∙ ap (λ list. in_order first.smaller.items list found.of_second.items) operands
+        ∙ ap (λ list. in_order first.smaller.items (first.whole ∷ second.whole ∷ []) list) of_second
+        ∙ sym (append_assoc first.smaller.items (first.whole ∷ []) right)
+
+    left_long : k + length left ≡ suc (number_from k f)
+    left_long =
+        let long = length-append first.smaller.items (first.whole ∷ []) in
+        let each = one.each_part in omega (arith, long, each)
+
+    right_long : suc (number_from k f) + length right ≡ suc last
+    right_long =
+        let long = length-append second.smaller.items (second.whole ∷ []) in
+        let each = two.each_part in omega (arith, long, each)
+
+    left_at : (families : ℕ → Trees AffineRank) → AreAt families k (all_of found) → AreAt families k left
+    left_at families at = front_at families k left right (subst (AreAt families k) all_are_both at)
+
+    right_at : (families : ℕ → Trees AffineRank) → AreAt families k (all_of found) → AreAt families (suc (number_from k f)) right
+    right_at families at = rest_at families k (suc (number_from k f)) left right left_long (subst (AreAt families k) all_are_both at)
+
+    first_at : (families : ℕ → Trees AffineRank) → AreAt families k (all_of found) → families (number_from k f) ≡ trees_of first.whole
+    first_at families at = (rest_at families k (number_from k f) first.smaller.items (first.whole ∷ []) one.each_part (left_at families at)).0
+
+    second_at : (families : ℕ → Trees AffineRank) → AreAt families k (all_of found) → families last ≡ trees_of second.whole
+    second_at families at =
+        (rest_at families (suc (number_from k f)) last second.smaller.items (second.whole ∷ []) two.each_part (right_at families at)).0
+
+    -- what is shown of both
+    abbrev BothShown : (ℕ → Trees AffineRank) → Type 0
+    BothShown families =
+        SmallerAreShown body told families k f × ItselfIsShown body told families k f
+        × SmallerAreShown body told families (suc (number_from k f)) g × ItselfIsShown body told families (suc (number_from k f)) g
+
+    both_shown : (families : ℕ → Trees AffineRank) → AreAt families k (all_of found) → BothShown families
+    both_shown families at =
+        let own = one.shown families (left_at families at) in
+        let other = two.shown families (right_at families at) in
+        (own.0, own.1, other.0, other.1)
+
+    pub of_two : (h : Ctl) → ((families : ℕ → Trees AffineRank) → BothShown families → SmallerAreShown body told families k h)
+        → ((families : ℕ → Trees AffineRank) (place : ℕ) → operands_from families k h place ≡ two_of (families (number_from k f)) (families last) place)
+        → number_from k h ≡ suc last → arity h ≡ 2 → (h ≡ af_exit → f ≡ truth) → AreSmaller program told count k h found
+    of_two h shown places behind binary keep =
+        let all_long = length-append left right in
+        let long = left_long in
+        let other = right_long in record {
+          shown = λ families at. shown families (both_shown families at);
+          operands = λ families at. ap families_of operands
+              ∙ fun_ext (λ place. families_of_two first.whole second.whole place
+              ∙ ap (λ trees. two_of trees (trees_of second.whole) place) (sym (first_at families at))
+              ∙ ap (λ trees. two_of (families (number_from k f)) trees place) (sym (second_at families at)) ∙ sym (places families place));
+          number = number ∙ ap suc two.number ∙ sym behind;
+          each_part = ap (λ list. k + length list) all_are_both ∙ (let e : k + length (left ++ right) ≡ suc last = omega (arith, all_long, long, other) in e)
+              ∙ sym behind;
+          part_numbers = subst (AreNumberedFrom k) (sym all_are_both)
+              (numbered_behind k (suc (number_from k f)) left right left_long
+              (numbered_behind k (number_from k f) first.smaller.items (first.whole ∷ []) one.each_part one.part_numbers (one.number, tt))
+              (numbered_behind (suc (number_from k f)) last second.smaller.items (second.whole ∷ []) two.each_part two.part_numbers (two.number, tt)));
+          fit = subst (All Fits) (sym all_are_both) (All-append Fits left right one.fit two.fit);
+          as_many = ap length operands ∙ sym binary;
+          keeps = λ is label low. subst (λ list. IsWhole (families_of list 0 label)) (sym operands) (one.everywhere (keep is) label low);
+        }
+
+    pub with_two : (h : Ctl) → HasTwo h f g → AreSmaller program told count k h found
+    with_two h (inl is) = subst (λ formula. AreSmaller program told count k formula found) (sym is)
+        (of_two (both f g) (λ families shown. shown) (λ families place. by_both families k f g place) refl refl (λ is. absurd (cc)))
+    with_two h (inr (inl is)) = subst (λ formula. AreSmaller program told count k formula found) (sym is)
+        (of_two (either f g) (λ families shown. shown) (λ families place. by_either families k f g place) refl refl (λ is. absurd (cc)))
+    with_two h (inr (inr (inl (all, is)))) = subst (λ formula. AreSmaller program told count k formula found) (sym is)
+        (of_two (until all f g) (λ families shown. shown) (λ families place. by_until families k f g all place) refl refl (λ same. ap kept_by same))
+    with_two h (inr (inr (inr (all, is)))) = subst (λ formula. AreSmaller program told count k formula found) (sym is)
+        (of_two (weak all f g) (λ families shown. shown) (λ families place. by_weak families k f g all place) refl refl (λ is. absurd (cc)))

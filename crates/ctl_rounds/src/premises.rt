@@ -1,0 +1,109 @@
+//! What is known of a program, and the check of a family over it.
+ghost use Rattle.std.specs.Prelude.{◌≡◌, List, All, IfOk, length};
+ghost use Rattle.step_meaning.specs.Syntax.{statements};
+ghost use Rattle.ctl_formula.specs.Mirror.{ctl};
+ghost use Rattle.tree_check.specs.Checking.{families_of};
+ghost use Rattle.tree_support.specs.Certificates.{affine_ranks};
+ghost use Rattle.tree_support.specs.declared.dropped.Dropped.{Dropped};
+ghost use Rattle.tree_support.specs.Elimination.{Eliminates};
+ghost use Rattle.tree_support.specs.Setting.{setting_of, trees_in};
+ghost use Rattle.ctl_rounds.specs.Fitting.{IsFit};
+ghost use Rattle.ctl_rounds.specs.Knowing.{ArePremises, told_on};
+ghost use Rattle.ctl_rounds.specs.Showing.{Shows};
+
+use crate::fitting::fitted;
+use crate::smaller::SmallerParts;
+use control_flow::{Graph, Transition};
+use ctl_formula::Formula;
+use decision_tree::{AffineRank, Family, TreeList};
+use forward_inv::Inv;
+use num_domain::NumDomain;
+use part_trees::proposed;
+use std::alloc::{AllocError, Global};
+use tree_check::check_over;
+use tree_check::laws::eliminations_spare_places;
+
+/// What is known of a program whatever formula it is asked about: its graph with the number of labels, sets that have the states that are
+/// reached, and what is done at each label; and after how many sweeps those that propose trees widen them.
+#[derive(Drop)]
+pub struct Premises<'a, D: NumDomain> {
+    pub alloc: Global,
+    pub graph: &'a Graph,
+    pub inv: &'a Inv<D>,
+    pub transitions: &'a [Transition],
+    pub labels: u32,
+    pub delay: u32,
+}
+
+impl<'a, D: NumDomain> Premises<'a, D> {
+    /// What the check leaves of the trees, as a family for the formula over those of its operands. The only error is want of memory.
+    pub fn checked(
+        &self,
+        formula: &Formula,
+        smaller: &SmallerParts,
+        trees: TreeList<AffineRank>,
+    ) -> Result<Family<AffineRank>, AllocError>
+        requires premises { ArePremises D.NumDomain.own self.now }
+        requires fit { All (IsFit (length self.now.graph.now.names)) trees }
+        requires labels { length trees ≡ self.now.labels }
+        ensures shows { IfOk result (Shows self.now.graph.now (told_on D.NumDomain.own self.now) (ctl formula.now) smaller.now.number
+            smaller.now.operands.items) }
+        ensures legal { IfOk result (λ family. (drops : List Dropped) × Eliminates affine_ranks
+            (setting_of (statements self.now.graph.now.body) (told_on D.NumDomain.own self.now) (ctl formula.now)
+            (families_of smaller.now.operands.items)) (trees_in trees) drops (trees_in family.trees)) }
+    {
+        eliminations_spare_places();
+        let mut family = Family {
+            part: smaller.number,
+            trees,
+        };
+        // The drops show that what was given up was given up legally; no one reads them beyond that.
+        let _dropped = check_over(
+            self.alloc,
+            self.graph,
+            self.inv,
+            self.transitions,
+            formula,
+            &smaller.operands,
+            &mut family,
+        )?;
+        Ok(family)
+    }
+
+    /// The same of trees of which nothing is known: one that can't be printed claims nothing.
+    pub fn left_of(
+        &self,
+        formula: &Formula,
+        smaller: &SmallerParts,
+        trees: TreeList<AffineRank>,
+    ) -> Result<Family<AffineRank>, AllocError>
+        requires premises { ArePremises D.NumDomain.own self.now }
+        requires labels { length trees ≡ self.now.labels }
+        ensures { IfOk result (Shows self.now.graph.now (told_on D.NumDomain.own self.now) (ctl formula.now) smaller.now.number
+            smaller.now.operands.items) }
+    {
+        let fit = fitted(self.alloc, trees, &self.graph.program().names)?;
+        self.checked(formula, smaller, fit)
+    }
+
+    /// What the check leaves of the trees that are proposed for the formula. The only error is want of memory.
+    pub fn found(
+        &self,
+        formula: &Formula,
+        smaller: &SmallerParts,
+    ) -> Result<Family<AffineRank>, AllocError>
+        requires premises { ArePremises D.NumDomain.own self.now }
+        ensures { IfOk result (Shows self.now.graph.now (told_on D.NumDomain.own self.now) (ctl formula.now) smaller.now.number
+            smaller.now.operands.items) }
+    {
+        let trees = proposed(
+            self.alloc,
+            self.inv,
+            self.transitions,
+            formula,
+            &smaller.operands,
+            self.delay,
+        )?;
+        self.left_of(formula, smaller, trees)
+    }
+}

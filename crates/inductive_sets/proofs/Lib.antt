@@ -1,5 +1,0 @@
-pub mod Taking
-pub mod Marking
-pub mod Meeting
-pub mod Flowing
-pub mod Holding

@@ -1,6 +1,0 @@
-use Rattle.std.proofs.Common.{◌≡◌}
-use Rattle.inductive_sets.specs.Sets.{marked_below}
-use Rattle.inductive_sets.proofs.guess.Marks.of.Given as goal
-
-abbrev pub invariant-loop-place : goal.invariant-loop-place
-invariant-loop-place l = l.kept.items ≡ marked_below l.place l.rows l.self

@@ -1,6 +1,0 @@
-use Rattle.std.proofs.Common.{take}
-use Rattle.inductive_sets.specs.Sets.{IsMemberOf, KeepsMeetingOne}
-use Rattle.inductive_sets.proofs.meet.meet_some.Given as goal
-
-abbrev pub invariant-loop-rows : goal.invariant-loop-rows
-invariant-loop-rows g l = KeepsMeetingOne (take l.rows-index l.conjunctions) (g.D.NumDomain.has l.set) (IsMemberOf g.D.NumDomain.has l.all)

@@ -1,0 +1,168 @@
+//! The walk over the leaves of another tree.
+ghost use Rattle.std.specs.Prelude.{◌≡◌, ◌++◌, ◌∷◌, ◌<◌, [], true, false, IfOk, OnOk, IfSome};
+ghost use Rattle.linear_cons.specs.Functions.{complement_of};
+ghost use Rattle.decision_tree.specs.Plans.{leaf, plan_of};
+ghost use Rattle.decision_tree.specs.declared.reason.Why.{Why};
+ghost use Rattle.rows_in_hand.specs.Claims.{exceeding};
+ghost use Rattle.tree_support.specs.Systems.{moved_by};
+ghost use Rattle.rows_in_hand.specs.Hands.{Forms, IsMetNowhere, all_asked, asked};
+ghost use Rattle.rows_in_hand.specs.Searches.{Holds, IsClaimFormed, IsLonger, IsSame, IsSearched, WhereAsked};
+ghost use Rattle.leaf_search.specs.Walks.{ending, side_of, systems_behind};
+
+use decision_tree::{Alternatives, Rank, Tree};
+use linear_cons::{Affine, Row, RowKind, Wide};
+use rows_in_hand::{Finding, Hand, try_claim};
+use std::alloc::AllocError;
+
+/// How the leaves of a tree are looked at: over an edge, which may set a place to the value of a function, and with the rank that
+/// those of the leaves are to be less than, where there is one.
+#[derive(Clone, Copy)]
+pub struct Way<R: Rank> {
+    pub edge: u32,
+    pub sets: Option<(u8, Affine)>,
+    pub limit: Option<R>,
+}
+
+impl<R: Rank> Way<R> {
+    /// Looks for a reason against the systems of the tree's leaves, behind the rows in hand.
+    #[cycle(walk)]
+    pub(crate) fn refute(
+        &self,
+        tree: &Tree<R>,
+        hand: &mut Hand,
+        found: &mut Option<Finding>,
+    ) -> Result<bool, AllocError>
+        requires { IfSome self.now.sets (λ s. s.0 < 16) }
+        ensures same { OnOk result (IsSame hand.old hand.new) }
+        ensures searched { IfOk result (λ refuted. WhereAsked hand.old (λ asks.
+            IsSearched R.Rank.own (systems_behind self.now.edge self.now.sets self.now.limit (plan_of tree.now) asks) refuted found.new)) }
+    {
+        match tree {
+            Tree::Node { row, yes, no } => {
+                if self.refute_behind(row, true, yes, hand, found)? {
+                    return Ok(true);
+                }
+                let refuted = self.refute_behind(row, false, no, hand, found)?;
+                Ok(refuted)
+            }
+            Tree::Leaf { why: _, rank } => self.refute_less(rank, hand, found),
+            Tree::Bottom | Tree::Top(_) => {
+                let refuted = hand.settle(self.edge, found)?;
+                Ok(refuted)
+            }
+        }
+    }
+
+    /// Looks at the leaves of a side, behind the row where it holds and its complement where it doesn't.
+    #[cycle(walk)]
+    fn refute_behind(
+        &self,
+        row: &Row,
+        holds: bool,
+        side: &Tree<R>,
+        hand: &mut Hand,
+        found: &mut Option<Finding>,
+    ) -> Result<bool, AllocError>
+        requires { IfSome self.now.sets (λ s. s.0 < 16) }
+        ensures same { OnOk result (IsSame hand.old hand.new) }
+        ensures searched { IfOk result (λ refuted. WhereAsked hand.old (λ asks.
+            IsSearched R.Rank.own (systems_behind self.now.edge self.now.sets self.now.limit (plan_of side.now)
+            (asks ++ moved_by self.now.sets (side_of row.now.affine holds) ∷ [])) refuted found.new)) }
+    {
+        let mark = hand.mark();
+        if !self.enter(row, holds, hand)? {
+            return Ok(false);
+        }
+        let refuted = self.refute(side, hand, found)?;
+        hand.back(mark);
+        Ok(refuted)
+    }
+
+    /// Adds the row of a side, moved back. False where no store meets the rows in hand with it. The error is want of memory.
+    #[inline(never)]
+    pub fn enter(&self, row: &Row, holds: bool, hand: &mut Hand) -> Result<bool, AllocError>
+        requires { IfSome self.now.sets (λ s. s.0 < 16) }
+        ensures same { IfOk result (λ entered. entered ≡ false → IsSame hand.old hand.new) }
+        ensures longer { IfOk result (λ entered. IsLonger hand.old hand.new) }
+        ensures held { IfOk result (λ entered. entered ≡ true → WhereAsked hand.old (λ asks.
+            Holds hand.new (all_asked (asks ++ moved_by self.now.sets (side_of row.now.affine holds) ∷ [])))) }
+        ensures nowhere { IfOk result (λ entered. entered ≡ false → WhereAsked hand.old (λ asks.
+            IsMetNowhere (all_asked (asks ++ moved_by self.now.sets (side_of row.now.affine holds) ∷ [])))) }
+    {
+        let formed = self.moved_side(row, holds);
+        let added = hand.add(formed)?;
+        Ok(added)
+    }
+
+    /// The row of a side, moved back.
+    fn moved_side(&self, row: &Row, holds: bool) -> Result<RowKind, Wide>
+        requires { IfSome self.now.sets (λ s. s.0 < 16) }
+        ensures { Forms (asked (moved_by self.now.sets (side_of row.now.affine holds))) result }
+    {
+        if holds {
+            self.moved(row)
+        } else {
+            self.moved_complement(row)
+        }
+    }
+
+    /// The row, moved back.
+    fn moved(&self, row: &Row) -> Result<RowKind, Wide>
+        requires { IfSome self.now.sets (λ s. s.0 < 16) }
+        ensures { Forms (asked (moved_by self.now.sets row.now.affine)) result }
+    {
+        match &self.sets {
+            None => Ok(Row::of(row.affine)),
+            Some((place, by)) => {
+                let moved = row.affine.subst(*place, by)?;
+                Ok(Row::of(moved))
+            }
+        }
+    }
+
+    /// The row's complement, moved back.
+    fn moved_complement(&self, row: &Row) -> Result<RowKind, Wide>
+        requires { IfSome self.now.sets (λ s. s.0 < 16) }
+        ensures { Forms (asked (moved_by self.now.sets (complement_of row.now.affine))) result }
+    {
+        let complement = row.not()?;
+        self.moved(&complement)
+    }
+
+    /// Looks for a reason against a leaf's rank, where it is to be less.
+    #[inline(never)]
+    fn refute_less(
+        &self,
+        rank: &R,
+        hand: &mut Hand,
+        found: &mut Option<Finding>,
+    ) -> Result<bool, AllocError>
+        requires { IfSome self.now.sets (λ s. s.0 < 16) }
+        ensures same { OnOk result (IsSame hand.old hand.new) }
+        ensures searched { IfOk result (λ refuted. (why : Why) → WhereAsked hand.old (λ asks.
+            IsSearched R.Rank.own (ending self.now.edge self.now.sets self.now.limit (leaf why rank.now) asks) refuted found.new)) }
+    {
+        match &self.limit {
+            None => Ok(false),
+            Some(limit) => {
+                let formed = self.excess(rank, limit);
+                let refuted = try_claim(&formed, self.edge, hand, found)?;
+                Ok(refuted)
+            }
+        }
+    }
+
+    /// The stores at which the leaf's rank, moved back and one more, exceeds the limit.
+    fn excess(&self, rank: &R, limit: &R) -> Result<Alternatives, Wide>
+        requires { IfSome self.now.sets (λ s. s.0 < 16) }
+        ensures { IsClaimFormed R.Rank.own (exceeding rank.now self.now.sets limit.now) result }
+    {
+        let moved = match &self.sets {
+            None => *rank,
+            Some((place, by)) => rank.subst(*place, by)?,
+        };
+        let more = moved.add_one()?;
+        let greater = more.greater(limit)?;
+        Ok(greater)
+    }
+}

@@ -1,4 +1,0 @@
-pub mod Forming
-pub mod Arcs
-pub mod Told
-pub mod Transitions
