@@ -24,4 +24,4 @@ pub mod WithinRows
 pub mod WithinTrees
 pub mod Growing
 pub mod GrownLabels
-pub mod Passing
+pub mod Doing

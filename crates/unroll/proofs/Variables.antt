@@ -120,14 +120,7 @@ module _ (vars : ℕ) where
       with_ends_over (difference_of x.affine y.affine) _ _ (over_difference vars x.affine y.affine (linear_over bounds l sorted.0) (linear_over bounds r sorted.1))
   linear_over bounds (pair Mul l r) sorted =
       product_over bounds (linear_of bounds l) (linear_of bounds r) (linear_over bounds l sorted.0) (linear_over bounds r sorted.1)
-  linear_over bounds (pair Less l r) sorted = absurd sorted
-  linear_over bounds (pair LessEqual l r) sorted = absurd sorted
-  linear_over bounds (pair Greater l r) sorted = absurd sorted
-  linear_over bounds (pair GreaterEqual l r) sorted = absurd sorted
-  linear_over bounds (pair Equal l r) sorted = absurd sorted
-  linear_over bounds (pair NotEqual l r) sorted = absurd sorted
-  linear_over bounds (pair And l r) sorted = absurd sorted
-  linear_over bounds (pair Or l r) sorted = absurd sorted
+  linear_over bounds other sorted = absurd sorted
 
   -- ---- rows of tests
 
@@ -266,14 +259,7 @@ module _ (vars : ℕ) where
   spread_over bounds (pair GreaterEqual l r) outcome sorted = compared_over bounds GreaterEqual l r outcome sorted.0 sorted.1
   spread_over bounds (pair Equal l r) outcome sorted = compared_over bounds Equal l r outcome sorted.0 sorted.1
   spread_over bounds (pair NotEqual l r) outcome sorted = compared_over bounds NotEqual l r outcome sorted.0 sorted.1
-  spread_over bounds (pair Add l r) outcome sorted = absurd sorted
-  spread_over bounds (pair Sub l r) outcome sorted = absurd sorted
-  spread_over bounds (pair Mul l r) outcome sorted = absurd sorted
-  spread_over bounds (number z) outcome sorted = absurd sorted
-  spread_over bounds (variable x) outcome sorted = absurd sorted
-  spread_over bounds (range lo hi) outcome sorted = absurd sorted
-  spread_over bounds (negative e) outcome sorted = absurd sorted
-  spread_over bounds (divided division e b) outcome sorted = absurd sorted
+  spread_over bounds other outcome sorted = absurd sorted
 
   -- ---- trees
 

@@ -4,3 +4,4 @@ pub mod Building
 pub mod Refusals
 pub mod Stopping
 pub mod Within
+pub mod Doing

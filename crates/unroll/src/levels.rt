@@ -6,6 +6,7 @@ ghost use Rattle.backward_transfer.specs.AffineShapes.{plans};
 ghost use Rattle.control_flow.specs.Actions.{AtAll};
 ghost use Rattle.control_flow.specs.Fitting.{IsFitting};
 ghost use Rattle.unroll.specs.Building.{TellsAt};
+ghost use Rattle.unroll.specs.Doing.{AreDone};
 ghost use Rattle.unroll.specs.Levels.{IsLevel};
 ghost use Rattle.step_meaning.specs.Plain.{IsPlain};
 ghost use Rattle.control_flow.specs.Measures.{IsHeavy, IsLight};
@@ -14,8 +15,9 @@ ghost use Rattle.control_flow.specs.Sizing.{HasSizes};
 ghost use Rattle.unroll.specs.Stopping.{IsCause, IsMade, next_level};
 
 use crate::sizes::{first_sizes, next_sizes};
+use crate::steps::steps_of;
 use crate::trees::{first_trees, next_trees};
-use control_flow::Graph;
+use control_flow::{Graph, Transition};
 use decision_tree::{AffineRank, Cause, Family, Tree, TreeList};
 use std::alloc::{AllocError, Global};
 use tree_unify::TreeFault;
@@ -41,6 +43,13 @@ struct Level {
     trees: Vec<Tree<AffineRank>>,
 }
 
+/// What is done at the labels, and level 0.
+#[derive(Drop)]
+struct Start {
+    steps: Vec<Transition>,
+    level: Level,
+}
+
 /// The trees of the level for so many tests of a loop, or of the last level before it that was made: at each store the tree of a label makes
 /// a claim exactly where all runs from there end with at most as many tests of a loop as the level says, and the claim is the number of
 /// steps of the longest one. The levels are made in turn. `Nodes` stops them before the first one whose weight is above 65,536; else `Wide`
@@ -54,7 +63,7 @@ pub fn unroll(alloc: Global, graph: &Graph, tests: u32) -> Result<Unrolled, Allo
     ensures cause { IfOk result (λ unrolled. IfSome unrolled.stopped (IsCause (statements graph.now.body) (next_level unrolled))) }
 {
     match first(alloc, graph) {
-        Ok(level) => climb(alloc, graph, level, tests),
+        Ok(Start { steps, level }) => climb(alloc, graph, &steps, level, tests),
         Err(refusal) => {
             let cause = cause(refusal)?;
             Ok(Unrolled {
@@ -67,8 +76,15 @@ pub fn unroll(alloc: Global, graph: &Graph, tests: u32) -> Result<Unrolled, Allo
 }
 
 /// The level for so many tests, or the last one before it, from level 0 on.
-fn climb(alloc: Global, graph: &Graph, first: Level, tests: u32) -> Result<Unrolled, AllocError>
+fn climb(
+    alloc: Global,
+    graph: &Graph,
+    steps: &[Transition],
+    first: Level,
+    tests: u32,
+) -> Result<Unrolled, AllocError>
     requires fitting { IsFitting (statements graph.now.body) }
+    requires done { AreDone (statements graph.now.body) steps.now }
     requires light { IsLight (statements graph.now.body) 0 }
     requires sizes { HasSizes (statements graph.now.body) 0 first.sizes.items }
     requires sizes_count { length first.sizes.items ≡ length (all_labels (statements graph.now.body)) }
@@ -81,7 +97,7 @@ fn climb(alloc: Global, graph: &Graph, first: Level, tests: u32) -> Result<Unrol
 {
     let mut level = first;
     for made in 0..tests {
-        match next(alloc, graph, &level) {
+        match next(alloc, graph, steps, &level) {
             Ok(more) => level = more,
             Err(refusal) => {
                 let cause = cause(refusal)?;
@@ -122,14 +138,15 @@ fn cause(refusal: TreeFault) -> Result<Cause, AllocError>
     }
 }
 
-/// Level 0.
-fn first(alloc: Global, graph: &Graph) -> Result<Level, TreeFault>
+/// What is done at the labels, and level 0.
+fn first(alloc: Global, graph: &Graph) -> Result<Start, TreeFault>
     requires plain { IsPlain (statements graph.now.body) }
-    ensures tells { IfOk result (λ level. AtAll (statements graph.now.body) (TellsAt 0 (statements graph.now.body) (plans level.trees.items))) }
-    ensures sizes { IfOk result (λ level. HasSizes (statements graph.now.body) 0 level.sizes.items) }
-    ensures sizes_count { IfOk result (λ level. length level.sizes.items ≡ length (all_labels (statements graph.now.body))) }
+    ensures done { IfOk result (λ start. AreDone (statements graph.now.body) start.steps.items) }
+    ensures tells { IfOk result (λ start. AtAll (statements graph.now.body) (TellsAt 0 (statements graph.now.body) (plans start.level.trees.items))) }
+    ensures sizes { IfOk result (λ start. HasSizes (statements graph.now.body) 0 start.level.sizes.items) }
+    ensures sizes_count { IfOk result (λ start. length start.level.sizes.items ≡ length (all_labels (statements graph.now.body))) }
     ensures light { OnOk result (IsLight (statements graph.now.body) 0) }
-    ensures count { IfOk result (λ level. length level.trees.items ≡ length (all_labels (statements graph.now.body))) }
+    ensures count { IfOk result (λ start. length start.level.trees.items ≡ length (all_labels (statements graph.now.body))) }
     ensures fitting { OnOk result (IsFitting (statements graph.now.body)) }
     ensures refusal { IfErr result (IsRefusalAt (statements graph.now.body) 0) }
 {
@@ -139,13 +156,23 @@ fn first(alloc: Global, graph: &Graph) -> Result<Level, TreeFault>
         Ok(()) => {}
         Err(wide) => return Err(TreeFault::Wide(wide)),
     }
-    let trees = first_trees(alloc, graph)?;
-    Ok(Level { sizes, trees })
+    let steps = steps_of(alloc, graph)?;
+    let trees = first_trees(alloc, graph, &steps)?;
+    Ok(Start {
+        steps,
+        level: Level { sizes, trees },
+    })
 }
 
 /// The level behind the last one.
-fn next(alloc: Global, graph: &Graph, last: &Level) -> Result<Level, TreeFault>
+fn next(
+    alloc: Global,
+    graph: &Graph,
+    steps: &[Transition],
+    last: &Level,
+) -> Result<Level, TreeFault>
     requires fitting { IsFitting (statements graph.now.body) }
+    requires done { AreDone (statements graph.now.body) steps.now }
     requires sizes_count { length last.now.sizes.items ≡ length (all_labels (statements graph.now.body)) }
     requires count { length last.now.trees.items ≡ length (all_labels (statements graph.now.body)) }
     ensures tells { (tests : ℕ) → AtAll (statements graph.now.body) (TellsAt tests (statements graph.now.body) (plans last.now.trees.items))
@@ -162,7 +189,7 @@ fn next(alloc: Global, graph: &Graph, last: &Level) -> Result<Level, TreeFault>
 {
     let sizes = next_sizes(alloc, graph, &last.sizes)?;
     check_sizes(graph, &sizes)?;
-    let trees = next_trees(alloc, graph, &last.trees)?;
+    let trees = next_trees(alloc, graph, steps, &last.trees)?;
     Ok(Level { sizes, trees })
 }
 

@@ -9,6 +9,7 @@ ghost use Rattle.control_flow.specs.Labels.{action_at, all_labels};
 ghost use Rattle.control_flow.specs.Actions.{AtAll, AtBehind, AtFirst, AtNext};
 ghost use Rattle.control_flow.specs.Fitting.{IsFitting};
 ghost use Rattle.unroll.specs.Building.{TellsAt, TellsTree, left_by};
+ghost use Rattle.unroll.specs.Doing.{AreDone};
 ghost use Rattle.control_flow.specs.Growth.{growth_of};
 ghost use Rattle.backward_transfer.specs.AffineShapes.{tree_at, plans};
 ghost use Rattle.unroll.specs.Levels.{counted};
@@ -17,15 +18,20 @@ ghost use Rattle.unroll.specs.Refusals.{IsRefusal};
 ghost use Rattle.tree_unify.specs.declared.fault.TreeFault.TheVariants.{Full, Wide as TooLarge};
 
 use crate::moving::{assigned, passed, tested};
-use control_flow::{Action, Graph};
+use control_flow::{Graph, Transition};
 use decision_tree::{AffineRank, Tree, Why};
 use linear_cons::Affine;
 use std::alloc::{AllocError, Global};
 use tree_unify::TreeFault;
 
 /// The trees of level 0: at the test of a loop nothing is claimed.
-pub(crate) fn first_trees(alloc: Global, graph: &Graph) -> Result<Vec<Tree<AffineRank>>, TreeFault>
-    requires { IsFitting (statements graph.now.body) }
+pub(crate) fn first_trees(
+    alloc: Global,
+    graph: &Graph,
+    steps: &[Transition],
+) -> Result<Vec<Tree<AffineRank>>, TreeFault>
+    requires fitting { IsFitting (statements graph.now.body) }
+    requires done { AreDone (statements graph.now.body) steps.now }
     ensures tells { IfOk result (λ trees. AtAll (statements graph.now.body) (TellsAt 0 (statements graph.now.body) (plans trees.items))) }
     ensures count { IfOk result (λ trees. length trees.items ≡ length (all_labels (statements graph.now.body))) }
     ensures full { (count : ℕ) → result ≡ Err (Full count) → IsHeavy (statements graph.now.body) 0 }
@@ -33,7 +39,7 @@ pub(crate) fn first_trees(alloc: Global, graph: &Graph) -> Result<Vec<Tree<Affin
     ensures refusal { IfErr result IsRefusal }
 {
     let mut trees = unclaimed(alloc, graph)?;
-    fill(alloc, graph, &mut trees)?;
+    fill(alloc, graph, steps, &mut trees)?;
     Ok(trees)
 }
 
@@ -41,9 +47,11 @@ pub(crate) fn first_trees(alloc: Global, graph: &Graph) -> Result<Vec<Tree<Affin
 pub(crate) fn next_trees(
     alloc: Global,
     graph: &Graph,
+    steps: &[Transition],
     last: &[Tree<AffineRank>],
 ) -> Result<Vec<Tree<AffineRank>>, TreeFault>
     requires fitting { IsFitting (statements graph.now.body) }
+    requires done { AreDone (statements graph.now.body) steps.now }
     requires count { length last.now ≡ length (all_labels (statements graph.now.body)) }
     ensures tells { (tests : ℕ) → AtAll (statements graph.now.body) (TellsAt tests (statements graph.now.body) (plans last.now))
         → IfOk result (λ trees. AtAll (statements graph.now.body) (TellsAt (suc tests) (statements graph.now.body) (plans trees.items))) }
@@ -55,8 +63,8 @@ pub(crate) fn next_trees(
     ensures refusal { IfErr result IsRefusal }
 {
     let mut trees = unclaimed(alloc, graph)?;
-    fill_heads(alloc, graph, last, &mut trees)?;
-    fill(alloc, graph, &mut trees)?;
+    fill_heads(alloc, graph, steps, last, &mut trees)?;
+    fill(alloc, graph, steps, &mut trees)?;
     Ok(trees)
 }
 
@@ -78,10 +86,12 @@ fn unclaimed(alloc: Global, graph: &Graph) -> Result<Vec<Tree<AffineRank>>, Allo
 fn fill_heads(
     alloc: Global,
     graph: &Graph,
+    steps: &[Transition],
     last: &[Tree<AffineRank>],
     trees: &mut [Tree<AffineRank>],
 ) -> Result<(), TreeFault>
     requires fitting { IsFitting (statements graph.now.body) }
+    requires done { AreDone (statements graph.now.body) steps.now }
     requires last_count { length last.now ≡ length (all_labels (statements graph.now.body)) }
     requires count { length trees.old ≡ length (all_labels (statements graph.now.body)) }
     ensures tells { (tests : ℕ) → AtAll (statements graph.now.body) (TellsAt tests (statements graph.now.body) (plans last.now))
@@ -95,7 +105,7 @@ fn fill_heads(
     ensures refusal { IfErr result IsRefusal }
 {
     for label in 1..graph.labels() {
-        fill_head(alloc, graph, label, last, trees)?;
+        fill_head(alloc, graph, steps, label, last, trees)?;
     }
     Ok(())
 }
@@ -104,11 +114,13 @@ fn fill_heads(
 fn fill_head(
     alloc: Global,
     graph: &Graph,
+    steps: &[Transition],
     label: u32,
     last: &[Tree<AffineRank>],
     trees: &mut [Tree<AffineRank>],
 ) -> Result<(), TreeFault>
     requires fitting { IsFitting (statements graph.now.body) }
+    requires done { AreDone (statements graph.now.body) steps.now }
     requires some { 0 < label }
     requires within { label < length (all_labels (statements graph.now.body)) }
     requires few { length (all_labels (statements graph.now.body)) ≤ 1024 }
@@ -127,14 +139,20 @@ fn fill_head(
     if !graph.is_head(label) {
         return Ok(());
     }
-    let tree = tree(alloc, graph, label, last)?;
+    let tree = tree(alloc, graph, steps, label, last)?;
     trees[label as usize] = tree;
     Ok(())
 }
 
 /// Puts in the trees at the labels but label 0 and those of loops' tests, from the last on.
-fn fill(alloc: Global, graph: &Graph, trees: &mut [Tree<AffineRank>]) -> Result<(), TreeFault>
+fn fill(
+    alloc: Global,
+    graph: &Graph,
+    steps: &[Transition],
+    trees: &mut [Tree<AffineRank>],
+) -> Result<(), TreeFault>
     requires fitting { IsFitting (statements graph.now.body) }
+    requires done { AreDone (statements graph.now.body) steps.now }
     requires count { length trees.old ≡ length (all_labels (statements graph.now.body)) }
     ensures tells { (tests : ℕ)
         → AtFirst (statements graph.now.body) (length (all_labels (statements graph.now.body))) (TellsAt tests (statements graph.now.body) (plans trees.old))
@@ -149,7 +167,7 @@ fn fill(alloc: Global, graph: &Graph, trees: &mut [Tree<AffineRank>]) -> Result<
     ensures refusal { IfErr result IsRefusal }
 {
     for label in (1..graph.labels()).rev() {
-        fill_one(alloc, graph, label, trees)?;
+        fill_one(alloc, graph, steps, label, trees)?;
     }
     Ok(())
 }
@@ -158,10 +176,12 @@ fn fill(alloc: Global, graph: &Graph, trees: &mut [Tree<AffineRank>]) -> Result<
 fn fill_one(
     alloc: Global,
     graph: &Graph,
+    steps: &[Transition],
     label: u32,
     trees: &mut [Tree<AffineRank>],
 ) -> Result<(), TreeFault>
     requires fitting { IsFitting (statements graph.now.body) }
+    requires done { AreDone (statements graph.now.body) steps.now }
     requires some { 0 < label }
     requires within { label < length (all_labels (statements graph.now.body)) }
     requires few { length (all_labels (statements graph.now.body)) ≤ 1024 }
@@ -178,7 +198,7 @@ fn fill_one(
     if graph.is_head(label) {
         return Ok(());
     }
-    let tree = tree(alloc, graph, label, trees)?;
+    let tree = tree(alloc, graph, steps, label, trees)?;
     trees[label as usize] = tree;
     Ok(())
 }
@@ -187,10 +207,12 @@ fn fill_one(
 fn tree(
     alloc: Global,
     graph: &Graph,
+    steps: &[Transition],
     label: u32,
     behind: &[Tree<AffineRank>],
 ) -> Result<Tree<AffineRank>, TreeFault>
     requires fitting { IsFitting (statements graph.now.body) }
+    requires done { AreDone (statements graph.now.body) steps.now }
     requires some { 0 < label }
     requires within { label < length (all_labels (statements graph.now.body)) }
     requires few { length (all_labels (statements graph.now.body)) ≤ 1024 }
@@ -206,20 +228,33 @@ fn tree(
         → result ≡ Err (TooLarge operands) → 2 ^ 100 < growth_of (statements graph.now.body) tests }
     ensures refusal { IfErr result IsRefusal }
 {
-    match graph.action(label) {
-        Action::End => Ok(ended()),
-        Action::Assign { place, value, next } => {
-            let tree = assigned(alloc, place, value, &behind[next as usize])?;
+    match &steps[label as usize] {
+        Transition::Assign { place, value, to } => {
+            let tree = assigned(alloc, *place, value, &behind[*to as usize])?;
             Ok(tree)
         }
-        Action::Pass { next } => {
-            let tree = passed(alloc, &behind[next as usize])?;
+        Transition::Pass { to } => {
+            let tree = passed(alloc, &behind[*to as usize])?;
             Ok(tree)
         }
-        Action::Test { test, yes, no, .. } => {
-            let tree = tested(alloc, test, &behind[yes as usize], &behind[no as usize])?;
+        Transition::Test {
+            is_head: _,
+            choice: _,
+            holds,
+            fails,
+            yes,
+            no,
+        } => {
+            let tree = tested(
+                alloc,
+                holds,
+                fails,
+                &behind[*yes as usize],
+                &behind[*no as usize],
+            )?;
             Ok(tree)
         }
+        Transition::End | Transition::Dead | Transition::Choose { .. } => Ok(ended()),
     }
 }
 

@@ -1,10 +1,10 @@
-use Rattle.std.proofs.Common.{◌≡◌, suc, ◌-◌, sym, subst, arith}
+use Rattle.std.proofs.Common.{◌≡◌, suc, ◌-◌, sym, subst, arith, Err, ap}
 use Rattle.step_meaning.specs.Syntax.{statements}
 use Rattle.backward_transfer.specs.AffineShapes.{plans}
 use Rattle.control_flow.specs.Actions.{AtBehind}
 use Rattle.unroll.specs.Building.{TellsAt}
 use Rattle.control_flow.proofs.Filling.{all_behind, behind_first}
-use Rattle.unroll.proofs.Passing.{passed_on}
+use Rattle.unroll.proofs.Refusing.{same_error}
 use Rattle.unroll.proofs.trees.fill.Goals as goal
 
 pub loop-label-init : goal.loop-label-init
@@ -43,7 +43,7 @@ returns-in_err-fill_one-clause-wide c limit operands short first is =
     let some = c.loop-label-test.true in
     let same : c.loop-label.label ≡ suc (c.loop-label.label - 1) = omega (arith, some) in
     c.in_err-fill_one.ensures.wide limit operands short
-    (subst (λ n. AtBehind body n (TellsAt limit body (plans c.loop-label.trees))) same (c.loop-label.invariant.1 limit first)) (passed_on _ _ _ c.from_residual.ensures.1 is)
+    (subst (λ n. AtBehind body n (TellsAt limit body (plans c.loop-label.trees))) same (c.loop-label.invariant.1 limit first)) (ap Err (same_error _ _ _ c.from_residual.ensures.1 is))
 
 pub returns-in_err-fill_one-clause-full : goal.returns-in_err-fill_one-clause-full
 returns-in_err-fill_one-clause-full c limit number first is =
@@ -52,4 +52,4 @@ returns-in_err-fill_one-clause-full c limit number first is =
     let same : c.loop-label.label ≡ suc (c.loop-label.label - 1) = omega (arith, some) in
     c.in_err-fill_one.ensures.full limit number
     (subst (λ n. AtBehind body n (TellsAt limit body (plans c.loop-label.trees))) same (c.loop-label.invariant.1 limit first))
-    (passed_on _ _ _ c.from_residual.ensures.1 is)
+    (ap Err (same_error _ _ _ c.from_residual.ensures.1 is))

@@ -1,9 +1,9 @@
-use Rattle.std.proofs.Common.{◌≡◌, suc, ◌+◌, subst, arith}
+use Rattle.std.proofs.Common.{◌≡◌, suc, ◌+◌, subst, arith, Err, ap}
 use Rattle.step_meaning.specs.Syntax.{statements}
 use Rattle.backward_transfer.specs.AffineShapes.{plans}
 use Rattle.control_flow.specs.Actions.{AtFirst}
 use Rattle.unroll.specs.Building.{TellsAt}
-use Rattle.unroll.proofs.Passing.{passed_on}
+use Rattle.unroll.proofs.Refusing.{same_error}
 use Rattle.unroll.proofs.trees.fill_heads.Goals as goal
 
 pub loop-label-preserved : goal.loop-label-preserved
@@ -30,4 +30,4 @@ fill_head-requires-clause-few c =
 
 pub returns-in_err-fill_head-clause-wide : goal.returns-in_err-fill_head-clause-wide
 returns-in_err-fill_head-clause-wide c limit operands short last is =
-    c.in_err-fill_head.ensures.wide limit operands short last (passed_on _ _ _ c.from_residual.ensures.1 is)
+    c.in_err-fill_head.ensures.wide limit operands short last (ap Err (same_error _ _ _ c.from_residual.ensures.1 is))

@@ -1,11 +1,11 @@
-use Rattle.std.proofs.Common.{◌≡◌, length, sym, ap, subst, ◌∙◌, arith}
+use Rattle.std.proofs.Common.{◌≡◌, length, sym, ap, subst, ◌∙◌, arith, Err}
 use Rattle.step_meaning.specs.Syntax.{statements}
 use Rattle.backward_transfer.specs.AffineShapes.{plans}
 use Rattle.control_flow.specs.Actions.{AtAll}
 use Rattle.unroll.specs.Building.{TellsAt}
 use Rattle.unroll.proofs.Filling.{unclaimed_first}
 use Rattle.backward_transfer.proofs.Putting.{written_back}
-use Rattle.unroll.proofs.Passing.{passed_on}
+use Rattle.unroll.proofs.Refusing.{same_error}
 use Rattle.unroll.proofs.trees.first_trees.Goals as goal
 
 pub returns-clause-tells : goal.returns-clause-tells
@@ -21,11 +21,11 @@ returns-in_err-fill-clause-wide c operands is =
     let body = statements c.args.graph.now.body in
     c.in_err-fill.ensures.wide 0 operands (omega arith)
     (rw c.deref_mut.ensures.value (unclaimed_first body (plans c.in_ok-trees.trees.items) c.in_ok-trees.ensures.end c.in_ok-trees.ensures.others))
-    (passed_on _ _ _ c.from_residual-in_err-fill.ensures.1 is)
+    (ap Err (same_error _ _ _ c.from_residual-in_err-fill.ensures.1 is))
 
 pub returns-in_err-fill-clause-full : goal.returns-in_err-fill-clause-full
 returns-in_err-fill-clause-full c number is =
     let body = statements c.args.graph.now.body in
     c.in_err-fill.ensures.full 0 number
     (rw c.deref_mut.ensures.value (unclaimed_first body (plans c.in_ok-trees.trees.items) c.in_ok-trees.ensures.end c.in_ok-trees.ensures.others))
-    (passed_on _ _ _ c.from_residual-in_err-fill.ensures.1 is)
+    (ap Err (same_error _ _ _ c.from_residual-in_err-fill.ensures.1 is))
