@@ -1,3 +1,4 @@
 pub mod Walking
 pub mod Following
 pub mod Leaving
+pub mod Keeping

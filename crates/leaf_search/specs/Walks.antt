@@ -1,15 +1,32 @@
 -- The walk over the leaves of another tree, behind what is asked before.
-use Rattle.std.specs.Prelude.{ℕ, Bool, List, if◌then◌else◌, Option, None, Some}
+use Rattle.std.specs.Prelude.{◌≡◌, ℕ, ℤ, pos, Bool, List, All, Contains, if◌then◌else◌, Option, None, Some, ⊤}
 use Rattle.linear_cons.specs.declared.affine.Affine.{Affine}
-use Rattle.linear_cons.specs.Functions.{complement_of}
+use Rattle.linear_cons.specs.declared.row.Row.{Row}
+use Rattle.linear_cons.specs.declared.row.RowKind.TheVariants.{Row as Kept}
+use Rattle.linear_cons.specs.Functions.{coefficient, complement_of}
+use Rattle.linear_cons.specs.Rows.{MeetsAll, MeetsKind, row_kind_of}
 use Rattle.decision_tree.specs.Plans.{Plan}
-use Rattle.rows_in_hand.specs.Forming.{Formed}
 use Rattle.rows_in_hand.specs.Claims.{System}
+use Rattle.rows_in_hand.specs.Forming.{Formed, exact}
+use Rattle.rows_in_hand.specs.Hands.{all_asked, kinds}
 use Rattle.tree_support.specs.Systems.{at_leaves, if_undefined, moved_by, unless_less}
 
 -- what is asked on a side of a row: the row's function, or its complement
 abbrev pub side_of : Affine → Bool → Affine
 side_of a holds = if holds then a else complement_of a
+
+-- what is set leaves the function as it is
+abbrev pub IsKept : Option (ℕ × Affine) → Affine → Type 0
+IsKept None a = ⊤
+IsKept (Some (place, by)) a = coefficient a place ≡ pos 0
+
+-- no store that meets the rows meets what is asked
+abbrev pub Excludes : List Row → Formed → Type 0
+Excludes rows a = (store : List ℤ) → MeetsAll store rows → MeetsKind store (row_kind_of (exact a)) → ⊥
+
+-- it is so of whatever functions the rows are among the rows of
+abbrev pub WhereAmong : List Row → (List Formed → Type 0) → Type 0
+WhereAmong rows Is = (asks : List Formed) → All (λ row. Contains (kinds (all_asked asks)) (Kept row)) rows → Is asks
 
 module _ {R : Type 0} where
   -- what refutes at a leaf: that it is undefined, or, where there is a limit, that its rank isn't less

@@ -10,7 +10,7 @@ ghost use Rattle.leaf_search.specs.Arcs.{over_each};
 ghost use Rattle.rows_in_hand.specs.Searches.{Holds, IsLonger, IsSame, IsSearched, WhereAsked};
 ghost use Rattle.leaf_search.specs.Walks.{systems_behind};
 
-use crate::walk::Way;
+use crate::walk::{Way, has_sixteen_places};
 use control_flow::{Place, Transition};
 use decision_tree::{Rank, Tree};
 use linear_cons::{Affine, Linear, Row, RowKind, Rows, Wide};
@@ -29,7 +29,8 @@ pub fn add_rows(rows: &[Row], hand: &mut Hand) -> Result<bool, AllocError>
         IsMetNowhere (all_asked (asks ++ rows_given rows.now)))) }
 {
     for row in rows {
-        if !hand.add(Ok(Row::of(row.affine)))? {
+        has_sixteen_places(row);
+        if !hand.add_row(row)? {
             return Ok(false);
         }
     }
@@ -53,7 +54,7 @@ pub fn refute_at<R: Rank>(
 {
     match trees.get(label as usize) {
         Some(tree) => {
-            let refuted = way.refute(tree, hand, found)?;
+            let refuted = way.refute_tree(tree, hand, found)?;
             Ok(refuted)
         }
         None => {

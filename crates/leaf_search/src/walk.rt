@@ -1,13 +1,13 @@
 //! The walk over the leaves of another tree.
-ghost use Rattle.std.specs.Prelude.{◌≡◌, ◌++◌, ◌∷◌, ◌<◌, [], true, false, IfOk, OnOk, IfSome};
+ghost use Rattle.std.specs.Prelude.{◌≡◌, ◌++◌, ◌∷◌, ◌<◌, [], true, false, not, None, All, IfOk, OnOk, IfSome, length};
 ghost use Rattle.linear_cons.specs.Functions.{complement_of};
 ghost use Rattle.decision_tree.specs.Plans.{leaf, plan_of};
 ghost use Rattle.decision_tree.specs.declared.reason.Why.{Why};
-ghost use Rattle.rows_in_hand.specs.Claims.{exceeding};
+ghost use Rattle.rows_in_hand.specs.Claims.{HasNoStore, exceeding};
 ghost use Rattle.tree_support.specs.Systems.{moved_by};
 ghost use Rattle.rows_in_hand.specs.Hands.{Forms, IsMetNowhere, all_asked, asked};
 ghost use Rattle.rows_in_hand.specs.Searches.{Holds, IsClaimFormed, IsLonger, IsSame, IsSearched, WhereAsked};
-ghost use Rattle.leaf_search.specs.Walks.{ending, side_of, systems_behind};
+ghost use Rattle.leaf_search.specs.Walks.{Excludes, IsKept, WhereAmong, ending, side_of, systems_behind};
 
 use decision_tree::{Alternatives, Rank, Tree};
 use linear_cons::{Affine, Row, RowKind, Wide};
@@ -24,9 +24,29 @@ pub struct Way<R: Rank> {
 }
 
 impl<R: Rank> Way<R> {
-    /// Looks for a reason against the systems of the tree's leaves, behind the rows in hand.
+    /// Looks for a reason against the systems of the tree's leaves, behind the rows in hand. Where ranks may be any, it first looks whether
+    /// the rows in hand leave any of them, for which no row is added.
+    pub(crate) fn refute_tree(
+        &self,
+        tree: &Tree<R>,
+        hand: &mut Hand,
+        found: &mut Option<Finding>,
+    ) -> Result<bool, AllocError>
+        requires { IfSome self.now.sets (λ s. s.0 < 16) }
+        ensures same { OnOk result (IsSame hand.old hand.new) }
+        ensures searched { IfOk result (λ refuted. WhereAsked hand.old (λ asks.
+            IsSearched R.Rank.own (systems_behind self.now.edge self.now.sets self.now.limit (plan_of tree.now) asks) refuted found.new)) }
+    {
+        if self.limit.is_none() && self.is_clear(tree, hand) {
+            return Ok(false);
+        }
+        let refuted = self.refute(tree, hand, found)?;
+        Ok(refuted)
+    }
+
+    /// The same by a walk, which adds the rows on the way to a leaf.
     #[cycle(walk)]
-    pub(crate) fn refute(
+    fn refute(
         &self,
         tree: &Tree<R>,
         hand: &mut Hand,
@@ -89,9 +109,92 @@ impl<R: Rank> Way<R> {
         ensures nowhere { IfOk result (λ entered. entered ≡ false → WhereAsked hand.old (λ asks.
             IsMetNowhere (all_asked (asks ++ moved_by self.now.sets (side_of row.now.affine holds) ∷ [])))) }
     {
+        if self.keeps(row) {
+            let added = self.enter_kept(row, holds, hand)?;
+            return Ok(added);
+        }
         let formed = self.moved_side(row, holds);
         let added = hand.add(formed)?;
         Ok(added)
+    }
+
+    /// The same of a row that is moved back to itself. Its complement isn't formed where a row in hand tells the row.
+    fn enter_kept(&self, row: &Row, holds: bool, hand: &mut Hand) -> Result<bool, AllocError>
+        requires place { IfSome self.now.sets (λ s. s.0 < 16) }
+        requires kept { IsKept self.now.sets row.now.affine }
+        requires places { length row.now.affine.coef ≡ 16 }
+        ensures same { IfOk result (λ entered. entered ≡ false → IsSame hand.old hand.new) }
+        ensures longer { IfOk result (λ entered. IsLonger hand.old hand.new) }
+        ensures held { IfOk result (λ entered. entered ≡ true → WhereAsked hand.old (λ asks.
+            Holds hand.new (all_asked (asks ++ moved_by self.now.sets (side_of row.now.affine holds) ∷ [])))) }
+        ensures nowhere { IfOk result (λ entered. entered ≡ false → WhereAsked hand.old (λ asks.
+            IsMetNowhere (all_asked (asks ++ moved_by self.now.sets (side_of row.now.affine holds) ∷ [])))) }
+    {
+        if holds {
+            let added = hand.add_row(row)?;
+            return Ok(added);
+        }
+        if hand.tells(row) {
+            return Ok(false);
+        }
+        match row.not() {
+            Ok(complement) => {
+                let added = hand.add_row(&complement)?;
+                Ok(added)
+            }
+            Err(wide) => {
+                let added = hand.add(Err(wide))?;
+                Ok(added)
+            }
+        }
+    }
+
+    /// Whether the row is moved back to itself, since nothing is set that it mentions.
+    fn keeps(&self, row: &Row) -> bool
+        requires { IfSome self.now.sets (λ s. s.0 < 16) }
+        ensures kept { result ≡ true → IsKept self.now.sets row.now.affine }
+        ensures places { length row.now.affine.coef ≡ 16 }
+    {
+        has_sixteen_places(row);
+        match &self.sets {
+            None => true,
+            Some((place, _)) => row.affine.coef[*place as usize] == 0,
+        }
+    }
+
+    /// Whether it is seen, without a row added to those in hand, that no store meets a system of the tree's leaves behind them: each leaf is
+    /// defined, or the rows in hand settle a row before it against it. It speaks of leaves whose rank may be any.
+    pub(crate) fn is_clear(&self, tree: &Tree<R>, hand: &Hand) -> bool
+        requires { IfSome self.now.sets (λ s. s.0 < 16) }
+        ensures { result ≡ true → WhereAmong hand.now.rows (λ asks.
+            All (HasNoStore R.Rank.own) (systems_behind self.now.edge self.now.sets None (plan_of tree.now) asks)) }
+    {
+        match tree {
+            Tree::Node { row, yes, no } => match self.settled(row, hand) {
+                Some(true) => self.is_clear(yes, hand),
+                Some(false) => self.is_clear(no, hand),
+                None => self.is_clear(yes, hand) && self.is_clear(no, hand),
+            },
+            Tree::Leaf { .. } => true,
+            Tree::Bottom | Tree::Top(_) => false,
+        }
+    }
+
+    /// The side of a row, moved back, to which all stores go that meet the rows in hand, where these settle it.
+    #[inline(never)]
+    fn settled(&self, row: &Row, hand: &Hand) -> Option<bool>
+        requires { IfSome self.now.sets (λ s. s.0 < 16) }
+        ensures { IfSome result (λ holds. Excludes hand.now.rows (moved_by self.now.sets (side_of row.now.affine (not holds)))) }
+    {
+        if self.keeps(row) {
+            return hand.settles(row);
+        }
+        match self.moved(row) {
+            Ok(RowKind::Always) => Some(true),
+            Ok(RowKind::Never) => Some(false),
+            Ok(RowKind::Row(moved)) => hand.settles(&moved),
+            Err(_) => None,
+        }
     }
 
     /// The row of a side, moved back.
@@ -165,4 +268,11 @@ impl<R: Rank> Way<R> {
         let greater = more.greater(limit)?;
         Ok(greater)
     }
+}
+
+/// Shows that a row has sixteen coefficients, as each that is read has. It has no effect.
+pub(crate) fn has_sixteen_places(row: &Row)
+    ensures { length row.now.affine.coef ≡ 16 }
+{
+    let _ = row.affine.coef[0];
 }

@@ -27,7 +27,7 @@ kinds_kept : (items : List Item) (item : Item) (kind : RowKind) → Contains (ki
 kinds_kept items item kind member =
     subst (λ all. Contains all kind) (sym (kinds_more items item)) (Contains-append_left (kinds items) (kind_of item ∷ []) kind member)
 
-among_more : (items : List Item) (item : Item) (rows : List Row) → All (λ row. Contains (kinds items) (Kept row)) rows → All (λ row. Contains (kinds (items ++ item ∷ [])) (Kept row)) rows
+pub among_more : (items : List Item) (item : Item) (rows : List Row) → All (λ row. Contains (kinds items) (Kept row)) rows → All (λ row. Contains (kinds (items ++ item ∷ [])) (Kept row)) rows
 among_more items item rows among =
     All-weaker (λ (row : Row). Contains (kinds items) (Kept row)) (λ (row : Row). Contains (kinds (items ++ item ∷ [])) (Kept row)) (λ row member. kinds_kept items item (Kept row) member) rows among
 

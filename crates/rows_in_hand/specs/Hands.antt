@@ -6,6 +6,7 @@ use Rattle.linear_cons.specs.declared.row.RowKind.{RowKind}
 use Rattle.linear_cons.specs.declared.row.RowKind.TheVariants.{Always, Never, Row as Kept}
 use Rattle.linear_cons.specs.Exact.{IsOutside}
 use Rattle.linear_cons.specs.Rows.{MeetsKind, row_kind_of}
+use Rattle.linear_cons.specs.Settling.{tells}
 use Rattle.linear_solve.specs.Answers.{IsPointOf, MayOutgrow, MayOverflow}
 use Rattle.linear_solve.specs.Systems.{HasOpposed, IsOctagonList, IsOpposedToOne, occurring}
 use Rattle.rows_in_hand.specs.declared.reason.Reason.{Reason}
@@ -90,6 +91,12 @@ first_of (Some first) x = Some first
 -- no two of the new rows are opposed, where no two of the old ones were
 abbrev pub KeepsApart : List Row → List Row → Type 0
 KeepsApart old new = (HasOpposed old → ⊥) → HasOpposed new → ⊥
+
+-- one of the rows has the row's linear part and a constant that isn't greater, and so tells it
+pub record IsToldByOne (row : Row) (rows : List Row) : Type 0 where
+  pub given : Row
+  pub given_in : Contains rows given
+  pub tells_it : tells given.affine row.affine ≡ true
 
 -- what adding a row does: it comes last, and nothing is added for what always holds; what is never met, or is opposed to one of the rows,
 -- isn't added

@@ -1,8 +1,9 @@
 //! The rows in hand on a search.
-ghost use Rattle.std.specs.Prelude.{◌≡◌, [], IfOk, None, Ok, MatchOption, length, take};
+ghost use Rattle.std.specs.Prelude.{◌≡◌, [], true, IfOk, None, Ok, MatchOption, length, take};
 ghost use Rattle.linear_cons.specs.declared.row.RowKind.TheVariants.{Row as Kept};
+ghost use Rattle.linear_cons.specs.Settling.{settles};
 ghost use Rattle.linear_solve.specs.Answers.{HasNoStore};
-ghost use Rattle.rows_in_hand.specs.Hands.{Adds, Gives, IsTried, is_there, restored};
+ghost use Rattle.rows_in_hand.specs.Hands.{Adds, Gives, IsToldByOne, IsTried, is_there, restored};
 
 use crate::finding::Finding;
 use crate::reason::Reason;
@@ -85,8 +86,9 @@ impl Hand {
         }
     }
 
-    /// Adds a row, unless it is opposed to one of those in hand.
-    fn add_row(&mut self, row: &Row) -> Result<bool, AllocError>
+    /// Adds a row, unless it is opposed to one of those in hand: then it is false. After want of memory the rows are as before.
+    #[inline(never)]
+    pub fn add_row(&mut self, row: &Row) -> Result<bool, AllocError>
         ensures { IfOk result (λ added. Adds (Ok (Kept row.now)) self.old.rows self.old.wide added self.new.rows self.new.wide) }
     {
         if opposes_one(row, self.rows.rows()) {
@@ -94,6 +96,25 @@ impl Hand {
         }
         self.rows.down(row)?;
         Ok(true)
+    }
+
+    /// Whether a row in hand tells the row: then no store meets the rows in hand with its complement, which needn't be formed to see that.
+    pub fn tells(&self, row: &Row) -> bool
+        ensures { result ≡ true → IsToldByOne row.now self.now.rows }
+    {
+        for given in self.rows.rows() {
+            if given.tells(row) {
+                return true;
+            }
+        }
+        false
+    }
+
+    /// Whether the rows in hand settle the row by their linear parts: that it holds, or that it fails.
+    pub fn settles(&self, row: &Row) -> Option<bool>
+        ensures { result ≡ settles self.now.rows row.now }
+    {
+        self.rows.settles(row)
     }
 
     /// Looks for a reason against a system of the edge whose rows these are. False where no store meets them.
