@@ -18,7 +18,7 @@ CALLS = [
     (["--domain", "discs"], "int main() { }", 2, USAGE),
     (["--ctl"], "int main() { }", 2, USAGE),
     (["--ctl", "EG z >= 1"], "int main() { int x; }", 4, "formula: 5 at 3\n"),
-    (["--ctl", "-x >= 0", "--domain", "octagons"], "int main() { int x; }", 1,
+    (["--ctl=-x >= 0", "--domain", "octagons"], "int main() { int x; }", 1,
      "proved:\n-x >= 0: holds\nunknown:\nx - 1 >= 0: unknown\nverdict: some inputs\n"),
     (["--delay", "0"], "int main() { int x; while (x > 0) x = x - 1; }", 0,
      "exact, 0 tests:\nproved:\n-x >= 0: within 1 step\nx - 1 >= 0: within 2*x + 1 steps\nunknown:\nverdict: all inputs\n"),

@@ -217,7 +217,7 @@ def case(number, seed, command, counts):
     block, source = maker.program()
     text, tree = maker.formula(2)
     f = normal(tree)
-    words = ["--ctl", text]
+    words = [f"--ctl={text}"]
     words += dice.choice([[], [], ["--delay", "0"], ["--delay", "4"], ["--domain", "octagons"]])
     try:
         ended = subprocess.run([command, *words], input=source.encode(), capture_output=True, timeout=SECONDS, check=False)

@@ -318,20 +318,38 @@ def broken(report, dice, maker, block):
 
 
 def are_refused(words):
-    """Whether the words are none of the command line: options, each at most once, with their values, all of them text."""
+    """Whether the words are none of the command line: options, each at most once, with their values, all of them text. A value is the next word,
+    unless that begins with a hyphen and has more than it, or stands behind `=`; a lone `--` ends the options."""
     asked = {b"--domain": [b"boxes", b"octagons", b"polyhedra"], b"--delay": [b"%d" % number for number in range(9)], b"--ctl": None}
     try:
         b" ".join(words).decode()
     except UnicodeDecodeError:
         return True
     while words:
-        name, *words = words
-        if name not in asked or not words:
+        word, *words = words
+        if word == b"--":
+            return bool(words)
+        name, is_given, value = word.partition(b"=")
+        if name not in asked:
             return True
-        values, value, *words = asked.pop(name), *words
+        if not is_given:
+            if not words or words[0].startswith(b"-") and words[0] != b"-":
+                return True
+            value, *words = words
+        values = asked.pop(name)
         if values is not None and value not in values:
             return True
     return False
+
+
+def formula_in(words):
+    """The formula among words that aren't refused."""
+    for at, word in enumerate(words):
+        if word == b"--ctl":
+            return words[at + 1]
+        if word.startswith(b"--ctl="):
+            return word.removeprefix(b"--ctl=")
+    return None
 
 
 def out_of_form(words, text, formula, ended):
@@ -374,9 +392,9 @@ def words_of(maker, dice):
     """Some words, and the formula among them."""
     if dice.random() < 0.04:
         words = [dice.choice(WORDS).encode() for _ in range(dice.randint(1, 5))]
-        return words, words[words.index(b"--ctl") + 1] if b"--ctl" in words[:-1] else None
+        return words, None if are_refused(words) else formula_in(words)
     formula = formula_of(maker, dice) if dice.random() < 0.4 else None
-    options = [[b"--ctl", formula]] * (formula is not None)
+    options = [[b"--ctl=" + formula] if formula.startswith(b"-") else [b"--ctl", formula]] if formula is not None else []
     if dice.random() < 0.4:
         options.append([b"--domain", dice.choice([b"boxes", b"octagons", b"polyhedra"])])
     if dice.random() < 0.3:

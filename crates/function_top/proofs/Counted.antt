@@ -27,7 +27,7 @@ use Rattle.function_top.specs.declared.found.Found.{Found}
 use Rattle.function_top.specs.Exact.{EndsExactly, IsExact, MeetsLine}
 use Rattle.function_top.specs.Found.{IsExactPart, IsFound}
 use Rattle.function_top.specs.Meeting.{CountsExactly, MeetsClaim}
-use Rattle.function_top.specs.Order.{Task}
+use Rattle.command_words.specs.Order.{Task}
 use Rattle.function_top.specs.Shown.{Shows, ShowsExact, header_of}
 use Rattle.function_top.specs.Subject.{Subject}
 use Rattle.function_top.proofs.Conditions.{condition_met, rows_met}

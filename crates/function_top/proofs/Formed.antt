@@ -1,20 +1,23 @@
 -- Each line that the command writes has one of the known forms.
-use Rattle.std.proofs.Common.{◌≡◌, ℕ, inl, inr, List, [], ◌∷◌, Option, Some, All, codes, refl}
+use Rattle.std.proofs.Common.{◌≡◌, ℕ, inl, inr, List, [], ◌∷◌, ◌++◌, Option, Some, All, codes, refl}
 use Rattle.std.proofs.lemmas.List.Elements.{All-cons, All-nil}
 use Rattle.step_meaning.specs.Syntax.{Statements}
 use Rattle.source_parse.specs.Derives.{IsProgramText}
 use Rattle.linear_solve.proofs.Lists.{all_of}
+use Rattle.line_text.specs.declared.claim.Claim.{Claim}
 use Rattle.line_text.specs.LineText.{functions_of}
+use Rattle.claim_line.specs.Tells.{Tells}
 use Rattle.report_text.specs.declared.line.Line.{Line}
 use Rattle.report_text.specs.declared.report.Report.{Report}
 use Rattle.report_text.specs.declared.report.Header.{Header}
-use Rattle.report_text.specs.Printed.{IsReportText, exact_part}
+use Rattle.report_text.specs.Printed.{IsReportText, ended_lines, exact_part, explain_part}
 use Rattle.function_top.specs.declared.found.Found.{Found}
-use Rattle.function_top.specs.Form.{IsKnown, exact_head, proved_head, unknown_head, all_verdict, some_verdict, words, program, formula}
+use Rattle.function_top.specs.Demo.{summary_lines}
+use Rattle.function_top.specs.Form.{IsKnown, exact_head, explanation, summary, proved_head, unknown_head, all_verdict, some_verdict, words, program, formula}
 use Rattle.function_top.specs.Refusals.{fault_line, formula_text, program_text, usage_line, usage_text}
 use Rattle.function_top.specs.Shown.{Shows}
 use Rattle.function_top.proofs.Truth.{KnownLines, fault_lacks, formula_lacks, program_lacks, usage_lacks}
-use Rattle.function_top.proofs.Written.{Bytes, EachWhole, Frames, Prints, one_good, report_holds}
+use Rattle.function_top.proofs.Written.{Bytes, EachWhole, Frames, Lacks, Prints, each_good, one_good, report_holds, summary_lacks}
 
 module _ (left : Option Bytes) where
   pub usage_known : EachWhole (IsKnown left) usage_text
@@ -30,12 +33,31 @@ module _ (left : Option Bytes) where
       one_good (IsKnown left) (fault_line (codes "formula") number offset) (formula_text number offset)
       (fault_lacks (codes "formula") number offset formula_lacks) (inr (inr (formula number offset))) refl
 
+  -- a claim alone
+  pub claim_known : (names : List Bytes)
+      → ((text : Bytes) (declared : List Bytes) (body : Statements) → left ≡ Some text → IsProgramText text declared body → names ≡ declared)
+      → (line text : Bytes) (claim : Claim) → Lacks line → Tells names line claim → text ≡ line ++ 10 ∷ [] → EachWhole (IsKnown left) text
+  claim_known names own line text claim lacks tells is =
+      one_good (IsKnown left) line text lacks (inl (record { names = names; says = inr record { claim = claim; tells = tells }; own = own })) is
+
+  -- the summary of a demo program
+  pub summary_known : (number bytes labels proved : ℕ) (text : Bytes) → text ≡ ended_lines (summary_lines number bytes labels proved)
+      → EachWhole (IsKnown left) text
+  summary_known number bytes labels proved text is =
+      each_good (IsKnown left) (summary_lines number bytes labels proved) text
+      (λ k d low. record {
+        lacking = summary_lacks number bytes labels proved k d low;
+        holds = all_of (IsKnown left) (summary_lines number bytes labels proved)
+            (λ line member. inr (inl (summary number bytes labels proved line member))) k d low;
+      }) is
+
   header_known : (header : Header) → All (IsKnown left) (exact_part header [])
   header_known header = all_of (IsKnown left) (exact_part header []) (λ line member. inr (inl (exact_head header line member)))
 
   frames : Frames (IsKnown left)
   frames = record {
     exact = header_known;
+    explanation = λ explain. all_of (IsKnown left) (explain_part (Some explain)) (λ line member. inr (inl (explanation explain line member)));
     proved = inr (inl proved_head);
     unknown = inr (inl unknown_head);
     all_inputs = inr (inl all_verdict);
@@ -46,7 +68,7 @@ module _ (left : Option Bytes) where
       (own : (text : Bytes) (declared : List Bytes) (body : Statements) → left ≡ Some text → IsProgramText text declared body → names ≡ declared) where
     spoken : (line : Line) → Prints (IsKnown left) frames names known.newline line
     spoken line text is =
-        inl (record { names = names; says = record { condition = functions_of is.condition; claim = line.claim; spells = is.spells }; own = own })
+        inl (record { names = names; says = inl record { condition = functions_of is.condition; claim = line.claim; spells = is.spells }; own = own })
 
     all_spoken : (lines : List Line) → All (Prints (IsKnown left) frames names known.newline) lines
     all_spoken [] = All-nil (Prints (IsKnown left) frames names known.newline)
@@ -55,5 +77,5 @@ module _ (left : Option Bytes) where
     pub report_known : (found : Found) (report : Report) (text : Bytes) → Shows found report → IsReportText names report text
         → EachWhole (IsKnown left) text
     report_known found report text shows printed =
-        report_holds (IsKnown left) frames names known.newline report text shows.unexplained (all_spoken report.exact) (all_spoken report.proved)
+        report_holds (IsKnown left) frames names known.newline report text (all_spoken report.exact) (all_spoken report.proved)
         (all_spoken report.unknown) printed

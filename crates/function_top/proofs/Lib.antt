@@ -4,6 +4,8 @@ pub mod OnlyMet
 pub mod Conditions
 pub mod ExactLines
 pub mod Truth
+pub mod Summing
+pub mod OneTold
 pub mod Claiming
 pub mod Formed
 pub mod Named
@@ -15,5 +17,4 @@ pub mod Reported
 pub mod Once
 pub mod MetOnce
 pub mod Counted
-pub mod Choices
 mod Refusing

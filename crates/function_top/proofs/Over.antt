@@ -1,5 +1,5 @@
 -- The lines of a tree over the names are over them.
-use Rattle.std.proofs.Common.{◌≡◌, ⊎_elim, ℕ, ◌<◌, ◌≤◌, ℤ, pos, negsuc, ◌-ℤ◌, List, [], ◌∷◌, ◌++◌, length, not, All, Contains, sym, subst, ◌∙◌, arith}
+use Rattle.std.proofs.Common.{◌≡◌, ⊎_elim, inl, inr, true, false, int_le, if◌then◌else◌, ℕ, ◌<◌, ◌≤◌, ℤ, pos, negsuc, ◌-ℤ◌, List, [], ◌∷◌, ◌++◌, length, not, All, Contains, sym, subst, ◌∙◌, arith}
 use Rattle.std.proofs.lemmas.Bool.{cases_lt}
 use Rattle.std.proofs.lemmas.Int.{ints}
 use Rattle.std.proofs.lemmas.List.{get_or_past}
@@ -7,7 +7,9 @@ use Rattle.std.proofs.lemmas.List.Elements.{All-append, All-cons, All-filter, Al
 use Rattle.linear_cons.specs.declared.affine.Affine.{Affine}
 use Rattle.linear_cons.specs.declared.row.Row.{Row}
 use Rattle.linear_cons.specs.Numbers.{at_places, number_at}
-use Rattle.linear_cons.specs.Functions.{coefficient, complement_of, constant_of}
+use Rattle.linear_cons.specs.Functions.{coefficient, complement_of, constant_of, value_at}
+use Rattle.linear_cons.proofs.Over.{over_constant}
+use Rattle.decision_tree.specs.Evaluation.{eval}
 use Rattle.linear_cons.specs.Functions as functions
 use Rattle.linear_cons.proofs.Places.{length-at_places, number_at_places}
 use Rattle.linear_solve.proofs.Lists.{member_of}
@@ -16,7 +18,7 @@ use Rattle.decision_tree.specs.Plans.{Plan, bottom, branch, leaf, plan_of, top}
 use Rattle.decision_tree.specs.Extent.{IsTreeOver}
 use Rattle.line_text.specs.declared.claim.Claim.{Claim}
 use Rattle.decision_tree.specs.declared.reason.Why.{Why}
-use Rattle.line_text.specs.declared.claim.Claim.TheVariants.{Unknown}
+use Rattle.line_text.specs.declared.claim.Claim.TheVariants.{Exactly, Holds, Unknown, Within}
 use Rattle.line_text.specs.Names.{IsOver}
 use Rattle.line_text.specs.Spells.{IsClaimOver}
 use Rattle.report_text.specs.declared.line.Line.{Line}
@@ -27,7 +29,11 @@ use Rattle.report_text.specs.Leaves.{AreLines, AreLinesOf, IsLineOf, claim_of, i
 use Rattle.report_text.specs.Printed.{IsLineOver}
 use Rattle.function_top.specs.declared.found.Exact.{Exact as Known}
 use Rattle.function_top.specs.declared.found.Exact.TheVariants.{Made, Unasked, Unmade}
-use Rattle.function_top.specs.Printable.{IsExactPrintable}
+use Rattle.function_top.specs.declared.found.Found.{Found}
+use Rattle.function_top.specs.declared.status.Status.{Status}
+use Rattle.function_top.specs.declared.status.Status.TheVariants.{AllInputs, SomeInputs, Words, Program, Formula, ReadFault, WriteFault, NoMemory}
+use Rattle.function_top.specs.OneInput.{IsTold, IsToldAs, IsToldOf}
+use Rattle.function_top.specs.Printable.{IsExactPrintable, IsFoundPrintable}
 use Rattle.function_top.specs.Shown.{ShowsExact}
 
 -- a function of the numbers at places is 0 where its numbers are
@@ -60,7 +66,7 @@ module _ (names : List (List ℕ)) (few : length names ≤ 15) where
   claim_over Plain why rank over = tt
 
   -- a function of the variables below the number of names is over the names
-  named : (a : Affine) → functions.IsOver (length names) a → IsOver names a
+  pub named : (a : Affine) → functions.IsOver (length names) a → IsOver names a
   named a over = record { few = omega (arith, few); places = over.places; past = over.past }
 
   leaves_over : (claims : Top) (above : List Affine) (tree : Plan AffineRank) → All (IsOver names) above → IsTreeOver (length names) tree
@@ -102,3 +108,40 @@ module _ (names : List (List ℕ)) (few : length names ≤ 15) where
       subst (All (IsLineOver names)) (sym shows.1.2)
       (All-filter (λ (line : Line). not (is_unknown line.claim)) (IsLineOver names) shows.1.0
       (tree_lines_over Exact (plan_of tree) shows.1.0 printable.0.over shows.1.1))
+
+  -- what is told of one input is over them
+  leaf_over : (tree : Plan AffineRank) (input : List ℤ) → IsTreeOver (length names) tree → IsTreeOver (length names) (eval tree input)
+  leaf_over bottom input over = over
+  leaf_over (top cause) input over = over
+  leaf_over (leaf why rank) input over = over
+  leaf_over (branch row this that) input over =
+      elim (int_le (pos 0) (value_at row.affine input)) as (λ t. IsTreeOver (length names) (if t then eval this input else eval that input)) [
+        | true ↦ leaf_over this input over.1
+        | false ↦ leaf_over that input over.2
+      ]
+
+  told_bound_over : (bound : Affine) (input : List ℤ) (told : Affine) → IsOver names bound → IsToldAs bound input told → IsOver names told
+  told_bound_over bound input told over (inl (fits, same)) =
+      subst (IsOver names) (sym same) (named (constant_of (value_at bound input)) (over_constant (length names) (value_at bound input)))
+  told_bound_over bound input told over (inr (wide, same)) = subst (IsOver names) (sym same) over
+
+  told_claim_over : (claim told : Claim) (input : List ℤ) → IsClaimOver names claim → IsTold claim input told → IsClaimOver names told
+  told_claim_over (Within bound) told input over (function, as_told, is) =
+      subst (IsClaimOver names) (sym is) (told_bound_over bound input function over as_told)
+  told_claim_over (Exactly number) told input over is = subst (IsClaimOver names) (sym is) over
+  told_claim_over Holds told input over is = subst (IsClaimOver names) (sym is) over
+  told_claim_over Unknown told input over is = subst (IsClaimOver names) (sym is) over
+
+  pub told_over : (found : Found) (input : List ℤ) (status : Status) (claim : Claim) → IsFoundPrintable (length names) found
+      → IsToldOf found input status claim → IsClaimOver names claim
+  told_over found input AllInputs claim printable (inl (rank, leads, is)) = subst (IsClaimOver names) (sym is) tt
+  told_over found input AllInputs claim printable (inr (lacks, rank, leads, told)) =
+      let over = subst (IsTreeOver (length names)) leads.is (leaf_over (plan_of found.cover) input printable.cover.over) in
+      told_claim_over (claim_of found.claims rank) claim input (claim_over found.claims leads.why rank (named rank.value over.0)) told
+  told_over found input SomeInputs claim printable told = subst (IsClaimOver names) (sym told.2) tt
+  told_over found input Words claim printable told = absurd told
+  told_over found input Program claim printable told = absurd told
+  told_over found input Formula claim printable told = absurd told
+  told_over found input ReadFault claim printable told = absurd told
+  told_over found input WriteFault claim printable told = absurd told
+  told_over found input NoMemory claim printable told = absurd told

@@ -1,20 +1,21 @@
 -- What words that were read ask for.
-use Rattle.std.proofs.Common.{◌≡◌, ◌↔◌, ◌∙◌, ℕ, List, Option, None, Some, option_map, refl, sym, ap}
+use Rattle.std.proofs.Common.{◌≡◌, ◌↔◌, ◌∙◌, ℕ, List, Option, None, Some, option_map, sym, ap}
 use Rattle.std.proofs.lemmas.Option.{none-some, same_Some}
-use Rattle.function_top.specs.declared.order.Order.{Order}
-use Rattle.function_top.specs.Order.{Accepted, Ask, Task, task_of}
+use Rattle.command_words.specs.declared.order.Order.{Order}
+use Rattle.command_words.specs.declared.order.Order.TheVariants.{Analysis, Demo}
+use Rattle.command_words.specs.declared.order.Query.{Query}
+use Rattle.command_words.specs.Order.{Accepted, Ask, Request, analysis, demo, request_of, task_of}
 use Rattle.function_top.proofs.Headline.{AskOnce}
 
-none_read : (read : Option Order) (task : Task) → ((order : Order) → read ≡ Some order → ⊥) → option_map task_of read ≡ Some task → ⊥
-none_read None task none is = none-some task is
-none_read (Some order) task none is = none order refl
-
-module _ (words : List (List ℕ)) (read : Option Order) (law : (task : Task) → option_map task_of read ≡ Some task ↔ Ask words task) where
+module _ (words : List (List ℕ)) (read : Option Order) (law : (request : Request) → option_map request_of read ≡ Some request ↔ Ask words request) where
   pub once : AskOnce words
   once one other here there = same_Some one other (sym ((law one).1 here) ∙ (law other).1 there)
 
-  abbrev pub accepted : (order : Order) → read ≡ Some order → Accepted words
-  accepted order is = (task_of order, (law (task_of order)).0 (ap (option_map task_of) is))
+  pub served : (query : Query) → read ≡ Some (Analysis query) → Ask words (analysis (task_of query))
+  served query is = (law (analysis (task_of query))).0 (ap (option_map request_of) is)
 
-  pub refused : ((order : Order) → read ≡ Some order → ⊥) → ¬ Accepted words
-  refused none asks = none_read read asks.0 none ((law asks.0).1 asks.1)
+  pub shown : (number : ℕ) → read ≡ Some (Demo number) → Ask words (demo number)
+  shown number is = (law (demo number)).0 (ap (option_map request_of) is)
+
+  pub refused : read ≡ None → ¬ Accepted words
+  refused none asks = none-some asks.0 (sym (ap (option_map request_of) none) ∙ (law asks.0).1 asks.1)

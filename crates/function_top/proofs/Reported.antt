@@ -1,30 +1,38 @@
 -- What is due by the report that shows what was found.
-use Rattle.std.proofs.Common.{◌≡◌, ◌≢◌, ℕ, ◌≤◌, ⊎_elim, List, [], length, sym, subst, ◌∙◌}
+use Rattle.std.proofs.Common.{◌≡◌, ◌≢◌, ℕ, ◌+◌, ◌≤◌, ⊎_elim, List, [], ◌∷◌, ◌++◌, length, Option, None, Some, refl, sym, subst, ◌∙◌}
 use Rattle.step_meaning.specs.declared.program.Program.{Program as Parsed}
-use Rattle.step_meaning.specs.Syntax.{statements}
+use Rattle.step_meaning.specs.Outcome.{Store}
+use Rattle.step_meaning.specs.Syntax.{size_of, statements}
 use Rattle.source_parse.specs.Derives.{IsProgramText}
 use Rattle.ctl_formula.specs.Formulas.{Ctl, normal}
 use Rattle.normal_form.specs.Operators.{operators}
 use Rattle.ctl_rounds.specs.Asked.{IsAdvised}
 use Rattle.decision_tree.specs.Plans.{plan_of}
+use Rattle.line_text.specs.declared.claim.Claim.{Claim}
+use Rattle.claim_line.specs.Tells.{Tells}
+use Rattle.input_text.specs.Input.{IsInputText}
 use Rattle.report_text.specs.declared.report.Report.{Report}
 use Rattle.report_text.specs.Printed.{IsReportText}
 use Rattle.function_top.specs.declared.found.Found.{Found}
 use Rattle.function_top.specs.declared.status.Status.{Status}
 use Rattle.function_top.specs.declared.status.Status.TheVariants.{AllInputs, SomeInputs, Words, Program, Formula, ReadFault, WriteFault, NoMemory}
-use Rattle.function_top.specs.Due.{IsDueOn, IsReportOn, IsVerdict}
+use Rattle.function_top.specs.Asking.{IsInputGiven, IsReadAs}
+use Rattle.function_top.specs.Due.{IsAnswerOn, IsCovering, IsDueOn, IsLacking, IsReportOn, IsVerdict}
+use Rattle.function_top.specs.Explained.{explained, explanation}
 use Rattle.function_top.specs.Found.{IsFound}
-use Rattle.function_top.specs.Order.{Task}
+use Rattle.command_words.specs.Order.{Task}
+use Rattle.function_top.specs.OneInput.{IsToldOf}
 use Rattle.function_top.specs.Shown.{Shows}
 use Rattle.function_top.specs.Subject.{IsFormulaAsked, subject_of}
 use Rattle.function_top.proofs.Headline.{whole_claims}
 
-module _ (task : Task) (text : List ℕ) (program : Parsed) (meant : Ctl) (found : Found) (report : Report) (turns : ℕ) (bytes : List ℕ)
+module _ (task : Task) (text : List ℕ) (program : Parsed) (meant : Ctl) (found : Found) (report : Report) (advisers turns : ℕ) (bytes : List ℕ)
     (short : length text ≤ 65536) (derived : IsProgramText text program.names (statements program.body))
     (formula : IsFormulaAsked program.names task.formula meant) (limited : operators (normal meant) ≤ 256)
     (finds : IsFound task (subject_of program meant) found) (asked : turns ≡ found.turns) (shows : Shows found report)
+    (explains : report.explain ≡ explained task.explain (explanation (1 + size_of (statements program.body)) found.families advisers turns))
     (printed : IsReportText program.names report bytes) where
-  on : IsReportOn task text report turns bytes
+  on : IsReportOn task text report advisers turns bytes
   on = record {
     short = short;
     subject = subject_of program meant;
@@ -34,6 +42,7 @@ module _ (task : Task) (text : List ℕ) (program : Parsed) (meant : Ctl) (found
     finds = finds;
     asked = asked;
     shows = shows;
+    explains = explains;
     printed = printed;
   }
 
@@ -44,13 +53,72 @@ module _ (task : Task) (text : List ℕ) (program : Parsed) (meant : Ctl) (found
       (λ times. asked ∙ times)
       (finds.insists advised)
 
-  pub report_due : (status : Status) → IsVerdict status report.unknown → IsDueOn task text status turns bytes
+  pub report_due : task.input ≡ None → (status : Status) → IsVerdict status report.unknown → IsDueOn task text status advisers turns bytes
   unfolding on
-  report_due AllInputs verdict = (report, on, verdict, subst (λ n. n ≤ 8) (sym asked) finds.few)
-  report_due SomeInputs verdict = (report, on, verdict, (eight verdict, λ unadvised. asked ∙ finds.spares unadvised))
-  report_due Words verdict = absurd verdict
-  report_due Program verdict = absurd verdict
-  report_due Formula verdict = absurd verdict
-  report_due ReadFault verdict = absurd verdict
-  report_due WriteFault verdict = absurd verdict
-  report_due NoMemory verdict = absurd verdict
+  report_due all AllInputs verdict =
+      subst (λ asked. IsCovering asked task text advisers turns bytes) (sym all) (report, on, verdict, subst (λ n. n ≤ 8) (sym asked) finds.few)
+  report_due all SomeInputs verdict =
+      subst (λ asked. IsLacking asked task text advisers turns bytes) (sym all) (report, on, verdict, (eight verdict, λ unadvised. asked ∙ finds.spares unadvised))
+  report_due all Words verdict = absurd verdict
+  report_due all Program verdict = absurd verdict
+  report_due all Formula verdict = absurd verdict
+  report_due all ReadFault verdict = absurd verdict
+  report_due all WriteFault verdict = absurd verdict
+  report_due all NoMemory verdict = absurd verdict
+
+-- what is due where one input is asked for
+module _ (task : Task) (text asked_text : List ℕ) (program : Parsed) (meant : Ctl) (found : Found) (advisers turns : ℕ) (bytes line : List ℕ)
+    (input : Store) (claim : Claim)
+    (short : length text ≤ 65536) (derived : IsProgramText text program.names (statements program.body))
+    (formula : IsFormulaAsked program.names task.formula meant) (limited : operators (normal meant) ≤ 256)
+    (finds : IsFound task (subject_of program meant) found) (asked : turns ≡ found.turns)
+    (given : IsInputText program.names asked_text input) (tells : Tells program.names line claim) (is_line : bytes ≡ line ++ 10 ∷ []) where
+  answer : (status : Status) → IsToldOf found input status claim → IsAnswerOn task text asked_text status turns bytes
+  answer status told = record {
+    short = short;
+    subject = subject_of program meant;
+    is = record { program = derived; formula = formula };
+    limited = limited;
+    input = input;
+    input_is = given;
+    found = found;
+    finds = finds;
+    turns_are = asked;
+    few = subst (λ n. n ≤ 8) (sym asked) finds.few;
+    claim = claim;
+    told = told;
+    line = line;
+    tells = tells;
+    is_line = is_line;
+  }
+
+  pub answer_due : task.input ≡ Some asked_text → (status : Status) → IsToldOf found input status claim → IsDueOn task text status advisers turns bytes
+  answer_due one AllInputs told = subst (λ i. IsCovering i task text advisers turns bytes) (sym one) (answer AllInputs told)
+  answer_due one SomeInputs told = subst (λ i. IsLacking i task text advisers turns bytes) (sym one) (answer SomeInputs told)
+  answer_due one Words told = absurd told
+  answer_due one Program told = absurd told
+  answer_due one Formula told = absurd told
+  answer_due one ReadFault told = absurd told
+  answer_due one WriteFault told = absurd told
+  answer_due one NoMemory told = absurd told
+
+-- ---- the input that was read
+
+pub record IsReadText (names : List (List ℕ)) (asked : Option (List ℕ)) (input : Store) : Type 0 where
+  pub text : List ℕ
+  pub is : asked ≡ Some text
+  pub given : IsInputText names text input
+
+pub read_some : (names : List (List ℕ)) (asked : Option (List ℕ)) (input : Store) → IsReadAs names asked (Some input) → IsReadText names asked input
+read_some names (Some text) input read = record { text = text; is = refl; given = read }
+read_some names None input read = absurd read
+
+pub read_none : (names : List (List ℕ)) (asked : Option (List ℕ)) → IsReadAs names asked None → asked ≡ None
+read_none names None read = refl
+read_none names (Some text) read = absurd read
+
+pub read_given : (names : List (List ℕ)) (asked : Option (List ℕ)) (input : Option Store) → IsReadAs names asked input → IsInputGiven names asked
+read_given names None None read = tt
+read_given names (Some text) (Some input) read = (input, read)
+read_given names None (Some input) read = absurd read
+read_given names (Some text) None read = absurd read

@@ -1,18 +1,20 @@
 -- All that is said of a call: by the words that were accepted or refused, and by what was due.
-use Rattle.std.proofs.Common.{◌≡◌, ◌≢◌, ℕ, List, [], ◌∷◌, map, sym, ◌∙◌, subst}
+use Rattle.std.proofs.Common.{◌≡◌, ℕ, inl, inr, List, [], ◌∷◌, length, Some, map, refl, sym, ◌∙◌, subst}
 use Rattle.ctl_rounds.specs.Asked.{RoseBy}
+use Rattle.command_words.specs.Order.{Accepted, Ask, Task, analysis, demo}
 use Rattle.function_top.specs.declared.status.Status.{Status}
-use Rattle.function_top.specs.declared.status.Status.TheVariants.{Words}
-use Rattle.function_top.specs.Answer.{Answers, IsRun}
+use Rattle.function_top.specs.declared.status.Status.TheVariants.{AllInputs, NoMemory, ReadFault, Words}
+use Rattle.function_top.specs.Answer.{Answers, CoversDemos, IsRun, WasDemo}
 use Rattle.function_top.specs.Call.{Call}
+use Rattle.function_top.specs.Demo.{IsDemoDue}
 use Rattle.function_top.specs.Due.{IsDueOn}
 use Rattle.function_top.specs.Form.{IsKnown}
-use Rattle.function_top.specs.Order.{Accepted}
 use Rattle.function_top.specs.Refusals.{usage_text}
 use Rattle.function_top.specs.Subject.{IsSubject}
 use Rattle.function_top.specs.Text.{IsRead}
-use Rattle.function_top.proofs.Formed.{usage_known}
-use Rattle.function_top.proofs.Headline.{AskOnce, KnownTexts, Settles, complete, covers_countdowns, due_known, due_true, front_written, nothing_written, refused_answers, settled_accepts, settled_answers, told_read}
+use Rattle.function_top.proofs.Formed.{summary_known, usage_known}
+use Rattle.function_top.proofs.Headline.{AskOnce, KnownTexts, Serves, Settles, complete, covers_countdowns, due_known, due_told, due_true, front_written, no_demo, nothing_written, refused_answers, same_task, settled_answers, told_read}
+use Rattle.function_top.proofs.OneTold.{TellsTrue, usage_tells}
 use Rattle.function_top.proofs.Truth.{SaysTrue, usage_true}
 use Rattle.function_top.proofs.Written.{Bytes}
 
@@ -21,59 +23,119 @@ module _ (words : List Bytes) (call : Call) where
   Settled status result bytes = Settles status result bytes call.taken call.taken_after call.write_faults call.write_faults_after
 
   -- what was due on the text was written, or a front of it
-  pub run_settled : KnownTexts → AskOnce words → (accepted : Accepted words) → (status result : Status) (text : Bytes) (turns : ℕ) (bytes : Bytes) → IsRead call.left text
-      → call.read_faults_after ≡ call.read_faults → IsDueOn accepted.0 text status turns bytes
+  pub run_settled : KnownTexts → AskOnce words → (served : Serves words) → (status result : Status) (text : Bytes) (turns : ℕ) (bytes : Bytes) → IsRead call.left text
+      → call.read_faults_after ≡ call.read_faults → IsDueOn served.0 text status (length call.asked) turns bytes
       → RoseBy (λ (times : ℕ). times) turns call.asked call.asked_after → Settled status result bytes → IsRun words result call
-  run_settled known once accepted status result text turns bytes read faultless due rose settled =
-      let other = settled_accepts accepted.0 status result text bytes turns call.taken call.taken_after call.write_faults call.write_faults_after due settled in
-      let answers = settled_answers words call accepted text bytes turns read faultless rose status result due settled in
+  run_settled known once served status result text turns bytes read faultless due rose settled =
+      let answers = settled_answers words call served text bytes turns read faultless rose status result due settled in
       record {
         headline = λ task told before written subject ask is h taken taken' line condition claim whole s.
             front_written (SaysTrue subject) status result bytes call.taken call.taken_after call.write_faults call.write_faults_after
-            (due_true known accepted.0 text subject status turns bytes
-            (subst (λ a. IsSubject a text subject) (once task accepted.0 ask accepted.1)
+            (due_true known served.0 text subject status (length call.asked) turns bytes
+            (subst (λ a. IsSubject a text subject) (same_task words once task served.0 ask served.1)
             (subst (λ t. IsSubject task t subject) (told_read call.left text told read is) h)) due)
             settled before written taken taken' line whole condition claim s;
+        answer = λ task told before written asked subject input ask is h one given taken taken' line claim whole tells.
+            let same = same_task words once task served.0 ask served.1 in
+            front_written (TellsTrue subject input) status result bytes call.taken call.taken_after call.write_faults call.write_faults_after
+            (due_told known served.0 text subject asked input (subst (λ (t : Task). t.input ≡ Some asked) same one)
+            (subst (λ a. IsSubject a text subject) same (subst (λ t. IsSubject task t subject) (told_read call.left text told read is) h)) given
+            status (length call.asked) turns bytes due)
+            settled before written taken taken' line whole claim tells;
         form = λ before written taken taken' line whole.
             front_written (IsKnown call.left) status result bytes call.taken call.taken_after call.write_faults call.write_faults_after
-            (due_known known accepted.0 call.left text read status turns bytes due) settled before written taken taken' line whole;
+            (due_known known served.0 call.left text read status (length call.asked) turns bytes due) settled before written taken taken' line whole;
         answers = answers;
-        refused = λ e. absurd (other e);
-        refuses = λ none. absurd (none accepted);
-        complete = complete known words once result call other answers;
+        refuses = λ none. absurd (none (analysis served.0, served.1));
+        complete = complete known words once result call answers;
         countdowns = covers_countdowns known words once result call answers;
+        demos = λ number ask. absurd (no_demo words once served.0 served.1 number ask);
       }
 
-  -- nothing was written
-  pub run_silent : KnownTexts → AskOnce words → Accepted words → (result : Status) → result ≢ Words → call.taken_after ≡ call.taken → Answers words result call → IsRun words result call
-  run_silent known once accepted result other same answers = record {
+  -- a read failed, and nothing was written
+  pub run_unread : KnownTexts → AskOnce words → Serves words → call.taken_after ≡ call.taken → Answers words ReadFault call → IsRun words ReadFault call
+  run_unread known once served same answers = record {
     headline = λ task told before written subject ask is h taken taken' line condition claim whole s.
         nothing_written (SaysTrue subject) call.taken before written taken (sym same ∙ taken') line whole condition claim s;
+    answer = λ task told before written asked subject input ask is h one given taken taken' line claim whole tells.
+        nothing_written (TellsTrue subject input) call.taken before written taken (sym same ∙ taken') line whole claim tells;
     form = λ before written taken taken' line whole.
         nothing_written (IsKnown call.left) call.taken before written taken (sym same ∙ taken') line whole;
     answers = answers;
-    refused = λ e. absurd (other e);
-    refuses = λ none. absurd (none accepted);
-    complete = complete known words once result call other answers;
-    countdowns = covers_countdowns known words once result call answers;
+    refuses = λ none. absurd (none (analysis served.0, served.1));
+    complete = complete known words once ReadFault call answers;
+    countdowns = covers_countdowns known words once ReadFault call answers;
+    demos = λ number ask. absurd (no_demo words once served.0 served.1 number ask);
+  }
+
+  -- memory ran out, and nothing was written
+  pub run_out : call.taken_after ≡ call.taken → Answers words NoMemory call → IsRun words NoMemory call
+  run_out same answers = record {
+    headline = λ task told before written subject ask is h taken taken' line condition claim whole s.
+        nothing_written (SaysTrue subject) call.taken before written taken (sym same ∙ taken') line whole condition claim s;
+    answer = λ task told before written asked subject input ask is h one given taken taken' line claim whole tells.
+        nothing_written (TellsTrue subject input) call.taken before written taken (sym same ∙ taken') line whole claim tells;
+    form = λ before written taken taken' line whole.
+        nothing_written (IsKnown call.left) call.taken before written taken (sym same ∙ taken') line whole;
+    answers = answers;
+    refuses = λ none. inr refl;
+    complete = λ task text subject ask is program limits given limited reads writes. inr (inr refl);
+    countdowns = λ task told subject ask is program whole ends counts same. cc;
+    demos = λ number ask writes. inr refl;
   }
 
   -- the words were refused, and the usage line was written, or a front of it
-  pub run_refused : KnownTexts → AskOnce words → ¬ Accepted words → (result : Status) → Settled Words result usage_text → IsRun words result call
-  run_refused known once none result settled =
-      let said = refused_answers words call result settled in
+  pub run_refused : KnownTexts → ¬ Accepted words → (result : Status) → Settled Words result usage_text → IsRun words result call
+  run_refused known none result settled =
+      let said = refused_answers words call result none settled in
       record {
         headline = λ task told before written subject ask is h taken taken' line condition claim whole s.
             front_written (SaysTrue subject) Words result usage_text call.taken call.taken_after call.write_faults call.write_faults_after
             (usage_true subject known.ending) settled before written taken taken' line whole condition claim s;
+        answer = λ task told before written asked subject input ask is h one given taken taken' line claim whole tells.
+            front_written (TellsTrue subject input) Words result usage_text call.taken call.taken_after call.write_faults call.write_faults_after
+            (usage_tells subject known.claim_ending input) settled before written taken taken' line whole claim tells;
         form = λ before written taken taken' line whole.
             front_written (IsKnown call.left) Words result usage_text call.taken call.taken_after call.write_faults call.write_faults_after
             (usage_known call.left) settled before written taken taken' line whole;
         answers = said.1;
-        refused = λ e. none;
-        refuses = λ lacks. said.0;
-        complete = λ task text subject ask is program limits limited reads writes. absurd (none (task, ask));
-        countdowns = covers_countdowns known words once result call said.1;
+        refuses = λ none. inl said.0;
+        complete = λ task text subject ask is program limits given limited. absurd (none (analysis task, ask));
+        countdowns = λ task told subject ask. absurd (none (analysis task, ask));
+        demos = λ number ask. absurd (none (demo number, ask));
+      }
+
+  -- the summary of a demo program was written, or a front of it
+  demo_answers : (number turns : ℕ) (bytes : Bytes) (result : Status) → Ask words (demo number) → call.read_faults_after ≡ call.read_faults
+      → IsDemoDue number turns bytes → RoseBy (λ (times : ℕ). times) turns call.asked call.asked_after → Settled AllInputs result bytes
+      → Answers words result call
+  demo_answers number turns bytes result ask unread due rose settled =
+      let was : WasDemo words call bytes = record { number = number; asked = ask; unread = unread; turns = turns; due = due; rose = rose } in
+      elim settled [
+        | inl h ↦ rw h.0 (bytes, inr was, h.1)
+        | inr h ↦ rw h.0 (bytes, inl (inr was), h.1, h.2)
+      ]
+
+  demo_covers : (result : Status) (bytes : Bytes) → Settled AllInputs result bytes → CoversDemos words result call
+  demo_covers result bytes (inl h) number ask writes = inl h.0
+  demo_covers result bytes (inr h) number ask writes = absurd (writes h.2)
+
+  pub run_demo : AskOnce words → (number turns : ℕ) (bytes : Bytes) (result : Status) → Ask words (demo number) → call.read_faults_after ≡ call.read_faults
+      → IsDemoDue number turns bytes → RoseBy (λ (times : ℕ). times) turns call.asked call.asked_after → Settled AllInputs result bytes
+      → IsRun words result call
+  run_demo once number turns bytes result ask unread due rose settled =
+      let other : (task : Task) → ¬ Ask words (analysis task) = λ task own. no_demo words once task own number ask in
+      record {
+        headline = λ task told before written subject own. absurd (other task own);
+        answer = λ task told before written asked subject input own. absurd (other task own);
+        form = λ before written taken taken' line whole.
+            front_written (IsKnown call.left) AllInputs result bytes call.taken call.taken_after call.write_faults call.write_faults_after
+            (summary_known call.left number _ _ _ bytes due.is) settled before written taken taken' line whole;
+        answers = demo_answers number turns bytes result ask unread due rose settled;
+        refuses = λ none. absurd (none (demo number, ask));
+        complete = λ task text subject own. absurd (other task own);
+        countdowns = λ task told subject own. absurd (other task own);
+        demos = demo_covers result bytes settled;
       }
 
 -- numbers rise as the advisers whose they are

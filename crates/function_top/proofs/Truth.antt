@@ -1,5 +1,5 @@
 -- What the command writes is true, line by line.
-use Rattle.std.proofs.Common.{◌≡◌, ℕ, not, List, [], ◌∷◌, ◌++◌, length, All, Contains, Option, None, Some, codes, refl, sym, ap, ◌∙◌, subst, arith, append_assoc}
+use Rattle.std.proofs.Common.{◌≡◌, ℕ, ◌+◌, not, List, [], ◌∷◌, ◌++◌, length, All, Contains, Option, None, Some, codes, refl, sym, ap, ◌∙◌, subst, arith, append_assoc}
 use Rattle.std.proofs.lemmas.List.Elements.{All-cons, All-filter, All-nil}
 use Rattle.step_meaning.specs.Outcome.{Store}
 use Rattle.step_meaning.specs.Run.{IsInput, start}
@@ -17,20 +17,21 @@ use Rattle.line_text.proofs.Words.{numeral_is_numeral}
 use Rattle.report_text.specs.declared.line.Line.{Line}
 use Rattle.report_text.specs.declared.line.Top.{Top}
 use Rattle.report_text.specs.declared.line.Top.TheVariants.{Exact as Counted}
+use Rattle.report_text.specs.declared.report.Explain.{Explain}
 use Rattle.report_text.specs.declared.report.Header.{Header}
 use Rattle.report_text.specs.declared.report.Header.TheVariants.{Absent, Partial, Stopped, Whole}
 use Rattle.report_text.specs.declared.report.Stop.{Stop}
 use Rattle.report_text.specs.declared.report.Stop.TheVariants.{NotPlain, TooManyNodes, WideNumbers}
 use Rattle.report_text.specs.declared.report.Report.{Report}
 use Rattle.report_text.specs.Leaves.{AreLinesOf, claim_at, is_unknown}
-use Rattle.report_text.specs.Printed.{IsReportText, cause_text, exact_part}
+use Rattle.report_text.specs.Printed.{IsReportText, adviser_lines, cause_text, exact_part, explain_part, explained}
 use Rattle.report_text.proofs.Standing.{one_line_met}
 use Rattle.function_top.specs.declared.found.Exact.{Exact}
 use Rattle.function_top.specs.declared.found.Exact.TheVariants.{Made, Unasked, Unmade}
 use Rattle.function_top.specs.declared.found.Found.{Found}
 use Rattle.function_top.specs.Exact.{IsExact, IsExactTree}
 use Rattle.function_top.specs.Found.{IsExactPart, IsFound, IsTrueTree}
-use Rattle.function_top.specs.Order.{Task}
+use Rattle.command_words.specs.Order.{Task}
 use Rattle.function_top.specs.Refusals.{fault_line, fault_text, usage_line, usage_text}
 use Rattle.function_top.specs.Shown.{Shows, ShowsExact}
 use Rattle.function_top.specs.Subject.{Subject}
@@ -57,10 +58,10 @@ pub usage_lacks : Lacks usage_line
 usage_lacks = tested usage_line refl
 
 module _ (what : Bytes) (number offset : ℕ) where
-  fault_front : Bytes
+  pub fault_front : Bytes
   fault_front = what ++ (codes ": " ++ (numeral number ++ codes " at "))
 
-  fault_is : fault_line what number offset ≡ fault_front ++ numeral offset
+  pub fault_is : fault_line what number offset ≡ fault_front ++ numeral offset
   unfolding fault_front
   fault_is = simp append_assoc
 
@@ -125,9 +126,33 @@ module _ (subject : Subject) (ending : EndAsLines) where
       (All-nil (SaysTrue subject))
   headers_silent (Stopped cause) = All-cons (SaysTrue subject) (stopped_line cause) [] (stop_silent cause) (All-nil (SaysTrue subject))
 
+  -- nor does a line that ends in a numeral
+  numeral_silent : (front line : Bytes) (n : ℕ) → line ≡ front ++ numeral n → SaysTrue subject line
+  numeral_silent front line n is =
+      let digits = numeral_is_numeral n in
+      silent line (subst (λ l. EndsAsLine l → ⊥) (sym is) (digit_last front (numeral n) digits.0 digits.1))
+
+  advisers_silent : (first : ℕ) (asked : List ℕ) → All (SaysTrue subject) (adviser_lines first asked)
+  advisers_silent first [] = All-nil (SaysTrue subject)
+  advisers_silent first (times ∷ more) =
+      All-cons (SaysTrue subject) (codes "adviser " ++ (numeral first ++ (codes " asked " ++ numeral times))) (adviser_lines (first + 1) more)
+      (numeral_silent (codes "adviser " ++ (numeral first ++ codes " asked ")) (codes "adviser " ++ (numeral first ++ (codes " asked " ++ numeral times))) times
+      (simp append_assoc))
+      (advisers_silent (first + 1) more)
+
+  explanation_silent : (explain : Explain) → All (SaysTrue subject) (explain_part (Some explain))
+  explanation_silent explain =
+      All-cons (SaysTrue subject) (codes "explain:") (explained explain)
+      (silent (codes "explain:") (other_last (codes "explain:") (λ e. omega arith) (λ e. omega arith) (λ e. omega arith)))
+      (All-cons (SaysTrue subject) (codes "labels " ++ numeral explain.labels) ((codes "families " ++ numeral explain.families) ∷ adviser_lines 1 explain.asked)
+      (numeral_silent (codes "labels ") (codes "labels " ++ numeral explain.labels) explain.labels refl)
+      (All-cons (SaysTrue subject) (codes "families " ++ numeral explain.families) (adviser_lines 1 explain.asked)
+      (numeral_silent (codes "families ") (codes "families " ++ numeral explain.families) explain.families refl) (advisers_silent 1 explain.asked)))
+
   frames : Frames (SaysTrue subject)
   frames = record {
     exact = λ header. headers_silent header;
+    explanation = explanation_silent;
     proved = silent (codes "proved:") (other_last (codes "proved:") (λ e. omega arith) (λ e. omega arith) (λ e. omega arith));
     unknown = silent (codes "unknown:") (other_last (codes "unknown:") (λ e. omega arith) (λ e. omega arith) (λ e. omega arith));
     all_inputs = silent (codes "verdict: all inputs") (other_before_s (codes "verdict: all inputs") refl (λ e. omega arith) (λ e. omega arith));
@@ -144,7 +169,7 @@ module _ (subject : Subject) (ending : EndAsLines) where
       subst (λ (r : AffineRank). IsTrueAt subject.formula (claim_at Counted (leaf why r)) input (start subject.body input)) (sym counts.1) claimed.longest
   counted_true tests tree level input is_input (branch row this that) counts is = tt
 
-  exact_true : (tests : ℕ) (tree : Plan AffineRank) → IsExactTree (length subject.names) subject.body tests tree → IsTrueTree subject Counted tree
+  pub exact_true : (tests : ℕ) (tree : Plan AffineRank) → IsExactTree (length subject.names) subject.body tests tree → IsTrueTree subject Counted tree
   exact_true tests tree level input is_input =
       counted_true tests tree level input is_input (eval tree input) (ranks_at tree input level.ranks) refl
 
@@ -195,7 +220,7 @@ module _ (subject : Subject) (ending : EndAsLines) where
         → IsReportText subject.names report text → EachWhole (SaysTrue subject) text
     report_true task found report text finds shows printed =
         let all = all_of Printed shows.lines (line_true found.claims (plan_of found.cover) shows.lines finds.holds shows.lines_of) in
-        report_holds (SaysTrue subject) frames subject.names known.newline report text shows.unexplained
+        report_holds (SaysTrue subject) frames subject.names known.newline report text
         (part_lines_true task.formula task.delay found.exact report.header report.exact finds.exact shows.exact)
         (subst (All Printed) (sym shows.proved) (All-filter (λ line. not (is_unknown line.claim)) Printed shows.lines all))
         (subst (All Printed) (sym shows.unknown) (All-filter (λ line. is_unknown line.claim) Printed shows.lines all))

@@ -1,5 +1,5 @@
 -- Texts line by line: what holds of each line that was printed holds of each whole line of the text, and of any front of it.
-use Rattle.std.proofs.Common.{◌≡◌, ◌≢◌, ℕ, zero, suc, ◌<◌, Bool, true, false, not, ◌&&◌, ◌⊎◌, inl, inr, ◌==◌, if◌then◌else◌, List, [], ◌∷◌, ◌++◌, take, drop, codes, All, Contains, None, refl, sym, ap, ◌∙◌, subst, arith}
+use Rattle.std.proofs.Common.{◌≡◌, ◌≢◌, ℕ, zero, suc, ◌+◌, ◌<◌, Bool, true, false, not, ◌&&◌, ◌⊎◌, inl, inr, ◌==◌, if◌then◌else◌, List, [], ◌∷◌, ◌++◌, take, drop, codes, All, Contains, Option, None, Some, refl, sym, ap, ◌∙◌, subst, arith}
 use Rattle.std.specs.Char.{digit_value}
 use Rattle.std.specs.List.{AllZip}
 use Rattle.std.specs.Str.Parse.{AllDigits}
@@ -14,13 +14,15 @@ use Rattle.line_text.specs.Spells.{Spells}
 use Rattle.report_text.specs.declared.line.Line.{Line}
 use Rattle.line_text.specs.Numeral.{numeral}
 use Rattle.line_text.proofs.Words.{numeral_is_numeral}
+use Rattle.report_text.specs.declared.report.Explain.{Explain}
 use Rattle.report_text.specs.declared.report.Header.{Header}
 use Rattle.report_text.specs.declared.report.Header.TheVariants.{Absent, Partial, Stopped, Whole}
 use Rattle.report_text.specs.declared.report.Report.{Report}
 use Rattle.report_text.specs.declared.report.Stop.{Stop}
 use Rattle.report_text.specs.declared.report.Stop.TheVariants.{NotPlain, TooManyNodes, WideNumbers}
-use Rattle.report_text.specs.Printed.{AreExactTexts, AreTextsOf, IsReportText, IsLineText, cause_text, ended_lines, exact_part, report_lines, verdict_line}
+use Rattle.report_text.specs.Printed.{AreExactTexts, AreTextsOf, IsReportText, IsLineText, adviser_lines, cause_text, ended_lines, exact_part, explain_part, explained, report_lines, verdict_line}
 use Rattle.report_text.specs.Sections.{IsWholeLine, lines_after, whole_lines}
+use Rattle.function_top.specs.Demo.{summary_lines}
 use Rattle.report_text.proofs.Cutting.{whole_lines_are}
 
 abbrev pub Bytes : Type 0
@@ -114,6 +116,45 @@ partial_lacks tests cause =
 stopped_lacks : (cause : Stop) → Lacks (stopped_line cause)
 stopped_lacks cause = both_lack (codes "exact: ") (cause_text cause) (tested (codes "exact: ") refl) (cause_lacks cause)
 
+-- ---- the lines of an explanation
+
+counted_lacks : (front : Bytes) → Lacks front → (n : ℕ) → Lacks (front ++ numeral n)
+counted_lacks front clean n = both_lack front (numeral n) clean (numeral_lacks n)
+
+advisers_lack : (first : ℕ) (asked : List ℕ) → All Lacks (adviser_lines first asked)
+advisers_lack first [] = All-nil Lacks
+advisers_lack first (times ∷ more) =
+    All-cons Lacks (codes "adviser " ++ (numeral first ++ (codes " asked " ++ numeral times))) (adviser_lines (first + 1) more)
+    (both_lack (codes "adviser ") (numeral first ++ (codes " asked " ++ numeral times)) (tested (codes "adviser ") refl)
+    (both_lack (numeral first) (codes " asked " ++ numeral times) (numeral_lacks first) (counted_lacks (codes " asked ") (tested (codes " asked ") refl) times)))
+    (advisers_lack (first + 1) more)
+
+explanation_lacks : (explain : Explain) → All Lacks (explain_part (Some explain))
+explanation_lacks explain =
+    All-cons Lacks (codes "explain:") (explained explain) (tested (codes "explain:") refl)
+    (All-cons Lacks (codes "labels " ++ numeral explain.labels) ((codes "families " ++ numeral explain.families) ∷ adviser_lines 1 explain.asked)
+    (counted_lacks (codes "labels ") (tested (codes "labels ") refl) explain.labels)
+    (All-cons Lacks (codes "families " ++ numeral explain.families) (adviser_lines 1 explain.asked)
+    (counted_lacks (codes "families ") (tested (codes "families ") refl) explain.families) (advisers_lack 1 explain.asked)))
+
+-- ---- the lines of a summary
+
+-- a line of what is counted, before others
+more_lack : (front : Bytes) → Lacks front → (n : ℕ) (more : List Bytes) → All Lacks more → All Lacks ((front ++ numeral n) ∷ more)
+more_lack front clean n more all = All-cons Lacks (front ++ numeral n) more (counted_lacks front clean n) all
+
+pub summary_lacks : (number bytes labels proved : ℕ) → All Lacks (summary_lines number bytes labels proved)
+summary_lacks number bytes labels proved =
+    let last : All Lacks (codes "verdict: all inputs" ∷ []) =
+    All-cons Lacks (codes "verdict: all inputs") [] (tested (codes "verdict: all inputs") refl) (All-nil Lacks) in
+    let lines = more_lack (codes "proved lines ") (tested (codes "proved lines ") refl) proved (codes "verdict: all inputs" ∷ []) last in
+    let third = more_lack (codes "labels ") (tested (codes "labels ") refl) labels ((codes "proved lines " ++ numeral proved) ∷ (codes "verdict: all inputs" ∷ [])) lines in
+    let second = more_lack (codes "bytes ") (tested (codes "bytes ") refl) bytes
+    ((codes "labels " ++ numeral labels) ∷ ((codes "proved lines " ++ numeral proved) ∷ (codes "verdict: all inputs" ∷ []))) third in
+    more_lack (codes "demo ") (tested (codes "demo ") refl) number
+    ((codes "bytes " ++ numeral bytes) ∷ ((codes "labels " ++ numeral labels) ∷ ((codes "proved lines " ++ numeral proved) ∷ (codes "verdict: all inputs" ∷ []))))
+    second
+
 -- ---- what holds of each line
 
 module _ (P : Bytes → Type 0) where
@@ -142,9 +183,10 @@ module _ (P : Bytes → Type 0) where
   pub of_nothing : EachWhole []
   of_nothing line whole = absurd (none_in_none line whole)
 
-  -- of the lines that frame a report without an explanation
+  -- of the lines that frame a report
   pub record Frames : Type 0 where
     pub exact : (header : Header) → All P (exact_part header [])
+    pub explanation : (explain : Explain) → All P (explain_part (Some explain))
     pub proved : P (codes "proved:")
     pub unknown : P (codes "unknown:")
     pub all_inputs : P (codes "verdict: all inputs")
@@ -163,16 +205,21 @@ module _ (P : Bytes → Type 0) where
     good_verdict [] = good_frame (codes "verdict: all inputs") refl frames.all_inputs
     good_verdict (line ∷ more) = good_frame (codes "verdict: some inputs") refl frames.some_inputs
 
-    good_lines : (header : Header) (exact proved unknown : List Bytes) → All IsGood (exact_part header exact) → All IsGood proved → All IsGood unknown
-        → All IsGood (report_lines header exact proved unknown None)
-    good_lines header exact proved unknown front first second =
-        let last = All-cons IsGood (verdict_line unknown) [] (good_verdict unknown) (All-nil IsGood) in
-        let behind = All-append IsGood unknown (verdict_line unknown ∷ []) second last in
-        All-append IsGood (exact_part header exact) (codes "proved:" ∷ (proved ++ (codes "unknown:" ∷ (unknown ++ (verdict_line unknown ∷ []))))) front
-        (All-cons IsGood (codes "proved:") (proved ++ (codes "unknown:" ∷ (unknown ++ (verdict_line unknown ∷ []))))
-        (good_frame (codes "proved:") refl frames.proved)
-        (All-append IsGood proved (codes "unknown:" ∷ (unknown ++ (verdict_line unknown ∷ []))) first
-        (All-cons IsGood (codes "unknown:") (unknown ++ (verdict_line unknown ∷ [])) (good_frame (codes "unknown:") refl frames.unknown) behind)))
+    good_explanation : (explain : Option Explain) → All IsGood (explain_part explain)
+    good_explanation None = All-nil IsGood
+    good_explanation (Some explain) = λ k d low. record { lacking = explanation_lacks explain k d low; holds = frames.explanation explain k d low }
+
+    good_lines : (header : Header) (exact proved unknown : List Bytes) (explain : Option Explain) → All IsGood (exact_part header exact) → All IsGood proved
+        → All IsGood unknown → All IsGood (report_lines header exact proved unknown explain)
+    good_lines header exact proved unknown explain front first second =
+        let end = explain_part explain ++ verdict_line unknown ∷ [] in
+        let last = All-append IsGood (explain_part explain) (verdict_line unknown ∷ []) (good_explanation explain)
+        (All-cons IsGood (verdict_line unknown) [] (good_verdict unknown) (All-nil IsGood)) in
+        let behind = All-append IsGood unknown end second last in
+        All-append IsGood (exact_part header exact) (codes "proved:" ∷ (proved ++ (codes "unknown:" ∷ (unknown ++ end)))) front
+        (All-cons IsGood (codes "proved:") (proved ++ (codes "unknown:" ∷ (unknown ++ end))) (good_frame (codes "proved:") refl frames.proved)
+        (All-append IsGood proved (codes "unknown:" ∷ (unknown ++ end)) first
+        (All-cons IsGood (codes "unknown:") (unknown ++ end) (good_frame (codes "unknown:") refl frames.unknown) behind)))
 
     good_zipped : (lines : List Line) (texts : List Bytes) → All Prints lines → AllZip (λ line text. IsLineText names line text) lines texts
         → All IsGood texts
@@ -205,10 +252,11 @@ module _ (P : Bytes → Type 0) where
     good_exact (Stopped cause) lines texts all are =
         good_header (stopped_line cause) (stopped_lacks cause) (All-head P (stopped_line cause) [] (frames.exact (Stopped cause))) [] (All-nil IsGood)
 
-    pub report_holds : (report : Report) (text : Bytes) → report.explain ≡ None → All Prints report.exact → All Prints report.proved
-        → All Prints report.unknown → IsReportText names report text → EachWhole text
-    report_holds report text unexplained exact proved unknown printed =
-        each_good (report_lines report.header printed.exact printed.proved printed.unknown None) text
-        (good_lines report.header printed.exact printed.proved printed.unknown (good_exact report.header report.exact printed.exact exact printed.exact_are)
-        (good_texts report.proved printed.proved proved printed.proved_are) (good_texts report.unknown printed.unknown unknown printed.unknown_are))
-        (subst (λ explain. text ≡ ended_lines (report_lines report.header printed.exact printed.proved printed.unknown explain)) unexplained printed.is)
+    pub report_holds : (report : Report) (text : Bytes) → All Prints report.exact → All Prints report.proved → All Prints report.unknown
+        → IsReportText names report text → EachWhole text
+    report_holds report text exact proved unknown printed =
+        each_good (report_lines report.header printed.exact printed.proved printed.unknown report.explain) text
+        (good_lines report.header printed.exact printed.proved printed.unknown report.explain
+        (good_exact report.header report.exact printed.exact exact printed.exact_are) (good_texts report.proved printed.proved proved printed.proved_are)
+        (good_texts report.unknown printed.unknown unknown printed.unknown_are))
+        printed.is

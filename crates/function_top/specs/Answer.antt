@@ -1,5 +1,5 @@
 -- What each status of the command says.
-use Rattle.std.specs.Prelude.{◌≡◌, ◌≢◌, ℕ, ◌≤◌, ◌⊎◌, List, Some}
+use Rattle.std.specs.Prelude.{◌≡◌, ◌≢◌, ℕ, ◌≤◌, ◌⊎◌, List, None, Some, length}
 use Rattle.std.specs.Io.KnownBytes.{Appends, Keeps}
 use Rattle.outside.specs.Faults.{Rose}
 use Rattle.outside.specs.Sink.{AppendsFront, WritesOrFails}
@@ -9,11 +9,13 @@ use Rattle.normal_form.specs.Operators.{operators}
 use Rattle.ctl_rounds.specs.Asked.{RoseBy}
 use Rattle.function_top.specs.declared.status.Status.{Status}
 use Rattle.function_top.specs.declared.status.Status.TheVariants.{AllInputs, SomeInputs, Words, Program, Formula, ReadFault, WriteFault, NoMemory}
+use Rattle.function_top.specs.Asking.{IsInputGiven}
 use Rattle.function_top.specs.Call.{Call}
+use Rattle.function_top.specs.Demo.{IsDemoDue}
 use Rattle.function_top.specs.Due.{IsDueOn, IsWithinLimits}
 use Rattle.function_top.specs.Form.{Form}
-use Rattle.function_top.specs.Headline.{Headline}
-use Rattle.function_top.specs.Order.{Accepted, Ask, Task}
+use Rattle.function_top.specs.Headline.{AnswerHeadline, Headline}
+use Rattle.command_words.specs.Order.{Accepted, Ask, Task, analysis, demo}
 use Rattle.function_top.specs.Refusals.{usage_text}
 use Rattle.function_top.specs.Subject.{IsSubject, Subject}
 use Rattle.function_top.specs.Text.{IsRead}
@@ -32,54 +34,74 @@ after_failing NoMemory = NoMemory
 -- the bytes are those that are due, with this status, by what the words ask for on the text that was read without a fault
 pub record WasDue (words : List (List ℕ)) (call : Call) (status : Status) (bytes : List ℕ) : Type 0 where
   pub task : Task
-  pub asked : Ask words task
+  pub asked : Ask words (analysis task)
   pub text : List ℕ
   pub read : IsRead call.left text
   pub faultless : call.read_faults_after ≡ call.read_faults
   pub turns : ℕ
-  pub due : IsDueOn task text status turns bytes
+  pub due : IsDueOn task text status (length call.asked) turns bytes
   pub rose : RoseBy (λ times. times) turns call.asked call.asked_after
+
+-- the bytes are those that are due by the demo program that the words ask for, for which nothing was read
+pub record WasDemo (words : List (List ℕ)) (call : Call) (bytes : List ℕ) : Type 0 where
+  pub number : ℕ
+  pub asked : Ask words (demo number)
+  pub unread : call.read_faults_after ≡ call.read_faults
+  pub turns : ℕ
+  pub due : IsDemoDue number turns bytes
+  pub rose : RoseBy (λ times. times) turns call.asked call.asked_after
+
+-- the bytes are those that are due, and they cover all inputs
+abbrev pub WasCovered : List (List ℕ) → Call → List ℕ → Type 0
+WasCovered words call bytes = WasDue words call AllInputs bytes ⊎ WasDemo words call bytes
 
 -- the bytes were written whole; or a write failed, and a front of them was written
 abbrev pub Writes : Call → List ℕ → Type 0
 Writes call bytes = WritesOrFails call.taken call.taken_after call.write_faults call.write_faults_after bytes
 
--- What a call of this status did. A report was written whole, with the status that goes with it; where a write failed, a front of it.
--- Words, a text or a formula that are refused got their line, or a front of it where a write failed. Behind a failed read, and where memory ran out,
--- nothing was written.
+-- What a call of this status did. A report, what is told of one input, or the summary of a demo program was written whole, with the status that goes
+-- with it; where a write failed, a front of it. Words, the text of a program, of an input or of a formula that are refused got their line, or a front
+-- of it where a write failed. Behind a failed read, and where memory ran out, nothing was written.
 abbrev pub Answers : List (List ℕ) → Status → Call → Type 0
-Answers words AllInputs call = (bytes : List ℕ) × WasDue words call AllInputs bytes × Appends call.taken call.taken_after bytes
+Answers words AllInputs call = (bytes : List ℕ) × WasCovered words call bytes × Appends call.taken call.taken_after bytes
 Answers words SomeInputs call = (bytes : List ℕ) × WasDue words call SomeInputs bytes × Appends call.taken call.taken_after bytes
-Answers words Words call = Writes call usage_text
+Answers words Words call = ((¬ Accepted words) ⊎ WasDue words call Words usage_text) × Writes call usage_text
 Answers words Program call = (bytes : List ℕ) × WasDue words call Program bytes × Writes call bytes
 Answers words Formula call = (bytes : List ℕ) × WasDue words call Formula bytes × Writes call bytes
 Answers words ReadFault call = Rose call.read_faults call.read_faults_after × Keeps call.taken call.taken_after
 Answers words WriteFault call =
-    (bytes : List ℕ) × (WasDue words call AllInputs bytes ⊎ WasDue words call SomeInputs bytes)
+    (bytes : List ℕ) × (WasCovered words call bytes ⊎ WasDue words call SomeInputs bytes)
     × AppendsFront call.taken call.taken_after bytes × Rose call.write_faults call.write_faults_after
 Answers words NoMemory call = (call.read_faults_after ≡ call.read_faults) × Keeps call.taken call.taken_after
 
--- By words that ask for something a text with a subject gets its report, where the text is within the limits, the normal form of the formula has at
--- most 256 operators, as that of `AF exit` has, no count of faults rose and memory didn't run out.
+-- By words that ask for an analysis a text with a subject gets its report, or what is told of the input that is asked for, where the text is within
+-- the limits, the text of an input, if there is one, is that of one of the program, the normal form of the formula has at most 256 operators, as that
+-- of `AF exit` has, no count of faults rose and memory didn't run out.
 abbrev pub IsComplete : List (List ℕ) → Status → Call → Type 0
 IsComplete words status call =
-    (task : Task) (text : List ℕ) (subject : Subject) → Ask words task → call.left ≡ Some text → IsSubject task text subject → IsWithinLimits text
-    → operators (normal subject.formula) ≤ 256
+    (task : Task) (text : List ℕ) (subject : Subject) → Ask words (analysis task) → call.left ≡ Some text → IsSubject task text subject → IsWithinLimits text
+    → IsInputGiven subject.names task.input → operators (normal subject.formula) ≤ 256
     → ¬ Rose call.read_faults call.read_faults_after → ¬ Rose call.write_faults call.write_faults_after
     → (status ≡ AllInputs) ⊎ (status ≡ SomeInputs) ⊎ (status ≡ NoMemory)
 
--- No input of a countdown program is left out where the normal form of the formula is `AF exit`, as it is where no formula is asked about.
+-- No input of a countdown program is left out of a report where the normal form of the formula is `AF exit`, as it is where no formula is asked about.
 abbrev pub CoversCountdowns : List (List ℕ) → Status → Call → Type 0
 CoversCountdowns words status call =
-    (task : Task) (text : List ℕ) (subject : Subject) → Ask words task → call.left ≡ Some text → IsSubject task text subject
-    → normal subject.formula ≡ af_exit → IsCountdown subject.body → status ≢ SomeInputs
+    (task : Task) (text : List ℕ) (subject : Subject) → Ask words (analysis task) → call.left ≡ Some text → IsSubject task text subject
+    → task.input ≡ None → normal subject.formula ≡ af_exit → IsCountdown subject.body → status ≢ SomeInputs
+
+-- A demo program gets its summary, which covers all inputs, where no count of faults of the sink rose and memory didn't run out.
+abbrev pub CoversDemos : List (List ℕ) → Status → Call → Type 0
+CoversDemos words status call =
+    (number : ℕ) → Ask words (demo number) → ¬ Rose call.write_faults call.write_faults_after → (status ≡ AllInputs) ⊎ (status ≡ NoMemory)
 
 -- All that is said of a call of the command with these words that ended with this status.
 pub record IsRun (words : List (List ℕ)) (status : Status) (call : Call) : Type 0 where
   pub headline : Headline words call
+  pub answer : AnswerHeadline words call
   pub form : Form call
   pub answers : Answers words status call
-  pub refused : status ≡ Words → ¬ Accepted words
-  pub refuses : ¬ Accepted words → status ≡ Words
+  pub refuses : ¬ Accepted words → (status ≡ Words) ⊎ (status ≡ NoMemory)
   pub complete : IsComplete words status call
   pub countdowns : CoversCountdowns words status call
+  pub demos : CoversDemos words status call

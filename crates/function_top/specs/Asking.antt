@@ -1,5 +1,7 @@
--- The formula that is asked about, in normal form, or what is answered in its place.
-use Rattle.std.specs.Prelude.{◌≡◌, ℕ, ◌≤◌, ◌⊎◌, List, Option, None, Some}
+-- The formula that is asked about, in normal form, or what is answered in its place; and the input that is asked for.
+use Rattle.std.specs.Prelude.{◌≡◌, ℕ, ◌≤◌, ◌⊎◌, List, Option, None, Some, ⊤}
+use Rattle.step_meaning.specs.Outcome.{Store}
+use Rattle.input_text.specs.Input.{IsInputText}
 use Rattle.ctl_formula.specs.Formulas.{Ctl, normal}
 use Rattle.normal_form.specs.Operators.{operators}
 use Rattle.formula_parse.specs.declared.fault.FormulaFault.{FormulaFault}
@@ -33,3 +35,15 @@ IsFaultRead names text fault = IsFaultOf text names fault ⊎ IsFaultOfNormal na
 abbrev pub IsFaultAsked : List (List ℕ) → Option (List ℕ) → FormulaFault → Type 0
 IsFaultAsked names None fault = IsMemory fault
 IsFaultAsked names (Some text) fault = IsFaultRead names text fault
+
+-- where the text of an input is given, it is that of one over the names
+abbrev pub IsInputGiven : List (List ℕ) → Option (List ℕ) → Type 0
+IsInputGiven names None = ⊤
+IsInputGiven names (Some text) = (input : Store) × IsInputText names text input
+
+-- it was read as this input; where none is given, as none
+abbrev pub IsReadAs : List (List ℕ) → Option (List ℕ) → Option Store → Type 0
+IsReadAs names None None = ⊤
+IsReadAs names (Some text) (Some input) = IsInputText names text input
+IsReadAs names None (Some input) = ⊥
+IsReadAs names (Some text) None = ⊥

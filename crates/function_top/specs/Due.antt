@@ -1,7 +1,8 @@
 -- What is due on a text.
-use Rattle.std.specs.Prelude.{◌≡◌, ◌≢◌, ℕ, ◌<◌, ◌≤◌, ◌⊎◌, List, [], length, Option, None, Some, ⊤}
+use Rattle.std.specs.Prelude.{◌≡◌, ◌≢◌, ℕ, ◌+◌, ◌<◌, ◌≤◌, ◌⊎◌, List, [], ◌∷◌, ◌++◌, length, Option, None, Some, ⊤}
 use Rattle.step_meaning.specs.declared.program.Program.{Program as Parsed}
 use Rattle.step_meaning.specs.Offsets.{offsets}
+use Rattle.step_meaning.specs.Outcome.{Store}
 use Rattle.step_meaning.specs.Syntax.{size_of, statements}
 use Rattle.ctl_formula.specs.Formulas.{Ctl, normal}
 use Rattle.normal_form.specs.Operators.{operators}
@@ -15,6 +16,9 @@ use Rattle.source_parse.specs.Faults.{IsFaultOf, numbered}
 use Rattle.control_flow.specs.declared.fault.FlowFault.{FlowFault}
 use Rattle.control_flow.specs.declared.fault.FlowFault.TheVariants.{Labels, Conjunctions, Memory}
 use Rattle.control_flow.specs.Faults.{IsFlowFault, wide_offsets}
+use Rattle.line_text.specs.declared.claim.Claim.{Claim}
+use Rattle.claim_line.specs.Tells.{Tells}
+use Rattle.input_text.specs.Input.{IsInputText}
 use Rattle.report_text.specs.declared.line.Line.{Line}
 use Rattle.report_text.specs.declared.report.Report.{Report}
 use Rattle.report_text.specs.Printed.{IsReportText}
@@ -22,15 +26,18 @@ use Rattle.ctl_rounds.specs.Asked.{IsAdvised}
 use Rattle.function_top.specs.declared.status.Status.{Status}
 use Rattle.function_top.specs.declared.status.Status.TheVariants.{AllInputs, SomeInputs, Words, Program, Formula, ReadFault, WriteFault, NoMemory}
 use Rattle.function_top.specs.declared.found.Found.{Found}
+use Rattle.function_top.specs.Asking.{IsInputGiven}
+use Rattle.function_top.specs.Explained.{explained, explanation}
 use Rattle.function_top.specs.Found.{IsFound}
-use Rattle.function_top.specs.Order.{Task}
-use Rattle.function_top.specs.Refusals.{formula_text, program_text}
+use Rattle.command_words.specs.Order.{Task}
+use Rattle.function_top.specs.OneInput.{IsToldOf}
+use Rattle.function_top.specs.Refusals.{formula_text, program_text, usage_text}
 use Rattle.function_top.specs.Shown.{Shows}
 use Rattle.function_top.specs.Subject.{IsSubject, Subject}
 
 -- The text, of at most 65,536 bytes, has a subject, and the normal form of its formula has at most 256 operators; by the task this was found of
--- it, asking the advisers so many times; and the report that shows it is these bytes.
-pub record IsReportOn (task : Task) (text : List ℕ) (report : Report) (turns : ℕ) (bytes : List ℕ) : Type 0 where
+-- it, asking each of so many advisers so many times; and the report that shows it, explained where that is asked for, is these bytes.
+pub record IsReportOn (task : Task) (text : List ℕ) (report : Report) (advisers turns : ℕ) (bytes : List ℕ) : Type 0 where
   pub short : length text ≤ 65536
   pub subject : Subject
   pub is : IsSubject task text subject
@@ -39,7 +46,26 @@ pub record IsReportOn (task : Task) (text : List ℕ) (report : Report) (turns :
   pub finds : IsFound task subject found
   pub asked : turns ≡ found.turns
   pub shows : Shows found report
+  pub explains : report.explain ≡ explained task.explain (explanation (1 + size_of subject.body) found.families advisers turns)
   pub printed : IsReportText subject.names report bytes
+
+-- The same of a text with a subject where one input is asked for, by its text: what is told of the input by what was found, on one line.
+pub record IsAnswerOn (task : Task) (text asked : List ℕ) (status : Status) (turns : ℕ) (bytes : List ℕ) : Type 0 where
+  pub short : length text ≤ 65536
+  pub subject : Subject
+  pub is : IsSubject task text subject
+  pub limited : operators (normal subject.formula) ≤ 256
+  pub input : Store
+  pub input_is : IsInputText subject.names asked input
+  pub found : Found
+  pub finds : IsFound task subject found
+  pub turns_are : turns ≡ found.turns
+  pub few : turns ≤ 8
+  pub claim : Claim
+  pub told : IsToldOf found input status claim
+  pub line : List ℕ
+  pub tells : Tells subject.names line claim
+  pub is_line : bytes ≡ line ++ 10 ∷ []
 
 -- the text is too long, and this is the line that says so
 pub record IsTooLong (text line : List ℕ) : Type 0 where
@@ -86,6 +112,14 @@ pub record HasGraph (text : List ℕ) (names : List (List ℕ)) : Type 0 where
   pub labels : size_of (statements program.body) < 1024
   pub conjunctions : wide_offsets program.body ≡ []
 
+-- One input is asked for of the program that the text is; the program is within the limits, but the input's text is that of none over its names;
+-- and this is the usage line.
+pub record IsInputRefused (task : Task) (text line : List ℕ) : Type 0 where
+  pub names : List (List ℕ)
+  pub within : HasGraph text names
+  pub refused : ¬ IsInputGiven names task.input
+  pub line_is : line ≡ usage_text
+
 -- over the names the formula's text is none, and this is the line of its first fault
 pub record IsNoFormula (names : List (List ℕ)) (formula line : List ℕ) : Type 0 where
   pub none : (f : Ctl) → ¬ IsFormulaOf formula names f
@@ -103,11 +137,13 @@ pub record IsLongFormula (names : List (List ℕ)) (formula line : List ℕ) : T
   pub long : 256 < operators (normal meant)
   pub line_is : line ≡ formula_text 11 0
 
--- A formula is asked about, over the names of the program that the text is; the program is within the limits, but the formula's text is no formula,
+-- A formula is asked about, over the names of the program that the text is; the program is within the limits, and so is the input that is asked for,
+-- if one is, but the formula's text is no formula,
 -- or one that is too long; and this is the line that says so.
 pub record IsFormulaRefused (task : Task) (text line : List ℕ) : Type 0 where
   pub names : List (List ℕ)
   pub within : HasGraph text names
+  pub given : IsInputGiven names task.input
   pub formula : List ℕ
   pub asked : task.formula ≡ Some formula
   pub refused : IsNoFormula names formula line ⊎ IsLongFormula names formula line
@@ -139,25 +175,34 @@ IsVerdict NoMemory unknown = ⊥
 abbrev pub AreTurnsFor : Ctl → ℕ → Type 0
 AreTurnsFor normal_form turns = (IsAdvised normal_form → turns ≡ 8) × (¬ IsAdvised normal_form → turns ≡ 0)
 
--- These bytes are due on the text by the task, with this status, and each adviser is asked for them so many times: a report that covers all
--- inputs, asking at most eight times; one that doesn't, asking eight times where advisers may help; or the line of a program's text or of a
--- formula's that is refused, asking nothing.
-abbrev pub IsDueOn : Task → List ℕ → Status → ℕ → List ℕ → Type 0
-IsDueOn task text AllInputs turns bytes =
-    (report : Report) × IsReportOn task text report turns bytes × (report.unknown ≡ []) × (turns ≤ 8)
-IsDueOn task text SomeInputs turns bytes =
-    (report : Report) × (on : IsReportOn task text report turns bytes) × (report.unknown ≢ []) × AreTurnsFor (normal on.subject.formula) turns
-IsDueOn task text Program turns bytes = (IsTooLong text bytes ⊎ IsNoProgram text bytes ⊎ IsPastLimits text bytes) × (turns ≡ 0)
-IsDueOn task text Words turns bytes = ⊥
-IsDueOn task text Formula turns bytes = IsFormulaRefused task text bytes × (turns ≡ 0)
-IsDueOn task text ReadFault turns bytes = ⊥
-IsDueOn task text WriteFault turns bytes = ⊥
-IsDueOn task text NoMemory turns bytes = ⊥
+-- where no input is asked for, the bytes are due that are a report without an unknown line; where one is, a claim on it
+abbrev pub IsCovering : Option (List ℕ) → Task → List ℕ → (advisers turns : ℕ) → List ℕ → Type 0
+IsCovering None task text advisers turns bytes = (report : Report) × IsReportOn task text report advisers turns bytes × (report.unknown ≡ []) × (turns ≤ 8)
+IsCovering (Some asked) task text advisers turns bytes = IsAnswerOn task text asked AllInputs turns bytes
+
+-- the same with an unknown line, or without a claim
+abbrev pub IsLacking : Option (List ℕ) → Task → List ℕ → (advisers turns : ℕ) → List ℕ → Type 0
+IsLacking None task text advisers turns bytes =
+    (report : Report) × (on : IsReportOn task text report advisers turns bytes) × (report.unknown ≢ []) × AreTurnsFor (normal on.subject.formula) turns
+IsLacking (Some asked) task text advisers turns bytes = IsAnswerOn task text asked SomeInputs turns bytes
+
+-- These bytes are due on the text by the task, with this status, and each of so many advisers is asked for them so many times: a report that covers
+-- all inputs, asking at most eight times; one that doesn't, asking eight times where advisers may help; a claim on one input, or that it is unknown;
+-- or the line of a program's text, of an input's or of a formula's that is refused, asking nothing.
+abbrev pub IsDueOn : Task → List ℕ → Status → (advisers turns : ℕ) → List ℕ → Type 0
+IsDueOn task text AllInputs advisers turns bytes = IsCovering task.input task text advisers turns bytes
+IsDueOn task text SomeInputs advisers turns bytes = IsLacking task.input task text advisers turns bytes
+IsDueOn task text Program advisers turns bytes = (IsTooLong text bytes ⊎ IsNoProgram text bytes ⊎ IsPastLimits text bytes) × (turns ≡ 0)
+IsDueOn task text Words advisers turns bytes = IsInputRefused task text bytes × (turns ≡ 0)
+IsDueOn task text Formula advisers turns bytes = IsFormulaRefused task text bytes × (turns ≡ 0)
+IsDueOn task text ReadFault advisers turns bytes = ⊥
+IsDueOn task text WriteFault advisers turns bytes = ⊥
+IsDueOn task text NoMemory advisers turns bytes = ⊥
 
 -- so they are on each text of at most 65,536 bytes that is the program
-abbrev pub IsDueOnProgram : Task → Parsed → Status → ℕ → List ℕ → Type 0
-IsDueOnProgram task program status turns bytes =
-    (text : List ℕ) → length text ≤ 65536 → Derives text program → HasOffsets text (offsets program.body) → IsDueOn task text status turns bytes
+abbrev pub IsDueOnProgram : Task → Parsed → Status → (advisers turns : ℕ) → List ℕ → Type 0
+IsDueOnProgram task program status advisers turns bytes =
+    (text : List ℕ) → length text ≤ 65536 → Derives text program → HasOffsets text (offsets program.body) → IsDueOn task text status advisers turns bytes
 
 -- The text is of at most 65,536 bytes, and past no limit of its graph.
 pub record IsWithinLimits (text : List ℕ) : Type 0 where

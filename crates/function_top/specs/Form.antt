@@ -10,7 +10,9 @@ use Rattle.report_text.specs.declared.report.Explain.{Explain}
 use Rattle.report_text.specs.declared.report.Header.{Header}
 use Rattle.report_text.specs.Printed.{exact_part, explain_part}
 use Rattle.report_text.specs.Sections.{IsWholeLine}
+use Rattle.claim_line.specs.Tells.{Tells}
 use Rattle.function_top.specs.Call.{Call}
+use Rattle.function_top.specs.Demo.{summary_lines}
 use Rattle.function_top.specs.Refusals.{usage_line, fault_line}
 
 -- the line says something over the names
@@ -19,12 +21,18 @@ pub record IsClaim (names : List (List ℕ)) (line : List ℕ) : Type 0 where
   pub claim : Claim
   pub spells : Spells names line condition claim
 
--- the line is the head of a section, a header of the exact part, a line of the explanation or a verdict
+-- the line is a claim alone over the names
+pub record IsClaimAlone (names : List (List ℕ)) (line : List ℕ) : Type 0 where
+  pub claim : Claim
+  pub tells : Tells names line claim
+
+-- the line is the head of a section, a header of the exact part, a line of the explanation, one of the summary of a demo program, or a verdict
 pub data IsFrame : List ℕ → Type 0 where
   proved_head : IsFrame (codes "proved:")
   unknown_head : IsFrame (codes "unknown:")
   exact_head : (header : Header) (line : List ℕ) → Contains (exact_part header []) line → IsFrame line
   explanation : (explain : Explain) (line : List ℕ) → Contains (explain_part (Some explain)) line → IsFrame line
+  summary : (number bytes labels proved : ℕ) (line : List ℕ) → Contains (summary_lines number bytes labels proved) line → IsFrame line
   all_verdict : IsFrame (codes "verdict: all inputs")
   some_verdict : IsFrame (codes "verdict: some inputs")
 
@@ -34,10 +42,10 @@ pub data IsRefusal : List ℕ → Type 0 where
   program : (number offset : ℕ) → IsRefusal (fault_line (codes "program") number offset)
   formula : (number offset : ℕ) → IsRefusal (fault_line (codes "formula") number offset)
 
--- the line says something over some names; where the source told the text of a program, over that program's names
+-- the line says something over some names, under a condition or alone; where the source told the text of a program, over that program's names
 pub record IsClaimOn (left : Option (List ℕ)) (line : List ℕ) : Type 0 where
   pub names : List (List ℕ)
-  pub says : IsClaim names line
+  pub says : IsClaim names line ⊎ IsClaimAlone names line
   pub own : (text : List ℕ) (declared : List (List ℕ)) (body : Statements) → left ≡ Some text → IsProgramText text declared body → names ≡ declared
 
 -- the line is one that the command may write

@@ -20,7 +20,7 @@ use Rattle.function_top.specs.declared.found.Exact.{Exact}
 use Rattle.function_top.specs.declared.found.Exact.TheVariants.{Unasked}
 use Rattle.function_top.specs.declared.found.Found.{Found}
 use Rattle.function_top.specs.Exact.{IsExact}
-use Rattle.function_top.specs.Order.{Task}
+use Rattle.command_words.specs.Order.{Task}
 use Rattle.function_top.specs.Subject.{Subject}
 use Rattle.function_top.specs.TrueLine.{IsTrueAt}
 

@@ -1,13 +1,17 @@
 -- The headline: each claim that the command writes is true.
 use Rattle.std.specs.Prelude.{◌≡◌, ℕ, List, ◌++◌, Some}
+use Rattle.step_meaning.specs.Outcome.{Store}
+use Rattle.step_meaning.specs.Run.{start}
 use Rattle.linear_cons.specs.declared.affine.Affine.{Affine}
 use Rattle.line_text.specs.declared.claim.Claim.{Claim}
 use Rattle.line_text.specs.Spells.{Spells}
 use Rattle.report_text.specs.Sections.{IsWholeLine}
+use Rattle.claim_line.specs.Tells.{Tells}
+use Rattle.input_text.specs.Input.{IsInputText}
 use Rattle.function_top.specs.Call.{Call}
-use Rattle.function_top.specs.Order.{Ask, Task}
+use Rattle.command_words.specs.Order.{Ask, Task, analysis}
 use Rattle.function_top.specs.Subject.{IsSubject, Subject}
-use Rattle.function_top.specs.TrueLine.{TrueLine}
+use Rattle.function_top.specs.TrueLine.{IsTrueAt, TrueLine}
 
 -- whatever a whole line of the text says over the subject's names is true of the subject
 abbrev pub IsTrueText : Subject → List ℕ → Type 0
@@ -20,5 +24,18 @@ IsTrueText subject text =
 -- `Spells` doesn't know is in `Form`.
 abbrev pub Headline : List (List ℕ) → Call → Type 0
 Headline words call =
-    (task : Task) (text before written : List ℕ) (subject : Subject) → Ask words task → call.left ≡ Some text → IsSubject task text subject
+    (task : Task) (text before written : List ℕ) (subject : Subject) → Ask words (analysis task) → call.left ≡ Some text → IsSubject task text subject
     → call.taken ≡ Some before → call.taken_after ≡ Some (before ++ written) → IsTrueText subject written
+
+-- whatever a whole line of the text tells that is a claim alone is true of the input
+abbrev pub IsTrueAnswer : Subject → Store → List ℕ → Type 0
+IsTrueAnswer subject input text =
+    (line : List ℕ) (claim : Claim) → IsWholeLine text line → Tells subject.names line claim → IsTrueAt subject.formula claim input (start subject.body input)
+
+-- The same where one input is asked for, by a text that is one of the program's: whatever claim a whole line is that the sink took in the call is true
+-- of that input.
+abbrev pub AnswerHeadline : List (List ℕ) → Call → Type 0
+AnswerHeadline words call =
+    (task : Task) (text before written asked : List ℕ) (subject : Subject) (input : Store) → Ask words (analysis task) → call.left ≡ Some text
+    → IsSubject task text subject → task.input ≡ Some asked → IsInputText subject.names asked input
+    → call.taken ≡ Some before → call.taken_after ≡ Some (before ++ written) → IsTrueAnswer subject input written

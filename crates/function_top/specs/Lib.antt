@@ -1,5 +1,3 @@
-pub mod Order
-pub mod Choosing
 pub mod Call
 pub mod Text
 pub mod Subject
@@ -10,8 +8,11 @@ pub mod Refusals
 pub mod Exact
 pub mod Found
 pub mod Shown
+pub mod Explained
 pub mod Printable
+pub mod OneInput
 pub mod Due
+pub mod Demo
 pub mod Form
 pub mod Meeting
 pub mod Answer

@@ -25,10 +25,6 @@ ShowsExact (Unmade stop) header lines = (header ≡ Stopped stop) × (lines ≡ 
 ShowsExact (Made tests stop tree) header lines =
     (header ≡ header_of tests stop) × ((all : List Line) × AreLinesOf Counted (plan_of tree) all × (lines ≡ claiming all))
 
--- a report of these parts, without an explanation
-abbrev pub report_of : Header → (exact proved unknown : List Line) → Report
-report_of header exact proved unknown = record { header = header; exact = exact; proved = proved; unknown = unknown; explain = None }
-
 -- The lines of the cover's leaves: what claims something is proved, and the rest is unknown.
 pub record Shows (found : Found) (report : Report) : Type 0 where
   pub exact : ShowsExact found.exact report.header report.exact
@@ -36,4 +32,3 @@ pub record Shows (found : Found) (report : Report) : Type 0 where
   pub lines_of : AreLinesOf found.claims (plan_of found.cover) lines
   pub proved : report.proved ≡ claiming lines
   pub unknown : report.unknown ≡ claiming_nothing lines
-  pub unexplained : report.explain ≡ None

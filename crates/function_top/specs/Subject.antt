@@ -5,7 +5,7 @@ use Rattle.step_meaning.specs.Syntax.{Statements, statements}
 use Rattle.ctl_formula.specs.Formulas.{Ctl, af_exit}
 use Rattle.formula_parse.specs.Derives.{IsFormulaOf}
 use Rattle.source_parse.specs.Derives.{IsProgramText}
-use Rattle.function_top.specs.Order.{Task}
+use Rattle.command_words.specs.Order.{Task}
 
 -- a program, by its names and its body, and a formula
 pub record Subject : Type 0 where

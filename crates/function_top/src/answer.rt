@@ -1,26 +1,38 @@
 //! From a text to what is to be written for it.
 
-ghost use Rattle.std.specs.Prelude.{◌≡◌, ◌≤◌, ◌<◌, ◌^◌, ℕ, List, [], All, IfOk, Some, length};
+ghost use Rattle.std.specs.Prelude.{◌≡◌, ◌≤◌, ◌<◌, ◌+◌, ◌^◌, ℕ, List, [], All, IfOk, None, Some, length};
+ghost use Rattle.step_meaning.specs.Outcome.{Store};
 ghost use Rattle.step_meaning.specs.Syntax.{size_of, statements};
 ghost use Rattle.control_flow.specs.Faults.{wide_offsets};
 ghost use Rattle.ctl_formula.specs.Mirror.{ctl};
 ghost use Rattle.ctl_rounds.specs.Asked.{RoseBy};
-ghost use Rattle.function_top.specs.Asking.{IsNormalAsked};
-ghost use Rattle.function_top.specs.Due.{IsDueOn, IsDueOnProgram, IsReport};
+ghost use Rattle.input_text.specs.Input.{IsInputText};
+ghost use Rattle.report_text.specs.declared.report.Report.{Report};
+ghost use Rattle.report_text.specs.Printed.{IsReportText};
+ghost use Rattle.function_top.specs.Asking.{IsNormalAsked, IsReadAs};
+ghost use Rattle.function_top.specs.Due.{IsDueOn, IsDueOnProgram, IsReport, IsVerdict};
+ghost use Rattle.function_top.specs.Explained.{explained, explanation};
 ghost use Rattle.function_top.specs.Form.{HasKnownLines};
-ghost use Rattle.function_top.specs.Headline.{IsTrueText};
+ghost use Rattle.function_top.specs.Headline.{IsTrueAnswer, IsTrueText};
 ghost use Rattle.function_top.specs.Meeting.{AreMetOnce, CountsExactly};
-ghost use Rattle.function_top.specs.Order.{Task, task_of};
-ghost use Rattle.function_top.specs.Refusals.{formula_text, program_text};
+ghost use Rattle.command_words.specs.Order.{Task, task_of};
+ghost use Rattle.function_top.specs.Printable.{IsFoundPrintable};
+ghost use Rattle.function_top.specs.Refusals.{formula_text, program_text, usage_text};
+ghost use Rattle.function_top.specs.Shown.{Shows};
 ghost use Rattle.function_top.specs.Subject.{IsSubject, Subject};
 
 use crate::due::Due;
+use crate::explaining::explained;
 use crate::finding::find;
 use crate::formula::formula_asked;
-use crate::order::{Domain, Order};
-use crate::report::{fault as fault_line, report};
+use crate::found::Found;
+use crate::input::input_asked;
+use crate::one_input::answer_at;
+use crate::report::{fault as fault_line, report, usage};
 use crate::status::Status;
 use advice::Adviser;
+use claim_line::laws::{a_line_tells_at_most_one_claim, claims_have_their_own_form};
+use command_words::{Domain, Query};
 use control_flow::{FlowFault, Graph};
 use ctl_formula::Formula;
 use formula_parse::{a_formula_has_no_fault, a_text_is_one_formula};
@@ -36,7 +48,7 @@ use source_parse::{
 use std::alloc::{AllocError, Global};
 use step_meaning::Program;
 
-/// What is to be written for a text by what an order asks: the report on the program that the text is, or the line of its first fault, or of
+/// What is to be written for a text by what is asked: the report on the program that the text is, or the line of its first fault, or of
 /// that of the formula that is asked about. It reads and writes nothing, so whoever embeds the analyser begins here.
 ///
 /// `advisers` are shown facts about loops, and may hint at what bounds one: each equally often and at most eight times, and eight times
@@ -45,18 +57,20 @@ use step_meaning::Program;
 /// the advisers may have been asked by then.
 pub fn report_on(
     alloc: Global,
-    order: &Order,
+    query: &Query,
     text: &[u8],
     advisers: &mut Vec<Box<dyn Adviser>>,
 ) -> Result<Due, AllocError>
     requires patient { All (λ adviser. asked_of adviser ≤ 2 ^ 32) advisers.old.items }
-    ensures due { IfOk result (λ due. IsDueOn (task_of order.now) text.now due.status due.turns due.bytes.items) }
-    ensures headline { IfOk result (λ due. (subject : Subject) → IsSubject (task_of order.now) text.now subject
+    ensures due { IfOk result (λ due. IsDueOn (task_of query.now) text.now due.status (length advisers.old.items) due.turns due.bytes.items) }
+    ensures headline { IfOk result (λ due. (subject : Subject) → IsSubject (task_of query.now) text.now subject
         → IsTrueText subject due.bytes.items) }
     ensures form { IfOk result (λ due. HasKnownLines (Some text.now) due.bytes.items) }
-    ensures lines { IfOk result (λ due. IsReport due.status → (subject : Subject) → IsSubject (task_of order.now) text.now subject
+    ensures answer { IfOk result (λ due. (subject : Subject) (asked : List ℕ) (input : Store) → IsSubject (task_of query.now) text.now subject
+        → (task_of query.now).input ≡ Some asked → IsInputText subject.names asked input → IsTrueAnswer subject input due.bytes.items) }
+    ensures lines { IfOk result (λ due. (task_of query.now).input ≡ None → IsReport due.status → (subject : Subject) → IsSubject (task_of query.now) text.now subject
         → AreMetOnce subject.names due.bytes.items) }
-    ensures counts { IfOk result (λ due. IsReport due.status → (subject : Subject) → IsSubject (task_of order.now) text.now subject
+    ensures counts { IfOk result (λ due. (task_of query.now).input ≡ None → IsReport due.status → (subject : Subject) → IsSubject (task_of query.now) text.now subject
         → CountsExactly subject due.bytes.items) }
     ensures asked { (times : ℕ) × (times ≤ 8) × RoseBy (λ adviser. asked_of adviser) times advisers.old.items advisers.new.items
         × IfOk result (λ due. due.turns ≡ times) }
@@ -67,19 +81,21 @@ pub fn report_on(
     names_are_distinct();
     lines_have_their_own_form();
     a_line_spells_at_most_one_claim();
-    let due = due_on(alloc, order, text, advisers)?;
+    a_line_tells_at_most_one_claim();
+    claims_have_their_own_form();
+    let due = due_on(alloc, query, text, advisers)?;
     Ok(due)
 }
 
-// What is to be written for a text.
+/// What is to be written for a text.
 fn due_on(
     alloc: Global,
-    order: &Order,
+    query: &Query,
     text: &[u8],
     advisers: &mut Vec<Box<dyn Adviser>>,
 ) -> Result<Due, AllocError>
     requires patient { All (λ adviser. asked_of adviser ≤ 2 ^ 32) advisers.old.items }
-    ensures due { IfOk result (λ due. IsDueOn (task_of order.now) text.now due.status due.turns due.bytes.items) }
+    ensures due { IfOk result (λ due. IsDueOn (task_of query.now) text.now due.status (length advisers.old.items) due.turns due.bytes.items) }
     ensures asked { (times : ℕ) × (times ≤ 8) × RoseBy (λ adviser. asked_of adviser) times advisers.old.items advisers.new.items
         × IfOk result (λ due. due.turns ≡ times) }
 {
@@ -88,7 +104,7 @@ fn due_on(
         return too_long(alloc);
     }
     match parse(alloc, text) {
-        Ok(program) => Ok(due_on_program(alloc, order, program, advisers)?),
+        Ok(program) => Ok(due_on_program(alloc, query, program, advisers)?),
         Err(fault) => match fault.numbered() {
             Some((number, offset)) => Ok(no_program(alloc, number, offset)?),
             None => Err(AllocError),
@@ -96,43 +112,69 @@ fn due_on(
     }
 }
 
-// What is to be written for a program.
+/// What is to be written for a program.
 fn due_on_program(
     alloc: Global,
-    order: &Order,
+    query: &Query,
     program: Program,
     advisers: &mut Vec<Box<dyn Adviser>>,
 ) -> Result<Due, AllocError>
     requires patient { All (λ adviser. asked_of adviser ≤ 2 ^ 32) advisers.old.items }
-    ensures due { IfOk result (λ due. IsDueOnProgram (task_of order.now) program due.status due.turns due.bytes.items) }
+    ensures due { IfOk result (λ due. IsDueOnProgram (task_of query.now) program due.status (length advisers.old.items) due.turns due.bytes.items) }
     ensures asked { (times : ℕ) × (times ≤ 8) × RoseBy (λ adviser. asked_of adviser) times advisers.old.items advisers.new.items
         × IfOk result (λ due. due.turns ≡ times) }
 {
     match Graph::of(alloc, program) {
-        Ok(graph) => Ok(due_on_graph(alloc, order, &graph, advisers)?),
+        Ok(graph) => Ok(due_on_graph(alloc, query, &graph, advisers)?),
         Err(FlowFault::Labels { at, count: _ }) => Ok(no_program(alloc, 12, at)?),
         Err(FlowFault::Conjunctions { at, count: _ }) => Ok(no_program(alloc, 13, at)?),
         Err(FlowFault::Memory(error)) => Err(error),
     }
 }
 
-// What is to be written for a program with its graph: the line of the fault of the formula that is asked about, or a report.
+/// What is to be written for a program with its graph: the usage line where the text of an input is given that is none of the program's, or what the
+/// program's is.
 fn due_on_graph(
     alloc: Global,
-    order: &Order,
+    query: &Query,
     graph: &Graph,
     advisers: &mut Vec<Box<dyn Adviser>>,
 ) -> Result<Due, AllocError>
     requires labels { size_of (statements graph.now.body) < 1024 }
     requires conjunctions { wide_offsets graph.now.body ≡ [] }
     requires patient { All (λ adviser. asked_of adviser ≤ 2 ^ 32) advisers.old.items }
-    ensures due { IfOk result (λ due. IsDueOnProgram (task_of order.now) graph.now due.status due.turns due.bytes.items) }
+    ensures due { IfOk result (λ due. IsDueOnProgram (task_of query.now) graph.now due.status (length advisers.old.items) due.turns due.bytes.items) }
+    ensures asked { (times : ℕ) × (times ≤ 8) × RoseBy (λ adviser. asked_of adviser) times advisers.old.items advisers.new.items
+        × IfOk result (λ due. due.turns ≡ times) }
+{
+    names_are_spelled_as_names();
+    names_are_distinct();
+    match input_asked(query.input, &graph.program().names) {
+        Some(input) => Ok(due_on_input(alloc, query, &input, graph, advisers)?),
+        None => Ok(no_input(alloc)?),
+    }
+}
+
+/// The same with the input that is asked for, if one is: the line of the fault of the formula that is asked about, a report, or what is told of the
+/// input.
+fn due_on_input(
+    alloc: Global,
+    query: &Query,
+    input: &Option<[i128; 16]>,
+    graph: &Graph,
+    advisers: &mut Vec<Box<dyn Adviser>>,
+) -> Result<Due, AllocError>
+    requires input { IsReadAs graph.now.names (task_of query.now).input input.now }
+    requires labels { size_of (statements graph.now.body) < 1024 }
+    requires conjunctions { wide_offsets graph.now.body ≡ [] }
+    requires patient { All (λ adviser. asked_of adviser ≤ 2 ^ 32) advisers.old.items }
+    ensures due { IfOk result (λ due. IsDueOnProgram (task_of query.now) graph.now due.status (length advisers.old.items) due.turns due.bytes.items) }
     ensures asked { (times : ℕ) × (times ≤ 8) × RoseBy (λ adviser. asked_of adviser) times advisers.old.items advisers.new.items
         × IfOk result (λ due. due.turns ≡ times) }
 {
     a_formula_has_no_fault();
-    match formula_asked(alloc, order.formula, &graph.program().names) {
-        Ok(formula) => Ok(reported(alloc, order, &formula, graph, advisers)?),
+    match formula_asked(alloc, query.formula, &graph.program().names) {
+        Ok(formula) => Ok(found_on(alloc, query, input, &formula, graph, advisers)?),
         Err(fault) => match fault.numbered() {
             Some((number, offset)) => Ok(no_formula(alloc, number, offset)?),
             None => Err(AllocError),
@@ -140,56 +182,95 @@ fn due_on_graph(
     }
 }
 
-// The report on a program with its graph and on a formula in normal form, over the sets that the order names.
-fn reported(
+/// The report on a program with its graph and on a formula in normal form, or what is told of the input, over the sets that are asked for.
+fn found_on(
     alloc: Global,
-    order: &Order,
+    query: &Query,
+    input: &Option<[i128; 16]>,
     formula: &Formula,
     graph: &Graph,
     advisers: &mut Vec<Box<dyn Adviser>>,
 ) -> Result<Due, AllocError>
-    requires formula { IsNormalAsked graph.now.names (task_of order.now).formula (ctl formula.now) }
+    requires input { IsReadAs graph.now.names (task_of query.now).input input.now }
+    requires formula { IsNormalAsked graph.now.names (task_of query.now).formula (ctl formula.now) }
     requires patient { All (λ adviser. asked_of adviser ≤ 2 ^ 32) advisers.old.items }
-    ensures due { IfOk result (λ due. IsDueOnProgram (task_of order.now) graph.now due.status due.turns due.bytes.items) }
+    ensures due { IfOk result (λ due. IsDueOnProgram (task_of query.now) graph.now due.status (length advisers.old.items) due.turns due.bytes.items) }
     ensures asked { (times : ℕ) × (times ≤ 8) × RoseBy (λ adviser. asked_of adviser) times advisers.old.items advisers.new.items
         × IfOk result (λ due. due.turns ≡ times) }
 {
-    match order.domain {
-        Domain::Boxes => analysed::<Boxes>(alloc, order, formula, graph, advisers),
-        Domain::Octagons => analysed::<Octagon>(alloc, order, formula, graph, advisers),
-        Domain::Polyhedra => analysed::<Poly>(alloc, order, formula, graph, advisers),
+    match query.domain {
+        Domain::Boxes => analysed::<Boxes>(alloc, query, input, formula, graph, advisers),
+        Domain::Octagons => analysed::<Octagon>(alloc, query, input, formula, graph, advisers),
+        Domain::Polyhedra => analysed::<Poly>(alloc, query, input, formula, graph, advisers),
     }
 }
 
-// The same over one kind of sets.
+/// The same over one kind of sets.
 fn analysed<D: NumDomain>(
     alloc: Global,
-    order: &Order,
+    query: &Query,
+    input: &Option<[i128; 16]>,
     formula: &Formula,
     graph: &Graph,
     advisers: &mut Vec<Box<dyn Adviser>>,
 ) -> Result<Due, AllocError>
-    requires formula { IsNormalAsked graph.now.names (task_of order.now).formula (ctl formula.now) }
+    requires input { IsReadAs graph.now.names (task_of query.now).input input.now }
+    requires formula { IsNormalAsked graph.now.names (task_of query.now).formula (ctl formula.now) }
     requires patient { All (λ adviser. asked_of adviser ≤ 2 ^ 32) advisers.old.items }
-    ensures due { IfOk result (λ due. IsDueOnProgram (task_of order.now) graph.now due.status due.turns due.bytes.items) }
+    ensures due { IfOk result (λ due. IsDueOnProgram (task_of query.now) graph.now due.status (length advisers.old.items) due.turns due.bytes.items) }
     ensures asked { (times : ℕ) × (times ≤ 8) × RoseBy (λ adviser. asked_of adviser) times advisers.old.items advisers.new.items
         × IfOk result (λ due. due.turns ≡ times) }
 {
-    let found = find::<D>(alloc, order, formula, graph, advisers)?;
-    let due = report(alloc, &found, &graph.program().names)?;
+    let count = advisers.len();
+    let found = find::<D>(alloc, query, formula, graph, advisers)?;
+    match input {
+        Some(input) => Ok(answer_at(alloc, &found, input, &graph.program().names)?),
+        None => Ok(report_on_found(alloc, query.explain, count, &found, graph)?),
+    }
+}
+
+/// The report on what was found of a program with its graph, explained where that is asked for, with so many advisers.
+fn report_on_found(
+    alloc: Global,
+    explain: bool,
+    advisers: usize,
+    found: &Found,
+    graph: &Graph,
+) -> Result<Due, AllocError>
+    requires printable { IsFoundPrintable (length graph.now.names) found.now }
+    ensures shows { IfOk result (λ due. (report : Report) × Shows found.now report × IsReportText graph.now.names report due.bytes.items
+        × IsVerdict due.status report.unknown × (report.explain
+        ≡ explained explain (explanation (1 + size_of (statements graph.now.body)) found.now.families advisers found.now.turns))) }
+    ensures turns { IfOk result (λ due. due.turns ≡ found.now.turns) }
+{
+    let explanation = explained(alloc, explain, graph.labels(), found, advisers)?;
+    let due = report(alloc, found, explanation, &graph.program().names)?;
     Ok(due)
+}
+
+/// The usage line for the text of an input that is none of the program's, for which no adviser is asked.
+fn no_input(alloc: Global) -> Result<Due, AllocError>
+    ensures line { IfOk result (λ due. due.bytes.items ≡ usage_text) }
+    ensures status { IfOk result (λ due. due.status ≡ Status.Words) }
+    ensures unasked { IfOk result (λ due. due.turns ≡ 0) }
+{
+    Ok(Due {
+        bytes: usage().to_vec(alloc)?,
+        status: Status::Words,
+        turns: 0,
+    })
 }
 
 /// The line of a text of more than 65,536 bytes. The only error is want of memory.
 pub(crate) fn too_long(alloc: Global) -> Result<Due, AllocError>
-    ensures due { IfOk result (λ due. (task : Task) (text : List ℕ) → 65536 < length text
-        → IsDueOn task text due.status due.turns due.bytes.items) }
+    ensures due { IfOk result (λ due. (task : Task) (text : List ℕ) (advisers : ℕ) → 65536 < length text
+        → IsDueOn task text due.status advisers due.turns due.bytes.items) }
     ensures unasked { IfOk result (λ due. due.turns ≡ 0) }
 {
     no_program(alloc, 14, 65_536)
 }
 
-// The line of a program's fault, for which no adviser is asked.
+/// The line of a program's fault, for which no adviser is asked.
 fn no_program(alloc: Global, number: u8, offset: u32) -> Result<Due, AllocError>
     ensures line { IfOk result (λ due. due.bytes.items ≡ program_text number offset) }
     ensures status { IfOk result (λ due. due.status ≡ Status.Program) }
@@ -202,7 +283,7 @@ fn no_program(alloc: Global, number: u8, offset: u32) -> Result<Due, AllocError>
     })
 }
 
-// The line of a formula's fault, for which no adviser is asked.
+/// The line of a formula's fault, for which no adviser is asked.
 fn no_formula(alloc: Global, number: u8, offset: u32) -> Result<Due, AllocError>
     ensures line { IfOk result (λ due. due.bytes.items ≡ formula_text number offset) }
     ensures status { IfOk result (λ due. due.status ≡ Status.Formula) }

@@ -14,14 +14,14 @@ ghost use Rattle.decision_tree.specs.Plans.{plan_of, rank_of};
 ghost use Rattle.ctl_rounds.specs.Asked.{IsAdvised, RoseBy};
 ghost use Rattle.ctl_rounds.specs.Bounds.{SatisfiesInputs, SatisfiesWithin};
 ghost use Rattle.function_top.specs.Found.{IsExactPart, IsFound, claims_for};
-ghost use Rattle.function_top.specs.Order.{task_of};
+ghost use Rattle.command_words.specs.Order.{task_of};
 ghost use Rattle.function_top.specs.Printable.{IsExactPrintable, IsFoundPrintable, IsPrintable};
 ghost use Rattle.function_top.specs.Subject.{subject_of};
 
 use crate::exact::exactly;
 use crate::found::{Exact, Found};
-use crate::order::Order;
 use advice::Adviser;
+use command_words::Query;
 use control_flow::Graph;
 use ctl_formula::{Formula, normal_forms_mean_the_same};
 use ctl_rounds::laws::{covers_can_be_printed, covers_hold};
@@ -33,46 +33,47 @@ use report_text::Top;
 use std::alloc::{AllocError, Global};
 use tree_support::laws::invariants_tell_the_truth;
 
-/// What is found of a program with its graph and of a formula in normal form, over one kind of sets, by what an order asks. The only error is
+/// What is found of a program with its graph and of a formula in normal form, over one kind of sets, by what is asked. The only error is
 /// want of memory; the advisers may have been asked by then.
 pub(crate) fn find<D: NumDomain>(
     alloc: Global,
-    order: &Order,
+    query: &Query,
     formula: &Formula,
     graph: &Graph,
     advisers: &mut Vec<Box<dyn Adviser>>,
 ) -> Result<Found, AllocError>
     requires patient { All (λ adviser. asked_of adviser ≤ 2 ^ 32) advisers.old.items }
     ensures finds { IfOk result (λ found. (meant : Ctl) → ctl formula.now ≡ normal meant
-        → IsFound (task_of order.now) (subject_of graph.now meant) found) }
+        → IsFound (task_of query.now) (subject_of graph.now meant) found) }
     ensures printable { IfOk result (λ found. IsFoundPrintable (length graph.now.names) found) }
     ensures asked { (times : ℕ) × (times ≤ 8) × RoseBy (λ adviser. asked_of adviser) times advisers.old.items advisers.new.items
         × IfOk result (λ found. found.turns ≡ times) }
 {
     normal_forms_mean_the_same();
-    let exact = exact_part(alloc, order, graph)?;
-    let (cover, turns) = covered::<D>(alloc, order.delay, formula, graph, advisers)?;
+    let exact = exact_part(alloc, query, graph)?;
+    let (cover, turns, families) = covered::<D>(alloc, query.delay, formula, graph, advisers)?;
     Ok(Found {
         exact,
         claims: claims_for(formula),
         cover,
+        families,
         turns,
     })
 }
 
-// What is known exactly of a program with its graph, where no formula is asked about.
-fn exact_part(alloc: Global, order: &Order, graph: &Graph) -> Result<Exact, AllocError>
+/// What is known exactly of a program with its graph, where no formula is asked about.
+fn exact_part(alloc: Global, query: &Query, graph: &Graph) -> Result<Exact, AllocError>
     ensures exact { IfOk result (λ exact. (meant : Ctl)
-        → IsExactPart (task_of order.now).formula (subject_of graph.now meant) order.now.delay exact) }
+        → IsExactPart (task_of query.now).formula (subject_of graph.now meant) query.now.delay exact) }
     ensures printable { IfOk result (λ exact. IsExactPrintable (length graph.now.names) exact) }
 {
-    match order.formula {
+    match query.formula {
         Some(_) => Ok(Exact::Unasked),
-        None => Ok(exactly(alloc, order.delay, graph)?),
+        None => Ok(exactly(alloc, query.delay, graph)?),
     }
 }
 
-// What is claimed of a formula in normal form.
+/// What is claimed of a formula in normal form.
 fn claims_for(formula: &Formula) -> Top
     ensures { result ≡ claims_for (ctl formula.now) }
 {
@@ -82,14 +83,14 @@ fn claims_for(formula: &Formula) -> Top
     }
 }
 
-// The cover of a certificate of the formula, over one kind of sets, and how often each adviser was asked for it.
+/// The cover of a certificate of the formula, over one kind of sets, how often each adviser was asked for it, and how many families it was joined from.
 fn covered<D: NumDomain>(
     alloc: Global,
     delay: u32,
     formula: &Formula,
     graph: &Graph,
     advisers: &mut Vec<Box<dyn Adviser>>,
-) -> Result<(Tree<AffineRank>, u32), AllocError>
+) -> Result<(Tree<AffineRank>, u32, u32), AllocError>
     requires patient { All (λ adviser. asked_of adviser ≤ 2 ^ 32) advisers.old.items }
     ensures satisfied { IfOk result (λ covered. SatisfiesInputs (length graph.now.names) (statements graph.now.body) (ctl formula.now)
         (plan_of covered.0)) }
@@ -110,5 +111,14 @@ fn covered<D: NumDomain>(
     covers_hold();
     covers_can_be_printed();
     let cover = cover(alloc, &certificate, graph)?;
-    Ok((cover, certificate.turns))
+    let families = counted(certificate.tops.items().len());
+    Ok((cover, certificate.turns, families))
+}
+
+/// A number of families; for more than the type has room for its last value stands.
+fn counted(families: usize) -> u32 {
+    match u32::try_from(families) {
+        Ok(families) => families,
+        Err(_) => u32::MAX,
+    }
 }

@@ -27,6 +27,8 @@ pub(crate) struct Found {
     pub claims: Top,
     /// What the families of a certificate say at the entry, joined.
     pub cover: Tree<AffineRank>,
+    /// How many families of the whole formula it was joined from.
+    pub families: u32,
     /// How often each adviser was asked for it.
     pub turns: u32,
 }

@@ -14,7 +14,7 @@ ghost use Rattle.function_top.specs.declared.found.Exact.TheVariants.{Made};
 ghost use Rattle.function_top.specs.declared.found.Found.{Found};
 ghost use Rattle.function_top.specs.Exact.{EndsExactly, MeetsAtMostOneLine, MeetsLine};
 ghost use Rattle.function_top.specs.Found.{IsFound};
-ghost use Rattle.function_top.specs.Order.{Task};
+ghost use Rattle.command_words.specs.Order.{Task};
 ghost use Rattle.function_top.specs.Shown.{Shows};
 ghost use Rattle.function_top.specs.Subject.{Subject};
 

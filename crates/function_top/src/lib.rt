@@ -3,23 +3,26 @@
 #![tactic(auto)]
 
 mod answer;
+mod demo;
 mod due;
 mod exact;
+mod explaining;
 mod finding;
 mod formula;
 mod found;
+mod input;
 mod laws;
-mod order;
+mod one_input;
 mod report;
 mod status;
 mod top;
 
 pub use answer::report_on;
+pub use command_words::{Domain, Query};
 pub use due::Due;
 pub use laws::{
     each_input_meets_at_most_one_exact_line, each_input_meets_one_line,
     exact_lines_are_met_by_exact_runs,
 };
-pub use order::{Domain, Order};
 pub use status::Status;
 pub use top::run;

@@ -2,7 +2,7 @@
 
 ghost use Rattle.std.specs.Prelude.{◌≡◌, ◌≤◌, ℕ, IfOk, length};
 ghost use Rattle.report_text.specs.declared.report.Report.{Report};
-ghost use Rattle.report_text.specs.Printed.{IsReportText};
+ghost use Rattle.report_text.specs.Printed.{IsReportOver, IsReportText};
 ghost use Rattle.function_top.specs.Due.{IsVerdict};
 ghost use Rattle.function_top.specs.Printable.{IsExactPrintable, IsFoundPrintable};
 ghost use Rattle.function_top.specs.Refusals.{fault_text, usage_text};
@@ -12,7 +12,7 @@ use crate::due::Due;
 use crate::found::{Exact, Found};
 use crate::status::Status;
 use line_text::push_numeral;
-use report_text::{Header, Lines, Report, Stop, Top, lines, print};
+use report_text::{Explain, Header, Lines, Report, Stop, Top, lines, print};
 use std::alloc::{AllocError, Global};
 use step_meaning::Names;
 
@@ -23,33 +23,54 @@ pub fn usage() -> &'static [u8]
     b"usage: function [--ctl TEXT] [--domain boxes|octagons|polyhedra] [--delay N] [--at TEXT] [--explain] [--demo N]\n"
 }
 
-/// The report of what was found of a program with these names, and its status. The only error is want of memory.
-pub(crate) fn report(alloc: Global, found: &Found, names: &Names) -> Result<Due, AllocError>
+/// The text of the report of what was found of a program with these names, with what explains it, and its status. The only error is want of
+/// memory.
+pub(crate) fn report(
+    alloc: Global,
+    found: &Found,
+    explain: Option<Explain>,
+    names: &Names,
+) -> Result<Due, AllocError>
     requires few { length names.now ≤ 15 }
     requires printable { IsFoundPrintable (length names.now) found.now }
     ensures shows { IfOk result (λ due. (report : Report) × Shows found.now report × IsReportText names.now report due.bytes.items
-        × IsVerdict due.status report.unknown) }
+        × IsVerdict due.status report.unknown × (report.explain ≡ explain)) }
     ensures turns { IfOk result (λ due. due.turns ≡ found.now.turns) }
 {
-    let (header, exact) = exact_part(alloc, &found.exact)?;
-    let (proved, unknown) = lines(alloc, &found.cover, found.claims)?.parted(alloc)?;
-    let status = verdict(&unknown);
-    let report = Report {
-        header,
-        exact,
-        proved,
-        unknown,
-        explain: None,
-    };
+    let report = shown(alloc, found, explain, names)?;
     let bytes = print(alloc, &report, names)?;
     Ok(Due {
         bytes,
-        status,
+        status: verdict(&report.unknown),
         turns: found.turns,
     })
 }
 
-// The exact part of a report: its header and its lines.
+/// The report of what was found of a program with these names, with what explains it. The only error is want of memory.
+pub(crate) fn shown(
+    alloc: Global,
+    found: &Found,
+    explain: Option<Explain>,
+    names: &Names,
+) -> Result<Report, AllocError>
+    requires few { length names.now ≤ 15 }
+    requires printable { IsFoundPrintable (length names.now) found.now }
+    ensures shows { IfOk result (λ report. Shows found.now report) }
+    ensures over { IfOk result (λ report. IsReportOver names.now report) }
+    ensures explain { IfOk result (λ report. report.explain ≡ explain) }
+{
+    let (header, exact) = exact_part(alloc, &found.exact)?;
+    let (proved, unknown) = lines(alloc, &found.cover, found.claims)?.parted(alloc)?;
+    Ok(Report {
+        header,
+        exact,
+        proved,
+        unknown,
+        explain,
+    })
+}
+
+/// The exact part of a report: its header and its lines.
 fn exact_part(alloc: Global, exact: &Exact) -> Result<(Header, Lines), AllocError>
     requires { (vars : ℕ) × IsExactPrintable vars exact.now }
     ensures { IfOk result (λ part. ShowsExact exact.now part.0 part.1) }
@@ -64,7 +85,7 @@ fn exact_part(alloc: Global, exact: &Exact) -> Result<(Header, Lines), AllocErro
     }
 }
 
-// The header of a level for so many tests, by why there is no further one.
+/// The header of a level for so many tests, by why there is no further one.
 fn header_of(tests: u32, stop: Option<Stop>) -> Header
     ensures { result ≡ header_of tests stop }
 {
@@ -74,8 +95,8 @@ fn header_of(tests: u32, stop: Option<Stop>) -> Header
     }
 }
 
-// The status of a report with these unknown lines.
-fn verdict(unknown: &Lines) -> Status
+/// The status of a report with these unknown lines.
+pub(crate) fn verdict(unknown: &Lines) -> Status
     ensures { IsVerdict result unknown.now }
 {
     if unknown.items().is_empty() {

@@ -1,22 +1,24 @@
 //! The top call.
 
-ghost use Rattle.std.specs.Prelude.{◌≡◌, ◌≤◌, ◌<◌, ◌+◌, ◌⊎◌, ◌^◌, ℕ, List, All, IfOk, IfSome, MatchOption, OnErr, map};
+ghost use Rattle.std.specs.Prelude.{◌≡◌, ◌≤◌, ◌<◌, ◌+◌, ◌⊎◌, ◌^◌, ℕ, List, All, IfOk, IfSome, MatchOption, OnErr, length, map};
 ghost use Rattle.std.specs.Io.KnownBytes.{Appends};
 ghost use Rattle.outside.specs.Faults.{Rose};
 ghost use Rattle.outside.specs.Sink.{AppendsFront};
 ghost use Rattle.outside.specs.Source.{ConsumesUpTo};
 ghost use Rattle.ctl_rounds.specs.Asked.{RoseBy};
+ghost use Rattle.command_words.specs.Order.{Ask, Task, analysis, task_of};
 ghost use Rattle.function_top.specs.Answer.{IsRun, after_failing};
 ghost use Rattle.function_top.specs.Due.{IsDueOn};
-ghost use Rattle.function_top.specs.Order.{Accepted, task_of};
 ghost use Rattle.function_top.specs.Text.{IsRead};
 
 use crate::answer::{report_on, too_long};
+use crate::demo::demo;
 use crate::due::Due;
-use crate::order::{Order, order_of};
 use crate::report::usage;
 use crate::status::Status;
 use advice::Adviser;
+use claim_line::laws::{a_line_tells_at_most_one_claim, claims_have_their_own_form};
+use command_words::{Order, Query, order_of};
 use formula_parse::a_text_is_one_formula;
 use line_text::laws::{a_line_spells_at_most_one_claim, lines_have_their_own_form};
 use outside::{ReadEnd, Sink, Source, read_program, write_all};
@@ -26,8 +28,9 @@ use std::alloc::{AllocError, Global};
 /// Does all that the program does: reads a program from the source, and writes the report on it to the sink.
 ///
 /// `words` are the words of the command line, the program's name first; behind it may stand `--domain` with `boxes`, `octagons` or
-/// `polyhedra`, `--delay` with a digit up to 8, and `--ctl` with the text of a formula over the program's variables, each at most once and in
-/// any order. The order is: words, reading, program, formula, analysis, writing, and the first refusal ends the run. The whole output is built
+/// `polyhedra`, `--delay` with a digit up to 8, `--ctl` with the text of a formula over the program's variables, `--at` with that of an input, of which
+/// alone is told then, and `--explain`, each at most once and in any order; or `--demo` alone, with a number from 1 to 1000, for whose program nothing
+/// is read. The order is: words, reading, program, input, formula, analysis, writing, and the first refusal ends the run. The whole output is built
 /// before its first byte is written. After a refusal nothing was written but its line, or a front of that where the sink failed.
 ///
 /// `advisers` are shown facts about loops, and may hint at what bounds one: each equally often and at most eight times, and eight times
@@ -52,7 +55,7 @@ pub fn run<S: Source, K: Sink>(
       asked = map (λ adviser. asked_of adviser) advisers.old.items;
       asked_after = map (λ adviser. asked_of adviser) advisers.new.items;
     } }
-    ensures unread { ¬ Accepted (map (λ word. word.now) words.now) → source.new ≡ source.old }
+    ensures unread { ((task : Task) → ¬ Ask (map (λ word. word.now) words.now) (analysis task)) → source.new ≡ source.old }
     ensures stops { ConsumesUpTo (65536 + 1) (S.left source.old) (S.left source.new) }
     ensures reads_never_fall { S.faults source.old ≤ S.faults source.new }
     ensures writes_never_fall { K.faults sink.old ≤ K.faults sink.new }
@@ -64,27 +67,34 @@ pub fn run<S: Source, K: Sink>(
     names_are_distinct();
     lines_have_their_own_form();
     a_line_spells_at_most_one_claim();
-    let Some(order) = order_of(words) else {
-        return settle(sink, usage(), Status::Words);
-    };
-    match answer(alloc, &order, source, advisers) {
-        Ok(Some(due)) => settle(sink, &due.bytes, due.status),
-        Ok(None) => Status::ReadFault,
+    a_line_tells_at_most_one_claim();
+    claims_have_their_own_form();
+    match order_of(alloc, words) {
+        Ok(Some(Order::Analysis(query))) => match answer(alloc, &query, source, advisers) {
+            Ok(Some(due)) => settle(sink, &due.bytes, due.status),
+            Ok(None) => Status::ReadFault,
+            Err(_) => Status::NoMemory,
+        },
+        Ok(Some(Order::Demo(number))) => match demo(alloc, number, advisers) {
+            Ok(due) => settle(sink, &due.bytes, due.status),
+            Err(_) => Status::NoMemory,
+        },
+        Ok(None) => settle(sink, usage(), Status::Words),
         Err(_) => Status::NoMemory,
     }
 }
 
-// Reads the source, and answers what is to be written for it, or `None` where a read failed.
+/// Reads the source, and answers what is to be written for it, or `None` where a read failed.
 fn answer<S: Source>(
     alloc: Global,
-    order: &Order,
+    query: &Query,
     source: &mut S,
     advisers: &mut Vec<Box<dyn Adviser>>,
 ) -> Result<Option<Due>, AllocError>
     requires patient { All (λ adviser. asked_of adviser ≤ 2 ^ 32) advisers.old.items }
     ensures due { IfOk result (λ outcome. MatchOption outcome (Rose (S.faults source.old) (S.faults source.new))
         (λ due. (text : List ℕ) × IsRead (S.left source.old) text × (S.faults source.new ≡ S.faults source.old)
-        × IsDueOn (task_of order.now) text due.status due.turns due.bytes.items)) }
+        × IsDueOn (task_of query.now) text due.status (length advisers.old.items) due.turns due.bytes.items)) }
     ensures stops { ConsumesUpTo (65536 + 1) (S.left source.old) (S.left source.new) }
     ensures never_falls { S.faults source.old ≤ S.faults source.new }
     ensures stays { OnErr result (S.faults source.new ≡ S.faults source.old) }
@@ -92,13 +102,13 @@ fn answer<S: Source>(
         × IfOk result (λ outcome. IfSome outcome (λ due. due.turns ≡ times)) }
 {
     match read_program(alloc, source)? {
-        ReadEnd::Text(text) => Ok(Some(report_on(alloc, order, &text, advisers)?)),
+        ReadEnd::Text(text) => Ok(Some(report_on(alloc, query, &text, advisers)?)),
         ReadEnd::TooLong => Ok(Some(too_long(alloc)?)),
         ReadEnd::Failed => Ok(None),
     }
 }
 
-// Writes the bytes, and answers the status that goes with them. A report of which a write failed has a status of its own.
+/// Writes the bytes, and answers the status that goes with them. A report of which a write failed has a status of its own.
 fn settle<K: Sink>(sink: &mut K, bytes: &[u8], status: Status) -> Status
     ensures settles { ((result ≡ status) × Appends (K.taken sink.old) (K.taken sink.new) bytes.now)
         ⊎ ((result ≡ after_failing status) × AppendsFront (K.taken sink.old) (K.taken sink.new) bytes.now
@@ -112,7 +122,7 @@ fn settle<K: Sink>(sink: &mut K, bytes: &[u8], status: Status) -> Status
     }
 }
 
-// The status where a write failed: a refusal keeps its own.
+/// The status where a write failed: a refusal keeps its own.
 fn after_failing(status: Status) -> Status
     ensures { result ≡ after_failing status }
 {

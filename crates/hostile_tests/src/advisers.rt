@@ -77,6 +77,22 @@ fn hints_that_say_nothing_change_nothing(rt: HostRuntime) -> Result<(), Fail> {
 }
 
 #[test]
+fn how_often_an_adviser_was_asked_is_told(rt: HostRuntime) -> Result<(), Fail> {
+    let alloc = rt.alloc();
+    let mut advisers: Vec<Box<dyn Adviser>> = Vec::with_capacity(alloc, 1)?;
+    advisers.push(Box::new(alloc, steady(1, Affine::constant(0)))?)?;
+    let words = ["function", "--explain"];
+    let (status, report) = outcome_by(alloc, &words, COUNT_UP.as_bytes(), &mut advisers)?;
+    assert!(rt;
+        report
+            .as_slice()
+            .ends_with(b"\nadviser 1 asked 8\nverdict: some inputs\n")
+    );
+    assert_eq!(rt; status, Status::SomeInputs);
+    Ok(())
+}
+
+#[test]
 fn nobody_need_advise(rt: HostRuntime) -> Result<(), Fail> {
     let (status, written) = unadvised(rt.alloc(), COUNT_UP)?;
     assert_eq!(rt; written.as_slice(), COUNT_UP_REPORT.as_bytes());

@@ -113,7 +113,7 @@ const REFUSED: [Case; 9] = [
     ),
     (
         CLIMB,
-        &["function", "--ctl", "--delay"],
+        &["function", "--ctl=--delay"],
         Formula,
         "formula: 4 at 0\n",
     ),

@@ -1,22 +1,18 @@
-use Rattle.std.proofs.Common.{rules, ◌≡◌, ◌∙◌, refl, subst, sym, Some, arith}
+use Rattle.std.proofs.Common.{rules, refl, sym, subst, arith}
 use Rattle.step_meaning.specs.declared.program.Program.{Program}
-use Rattle.formula_parse.specs.Laws.{numbered}
+use Rattle.step_meaning.specs.Syntax.{statements}
 use Rattle.ctl_rounds.proofs.Asking.{unasked}
-use Rattle.function_top.specs.Asking.{IsFaultAsked}
-use Rattle.function_top.specs.Order.{task_of}
-use Rattle.function_top.proofs.Refusing.{asked_refused}
+use Rattle.command_words.specs.Order.{task_of}
+use Rattle.line_text.specs.Names.{AreNames}
+use Rattle.function_top.specs.Asking.{IsInputGiven}
+use Rattle.function_top.proofs.Named.{program_names}
 use Rattle.function_top.proofs.answer.due_on_graph.Goals as goal
 
-pub returns-in_ok-no_formula-in-Some-clause-due : goal.returns-in_ok-no_formula-in-Some-clause-due
-returns-in_ok-no_formula-in-Some-clause-due g c = λ text short derived stand.
+pub returns-in_ok-no_input-in-None-clause-due : goal.returns-in_ok-no_input-in-None-clause-due
+returns-in_ok-no_input-in-None-clause-due g c = λ text short derived stand.
     let program = c.args.graph.now in
-    let told : numbered c.in-Err.fault ≡ Some (c.in-Some.number, c.in-Some.offset) = sym c.numbered.ensures ∙ c.in-Some.is in
-    let refused = asked_refused program.names (task_of c.args.order.now).formula c.in-Err.fault c.in-Some.number c.in-Some.offset
-    c.in_ok-no_formula-in-Some.field-0.bytes.items c.a_formula_has_no_fault.ensures
-    (subst (λ (program : Program). IsFaultAsked program.names (task_of c.args.order.now).formula c.in-Err.fault) c.program.ensures c.in-Err.ensures.fault)
-    told c.in_ok-no_formula-in-Some.ensures.line
-    in
-    rw (c.in_ok-no_formula-in-Some.ensures.status) (
+    let names = program_names c.names_are_spelled_as_names.ensures c.names_are_distinct.ensures text program.names (statements program.body) derived in
+    rw (c.in_ok-no_input-in-None.ensures.status) (
       record {
         names = program.names;
         within = record {
@@ -27,18 +23,17 @@ returns-in_ok-no_formula-in-Some-clause-due g c = λ text short derived stand.
           labels = c.requires.labels;
           conjunctions = c.requires.conjunctions;
         };
-        formula = refused.formula;
-        asked = refused.asked_is;
-        refused = refused.refused;
+        refused = subst (λ (p : Program). ¬ IsInputGiven p.names (task_of c.args.query.now).input) c.program.ensures
+            (c.in-None.ensures.none (subst (λ (p : Program). AreNames p.names) (sym c.program.ensures) names));
+        line_is = c.in_ok-no_input-in-None.ensures.line;
       },
-      c.in_ok-no_formula-in-Some.ensures.unasked,
+      c.in_ok-no_input-in-None.ensures.unasked,
     )
 
-pub returns-in_ok-no_formula-in-Some-clause-asked : goal.returns-in_ok-no_formula-in-Some-clause-asked
-returns-in_ok-no_formula-in-Some-clause-asked g c = (0, omega (arith), unasked (λ a. (goal.Adviser-dyn g (a.vtable, a.value)).asked_of a.value) c.args.advisers.now.items, c.in_ok-no_formula-in-Some.ensures.unasked)
+pub returns-in_ok-no_input-in-None-clause-asked : goal.returns-in_ok-no_input-in-None-clause-asked
+returns-in_ok-no_input-in-None-clause-asked g c =
+    (0, omega (arith), unasked (λ a. (goal.Adviser-dyn g (a.vtable, a.value)).asked_of a.value) c.args.advisers.now.items, c.in_ok-no_input-in-None.ensures.unasked)
 
-pub returns-in_err-no_formula-in-Some-clause-asked : goal.returns-in_err-no_formula-in-Some-clause-asked
-returns-in_err-no_formula-in-Some-clause-asked g c = (0, omega (arith), unasked (λ a. (goal.Adviser-dyn g (a.vtable, a.value)).asked_of a.value) c.args.advisers.now.items, search rules)
-
-pub returns-in-None-clause-asked : goal.returns-in-None-clause-asked
-returns-in-None-clause-asked g c = (0, omega (arith), unasked (λ a. (goal.Adviser-dyn g (a.vtable, a.value)).asked_of a.value) c.args.advisers.now.items, search rules)
+pub returns-in_err-no_input-in-None-clause-asked : goal.returns-in_err-no_input-in-None-clause-asked
+returns-in_err-no_input-in-None-clause-asked g c =
+    (0, omega (arith), unasked (λ a. (goal.Adviser-dyn g (a.vtable, a.value)).asked_of a.value) c.args.advisers.now.items, search rules)

@@ -1,7 +1,7 @@
 use Rattle.std.proofs.Common.{rules, ℕ, ◌<◌, List, length, arith}
 use Rattle.ctl_rounds.proofs.Asking.{unasked}
 use Rattle.function_top.specs.Due.{IsDueOn}
-use Rattle.function_top.specs.Order.{task_of}
+use Rattle.command_words.specs.Order.{task_of}
 use Rattle.function_top.proofs.top.answer.Goals as goal
 
 pub returns-in_err-text-clause-asked : goal.returns-in_err-text-clause-asked
@@ -19,6 +19,6 @@ returns-in-Failed-clause-asked g c = (0, omega (arith), unasked (λ a. (goal.Adv
 pub returns-in_ok-too_long-in-TooLong-clause-due : goal.returns-in_ok-too_long-in-TooLong-clause-due
 returns-in_ok-too_long-in-TooLong-clause-due g c =
     let due : (text : List ℕ) → 65536 < length text
-    → IsDueOn (task_of c.args.order.now) text c.in_ok-too_long-in-TooLong.field-0.status c.in_ok-too_long-in-TooLong.field-0.turns c.in_ok-too_long-in-TooLong.field-0.bytes.items
-    = λ text long. c.in_ok-too_long-in-TooLong.ensures.due (task_of c.args.order.now) text long in
+    → IsDueOn (task_of c.args.query.now) text c.in_ok-too_long-in-TooLong.field-0.status (length c.args.advisers.now.items) c.in_ok-too_long-in-TooLong.field-0.turns c.in_ok-too_long-in-TooLong.field-0.bytes.items
+    = λ text long. c.in_ok-too_long-in-TooLong.ensures.due (task_of c.args.query.now) text (length c.args.advisers.now.items) long in
     search rules

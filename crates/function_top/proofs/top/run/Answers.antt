@@ -1,62 +1,101 @@
-use Rattle.std.proofs.Common.{ℕ, List, map, refl, sym, subst, arith, Bor}
+use Rattle.std.proofs.Common.{◌≡◌, ◌∙◌, ℕ, List, Some, length, map, ap, refl, sym, subst, arith, Bor}
+use Rattle.std.proofs.lemmas.List.{length-map}
 use Rattle.ctl_rounds.proofs.Asking.{unasked}
 use Rattle.ctl_rounds.specs.Asked.{RoseBy}
-use Rattle.function_top.specs.Order.{Accepted}
+use Rattle.command_words.specs.Order.{task_of}
+use Rattle.function_top.specs.Due.{IsDueOn}
 use Rattle.function_top.proofs.Headline.{keeps_itself, known_texts}
-use Rattle.function_top.proofs.Reading.{accepted, once, refused}
-use Rattle.function_top.proofs.Running.{numbers_rose, run_refused, run_settled, run_silent}
+use Rattle.function_top.proofs.Reading.{once, refused, served, shown}
+use Rattle.function_top.proofs.Running.{numbers_rose, run_demo, run_out, run_refused, run_settled, run_unread}
 use Rattle.function_top.proofs.top.run.Goals as goal
 
 -- the words as texts
 abbrev texts : List (Bor (List ℕ)) → List (List ℕ)
 texts words = map (λ word. word.now) words
 
-pub returns-in_default-clause-run : goal.returns-in_default-clause-run
-returns-in_default-clause-run g c =
-    let words = texts c.args.words.now in
-    let none : ¬ Accepted words = refused words c.order_of.result c.order_of.ensures c.in_default.not-Some in
-    run_refused words _ (known_texts c.a_text_is_one_program.ensures c.a_text_is_one_formula.ensures c.names_are_spelled_as_names.ensures c.names_are_distinct.ensures
-    c.lines_have_their_own_form.ensures.ending c.lines_have_their_own_form.ensures.newline c.a_line_spells_at_most_one_claim.ensures) (once words c.order_of.result c.order_of.ensures) none c.settle.result (rw c.usage.ensures at c.settle.ensures.settles)
+-- how often the advisers were asked, as many numbers as there are advisers
+asked_length : {A : Type 0} (asked : A → ℕ) (items : List A) → length items ≡ length (map asked items)
+asked_length asked items = sym (length-map items asked)
 
-pub returns-in_default-clause-unread : goal.returns-in_default-clause-unread
-returns-in_default-clause-unread g c = λ none. refl
+pub demo-requires-clause-few : goal.demo-requires-clause-few
+demo-requires-clause-few g c =
+    (shown (texts c.args.words.now) c.in-Ok-Some-Demo.field-0 c.in-Ok-Some-Demo.ensures c.in-Ok-Some-Demo.number
+    (c.in-Ok-Some-Demo.field-0-is ∙ ap Some c.in-Ok-Some-Demo.field-0-0-is)).1.2.few
 
 pub returns-in-Ok-Some-clause-run : goal.returns-in-Ok-Some-clause-run
 returns-in-Ok-Some-clause-run g c =
     let words = texts c.args.words.now in
-    let asks = accepted words c.order_of.result c.order_of.ensures c.in-Some.order c.in-Some.is in
+    let order = c.in-Ok-Some-Analysis in
+    let asks = served words order.field-0 order.ensures order.query (order.field-0-is ∙ ap Some order.field-0-0-is) in
     let due = rw c.in-Ok-Some.field-0-is at c.in-Ok-Some.ensures.due in
     let asked = rw c.in-Ok-Some.field-0-is at c.in-Ok-Some.ensures.asked in
     let rose = subst (λ times. RoseBy (λ a. (goal.Adviser-dyn g (a.vtable, a.value)).asked_of a.value) times c.args.advisers.now.items c.answer.new.advisers.items) (sym asked.3) asked.2 in
     run_settled words _ (known_texts c.a_text_is_one_program.ensures c.a_text_is_one_formula.ensures c.names_are_spelled_as_names.ensures c.names_are_distinct.ensures
-    c.lines_have_their_own_form.ensures.ending c.lines_have_their_own_form.ensures.newline c.a_line_spells_at_most_one_claim.ensures) (once words c.order_of.result c.order_of.ensures) asks c.in-Ok-Some.due.status c.settle-in-Ok-Some.result due.0 c.in-Ok-Some.due.turns c.in-Ok-Some.due.bytes.items due.1 due.2 due.3
-    (numbers_rose _ _ _ _ rose) (rw c.deref.ensures.value at c.settle-in-Ok-Some.ensures.settles)
+    c.lines_have_their_own_form.ensures.ending c.lines_have_their_own_form.ensures.newline c.a_line_spells_at_most_one_claim.ensures c.a_line_tells_at_most_one_claim.ensures
+    c.claims_have_their_own_form.ensures.newline c.claims_have_their_own_form.ensures.apart c.claims_have_their_own_form.ensures.ending)
+    (once words order.field-0 order.ensures) (task_of order.query, asks) c.in-Ok-Some.due.status c.settle.result due.0 c.in-Ok-Some.due.turns
+    c.in-Ok-Some.due.bytes.items due.1 due.2
+    (subst (λ (n : ℕ). IsDueOn (task_of order.query) due.0 c.in-Ok-Some.due.status n c.in-Ok-Some.due.turns c.in-Ok-Some.due.bytes.items)
+    (asked_length _ c.args.advisers.now.items) due.3)
+    (numbers_rose _ _ _ _ rose) (rw c.deref.ensures.value at c.settle.ensures.settles)
 
 pub returns-in-Ok-Some-clause-unread : goal.returns-in-Ok-Some-clause-unread
-returns-in-Ok-Some-clause-unread g c = λ none. absurd (none (accepted (texts c.args.words.now) c.order_of.result c.order_of.ensures c.in-Some.order c.in-Some.is))
+returns-in-Ok-Some-clause-unread g c = λ none.
+    let order = c.in-Ok-Some-Analysis in
+    absurd (none (task_of order.query) (served (texts c.args.words.now) order.field-0 order.ensures order.query (order.field-0-is ∙ ap Some order.field-0-0-is)))
 
-pub returns-in-Ok-None-clause-unread : goal.returns-in-Ok-None-clause-unread
-returns-in-Ok-None-clause-unread g c = λ none. absurd (none (accepted (texts c.args.words.now) c.order_of.result c.order_of.ensures c.in-Some.order c.in-Some.is))
+pub returns-in-Ok-None-answer-clause-run : goal.returns-in-Ok-None-answer-clause-run
+returns-in-Ok-None-answer-clause-run g c =
+    let words = texts c.args.words.now in
+    let order = c.in-Ok-Some-Analysis in
+    let asks = served words order.field-0 order.ensures order.query (order.field-0-is ∙ ap Some order.field-0-0-is) in
+    let rose = rw c.in-Ok-None-answer.field-0-is at c.in-Ok-None-answer.ensures.due in
+    run_unread words _ (known_texts c.a_text_is_one_program.ensures c.a_text_is_one_formula.ensures c.names_are_spelled_as_names.ensures c.names_are_distinct.ensures
+    c.lines_have_their_own_form.ensures.ending c.lines_have_their_own_form.ensures.newline c.a_line_spells_at_most_one_claim.ensures c.a_line_tells_at_most_one_claim.ensures
+    c.claims_have_their_own_form.ensures.newline c.claims_have_their_own_form.ensures.apart c.claims_have_their_own_form.ensures.ending)
+    (once words order.field-0 order.ensures) (task_of order.query, asks) refl (rose, keeps_itself _)
 
-pub returns-in-Err-clause-unread : goal.returns-in-Err-clause-unread
-returns-in-Err-clause-unread g c = λ none. absurd (none (accepted (texts c.args.words.now) c.order_of.result c.order_of.ensures c.in-Some.order c.in-Some.is))
+pub returns-in-Ok-None-answer-clause-unread : goal.returns-in-Ok-None-answer-clause-unread
+returns-in-Ok-None-answer-clause-unread g c = λ none.
+    let order = c.in-Ok-Some-Analysis in
+    absurd (none (task_of order.query) (served (texts c.args.words.now) order.field-0 order.ensures order.query (order.field-0-is ∙ ap Some order.field-0-0-is)))
+
+pub returns-in-Err-answer-clause-run : goal.returns-in-Err-answer-clause-run
+returns-in-Err-answer-clause-run g c = run_out (texts c.args.words.now) _ refl (c.in-Err-answer.ensures.stays, keeps_itself _)
+
+pub returns-in-Err-answer-clause-unread : goal.returns-in-Err-answer-clause-unread
+returns-in-Err-answer-clause-unread g c = λ none.
+    let order = c.in-Ok-Some-Analysis in
+    absurd (none (task_of order.query) (served (texts c.args.words.now) order.field-0 order.ensures order.query (order.field-0-is ∙ ap Some order.field-0-0-is)))
+
+pub returns-in-Ok-clause-run : goal.returns-in-Ok-clause-run
+returns-in-Ok-clause-run g c =
+    let words = texts c.args.words.now in
+    let order = c.in-Ok-Some-Demo in
+    let asks = shown words order.field-0 order.ensures order.number (order.field-0-is ∙ ap Some order.field-0-0-is) in
+    let asked = c.in-Ok.ensures.asked in
+    let rose = subst (λ times. RoseBy (λ a. (goal.Adviser-dyn g (a.vtable, a.value)).asked_of a.value) times c.args.advisers.now.items c.demo.new.advisers.items) (sym asked.3) asked.2 in
+    let settled = rw c.deref-in-Ok.ensures.value at c.settle-in-Ok.ensures.settles in
+    run_demo words _ (once words order.field-0 order.ensures) order.number c.in-Ok.due.turns c.in-Ok.due.bytes.items c.settle-in-Ok.result asks refl
+    c.in-Ok.ensures.due (numbers_rose _ _ _ _ rose) (rw c.in-Ok.ensures.status at settled)
+
+pub returns-in-Err-demo-clause-run : goal.returns-in-Err-demo-clause-run
+returns-in-Err-demo-clause-run g c = run_out (texts c.args.words.now) _ refl (refl, keeps_itself _)
 
 pub returns-in-Ok-None-clause-run : goal.returns-in-Ok-None-clause-run
 returns-in-Ok-None-clause-run g c =
     let words = texts c.args.words.now in
-    let asks = accepted words c.order_of.result c.order_of.ensures c.in-Some.order c.in-Some.is in
-    let rose = rw c.in-Ok-None.field-0-is at c.in-Ok-None.ensures.due in
-    run_silent words _
-    (known_texts c.a_text_is_one_program.ensures c.a_text_is_one_formula.ensures c.names_are_spelled_as_names.ensures c.names_are_distinct.ensures
-    c.lines_have_their_own_form.ensures.ending c.lines_have_their_own_form.ensures.newline c.a_line_spells_at_most_one_claim.ensures) (once words c.order_of.result c.order_of.ensures) asks _ (λ e. cc) refl (rose, keeps_itself _)
+    run_refused words _ (known_texts c.a_text_is_one_program.ensures c.a_text_is_one_formula.ensures c.names_are_spelled_as_names.ensures c.names_are_distinct.ensures
+    c.lines_have_their_own_form.ensures.ending c.lines_have_their_own_form.ensures.newline c.a_line_spells_at_most_one_claim.ensures c.a_line_tells_at_most_one_claim.ensures
+    c.claims_have_their_own_form.ensures.newline c.claims_have_their_own_form.ensures.apart c.claims_have_their_own_form.ensures.ending)
+    (refused words c.in-Ok-None.field-0 c.in-Ok-None.ensures c.in-Ok-None.field-0-is) c.settle-in-Ok-None.result
+    (rw c.usage.ensures at c.settle-in-Ok-None.ensures.settles)
+
+pub returns-in-Ok-None-clause-asked : goal.returns-in-Ok-None-clause-asked
+returns-in-Ok-None-clause-asked g c = (0, omega (arith), unasked (λ a. (goal.Adviser-dyn g (a.vtable, a.value)).asked_of a.value) c.args.advisers.now.items)
 
 pub returns-in-Err-clause-run : goal.returns-in-Err-clause-run
-returns-in-Err-clause-run g c =
-    let words = texts c.args.words.now in
-    let asks = accepted words c.order_of.result c.order_of.ensures c.in-Some.order c.in-Some.is in
-    run_silent words _
-    (known_texts c.a_text_is_one_program.ensures c.a_text_is_one_formula.ensures c.names_are_spelled_as_names.ensures c.names_are_distinct.ensures
-    c.lines_have_their_own_form.ensures.ending c.lines_have_their_own_form.ensures.newline c.a_line_spells_at_most_one_claim.ensures) (once words c.order_of.result c.order_of.ensures) asks _ (λ e. cc) refl (c.in-Err.ensures.stays, keeps_itself _)
+returns-in-Err-clause-run g c = run_out (texts c.args.words.now) _ refl (refl, keeps_itself _)
 
-pub returns-in_default-clause-asked : goal.returns-in_default-clause-asked
-returns-in_default-clause-asked g c = (0, omega (arith), unasked (λ a. (goal.Adviser-dyn g (a.vtable, a.value)).asked_of a.value) c.args.advisers.now.items)
+pub returns-in-Err-clause-asked : goal.returns-in-Err-clause-asked
+returns-in-Err-clause-asked g c = (0, omega (arith), unasked (λ a. (goal.Adviser-dyn g (a.vtable, a.value)).asked_of a.value) c.args.advisers.now.items)

@@ -1,0 +1,7 @@
+mod Asking
+mod Reading
+mod Examples
+mod Walking
+mod PairRows
+mod PairFaults
+mod PairRequests

@@ -1,0 +1,67 @@
+-- Words that spell options with their values ask for what the values ask for.
+use Rattle.std.proofs.Common.{◌≡◌, ◌∙◌, ◌↔◌, Bool, true, false, List, [], ◌∷◌, Option, None, Some, refl, sym, subst, codes}
+use Rattle.std.specs.Str.{bytes_eq}
+use Rattle.clap.specs.Words.{Text}
+use Rattle.command_words.specs.Command.{value_in}
+use Rattle.command_words.specs.Order.{Ask, IsAlone, IsDelay, IsDomain, IsGiven, IsTask, Request, Requests, Task, analysis, demo as demo_asked}
+use Rattle.command_words.specs.Pairs.{ArePairs, IsOption, Pair, ctl, domain, delay, at, demo, spelled, value_among}
+use Rattle.command_words.proofs.PairFaults.{AreReadAsPairs, reads_pairs}
+
+-- the flag is none of the options with a value
+not_flag : (name : Text) → IsOption name → bytes_eq name (codes "explain") ≡ false
+not_flag name ctl = refl
+not_flag name domain = refl
+not_flag name delay = refl
+not_flag name at = refl
+not_flag name demo = refl
+
+no_flag : (pairs : List Pair) → ArePairs pairs → value_among pairs (codes "explain") ≡ None
+no_flag [] are = refl
+no_flag (pair ∷ more) are = rw (not_flag pair.option are.0) (no_flag more are.3)
+
+-- a flag that isn't there and one that isn't given
+given_first : (e : Bool) → IsGiven (Some (codes "false")) e → IsGiven None e
+given_first true is = cc
+given_first false is = λ other. cc
+
+given_second : (e : Bool) → IsGiven None e → IsGiven (Some (codes "false")) e
+given_second true is = cc
+given_second false is = λ other. cc
+
+module _ (f g : Text → Option Text) (same : (name : Text) → IsOption name → f name ≡ g name)
+    (flag : (e : Bool) → IsGiven (f (codes "explain")) e → IsGiven (g (codes "explain")) e) where
+  same_task : (task : Task) → IsTask f task → IsTask g task
+  same_task task is = record {
+    domain = subst (λ v. IsDomain v task.domain) (same (codes "domain") domain) is.domain;
+    delay = subst (λ v. IsDelay v task.delay) (same (codes "delay") delay) is.delay;
+    formula = is.formula ∙ same (codes "ctl") ctl;
+    input = is.input ∙ same (codes "at") at;
+    explain = flag task.explain is.explain;
+  }
+
+  same_alone : IsAlone f → IsAlone g
+  same_alone is = record {
+    domain = sym (same (codes "domain") domain) ∙ is.domain;
+    delay = sym (same (codes "delay") delay) ∙ is.delay;
+    formula = sym (same (codes "ctl") ctl) ∙ is.formula;
+    input = sym (same (codes "at") at) ∙ is.input;
+    explain = flag false is.explain;
+  }
+
+  same_requests : (request : Request) → Requests f request → Requests g request
+  same_requests (analysis task) is = (sym (same (codes "demo") demo) ∙ is.0, same_task task is.1)
+  same_requests (demo_asked number) is = (is.0, sym (same (codes "demo") demo) ∙ is.1, is.2, same_alone is.3)
+
+pub pairs_ask : (program : Text) (pairs : List Pair) → ArePairs pairs → (request : Request)
+    → Ask (program ∷ spelled pairs) request ↔ Requests (value_among pairs) request
+pairs_ask program pairs are request =
+    let read : AreReadAsPairs program pairs = reads_pairs program pairs are in
+    let none = no_flag pairs are in (
+      λ asked. same_requests (value_in (program ∷ spelled pairs)) (value_among pairs) read.values
+          (λ e is. subst (λ v. IsGiven v e) (sym none) (given_first e (subst (λ v. IsGiven v e) read.flag is))) request asked.1,
+      λ asked. (
+        read.taken,
+        same_requests (value_among pairs) (value_in (program ∷ spelled pairs)) (λ name is. sym (read.values name is))
+            (λ e is. subst (λ v. IsGiven v e) (sym read.flag) (given_second e (subst (λ v. IsGiven v e) none is))) request asked,
+      ),
+    )

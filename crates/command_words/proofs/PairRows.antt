@@ -1,0 +1,178 @@
+-- What options with their values come to.
+use Rattle.std.proofs.Common.{◌≡◌, ◌≢◌, ◌∙◌, Bool, true, false, List, [], ◌∷◌, ◌++◌, Option, None, Some, fold, take, drop, refl, sym, ap, codes, append-nil}
+use Rattle.std.proofs.lemmas.Bool.{false≢true}
+use Rattle.std.proofs.lemmas.List.{append_assoc}
+use Rattle.std.proofs.lemmas.Slice.Eq.{bytes_eq-Decides}
+use Rattle.std.specs.Prelude.{⊤}
+use Rattle.std.specs.Str.{bytes_eq}
+use Rattle.clap.specs.Words.{Row, Rule, Text, first_of}
+use Rattle.clap.specs.Walk.{Walk, at_row, has_row, more_values, settled_rows, walked, with_default}
+use Rattle.clap.specs.declared.builder.value_parser.Reading.TheVariants.{AsWritten}
+use Rattle.clap.specs.declared.parser.matches.ValueSource.TheVariants.{CommandLine, DefaultValue}
+use Rattle.clap.proofs.OnLiterals.{clap_on_literals}
+use Rattle.command_words.specs.Command.{command}
+use Rattle.command_words.specs.Pairs.{ArePairs, IsNotAmong, IsOption, Pair, ctl, domain, delay, at, demo, spelled, value_among}
+use Rattle.command_words.proofs.Walking.{at_rest, name_read, rules, value_read}
+
+-- the row of an option with its value
+abbrev pub row_of : Pair → Row
+row_of pair = record { id = pair.option; values = pair.value ∷ []; count = None; source = Some CommandLine; reading = AsWritten }
+
+abbrev pub rows_for : List Pair → List Row
+rows_for [] = []
+rows_for (pair ∷ more) = row_of pair ∷ rows_for more
+
+-- ---- rows that aren't there
+
+at_absent : (id : Text) (change : Row → List Row) (missing rows : List Row) → has_row id rows ≡ false → at_row id change missing rows ≡ rows ++ missing
+at_absent id change missing [] none = refl
+at_absent id change missing (r ∷ rs) none = by (bytes_eq r.id id) refl (at_absent id change missing rs)
+  where
+    by : (b : Bool) → bytes_eq r.id id ≡ b → (has_row id rs ≡ false → at_row id change missing rs ≡ rs ++ missing)
+        → at_row id change missing (r ∷ rs) ≡ (r ∷ rs) ++ missing
+    by true e rest = absurd (false≢true (sym (rw e at none)))
+    by false e rest = rw e (ap (λ t. r ∷ t) (rest (rw e at none)))
+
+-- the pairs' options have no row
+abbrev pub AreNew : List Row → List Pair → Type 0
+AreNew rows [] = ⊤
+AreNew rows (pair ∷ more) = (has_row pair.option rows ≡ false) × AreNew rows more
+
+not_here : (a b : Text) → b ≢ a → bytes_eq a b ≡ false
+not_here a b apart = by (bytes_eq a b) refl
+  where
+    by : (t : Bool) → bytes_eq a b ≡ t → bytes_eq a b ≡ false
+    by true e = absurd (apart (sym ((bytes_eq-Decides a b).0 e)))
+    by false e = e
+
+has_row_behind : (id : Text) (rows : List Row) (r : Row) → has_row id rows ≡ false → bytes_eq r.id id ≡ false → has_row id (rows ++ r ∷ []) ≡ false
+has_row_behind id [] r none apart = rw apart refl
+has_row_behind id (first ∷ rows) r none apart = by (bytes_eq first.id id) refl (λ rest. has_row_behind id rows r rest apart)
+  where
+    by : (b : Bool) → bytes_eq first.id id ≡ b → (has_row id rows ≡ false → has_row id (rows ++ r ∷ []) ≡ false)
+        → has_row id ((first ∷ rows) ++ r ∷ []) ≡ false
+    by true e rest = absurd (false≢true (sym (rw e at none)))
+    by false e rest = rw e (rest (rw e at none))
+
+pub new_behind : (rows : List Row) (pair : Pair) (pairs : List Pair) → AreNew rows pairs → IsNotAmong pairs pair.option → AreNew (rows ++ row_of pair ∷ []) pairs
+new_behind rows pair [] new apart = tt
+new_behind rows pair (next ∷ more) new apart =
+    (has_row_behind next.option rows (row_of pair) new.0 (not_here pair.option next.option apart.0), new_behind rows pair more new.1 apart.1)
+
+-- ---- the walk
+
+abbrev pub pending_of : Pair → Option (Text × List Text)
+pending_of pair = Some (pair.option, pair.value ∷ [])
+
+-- where a walk over the pairs stands
+abbrev pub walk_of : List Row → Option (Text × List Text) → List Pair → Walk
+walk_of rows pending [] = at_rest rows pending
+walk_of rows pending (pair ∷ more) = walk_of (settled_rows rules pending rows) (pending_of pair) more
+
+pub walks : (rows : List Row) (pending : Option (Text × List Text)) (pairs : List Pair) → ArePairs pairs
+    → fold (walked rules []) (at_rest rows pending) (spelled pairs) ≡ walk_of rows pending pairs
+walks rows pending [] all = refl
+walks rows pending (pair ∷ more) all =
+    ap (λ w. fold (walked rules []) (walked rules [] w pair.value) (spelled more)) (name_read pair.option all.0 rows pending)
+    ∙ ap (λ w. fold (walked rules []) w (spelled more)) (value_read pair.option pair.value all.0 all.1 (settled_rows rules pending rows))
+    ∙ walks (settled_rows rules pending rows) (pending_of pair) more all.3
+
+-- the row of a pair is added
+pub settled_pair : (name text : Text) → IsOption name → (rows : List Row) → has_row name rows ≡ false
+    → settled_rows rules (Some (name, text ∷ [])) rows ≡ rows ++ row_of (record { option = name; value = text }) ∷ []
+unfolding rules command clap_on_literals
+settled_pair name text ctl rows none =
+    ap (λ t. at_row name (more_values CommandLine (text ∷ [])) (row_of (record { option = name; value = text }) ∷ []) t)
+    (at_absent name (λ r. []) [] rows none ∙ append-nil rows)
+    ∙ at_absent name (more_values CommandLine (text ∷ [])) (row_of (record { option = name; value = text }) ∷ []) rows none
+settled_pair name text domain rows none =
+    ap (λ t. at_row name (more_values CommandLine (text ∷ [])) (row_of (record { option = name; value = text }) ∷ []) t)
+    (at_absent name (λ r. []) [] rows none ∙ append-nil rows)
+    ∙ at_absent name (more_values CommandLine (text ∷ [])) (row_of (record { option = name; value = text }) ∷ []) rows none
+settled_pair name text delay rows none =
+    ap (λ t. at_row name (more_values CommandLine (text ∷ [])) (row_of (record { option = name; value = text }) ∷ []) t)
+    (at_absent name (λ r. []) [] rows none ∙ append-nil rows)
+    ∙ at_absent name (more_values CommandLine (text ∷ [])) (row_of (record { option = name; value = text }) ∷ []) rows none
+settled_pair name text at rows none =
+    ap (λ t. at_row name (more_values CommandLine (text ∷ [])) (row_of (record { option = name; value = text }) ∷ []) t)
+    (at_absent name (λ r. []) [] rows none ∙ append-nil rows)
+    ∙ at_absent name (more_values CommandLine (text ∷ [])) (row_of (record { option = name; value = text }) ∷ []) rows none
+settled_pair name text demo rows none =
+    ap (λ t. at_row name (more_values CommandLine (text ∷ [])) (row_of (record { option = name; value = text }) ∷ []) t)
+    (at_absent name (λ r. []) [] rows none ∙ append-nil rows)
+    ∙ at_absent name (more_values CommandLine (text ∷ [])) (row_of (record { option = name; value = text }) ∷ []) rows none
+
+pub settled_all : (rows all : List Row) (pending : Option (Text × List Text)) (pairs : List Pair) → settled_rows rules pending rows ≡ all
+    → ArePairs pairs → AreNew all pairs
+    → settled_rows rules (walk_of rows pending pairs).held.pending (walk_of rows pending pairs).held.rows ≡ all ++ rows_for pairs
+settled_all rows all pending [] is are new = is ∙ sym (append-nil all)
+settled_all rows all pending (pair ∷ more) is are new =
+    let next : settled_rows rules (pending_of pair) (settled_rows rules pending rows) ≡ all ++ row_of pair ∷ [] =
+    ap (λ t. settled_rows rules (pending_of pair) t) is ∙ settled_pair pair.option pair.value are.0 all new.0 in
+    settled_all (settled_rows rules pending rows) (all ++ row_of pair ∷ []) (pending_of pair) more next are.3
+    (new_behind all pair more new.1 are.2) ∙ append_assoc all (row_of pair ∷ []) (rows_for more)
+
+pub never_stops : (rows : List Row) (pending : Option (Text × List Text)) (pairs : List Pair) → (walk_of rows pending pairs).stopped ≡ None
+never_stops rows pending [] = refl
+never_stops rows pending (pair ∷ more) = never_stops (settled_rows rules pending rows) (pending_of pair) more
+
+-- ---- what is read in the end
+
+abbrev pub flag_row : Row
+flag_row = record { id = codes "explain"; values = codes "false" ∷ []; count = None; source = Some DefaultValue; reading = AsWritten }
+
+pub first_among : (pairs : List Pair) (name : Text) → IsOption name → first_of name (rows_for pairs ++ flag_row ∷ []) ≡ value_among pairs name
+first_among [] name ctl = refl
+first_among [] name domain = refl
+first_among [] name delay = refl
+first_among [] name at = refl
+first_among [] name demo = refl
+first_among (pair ∷ more) name is = by (bytes_eq pair.option name) refl (first_among more name is)
+  where
+    by : (b : Bool) → bytes_eq pair.option name ≡ b → first_of name (rows_for more ++ flag_row ∷ []) ≡ value_among more name
+        → first_of name (rows_for (pair ∷ more) ++ flag_row ∷ []) ≡ value_among (pair ∷ more) name
+    by true e rest = rw e refl
+    by false e rest = rw e rest
+
+no_flag : (name : Text) → IsOption name → bytes_eq name (codes "explain") ≡ false
+no_flag name ctl = refl
+no_flag name domain = refl
+no_flag name delay = refl
+no_flag name at = refl
+no_flag name demo = refl
+
+pub no_flag_row : (pairs : List Pair) → ArePairs pairs → has_row (codes "explain") (rows_for pairs) ≡ false
+no_flag_row [] all = refl
+no_flag_row (pair ∷ more) all = rw (no_flag pair.option all.0) (no_flag_row more all.3)
+
+pub flag_is_last : (pairs : List Pair) → ArePairs pairs → first_of (codes "explain") (rows_for pairs ++ flag_row ∷ []) ≡ Some (codes "false")
+flag_is_last [] all = refl
+flag_is_last (pair ∷ more) all = rw (no_flag pair.option all.0) (flag_is_last more all.3)
+
+-- ---- defaults
+
+abbrev NoDefaults : List Rule → Type 0
+NoDefaults [] = ⊤
+NoDefaults (rule ∷ more) = (rule.defaults ≡ []) × NoDefaults more
+
+no_default : (rows : List Row) (rule : Rule) → rule.defaults ≡ [] → with_default rows rule ≡ rows
+no_default rows rule none = by (has_row rule.id rows) refl
+  where
+    by : (b : Bool) → has_row rule.id rows ≡ b → with_default rows rule ≡ rows
+    by true e = rw e refl
+    by false e = rw (e, none) refl
+
+no_defaults : (rows : List Row) (more : List Rule) → NoDefaults more → fold with_default rows more ≡ rows
+no_defaults rows [] none = refl
+no_defaults rows (rule ∷ more) none = ap (λ t. fold with_default t more) (no_default rows rule none.0) ∙ no_defaults rows more none.1
+
+flag_default : (rows : List Row) → has_row (codes "explain") rows ≡ false → fold with_default rows (take 1 (drop 4 rules)) ≡ rows ++ flag_row ∷ []
+unfolding rules command clap_on_literals
+flag_default rows none = rw none (at_absent (codes "explain") (more_values DefaultValue (codes "false" ∷ [])) (flag_row ∷ []) rows none)
+
+pub finishes : (rows : List Row) → has_row (codes "explain") rows ≡ false → fold with_default rows rules ≡ rows ++ flag_row ∷ []
+unfolding rules command clap_on_literals
+finishes rows none =
+    ap (λ t. fold with_default t (drop 4 rules)) (no_defaults rows (take 4 rules) (refl, (refl, (refl, (refl, tt)))))
+    ∙ ap (λ t. fold with_default t (drop 5 rules)) (flag_default rows none)
+    ∙ no_defaults (rows ++ flag_row ∷ []) (drop 5 rules) (refl, (refl, tt))

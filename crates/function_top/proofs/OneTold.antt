@@ -1,0 +1,119 @@
+-- What is told of one input is true of it.
+use Rattle.std.proofs.Common.{◌≡◌, inl, inr, ◌∙◌, ℕ, List, ◌++◌, length, Option, None, Some, codes, refl, sym, ap, subst, arith}
+use Rattle.step_meaning.specs.Outcome.{Store}
+use Rattle.step_meaning.specs.Run.{IsInput, start}
+use Rattle.step_meaning.specs.Step.{Configuration}
+use Rattle.linear_cons.specs.declared.affine.Affine.{Affine}
+use Rattle.linear_cons.specs.Functions.{value_at}
+use Rattle.linear_cons.proofs.Forms.{value_constant}
+use Rattle.ctl_formula.specs.Formulas.{Ctl}
+use Rattle.ctl_formula.specs.Satisfaction.{SatWithin}
+use Rattle.decision_tree.specs.declared.affine_rank.AffineRank.{AffineRank}
+use Rattle.decision_tree.specs.Plans.{Plan, plan_of}
+use Rattle.line_text.specs.declared.claim.Claim.{Claim}
+use Rattle.line_text.specs.declared.claim.Claim.TheVariants.{Exactly, Holds, Unknown, Within}
+use Rattle.line_text.specs.Numeral.{numeral}
+use Rattle.line_text.specs.Spells.{EndsAsLine, Spells}
+use Rattle.line_text.proofs.Words.{numeral_is_numeral}
+use Rattle.claim_line.specs.Tells.{Tells}
+use Rattle.report_text.specs.declared.line.Top.{Top}
+use Rattle.report_text.specs.declared.line.Top.TheVariants.{Exact as Counted}
+use Rattle.report_text.specs.Leaves.{claim_at, claim_of}
+use Rattle.command_words.specs.Order.{Task}
+use Rattle.function_top.specs.declared.found.Exact.{Exact}
+use Rattle.function_top.specs.declared.found.Exact.TheVariants.{Made, Unasked, Unmade}
+use Rattle.function_top.specs.declared.found.Found.{Found}
+use Rattle.function_top.specs.declared.status.Status.{Status}
+use Rattle.function_top.specs.declared.status.Status.TheVariants.{AllInputs, SomeInputs, Words, Program, Formula, ReadFault, WriteFault, NoMemory}
+use Rattle.function_top.specs.Exact.{IsExact}
+use Rattle.function_top.specs.Found.{IsExactPart, IsFound, IsTrueTree}
+use Rattle.function_top.specs.OneInput.{IsTold, IsToldOf, LeadsExactly, LeadsTo}
+use Rattle.function_top.specs.Refusals.{fault_line, fault_text, usage_line, usage_text}
+use Rattle.function_top.specs.Subject.{Subject}
+use Rattle.function_top.specs.TrueLine.{IsTrueAt}
+use Rattle.function_top.proofs.Endings.{digit_last, other_last}
+use Rattle.function_top.proofs.Truth.{EndAsLines, exact_true, fault_front, fault_is, fault_lacks, usage_lacks}
+use Rattle.function_top.proofs.Written.{Bytes, EachWhole, Lacks, one_good}
+
+-- what is known of lines that are a claim alone over the names
+pub record KnownClaims (names : List Bytes) : Type 0 where
+  pub newline : (line : Bytes) (claim : Claim) → Tells names line claim → Lacks line
+  pub one : (line : Bytes) (claim other : Claim) → Tells names line claim → Tells names line other → claim ≡ other
+  pub apart : (line : Bytes) (condition : List Affine) (claim other : Claim) → Tells names line claim → ¬ Spells names line condition other
+
+-- a line that tells a claim ends as one
+abbrev pub EndAsClaims : Type 0
+EndAsClaims = (names : List Bytes) (line : Bytes) (claim : Claim) → Tells names line claim → EndsAsLine (codes "always: " ++ line)
+
+-- whatever claim alone the line is, it is true of the input
+abbrev pub TellsTrue : Subject → Store → Bytes → Type 0
+TellsTrue subject input line = (claim : Claim) → Tells subject.names line claim → IsTrueAt subject.formula claim input (start subject.body input)
+
+-- ---- what is told is true
+
+-- a claim that is told by its value at an input says the same of it
+told_true : (formula : Ctl) (input : Store) (c : Configuration) (claim told : Claim) → IsTold claim input told → IsTrueAt formula claim input c
+    → IsTrueAt formula told input c
+told_true formula input c (Within bound) told (function, inl (fits, same), is) truth =
+    let value : value_at function input ≡ value_at bound input = ap (λ f. value_at f input) same ∙ value_constant (value_at bound input) input in
+    subst (λ claim. IsTrueAt formula claim input c) (sym is) (subst (λ v. SatWithin v formula c) (sym value) truth)
+told_true formula input c (Within bound) told (function, inr (wide, same), is) truth =
+    subst (λ claim. IsTrueAt formula claim input c) (sym is) (subst (λ f. IsTrueAt formula (Within f) input c) (sym same) truth)
+told_true formula input c (Exactly number) told is truth = subst (λ claim. IsTrueAt formula claim input c) (sym is) truth
+told_true formula input c Holds told is truth = subst (λ claim. IsTrueAt formula claim input c) (sym is) truth
+told_true formula input c Unknown told is truth = subst (λ claim. IsTrueAt formula claim input c) (sym is) truth
+
+module _ (subject : Subject) (ending : EndAsLines) (input : Store) (is_input : IsInput (length subject.names) input) where
+  abbrev Holds_of : Claim → Type 0
+  Holds_of claim = IsTrueAt subject.formula claim input (start subject.body input)
+
+  leaf_true : (claims : Top) (tree : Plan AffineRank) (rank : AffineRank) → IsTrueTree subject claims tree → LeadsTo tree input rank
+      → Holds_of (claim_of claims rank)
+  leaf_true claims tree rank truth leads = subst (λ end. Holds_of (claim_at claims end)) leads.is (truth input is_input)
+
+  exactly_true : (delay : ℕ) (exact : Exact) (rank : AffineRank) → IsExact (length subject.names) subject.body delay exact → LeadsExactly exact input rank
+      → Holds_of (claim_of Counted rank)
+  exactly_true delay Unasked rank is leads = absurd leads
+  exactly_true delay (Unmade stop) rank is leads = absurd leads
+  exactly_true delay (Made tests stop tree) rank is leads =
+      leaf_true Counted (plan_of tree) rank (exact_true subject ending tests (plan_of tree) is.2) leads
+
+  part_true : (asked : Option Bytes) (delay : ℕ) (exact : Exact) (rank : AffineRank) → IsExactPart asked subject delay exact → LeadsExactly exact input rank
+      → Holds_of (claim_of Counted rank)
+  part_true None delay exact rank is leads = exactly_true delay exact rank is leads
+  part_true (Some text) delay exact rank is leads = absurd (subst (λ e. LeadsExactly e input rank) is leads)
+
+  pub told_is_true : (task : Task) (found : Found) (status : Status) (claim : Claim) → IsFound task subject found → IsToldOf found input status claim
+      → Holds_of claim
+  told_is_true task found AllInputs claim finds (inl (rank, leads, is)) =
+      subst Holds_of (sym is) (part_true task.formula task.delay found.exact rank finds.exact leads)
+  told_is_true task found AllInputs claim finds (inr (none, rank, leads, told)) =
+      told_true subject.formula input (start subject.body input) (claim_of found.claims rank) claim told
+      (leaf_true found.claims (plan_of found.cover) rank finds.holds leads)
+  told_is_true task found SomeInputs claim finds told = subst Holds_of (sym told.2) tt
+  told_is_true task found Words claim finds told = absurd told
+  told_is_true task found Program claim finds told = absurd told
+  told_is_true task found Formula claim finds told = absurd told
+  told_is_true task found ReadFault claim finds told = absurd told
+  told_is_true task found WriteFault claim finds told = absurd told
+  told_is_true task found NoMemory claim finds told = absurd told
+
+-- ---- the other lines tell nothing
+
+module _ (subject : Subject) (ending : EndAsClaims) (input : Store) where
+  silent : (line : Bytes) → (EndsAsLine (codes "always: " ++ line) → ⊥) → TellsTrue subject input line
+  silent line other claim tells = absurd (other (ending subject.names line claim tells))
+
+  pub usage_tells : EachWhole (TellsTrue subject input) usage_text
+  usage_tells =
+      one_good (TellsTrue subject input) usage_line usage_text usage_lacks
+      (silent usage_line (other_last (codes "always: " ++ usage_line) (λ e. omega arith) (λ e. omega arith) (λ e. omega arith))) refl
+
+  pub fault_tells : (what : Bytes) → Lacks what → (number offset : ℕ) → EachWhole (TellsTrue subject input) (fault_text what number offset)
+  fault_tells what clean number offset =
+      let digits = numeral_is_numeral offset in
+      one_good (TellsTrue subject input) (fault_line what number offset) (fault_text what number offset) (fault_lacks what number offset clean)
+      (silent (fault_line what number offset)
+      (subst (λ line. EndsAsLine (codes "always: " ++ line) → ⊥) (sym (fault_is what number offset))
+      (digit_last (codes "always: " ++ fault_front what number offset) (numeral offset) digits.0 digits.1)))
+      refl

@@ -1,0 +1,57 @@
+-- What is told of one input: a claim alone.
+use Rattle.std.specs.Prelude.{◌≡◌, ◌⊎◌}
+use Rattle.step_meaning.specs.Outcome.{Store}
+use Rattle.linear_cons.specs.declared.affine.Affine.{Affine}
+use Rattle.linear_cons.specs.Functions.{PartsFit, constant_of, value_at}
+use Rattle.decision_tree.specs.declared.affine_rank.AffineRank.{AffineRank}
+use Rattle.decision_tree.specs.declared.reason.Why.{Why}
+use Rattle.decision_tree.specs.Evaluation.{WayFits, eval}
+use Rattle.decision_tree.specs.Plans.{Plan, leaf, plan_of}
+use Rattle.line_text.specs.declared.claim.Claim.{Claim}
+use Rattle.line_text.specs.declared.claim.Claim.TheVariants.{Exactly, Within, Holds, Unknown}
+use Rattle.report_text.specs.declared.line.Top.TheVariants.{Exact as Counted}
+use Rattle.report_text.specs.Leaves.{claim_of}
+use Rattle.function_top.specs.declared.found.Exact.{Exact}
+use Rattle.function_top.specs.declared.found.Exact.TheVariants.{Made, Unasked, Unmade}
+use Rattle.function_top.specs.declared.found.Found.{Found}
+use Rattle.function_top.specs.declared.status.Status.{Status}
+use Rattle.function_top.specs.declared.status.Status.TheVariants.{AllInputs, SomeInputs, Words, Program, Formula, ReadFault, WriteFault, NoMemory}
+
+-- the input's way through the tree is found within 128 bits, and leads to a leaf of this rank
+pub record LeadsTo (tree : Plan AffineRank) (input : Store) (rank : AffineRank) : Type 0 where
+  pub fits : WayFits tree input
+  pub why : Why
+  pub is : eval tree input ≡ leaf why rank
+
+-- it leads to one of the exact part's tree, where there is one
+abbrev pub LeadsExactly : Exact → Store → AffineRank → Type 0
+LeadsExactly Unasked input rank = ⊥
+LeadsExactly (Unmade stop) input rank = ⊥
+LeadsExactly (Made tests stop tree) input rank = LeadsTo (plan_of tree) input rank
+
+-- A function is told by its value at the input; where the value, or a number that it is summed up from, doesn't fit 128 bits, as it stands.
+abbrev pub IsToldAs : Affine → Store → Affine → Type 0
+IsToldAs bound input told = (PartsFit bound input × (told ≡ constant_of (value_at bound input))) ⊎ ((¬ PartsFit bound input) × (told ≡ bound))
+
+-- what a leaf claims, as it is told of the input
+abbrev pub IsTold : Claim → Store → Claim → Type 0
+IsTold (Within bound) input claim = (told : Affine) × IsToldAs bound input told × (claim ≡ Within told)
+IsTold (Exactly number) input claim = claim ≡ Exactly number
+IsTold Holds input claim = claim ≡ Holds
+IsTold Unknown input claim = claim ≡ Unknown
+
+-- By what was found this is told of the input, and the status says whether anything is claimed: what the exact part claims of it, else what the
+-- cover does, else that it is unknown.
+abbrev pub IsToldOf : Found → Store → Status → Claim → Type 0
+IsToldOf found input AllInputs claim =
+    ((rank : AffineRank) × LeadsExactly found.exact input rank × (claim ≡ claim_of Counted rank))
+    ⊎ (((rank : AffineRank) → ¬ LeadsExactly found.exact input rank)
+    × (rank : AffineRank) × LeadsTo (plan_of found.cover) input rank × IsTold (claim_of found.claims rank) input claim)
+IsToldOf found input SomeInputs claim =
+    ((rank : AffineRank) → ¬ LeadsExactly found.exact input rank) × ((rank : AffineRank) → ¬ LeadsTo (plan_of found.cover) input rank) × (claim ≡ Unknown)
+IsToldOf found input Words claim = ⊥
+IsToldOf found input Program claim = ⊥
+IsToldOf found input Formula claim = ⊥
+IsToldOf found input ReadFault claim = ⊥
+IsToldOf found input WriteFault claim = ⊥
+IsToldOf found input NoMemory claim = ⊥

@@ -1,0 +1,128 @@
+//! The analysis of a demo program, and its summary.
+
+ghost use Rattle.std.specs.Prelude.{◌≡◌, ◌≤◌, ◌++◌, ◌∷◌, ◌^◌, ◌+◌, ℕ, [], All, IfOk, OnOk, length};
+ghost use Rattle.step_meaning.specs.Syntax.{statements};
+ghost use Rattle.line_text.specs.Numeral.{numeral};
+ghost use Rattle.report_text.specs.Printed.{ended_lines};
+ghost use Rattle.ctl_rounds.specs.Asked.{RoseBy};
+ghost use Rattle.demo_program.specs.Demo.{demo_body, demo_names, demo_text};
+ghost use Rattle.function_top.specs.Demo.{IsDemoDue, summary_lines};
+
+use crate::due::Due;
+use crate::finding::find;
+use crate::report::shown;
+use crate::status::Status;
+use advice::Adviser;
+use command_words::{Domain, Query};
+use control_flow::Graph;
+use ctl_formula::Formula;
+use demo_program::demo_text;
+use demo_program::laws::{
+    demo_programs_count_down, demo_programs_have_few_labels, demo_texts_are_programs,
+    demo_texts_are_short,
+};
+use interval_dom::Boxes;
+use line_text::push_numeral;
+use report_text::Report;
+use source_parse::{a_text_is_one_program, parse};
+use std::alloc::{AllocError, Global};
+
+/// What is asked of an analysis where nothing is chosen.
+const DEFAULTS: Query<'static> = Query {
+    domain: Domain::Boxes,
+    delay: 2,
+    formula: None,
+    input: None,
+    explain: false,
+};
+
+/// The summary of the report on the demo program of a number, analysed with the defaults. The only error is want of memory; the advisers may have
+/// been asked by then.
+pub(crate) fn demo(
+    alloc: Global,
+    number: u32,
+    advisers: &mut Vec<Box<dyn Adviser>>,
+) -> Result<Due, AllocError>
+    requires few { number ≤ 1000 }
+    requires patient { All (λ adviser. asked_of adviser ≤ 2 ^ 32) advisers.old.items }
+    ensures due { IfOk result (λ due. IsDemoDue number due.turns due.bytes.items) }
+    ensures status { IfOk result (λ due. due.status ≡ Status.AllInputs) }
+    ensures asked { (times : ℕ) × (times ≤ 8) × RoseBy (λ adviser. asked_of adviser) times advisers.old.items advisers.new.items
+        × IfOk result (λ due. due.turns ≡ times) }
+{
+    demo_texts_are_programs();
+    demo_texts_are_short();
+    a_text_is_one_program();
+    let text = demo_text(alloc, number)?;
+    // by the laws the text is a program within the limits, so that nothing but memory can be wanting
+    let Ok(program) = parse(alloc, &text) else {
+        return Err(AllocError);
+    };
+    let Ok(graph) = Graph::of(alloc, program) else {
+        return Err(AllocError);
+    };
+    summarised(alloc, number, text.len(), &graph, advisers)
+}
+
+/// The summary of the report on a demo program with its graph, whose text has so many bytes.
+fn summarised(
+    alloc: Global,
+    number: u32,
+    bytes: usize,
+    graph: &Graph,
+    advisers: &mut Vec<Box<dyn Adviser>>,
+) -> Result<Due, AllocError>
+    requires few { number ≤ 1000 }
+    requires names { graph.now.names ≡ demo_names }
+    requires body { statements graph.now.body ≡ demo_body number }
+    requires bytes { bytes ≡ length (demo_text number) }
+    requires patient { All (λ adviser. asked_of adviser ≤ 2 ^ 32) advisers.old.items }
+    ensures due { IfOk result (λ due. IsDemoDue number due.turns due.bytes.items) }
+    ensures status { IfOk result (λ due. due.status ≡ Status.AllInputs) }
+    ensures asked { (times : ℕ) × (times ≤ 8) × RoseBy (λ adviser. asked_of adviser) times advisers.old.items advisers.new.items
+        × IfOk result (λ due. due.turns ≡ times) }
+{
+    demo_programs_count_down();
+    demo_programs_have_few_labels();
+    let formula = Formula::af_exit(alloc)?;
+    let found = find::<Boxes>(alloc, &DEFAULTS, &formula, graph, advisers)?;
+    let report = shown(alloc, &found, None, &graph.program().names)?;
+    Ok(Due {
+        bytes: summary(alloc, number, bytes, graph.labels(), &report)?,
+        status: Status::AllInputs,
+        turns: found.turns,
+    })
+}
+
+/// The summary of a report that covers all inputs, on the demo program of a number with so many labels, whose text has so many bytes.
+fn summary(
+    alloc: Global,
+    number: u32,
+    bytes: usize,
+    labels: u32,
+    report: &Report,
+) -> Result<Vec<u8>, AllocError>
+    ensures { IfOk result (λ text. text.items ≡ ended_lines (summary_lines number bytes labels (length report.now.proved))) }
+{
+    let mut text = Vec::new(alloc);
+    push_counted(&mut text, b"demo ", u64::from(number))?;
+    push_counted(&mut text, b"bytes ", bytes as u64)?;
+    push_counted(&mut text, b"labels ", u64::from(labels))?;
+    push_counted(
+        &mut text,
+        b"proved lines ",
+        report.proved.items().len() as u64,
+    )?;
+    text.extend_from_slice(b"verdict: all inputs\n")?;
+    Ok(text)
+}
+
+/// Appends a line of what is counted and its number.
+fn push_counted(text: &mut Vec<u8>, what: &[u8], count: u64) -> Result<(), AllocError>
+    ensures { OnOk result (text.new.items ≡ text.old.items ++ (what.now ++ (numeral count ++ 10 ∷ []))) }
+{
+    text.extend_from_slice(what)?;
+    push_numeral(text, u128::from(count))?;
+    text.push(b'\n')?;
+    Ok(())
+}

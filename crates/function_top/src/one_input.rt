@@ -1,0 +1,101 @@
+//! What is told of one input.
+
+ghost use Rattle.std.specs.Prelude.{◌≡◌, ◌≤◌, ◌∷◌, ◌++◌, ℕ, List, [], IfOk, IfNone, IfSome, length};
+ghost use Rattle.decision_tree.specs.declared.affine_rank.AffineRank.{AffineRank};
+ghost use Rattle.decision_tree.specs.Plans.{plan_of};
+ghost use Rattle.line_text.specs.declared.claim.Claim.{Claim};
+ghost use Rattle.report_text.specs.Leaves.{claim_of};
+ghost use Rattle.claim_line.specs.Tells.{Tells};
+ghost use Rattle.function_top.specs.OneInput.{IsTold, IsToldAs, IsToldOf, LeadsExactly, LeadsTo};
+ghost use Rattle.function_top.specs.Printable.{IsFoundPrintable};
+
+use crate::due::Due;
+use crate::found::{Exact, Found};
+use crate::status::Status;
+use decision_tree::{AffineRank, Tree};
+use line_text::{Claim, push_claim};
+use linear_cons::Affine;
+use report_text::Top;
+use std::alloc::{AllocError, Global};
+use step_meaning::Names;
+
+/// The line of what is told of an input by what was found of a program with these names, and its status: `AllInputs` where something is claimed of
+/// it. The only error is want of memory.
+pub(crate) fn answer_at(
+    alloc: Global,
+    found: &Found,
+    input: &[i128; 16],
+    names: &Names,
+) -> Result<Due, AllocError>
+    requires few { length names.now ≤ 15 }
+    requires printable { IsFoundPrintable (length names.now) found.now }
+    ensures told { IfOk result (λ due. (claim : Claim) × IsToldOf found.now input.now due.status claim
+        × ((line : List ℕ) × Tells names.now line claim × (due.bytes.items ≡ line ++ 10 ∷ []))) }
+    ensures turns { IfOk result (λ due. due.turns ≡ found.now.turns) }
+{
+    let (claim, status) = told(found, input);
+    let mut bytes = Vec::new(alloc);
+    push_claim(&mut bytes, &claim, names)?;
+    bytes.push(b'\n')?;
+    Ok(Due {
+        bytes,
+        status,
+        turns: found.turns,
+    })
+}
+
+/// What is told of the input, and whether anything is claimed of it.
+fn told(found: &Found, input: &[i128; 16]) -> (Claim, Status)
+    ensures { IsToldOf found.now input.now result.1 result.0 }
+{
+    if let Some(rank) = exact_rank(&found.exact, input) {
+        return (Claim::Exactly(rank.value.constant), Status::AllInputs);
+    }
+    match rank_at(&found.cover, input) {
+        Some(rank) => (claim_told(found.claims, rank, input), Status::AllInputs),
+        None => (Claim::Unknown, Status::SomeInputs),
+    }
+}
+
+/// What a leaf of the rank claims, as it is told of the input.
+fn claim_told(claims: Top, rank: &AffineRank, input: &[i128; 16]) -> Claim
+    ensures { IsTold (claim_of claims rank.now) input.now result }
+{
+    match claims {
+        Top::Exact => Claim::Exactly(rank.value.constant),
+        Top::Bound => Claim::Within(bound_told(&rank.value, input)),
+        Top::Plain => Claim::Holds,
+    }
+}
+
+/// A function by its value at the input, where that is found within 128 bits.
+fn bound_told(bound: &Affine, input: &[i128; 16]) -> Affine
+    ensures { IsToldAs bound.now input.now result }
+{
+    match bound.value(input) {
+        Ok(value) => Affine::constant(value),
+        Err(_) => *bound,
+    }
+}
+
+/// The rank at the leaf of the exact part where the input stands, if there is one.
+fn exact_rank<'e>(exact: &'e Exact, input: &[i128; 16]) -> Option<&'e AffineRank>
+    ensures some { IfSome result (λ rank. LeadsExactly exact.now input.now rank.now) }
+    ensures none { IfNone result ((rank : AffineRank) → ¬ LeadsExactly exact.now input.now rank) }
+{
+    match exact {
+        Exact::Made { tree, .. } => rank_at(tree, input),
+        Exact::Unasked | Exact::Unmade(_) => None,
+    }
+}
+
+/// The rank at the leaf of the tree where the input stands, if it is defined and found within 128 bits.
+fn rank_at<'t>(tree: &'t Tree<AffineRank>, input: &[i128; 16]) -> Option<&'t AffineRank>
+    ensures some { IfSome result (λ rank. LeadsTo (plan_of tree.now) input.now rank.now) }
+    ensures none { IfNone result ((rank : AffineRank) → ¬ LeadsTo (plan_of tree.now) input.now rank) }
+{
+    match tree.leaf_at(input) {
+        Ok(Tree::Leaf { rank, .. }) => Some(rank),
+        _ => None,
+    }
+}

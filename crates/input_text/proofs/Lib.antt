@@ -1,0 +1,4 @@
+mod Cutting
+mod Filling
+mod Pairs
+pub mod Unique
