@@ -263,7 +263,9 @@ fn is_set(flags: &[bool], label: u32) -> bool {
     }
 }
 
-/// The old tree widened by the new one, without the sides where the set has no member.
+/// The old tree widened by the new one, without the sides where the set has no member. Only the tree at a loop's test is pruned: without loops
+/// each tree is made of those behind it as they are, and whoever pruned one would make it false that they miss no state in which the formula
+/// holds (`exact_families`).
 fn widened<D: NumDomain>(
     alloc: Global,
     old: &Tree<AffineRank>,

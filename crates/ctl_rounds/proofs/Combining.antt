@@ -1,7 +1,7 @@
 -- What is shown of a formula's operands is shown of its smaller parts.
-use Rattle.std.proofs.Common.{◌≡◌, ◌⊎◌, inl, inr, ℕ, zero, suc, ◌+◌, ◌<◌, Bool, List, [], ◌∷◌, ◌++◌, All, length, refl, sym, ap, subst, ◌∙◌, arith, length-append, append_assoc}
+use Rattle.std.proofs.Common.{◌≡◌, ◌⊎◌, inl, inr, ℕ, zero, suc, ◌+◌, ◌-◌, ◌<◌, Bool, List, [], ◌∷◌, ◌++◌, All, drop, length, take, refl, sym, ap, subst, ◌∙◌, arith, length-append, append_assoc}
 use Rattle.std.proofs.Math.Path.{fun_ext}
-use Rattle.std.proofs.lemmas.List.Elements.{All-append, All-push}
+use Rattle.std.proofs.lemmas.List.Elements.{All-append, All-cons, All-head, All-nil, All-push, All-tail}
 use Rattle.step_meaning.specs.Syntax.{Statements, statements}
 use Rattle.step_meaning.specs.declared.program.Program.{Program}
 use Rattle.ctl_formula.specs.Formulas.{Ctl, af_exit, both, either, negation, next, truth, until, weak}
@@ -14,11 +14,17 @@ use Rattle.tree_check.specs.Checking.{families_of}
 use Rattle.tree_support.specs.Certificates.{IsShown, ItselfIsShown, SmallerAreShown, operands_from}
 use Rattle.tree_support.specs.Setting.{Trees}
 use Rattle.control_flow.specs.Told.{Told}
-use Rattle.ctl_rounds.specs.Families.{AreNumberedFrom, IsFamilyFor, trees_of}
-use Rattle.ctl_rounds.specs.Showing.{AreAt, AreShown, AreSmaller, Shows, all_of, arity, in_order}
+use Rattle.ctl_rounds.specs.Families.{AreNumberedFrom, IsExact, IsFamilyFor, IsNarrowFor, IsUncut, IsWithin, trees_of}
+use Rattle.ctl_rounds.specs.Showing.{AreAt, AreOperandsOf, AreShown, AreSmaller, Shows, all_of, arity, in_order}
 use Rattle.ctl_rounds.specs.declared.smaller.Shown.{Shown}
 use Rattle.ctl_rounds.specs.declared.smaller.SmallerParts.{SmallerParts}
 use Rattle.ctl_rounds.proofs.Placing.{front_at, numbered_behind, rest_at}
+use Rattle.normal_form.specs.Operators.{HasNoNegation}
+use Rattle.exact_families.specs.Completeness.{EachPart, IsComplete, IsLoopless}
+use Rattle.exact_families.specs.Narrowness.{IsNarrowAndComplete}
+use Rattle.control_flow.specs.Labels.{all_labels}
+use Rattle.count_down.proofs.Leads.{all_weaken}
+use Rattle.ctl_rounds.proofs.Within.{take_drop, within_both, within_either, within_next, within_until, within_weak}
 
 -- the trees of the operands by their places
 abbrev no_trees : Trees AffineRank
@@ -91,6 +97,16 @@ abbrev kept_by : Ctl → Ctl
 kept_by (until all f g) = f
 kept_by f = f
 
+-- what holds of each of two lists' elements, one behind the other
+module _ {A : Type 0} (P : A → Type 0) where
+  All-front : (xs ys : List A) → All P (xs ++ ys) → All P xs
+  All-front [] ys all = All-nil P
+  All-front (x ∷ xs) ys all = All-cons P x xs (All-head P x (xs ++ ys) all) (All-front xs ys (All-tail P x (xs ++ ys) all))
+
+  All-rest : (xs ys : List A) → All P (xs ++ ys) → All P ys
+  All-rest [] ys all = all
+  All-rest (x ∷ xs) ys all = All-rest xs ys (All-tail P x (xs ++ ys) all)
+
 module _ (program : Program) (told : Told) (count : ℕ) where
   abbrev body : Statements
   body = statements program.body
@@ -98,11 +114,27 @@ module _ (program : Program) (told : Told) (count : ℕ) where
   abbrev Fits : Family AffineRank → Type 0
   Fits family = IsFamilyFor (length program.names) body family
 
+  -- each operand has a tree for each label
+  pub operand_labels : {k : ℕ} {f : Ctl} (smaller : SmallerParts) → AreSmaller program told count k f smaller → count ≡ length (all_labels body)
+      → All (λ family. length family.trees ≡ count) smaller.operands.items
+  operand_labels smaller below counted =
+      let n : ℕ = length smaller.operands.items - 1 in
+      let rest = All-rest Fits smaller.of_first.items (take n smaller.operands.items ++ (smaller.of_second.items ++ drop n smaller.operands.items)) below.fit in
+      let start = All-front Fits (take n smaller.operands.items) (smaller.of_second.items ++ drop n smaller.operands.items) rest in
+      let later = All-rest Fits smaller.of_second.items (drop n smaller.operands.items)
+      (All-rest Fits (take n smaller.operands.items) (smaller.of_second.items ++ drop n smaller.operands.items) rest) in
+      all_weaken Fits (λ family. length family.trees ≡ count) smaller.operands.items (λ family fits. fits.labels ∙ sym counted)
+      (subst (All Fits) (take_drop n smaller.operands.items) (All-append Fits (take n smaller.operands.items) (drop n smaller.operands.items) start later))
+
   -- the formula itself is shown besides its smaller parts
   pub shown_with : (k : ℕ) (f : Ctl) (smaller : SmallerParts) (found : Shown) → AreSmaller program told count k f smaller
       → found.smaller.items ≡ all_of smaller → Shows program told f smaller.number smaller.operands.items found.whole
-      → (f ≡ truth → (label : ℕ) → label < count → IsWhole (trees_of found.whole label)) → AreShown program told count k f found
-  shown_with k f smaller found below is own everywhere =
+      → (f ≡ truth → (label : ℕ) → label < count → IsWhole (trees_of found.whole label))
+      → (IsLoopless body → EachPart (IsComplete body) f (families_of smaller.operands.items) → IsExact body f found.whole)
+      → (IsLoopless body → IsWithin (length program.names) body f → AreOperandsOf f count smaller.operands.items
+      → EachPart (IsNarrowAndComplete (length program.names) body) f (families_of smaller.operands.items) → IsNarrowFor (length program.names) body f found.whole)
+      → count ≡ length (all_labels body) → AreShown program told count k f found
+  shown_with k f smaller found below is own everywhere exact narrow counted =
       let each : k + length found.smaller.items ≡ number_from k f = subst (λ list. k + length list ≡ number_from k f) (sym is) below.each_part in
       let before : (families : ℕ → Trees AffineRank) → AreAt families k (found.smaller.items ++ found.whole ∷ []) → AreAt families k (all_of smaller) =
       λ families at. subst (AreAt families k) is (front_at families k found.smaller.items (found.whole ∷ []) at) in
@@ -118,6 +150,10 @@ module _ (program : Program) (told : Told) (count : ℕ) where
         part_numbers = subst (AreNumberedFrom k) (sym is) below.part_numbers;
         fit = All-push Fits found.smaller.items found.whole (subst (All Fits) (sym is) below.fit) own.fits;
         everywhere = everywhere;
+        complete = λ loopless plain uncut.
+            exact loopless (below.complete loopless plain (subst (All IsUncut) is (All-front IsUncut found.smaller.items (found.whole ∷ []) uncut)))
+            (All-head IsUncut found.whole [] (All-rest IsUncut found.smaller.items (found.whole ∷ []) uncut));
+        narrow = λ loopless plain within. narrow loopless within (below.as_many, operand_labels smaller below counted) (below.narrow loopless plain within);
       }
 
   -- ---- a formula with one operand
@@ -144,8 +180,11 @@ module _ (program : Program) (told : Told) (count : ℕ) where
         → ((families : ℕ → Trees AffineRank) → SmallerAreShown body told families k f × ItselfIsShown body told families k f
         → SmallerAreShown body told families k h)
         → ((families : ℕ → Trees AffineRank) (place : ℕ) → operands_from families k h place ≡ one_of (families (number_from k f)) place)
-        → number_from k h ≡ suc (number_from k f) → arity h ≡ 1 → (h ≡ af_exit → ⊥) → AreSmaller program told count k h found
-    of_one h shown places behind unary other =
+        → number_from k h ≡ suc (number_from k f) → arity h ≡ 1 → (h ≡ af_exit → ⊥)
+        → (IsLoopless body → HasNoNegation h → All IsUncut own → EachPart (IsComplete body) h (families_of (part.whole ∷ [])))
+        → (IsLoopless body → HasNoNegation h → IsWithin (length program.names) body h
+        → EachPart (IsNarrowAndComplete (length program.names) body) h (families_of (part.whole ∷ []))) → AreSmaller program told count k h found
+    of_one h shown places behind unary other complete narrow =
         let long = length-append part.smaller.items (part.whole ∷ []) in
         let each = one.each_part in record {
           shown = λ families at. shown families (one.shown families (own_at families at));
@@ -158,13 +197,20 @@ module _ (program : Program) (told : Told) (count : ℕ) where
           fit = subst (All Fits) (sym all_are_own) one.fit;
           as_many = ap length operands ∙ sym unary;
           keeps = λ is. absurd (other is);
+          complete = λ loopless plain uncut.
+              subst (λ list. EachPart (IsComplete body) h (families_of list)) (sym operands) (complete loopless plain (subst (All IsUncut) all_are_own uncut));
+          narrow = λ loopless plain within.
+              subst (λ list. EachPart (IsNarrowAndComplete (length program.names) body) h (families_of list)) (sym operands) (narrow loopless plain within);
         }
 
     pub with_one : (h : Ctl) → HasOne h f → AreSmaller program told count k h found
     with_one h (inl is) = subst (λ formula. AreSmaller program told count k formula found) (sym is)
-        (of_one (negation f) (λ families shown. shown) (λ families place. by_negation families k f f place) refl refl (λ is. absurd (cc)))
+        (of_one (negation f) (λ families shown. shown) (λ families place. by_negation families k f f place) refl refl (λ is. absurd (cc)) (λ loopless plain uncut. absurd plain)
+        (λ loopless plain within. absurd plain))
     with_one h (inr (all, is)) = subst (λ formula. AreSmaller program told count k formula found) (sym is)
-        (of_one (next all f) (λ families shown. shown) (λ families place. by_next families k f f all place) refl refl (λ is. absurd (cc)))
+        (of_one (next all f) (λ families shown. shown) (λ families place. by_next families k f f all place) refl refl (λ is. absurd (cc))
+        (λ loopless plain uncut. one.complete loopless plain uncut)
+        (λ loopless plain within. one.narrow loopless plain (within_next (length program.names) body all f within)))
 
   -- ---- a formula with two operands
 
@@ -226,8 +272,12 @@ module _ (program : Program) (told : Told) (count : ℕ) where
 
     pub of_two : (h : Ctl) → ((families : ℕ → Trees AffineRank) → BothShown families → SmallerAreShown body told families k h)
         → ((families : ℕ → Trees AffineRank) (place : ℕ) → operands_from families k h place ≡ two_of (families (number_from k f)) (families last) place)
-        → number_from k h ≡ suc last → arity h ≡ 2 → (h ≡ af_exit → f ≡ truth) → AreSmaller program told count k h found
-    of_two h shown places behind binary keep =
+        → number_from k h ≡ suc last → arity h ≡ 2 → (h ≡ af_exit → f ≡ truth)
+        → (IsLoopless body → HasNoNegation h → All IsUncut (left ++ right) → EachPart (IsComplete body) h (families_of (first.whole ∷ second.whole ∷ [])))
+        → (IsLoopless body → HasNoNegation h → IsWithin (length program.names) body h
+        → EachPart (IsNarrowAndComplete (length program.names) body) h (families_of (first.whole ∷ second.whole ∷ [])))
+        → AreSmaller program told count k h found
+    of_two h shown places behind binary keep complete narrow =
         let all_long = length-append left right in
         let long = left_long in
         let other = right_long in record {
@@ -246,14 +296,33 @@ module _ (program : Program) (told : Told) (count : ℕ) where
           fit = subst (All Fits) (sym all_are_both) (All-append Fits left right one.fit two.fit);
           as_many = ap length operands ∙ sym binary;
           keeps = λ is label low. subst (λ list. IsWhole (families_of list 0 label)) (sym operands) (one.everywhere (keep is) label low);
+          complete = λ loopless plain uncut.
+              subst (λ list. EachPart (IsComplete body) h (families_of list)) (sym operands) (complete loopless plain (subst (All IsUncut) all_are_both uncut));
+          narrow = λ loopless plain within.
+              subst (λ list. EachPart (IsNarrowAndComplete (length program.names) body) h (families_of list)) (sym operands) (narrow loopless plain within);
         }
+
+    -- both operands' families are defined wherever the operands hold
+    both_complete : IsLoopless body → HasNoNegation f × HasNoNegation g → All IsUncut (left ++ right)
+        → IsComplete body f (trees_of first.whole) × IsComplete body g (trees_of second.whole)
+    both_complete loopless plain uncut =
+        (one.complete loopless plain.0 (All-front IsUncut left right uncut), two.complete loopless plain.1 (All-rest IsUncut left right uncut))
+
+    both_narrow : IsLoopless body → HasNoNegation f × HasNoNegation g
+        → IsWithin (length program.names) body f × IsWithin (length program.names) body g
+        → IsNarrowFor (length program.names) body f first.whole × IsNarrowFor (length program.names) body g second.whole
+    both_narrow loopless plain within = (one.narrow loopless plain.0 within.0, two.narrow loopless plain.1 within.1)
 
     pub with_two : (h : Ctl) → HasTwo h f g → AreSmaller program told count k h found
     with_two h (inl is) = subst (λ formula. AreSmaller program told count k formula found) (sym is)
-        (of_two (both f g) (λ families shown. shown) (λ families place. by_both families k f g place) refl refl (λ is. absurd (cc)))
+        (of_two (both f g) (λ families shown. shown) (λ families place. by_both families k f g place) refl refl (λ is. absurd (cc)) both_complete
+        (λ loopless plain within. both_narrow loopless plain (within_both (length program.names) body f g within)))
     with_two h (inr (inl is)) = subst (λ formula. AreSmaller program told count k formula found) (sym is)
-        (of_two (either f g) (λ families shown. shown) (λ families place. by_either families k f g place) refl refl (λ is. absurd (cc)))
+        (of_two (either f g) (λ families shown. shown) (λ families place. by_either families k f g place) refl refl (λ is. absurd (cc)) both_complete
+        (λ loopless plain within. both_narrow loopless plain (within_either (length program.names) body f g within)))
     with_two h (inr (inr (inl (all, is)))) = subst (λ formula. AreSmaller program told count k formula found) (sym is)
-        (of_two (until all f g) (λ families shown. shown) (λ families place. by_until families k f g all place) refl refl (λ same. ap kept_by same))
+        (of_two (until all f g) (λ families shown. shown) (λ families place. by_until families k f g all place) refl refl (λ same. ap kept_by same) both_complete
+        (λ loopless plain within. both_narrow loopless plain (within_until (length program.names) body all f g within)))
     with_two h (inr (inr (inr (all, is)))) = subst (λ formula. AreSmaller program told count k formula found) (sym is)
-        (of_two (weak all f g) (λ families shown. shown) (λ families place. by_weak families k f g all place) refl refl (λ is. absurd (cc)))
+        (of_two (weak all f g) (λ families shown. shown) (λ families place. by_weak families k f g all place) refl refl (λ is. absurd (cc)) both_complete
+        (λ loopless plain within. both_narrow loopless plain (within_weak (length program.names) body all f g within)))

@@ -1,5 +1,8 @@
 -- Trees that may be checked and printed, in lists.
-use Rattle.std.proofs.Common.{⊎_elim, ℕ, List, All, length, sym, subst, arith}
+use Rattle.linear_cons.specs.Functions.{IsOver}
+use Rattle.linear_cons.specs.declared.affine.Affine.{Affine}
+use Rattle.line_text.specs.Names.{IsOver as IsOverNames}
+use Rattle.std.proofs.Common.{⊎_elim, ℕ, ◌≤◌, List, All, length, sym, subst, arith}
 use Rattle.std.proofs.lemmas.Bool.{cases_lt}
 use Rattle.std.proofs.lemmas.List.{get_or_past}
 use Rattle.std.proofs.lemmas.List.Elements.{All-from_get_or, All-get_or}
@@ -8,7 +11,7 @@ use Rattle.decision_tree.specs.Plans.{Plan, bottom}
 use Rattle.tree_support.specs.Setting.{trees_in}
 use Rattle.ctl_rounds.specs.Fitting.{IsFit}
 
-bottom_fit : (vars : ℕ) → IsFit vars bottom
+pub bottom_fit : (vars : ℕ) → IsFit vars bottom
 bottom_fit vars = record { over = tt; complements = tt; leaves = omega (arith) }
 
 -- each tree of a list is fit where all are, past its end too, and the other way round
@@ -20,3 +23,10 @@ fit_at vars plans all label = ⊎_elim
 
 pub all_fit : (vars : ℕ) (plans : List (Plan AffineRank)) → ((label : ℕ) → IsFit vars (trees_in plans label)) → All (IsFit vars) plans
 all_fit vars plans each = All-from_get_or (IsFit vars) plans bottom (λ label low. each label)
+
+-- a function over the first places is over as many names, and the other way round
+pub over_names : (names : List (List ℕ)) (a : Affine) → length names ≤ 16 → IsOver (length names) a → IsOverNames names a
+over_names names a few over = record { few = few; places = over.places; past = over.past }
+
+pub names_over : (names : List (List ℕ)) (a : Affine) → IsOverNames names a → IsOver (length names) a
+names_over names a over = record { places = over.places; past = over.past }

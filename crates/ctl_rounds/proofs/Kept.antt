@@ -1,5 +1,5 @@
 -- What legal eliminations keep of each tree.
-use Rattle.std.proofs.Common.{ℕ, ◌==◌, Bool, true, false, if◌then◌else◌, nat_lt, ◌-◌, List, [], ◌∷◌, sym, subst}
+use Rattle.std.proofs.Common.{◌≡◌, inl, inr, ℕ, ◌==◌, Bool, true, false, if◌then◌else◌, nat_lt, ◌-◌, List, [], ◌∷◌, sym, subst, ◌∙◌}
 use Rattle.linear_cons.specs.declared.row.Row.{Row}
 use Rattle.decision_tree.specs.Extent.{ComplementsFit, IsTreeOver}
 use Rattle.decision_tree.specs.declared.affine_rank.AffineRank.{AffineRank}
@@ -9,7 +9,10 @@ use Rattle.decision_tree.specs.Paths.{with_leaf}
 use Rattle.decision_tree.specs.Plans.{Plan, bottom, branch, leaf, leaves_of, top}
 use Rattle.tree_support.specs.declared.dropped.Dropped.{Dropped}
 use Rattle.tree_support.specs.Elimination.{Eliminates, cause_of, without_dropped}
+use Rattle.tree_support.specs.Certificates.{affine_ranks}
 use Rattle.tree_support.specs.Setting.{Setting, Trees}
+use Rattle.tree_support.proofs.Dropping.{changes}
+use Rattle.exact_families.specs.Completeness.{NoneGivenUp}
 
 -- whatever a tree keeps when a leaf of it becomes undefined, each tree of a family keeps
 module _ {R : Type 0} (ranks : Ranks R) (at : Setting R) (P : Plan R → Type 0)
@@ -54,3 +57,25 @@ complements_undefined (branch row this that) number cause fits =
 complements_undefined bottom number cause fits = tt
 complements_undefined (top other) number cause fits = tt
 complements_undefined (leaf why rank) number cause fits = tt
+
+-- ---- a tree of which no leaf was given up is as it was
+
+given_up_there : (plan : Plan AffineRank) (place : ℕ) (cause : Cause) → NoneGivenUp (with_leaf plan place (top cause)) → ⊥
+given_up_there (branch row this that) place cause none =
+    elim (nat_lt place (leaves_of this)) as (λ t. NoneGivenUp (undefined_side t row this that place cause) → ⊥) [
+      | true ↦ (λ both. given_up_there this place cause both.0)
+      | false ↦ (λ both. given_up_there that (place - leaves_of this) cause both.1)
+    ] none
+given_up_there bottom place cause none = none
+given_up_there (top other) place cause none = none
+given_up_there (leaf why rank) place cause none = none
+
+pub uncut_kept : (at : Setting AffineRank) (drops : List Dropped) (old new : Trees AffineRank) → Eliminates affine_ranks at old drops new → (label : ℕ)
+    → NoneGivenUp (new label) → new label ≡ old label
+uncut_kept at [] old new same label none = same label
+uncut_kept at (dropped ∷ more) old new legal label none =
+    let later : new label ≡ without_dropped old dropped label = uncut_kept at more (without_dropped old dropped) new legal.1 label none in
+    elim (changes old dropped label) [
+      | inl same ↦ absurd (given_up_there (old label) dropped.leaf (cause_of dropped.reason) (subst NoneGivenUp (later ∙ same.1) none))
+      | inr apart ↦ later ∙ apart.1
+    ]

@@ -7,3 +7,8 @@ pub mod CoverLaws
 pub mod Certifying
 pub mod Asking
 mod Joining
+pub mod Exact
+pub mod Fitted
+pub mod Exactly
+pub mod Within
+pub mod Narrowly

@@ -1,5 +1,5 @@
 -- What is true of the inputs at which a tree claims something.
-use Rattle.std.specs.Prelude.{◌≡◌, ℕ}
+use Rattle.std.specs.Prelude.{◌≡◌, ℕ, true}
 use Rattle.step_meaning.specs.Outcome.{Store}
 use Rattle.step_meaning.specs.Run.{EndsWithinBound, IsInput, start}
 use Rattle.step_meaning.specs.Syntax.{Statements}
@@ -9,7 +9,7 @@ use Rattle.ctl_formula.specs.Satisfaction.{Sat, WithinBound}
 use Rattle.decision_tree.specs.declared.affine_rank.AffineRank.{AffineRank}
 use Rattle.decision_tree.specs.declared.reason.Why.{Why}
 use Rattle.decision_tree.specs.Evaluation.{eval}
-use Rattle.decision_tree.specs.Plans.{Plan, leaf}
+use Rattle.decision_tree.specs.Plans.{Plan, is_defined, leaf}
 
 -- wherever the tree is defined at an input of a program of `vars` variables, the property holds of the leaf's rank and the input
 abbrev pub HoldsAtInputs : ℕ → (AffineRank → Store → Type 0) → Plan AffineRank → Type 0
@@ -28,3 +28,7 @@ SatisfiesWithin vars body formula tree =
 -- every run from there ends within as many steps
 abbrev pub BoundsInputs : ℕ → Statements → Plan AffineRank → Type 0
 BoundsInputs vars body tree = HoldsAtInputs vars (λ rank input. EndsWithinBound (value_at rank.value input) (start body input)) tree
+
+-- and it is defined at each input from which the formula holds
+abbrev pub CoversInputs : ℕ → Statements → Ctl → Plan AffineRank → Type 0
+CoversInputs vars body formula tree = (input : Store) → IsInput vars input → Sat formula (start body input) → is_defined (eval tree input) ≡ true

@@ -10,6 +10,7 @@ use Rattle.tree_unify.specs.Shapes.{JoinedFits, joined}
 use Rattle.tree_unify.specs.declared.join.Join.TheVariants.{Either}
 use Rattle.backward_transfer.specs.AffineShapes.{affine_ranks, same_rank}
 use Rattle.tree_support.specs.Setting.{trees_in}
+use Rattle.ctl_rounds.specs.Families.{IsUncut}
 
 -- the claims of the first tree, and those of the second where it has none; and where the complements that this forms fit
 abbrev pub either_of : Plan AffineRank → Plan AffineRank → Plan AffineRank
@@ -48,3 +49,7 @@ at_entry body tops = map (λ family. trees_in family.trees (entry_of body)) tops
 -- the tree is the cover of the families
 abbrev pub IsCover : Statements → List (Family AffineRank) → Plan AffineRank → Type 0
 IsCover body tops tree = (cover : Option (Plan AffineRank)) × Covers None (at_entry body tops) cover × (tree ≡ claims_of cover)
+
+-- no leaf of the family was given up, and its tree at the entry has at most 4,096 nodes
+abbrev pub IsFitToBegin : Statements → Family AffineRank → Type 0
+IsFitToBegin body family = IsUncut family × (size_of (trees_in family.trees (entry_of body)) ≤ 4096)

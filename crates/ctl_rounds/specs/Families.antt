@@ -5,7 +5,11 @@ use Rattle.control_flow.specs.Labels.{all_labels}
 use Rattle.decision_tree.specs.Extent.{ComplementsFit, IsTreeOver}
 use Rattle.decision_tree.specs.declared.affine_rank.AffineRank.{AffineRank}
 use Rattle.decision_tree.specs.declared.family.Family.{Family}
+use Rattle.ctl_formula.specs.Formulas.{Ctl}
 use Rattle.tree_support.specs.Setting.{Trees, trees_in}
+use Rattle.exact_families.specs.Completeness.{IsComplete, NoneGivenUp}
+use Rattle.exact_families.specs.Measures.{IsWithinMeasures}
+use Rattle.exact_families.specs.Narrowness.{AreAtomsOver, IsNarrowAndComplete}
 
 -- the trees of a family by their labels
 abbrev pub trees_of : Family AffineRank → Trees AffineRank
@@ -22,3 +26,19 @@ pub record IsFamilyFor (vars : ℕ) (body : Statements) (family : Family AffineR
   pub labels : length family.trees ≡ length (all_labels body)
   pub over : (label : ℕ) → IsTreeOver vars (trees_of family label)
   pub complements : (label : ℕ) → ComplementsFit (trees_of family label)
+
+-- no leaf of the family was given up
+abbrev pub IsUncut : Family AffineRank → Type 0
+IsUncut family = (label : ℕ) → NoneGivenUp (trees_of family label)
+
+-- no size of the formula's parts is above the most, and its atoms are over the variables
+abbrev pub IsWithin : ℕ → Statements → Ctl → Type 0
+IsWithin vars body formula = IsWithinMeasures body formula × AreAtomsOver vars formula
+
+-- the family is as small and narrow as these tell, and defined wherever the formula holds
+abbrev pub IsNarrowFor : ℕ → Statements → Ctl → Family AffineRank → Type 0
+IsNarrowFor vars body formula family = IsNarrowAndComplete vars body formula (trees_of family)
+
+-- where none was, the family is defined wherever the formula holds
+abbrev pub IsExact : Statements → Ctl → Family AffineRank → Type 0
+IsExact body formula family = IsUncut family → IsComplete body formula (trees_of family)

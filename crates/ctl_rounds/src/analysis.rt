@@ -19,8 +19,12 @@ ghost use Rattle.ctl_rounds.specs.Knowing.{told_on};
 ghost use Rattle.ctl_rounds.specs.Showing.{all_of};
 ghost use Rattle.ctl_rounds.specs.Asked.{IsAdvised, RoseBy};
 ghost use Rattle.ctl_rounds.specs.Certified.{Certifies};
-ghost use Rattle.ctl_rounds.specs.Covers.{Covers, IsCover, at_entry, claims_of};
-ghost use Rattle.ctl_rounds.specs.Finding.{AreFoundSoFar, IsSubject};
+ghost use Rattle.ctl_rounds.specs.Covers.{Covers, IsCover, IsFitToBegin, at_entry, claims_of};
+ghost use Rattle.ctl_rounds.specs.Finding.{AreFoundSoFar, CoversExactly, FirstIs, IsSubject};
+ghost use Rattle.ctl_rounds.specs.Bounds.{CoversInputs};
+ghost use Rattle.ctl_rounds.specs.Families.{IsUncut, IsWithin};
+ghost use Rattle.exact_families.specs.Completeness.{IsLoopless};
+ghost use Rattle.normal_form.specs.Operators.{HasNoNegation};
 
 use crate::certificate::Certificate;
 use crate::found::Found;
@@ -59,6 +63,14 @@ pub fn analyse<D: NumDomain>(
     requires patient { All (λ adviser. asked_of adviser ≤ 2 ^ 32) advisers.old.items }
     ensures certified { IfOk result (λ certificate. Certifies (length graph.now.names) (statements graph.now.body)
         (told_by D.told_bounds D.told_rows D.seen_empty inv.now) (ctl formula.now) certificate.parts certificate.tops) }
+    ensures exact { IsLoopless (statements graph.now.body) → HasNoNegation (ctl formula.now) → IfOk result (λ certificate. All IsUncut certificate.parts
+        → FirstIs (IsFitToBegin (statements graph.now.body)) certificate.tops → (cover : Plan AffineRank)
+        → IsCover (statements graph.now.body) certificate.tops cover
+        → CoversInputs (length graph.now.names) (statements graph.now.body) (ctl formula.now) cover) }
+    ensures narrow { IsLoopless (statements graph.now.body) → HasNoNegation (ctl formula.now)
+        → IsWithin (length graph.now.names) (statements graph.now.body) (ctl formula.now) → IfOk result (λ certificate. (cover : Plan AffineRank)
+        → IsCover (statements graph.now.body) certificate.tops cover
+        → CoversInputs (length graph.now.names) (statements graph.now.body) (ctl formula.now) cover) }
     ensures turns { IsAdvised (ctl formula.now) → IfOk result (λ certificate. (cover : Plan AffineRank)
         → IsCover (statements graph.now.body) certificate.tops cover → IsWhole cover ⊎ (certificate.turns ≡ 8)) }
     ensures unadvised { (IsAdvised (ctl formula.now) → ⊥) → IfOk result (λ certificate. certificate.turns ≡ 0) }
@@ -101,6 +113,7 @@ impl<'a, D: NumDomain> Subject<'a, D> {
             (all_of self.now.smaller.now) found.tops.items) }
         ensures covers { IfOk result (λ found. Covers None (at_entry (statements self.now.premises.now.graph.now.body) found.tops.items)
             (option_map plan_of found.cover)) }
+        ensures exact { IfOk result (λ found. CoversExactly self.now found.tops.items (option_map plan_of found.cover)) }
         ensures turns { IsAdvised (ctl self.now.formula.now) → IfOk result (λ found.
             IsWhole (claims_of (option_map plan_of found.cover)) ⊎ (found.turns ≡ 8)) }
         ensures unadvised { (IsAdvised (ctl self.now.formula.now) → ⊥) → IfOk result (λ found. found.turns ≡ 0) }

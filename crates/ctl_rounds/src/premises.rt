@@ -1,5 +1,5 @@
 //! What is known of a program, and the check of a family over it.
-ghost use Rattle.std.specs.Prelude.{◌≡◌, List, All, IfOk, length};
+ghost use Rattle.std.specs.Prelude.{◌≡◌, ℕ, List, All, IfOk, length};
 ghost use Rattle.step_meaning.specs.Syntax.{statements};
 ghost use Rattle.ctl_formula.specs.Mirror.{ctl};
 ghost use Rattle.tree_check.specs.Checking.{families_of};
@@ -9,7 +9,10 @@ ghost use Rattle.tree_support.specs.Elimination.{Eliminates};
 ghost use Rattle.tree_support.specs.Setting.{setting_of, trees_in};
 ghost use Rattle.ctl_rounds.specs.Fitting.{IsFit};
 ghost use Rattle.ctl_rounds.specs.Knowing.{ArePremises, told_on};
-ghost use Rattle.ctl_rounds.specs.Showing.{Shows};
+ghost use Rattle.ctl_rounds.specs.Showing.{AreOperandsOf, IsKeptWhole, Shows};
+ghost use Rattle.exact_families.specs.Completeness.{AreKept, EachPart, IsComplete, IsLoopless};
+ghost use Rattle.ctl_rounds.specs.Families.{IsExact, IsNarrowFor, IsWithin};
+ghost use Rattle.exact_families.specs.Narrowness.{IsNarrowAndComplete};
 
 use crate::fitting::fitted;
 use crate::smaller::SmallerParts;
@@ -70,7 +73,7 @@ impl<'a, D: NumDomain> Premises<'a, D> {
         Ok(family)
     }
 
-    /// The same of trees of which nothing is known: one that can't be printed claims nothing.
+    /// The same of trees of which nothing is known: one that can't be printed is given up.
     pub fn left_of(
         &self,
         formula: &Formula,
@@ -79,10 +82,14 @@ impl<'a, D: NumDomain> Premises<'a, D> {
     ) -> Result<Family<AffineRank>, AllocError>
         requires premises { ArePremises D.NumDomain.own self.now }
         requires labels { length trees ≡ self.now.labels }
-        ensures { IfOk result (Shows self.now.graph.now (told_on D.NumDomain.own self.now) (ctl formula.now) smaller.now.number
+        ensures shows { IfOk result (Shows self.now.graph.now (told_on D.NumDomain.own self.now) (ctl formula.now) smaller.now.number
             smaller.now.operands.items) }
+        ensures kept { IfOk result (λ family. AreKept trees family.trees) }
+        ensures whole { All (IsFit (length self.now.graph.now.names)) trees → IsKeptWhole (setting_of (statements self.now.graph.now.body)
+            (told_on D.NumDomain.own self.now) (ctl formula.now) (families_of smaller.now.operands.items)) trees
+            → IfOk result (λ family. (label : ℕ) → trees_in family.trees label ≡ trees_in trees label) }
     {
-        let fit = fitted(self.alloc, trees, &self.graph.program().names)?;
+        let fit = fitted(trees, &self.graph.program().names);
         self.checked(formula, smaller, fit)
     }
 
@@ -93,8 +100,16 @@ impl<'a, D: NumDomain> Premises<'a, D> {
         smaller: &SmallerParts,
     ) -> Result<Family<AffineRank>, AllocError>
         requires premises { ArePremises D.NumDomain.own self.now }
-        ensures { IfOk result (Shows self.now.graph.now (told_on D.NumDomain.own self.now) (ctl formula.now) smaller.now.number
+        ensures shows { IfOk result (Shows self.now.graph.now (told_on D.NumDomain.own self.now) (ctl formula.now) smaller.now.number
             smaller.now.operands.items) }
+        ensures exact { IsLoopless (statements self.now.graph.now.body) → EachPart (IsComplete (statements self.now.graph.now.body)) (ctl formula.now)
+            (families_of smaller.now.operands.items) → IfOk result (IsExact (statements self.now.graph.now.body) (ctl formula.now)) }
+        ensures narrow { IsLoopless (statements self.now.graph.now.body)
+            → IsWithin (length self.now.graph.now.names) (statements self.now.graph.now.body) (ctl formula.now)
+            → AreOperandsOf (ctl formula.now) self.now.labels smaller.now.operands.items
+            → EachPart (IsNarrowAndComplete (length self.now.graph.now.names) (statements self.now.graph.now.body)) (ctl formula.now)
+            (families_of smaller.now.operands.items)
+            → IfOk result (IsNarrowFor (length self.now.graph.now.names) (statements self.now.graph.now.body) (ctl formula.now)) }
     {
         let trees = proposed(
             self.alloc,

@@ -5,7 +5,7 @@ ghost use Rattle.decision_tree.specs.Extent.{IsWhole};
 ghost use Rattle.decision_tree.specs.Plans.{plan_of};
 ghost use Rattle.ctl_rounds.specs.Asked.{IsAdvised, RoseBy};
 ghost use Rattle.ctl_rounds.specs.Covers.{claims_of};
-ghost use Rattle.ctl_rounds.specs.Finding.{AreFoundSoFar, IsSubject, IsTop};
+ghost use Rattle.ctl_rounds.specs.Finding.{AreFoundSoFar, BeginsExactly, IsSubject, IsTop};
 
 use crate::covering::{extended, tree_at_entry};
 use crate::found::Found;
@@ -29,6 +29,7 @@ impl<'a, D: NumDomain> Subject<'a, D> {
         requires patient { All (λ adviser. asked_of adviser ≤ 2 ^ 32) advisers.old.items }
         ensures found { IfOk result (λ found. AreFoundSoFar D.NumDomain.own self.now found.tops.items (option_map plan_of found.cover)) }
         ensures some { IfOk result (λ found. 0 < length found.tops.items) }
+        ensures exact { IfOk result (λ found. BeginsExactly self.now found.tops.items) }
         ensures turns { IsAdvised (ctl self.now.formula.now) → IfOk result (λ found.
             IsWhole (claims_of (option_map plan_of found.cover)) ⊎ (found.turns ≡ 8)) }
         ensures unadvised { (IsAdvised (ctl self.now.formula.now) → ⊥) → IfOk result (λ found. found.turns ≡ 0) }
@@ -50,6 +51,7 @@ impl<'a, D: NumDomain> Subject<'a, D> {
         requires patient { All (λ adviser. asked_of adviser ≤ 2 ^ 32) advisers.old.items }
         ensures found { IfOk result (λ found. AreFoundSoFar D.NumDomain.own self.now found.tops.items (option_map plan_of found.cover)) }
         ensures some { IfOk result (λ found. 0 < length found.tops.items) }
+        ensures exact { IfOk result (λ found. BeginsExactly self.now found.tops.items) }
         ensures turns { IfOk result (λ found. IsWhole (claims_of (option_map plan_of found.cover)) ⊎ (found.turns ≡ 8)) }
         ensures asked { (times : ℕ) × (times ≤ 8) × RoseBy (λ adviser. asked_of adviser) times advisers.old.items advisers.new.items
             × IfOk result (λ found. found.turns ≡ times) }
@@ -92,6 +94,7 @@ impl<'a, D: NumDomain> Subject<'a, D> {
         requires subject { IsSubject D.NumDomain.own self.now }
         ensures found { IfOk result (λ found. AreFoundSoFar D.NumDomain.own self.now found.tops.items (option_map plan_of found.cover)) }
         ensures some { IfOk result (λ found. 0 < length found.tops.items) }
+        ensures exact { IfOk result (λ found. BeginsExactly self.now found.tops.items) }
         ensures turns { IfOk result (λ found. found.turns ≡ 0) }
     {
         let first = self.premises.found(self.formula, self.smaller)?;
@@ -111,6 +114,7 @@ impl<'a, D: NumDomain> Subject<'a, D> {
         requires found { AreFoundSoFar D.NumDomain.own self.now found.old.tops.items (option_map plan_of found.old.cover) }
         ensures found { OnOk result (AreFoundSoFar D.NumDomain.own self.now found.new.tops.items (option_map plan_of found.new.cover)) }
         ensures some { 0 < length found.old.tops.items → OnOk result (0 < length found.new.tops.items) }
+        ensures exact { BeginsExactly self.now found.old.tops.items → OnOk result (BeginsExactly self.now found.new.tops.items) }
     {
         for hint in hints {
             let Some(last) = found.tops.last() else {

@@ -1,11 +1,15 @@
 //! The way through a formula, its smaller parts first.
-ghost use Rattle.std.specs.Prelude.{◌≡◌, ◌<◌, ℕ, IfOk};
+ghost use Rattle.std.specs.Prelude.{◌≡◌, ◌<◌, ℕ, IfOk, length};
 ghost use Rattle.ctl_formula.specs.Formulas.{truth};
 ghost use Rattle.ctl_formula.specs.Mirror.{ctl};
 ghost use Rattle.decision_tree.specs.Extent.{IsWhole};
-ghost use Rattle.ctl_rounds.specs.Families.{trees_of};
+ghost use Rattle.ctl_rounds.specs.Families.{IsExact, IsNarrowFor, IsWithin, trees_of};
+ghost use Rattle.exact_families.specs.Narrowness.{IsNarrowAndComplete};
 ghost use Rattle.ctl_rounds.specs.Knowing.{ArePremises, told_on};
-ghost use Rattle.ctl_rounds.specs.Showing.{AreShown, AreSmaller, Shows};
+ghost use Rattle.ctl_rounds.specs.Showing.{AreOperandsOf, AreShown, AreSmaller, Shows};
+ghost use Rattle.exact_families.specs.Completeness.{EachPart, IsComplete, IsLoopless};
+ghost use Rattle.step_meaning.specs.Syntax.{statements};
+ghost use Rattle.tree_check.specs.Checking.{families_of};
 
 use crate::known::{end, truth};
 use crate::premises::Premises;
@@ -76,6 +80,14 @@ impl<'a, D: NumDomain> Premises<'a, D> {
         requires premises { ArePremises D.NumDomain.own self.now }
         ensures shows { IfOk result (Shows self.now.graph.now (told_on D.NumDomain.own self.now) (ctl formula.now) smaller.now.number
             smaller.now.operands.items) }
+        ensures exact { IsLoopless (statements self.now.graph.now.body) → EachPart (IsComplete (statements self.now.graph.now.body)) (ctl formula.now)
+            (families_of smaller.now.operands.items) → IfOk result (IsExact (statements self.now.graph.now.body) (ctl formula.now)) }
+        ensures narrow { IsLoopless (statements self.now.graph.now.body)
+            → IsWithin (length self.now.graph.now.names) (statements self.now.graph.now.body) (ctl formula.now)
+            → AreOperandsOf (ctl formula.now) self.now.labels smaller.now.operands.items
+            → EachPart (IsNarrowAndComplete (length self.now.graph.now.names) (statements self.now.graph.now.body)) (ctl formula.now)
+            (families_of smaller.now.operands.items)
+            → IfOk result (IsNarrowFor (length self.now.graph.now.names) (statements self.now.graph.now.body) (ctl formula.now)) }
         ensures everywhere { ctl formula.now ≡ truth → IfOk result (λ family. (label : ℕ) → label < self.now.labels
             → IsWhole (trees_of family label)) }
     {

@@ -1,5 +1,6 @@
 -- What a tree claims of a formula is true where its leaves show the formula's normal form.
-use Rattle.std.proofs.Common.{◌≡◌, ◌≢◌, ◌↔◌, Bool, length, refl, subst}
+use Rattle.std.proofs.Common.{◌≡◌, ◌≢◌, ◌↔◌, Bool, true, length, refl, subst}
+use Rattle.std.proofs.lemmas.Bool.{false≢true}
 use Rattle.step_meaning.specs.Outcome.{Store}
 use Rattle.step_meaning.specs.Run.{IsInput, start}
 use Rattle.step_meaning.specs.Step.{Configuration}
@@ -7,11 +8,11 @@ use Rattle.ctl_formula.specs.Formulas.{Ctl, truth, falsity, exit, not_exit, alwa
 use Rattle.ctl_formula.specs.Satisfaction.{Sat}
 use Rattle.decision_tree.specs.declared.affine_rank.AffineRank.{AffineRank}
 use Rattle.decision_tree.specs.Evaluation.{eval}
-use Rattle.decision_tree.specs.Plans.{Plan, bottom, branch, leaf, top}
-use Rattle.ctl_rounds.specs.Bounds.{SatisfiesInputs, SatisfiesWithin}
+use Rattle.decision_tree.specs.Plans.{Plan, bottom, branch, is_defined, leaf, top}
+use Rattle.ctl_rounds.specs.Bounds.{CoversInputs, SatisfiesInputs, SatisfiesWithin}
 use Rattle.report_text.specs.declared.line.Top.TheVariants.{Bound, Exact as Counted, Plain}
 use Rattle.report_text.specs.Leaves.{claim_at}
-use Rattle.function_top.specs.Found.{IsTrueTree, claims_for}
+use Rattle.function_top.specs.Found.{ClaimsExactly, IsTrueTree, claims_for}
 use Rattle.function_top.specs.Subject.{Subject}
 use Rattle.function_top.specs.TrueLine.{IsTrueAt}
 
@@ -56,6 +57,23 @@ module _ (law : (f : Ctl) (c : Configuration) → Sat (normal f) c ↔ Sat f c) 
   claims_true (until all keep goal) is satisfied bounded = λ input is_input.
       bound_end (eval tree input) input (subst Bounded is (bounded all keep goal refl)) is_input refl
   claims_true (weak all keep goal) is satisfied bounded = plain (weak all keep goal) is satisfied
+
+-- and it claims something exactly where the formula holds, where it misses none
+module _ (law : (f : Ctl) (c : Configuration) → Sat (normal f) c ↔ Sat f c) (subject : Subject) (tree : Plan AffineRank)
+    (satisfied : SatisfiesInputs (length subject.names) subject.body (normal subject.formula) tree)
+    (covers : CoversInputs (length subject.names) subject.body (normal subject.formula) tree) where
+  of_end : (end : Plan AffineRank) (input : Store) → IsInput (length subject.names) input → eval tree input ≡ end → is_defined end ≡ true
+      → Sat (normal subject.formula) (start subject.body input)
+  of_end bottom input is_input is own = absurd (false≢true own)
+  of_end (top cause) input is_input is own = absurd (false≢true own)
+  of_end (leaf why rank) input is_input is own = satisfied input why rank is_input is
+  of_end (branch row this that) input is_input is own = absurd (false≢true own)
+
+  pub claims_exactly : ClaimsExactly subject tree
+  claims_exactly input is_input = (
+    (λ own. (law subject.formula (start subject.body input)).0 (of_end (eval tree input) input is_input refl own)),
+    (λ sat. covers input is_input ((law subject.formula (start subject.body input)).1 sat)),
+  )
 
 -- no exact number of steps is claimed
 pub no_exact_number : (f : Ctl) → claims_for f ≢ Counted

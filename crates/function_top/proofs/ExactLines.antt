@@ -96,7 +96,7 @@ module _ (input : Store) (claim : Claim) (known : is_unknown claim ≡ false) wh
   }
 
   -- the line that is met is among those that claim something
-  claiming_meets : (lines : List Line) → OneOf Met Is lines → MeetsLine input claim (claiming lines)
+  pub claiming_meets : (lines : List Line) → OneOf Met Is lines → MeetsLine input claim (claiming lines)
   claiming_meets [] one = absurd one
   claiming_meets (line ∷ lines) (inl here) = first_meets (is_unknown line.claim) line (claiming lines) (ap is_unknown here.1 ∙ known) here.0 here.1
   claiming_meets (line ∷ lines) (inr later) = later_meets (not (is_unknown line.claim)) line (claiming lines) (claiming_meets lines later.1)

@@ -18,3 +18,4 @@ pub mod Once
 pub mod MetOnce
 pub mod Counted
 mod Refusing
+pub mod ProvedLines

@@ -39,6 +39,10 @@ pub record MeetsLine (input : Store) (claim : Claim) (lines : List Line) : Type 
   pub meets : MeetsAll input line.rows
   pub claims : line.claim ≡ claim
 
+-- whatever that is
+abbrev pub MeetsSomeLine : Store → List Line → Type 0
+MeetsSomeLine input lines = (claim : Claim) × MeetsLine input claim lines
+
 -- the input meets the rows of none of the lines, or of exactly one
 abbrev pub MeetsAtMostOneLine : Store → List Line → Type 0
 MeetsAtMostOneLine input lines = NoneOf (λ (line : Line). MeetsAll input line.rows) lines ⊎ ((claim : Claim) × MeetsOneLine input claim lines)

@@ -1,5 +1,5 @@
 -- What the analysis finds of a subject, before any of it is text.
-use Rattle.std.specs.Prelude.{◌≡◌, ◌⊎◌, ◌≤◌, ℕ, pos, List, length, Option, None, Some}
+use Rattle.std.specs.Prelude.{◌≡◌, ◌⊎◌, ◌↔◌, ◌≤◌, ℕ, pos, true, List, length, Option, None, Some}
 use Rattle.step_meaning.specs.Outcome.{Store}
 use Rattle.step_meaning.specs.Run.{IsInput, start}
 use Rattle.step_meaning.specs.Countdown.{IsCountdown}
@@ -8,11 +8,14 @@ use Rattle.linear_cons.specs.Functions.{constant_of}
 use Rattle.decision_tree.specs.declared.affine_rank.AffineRank.{AffineRank}
 use Rattle.decision_tree.specs.Evaluation.{eval}
 use Rattle.decision_tree.specs.Extent.{IsWhole}
-use Rattle.decision_tree.specs.Plans.{Plan, plan_of, rank_of}
+use Rattle.decision_tree.specs.Plans.{Plan, is_defined, plan_of, rank_of}
 use Rattle.count_down.specs.Candidates.{last_steps}
 use Rattle.count_down.specs.Trees.{ranked}
 use Rattle.ctl_formula.specs.Formulas.{Ctl, truth, falsity, exit, not_exit, always, never, least, negation, both, either, next, until, weak, af_exit, normal}
+use Rattle.ctl_formula.specs.Satisfaction.{Sat}
+use Rattle.exact_families.specs.Completeness.{IsLoopless}
 use Rattle.ctl_rounds.specs.Asked.{IsAdvised}
+use Rattle.ctl_rounds.specs.Families.{IsWithin}
 use Rattle.report_text.specs.declared.line.Top.{Top}
 use Rattle.report_text.specs.declared.line.Top.TheVariants.{Bound, Plain}
 use Rattle.report_text.specs.Leaves.{claim_at}
@@ -51,13 +54,20 @@ abbrev pub IsExactPart : Option (List ℕ) → Subject → ℕ → Exact → Typ
 IsExactPart None subject delay exact = IsExact (length subject.names) subject.body delay exact
 IsExactPart (Some text) subject delay exact = exact ≡ Unasked
 
--- Truth: what the trees claim is true. Strength: where the normal form of the formula is a whole `A[f U g]` the advisers are asked as long as a
+-- the tree claims something of an input exactly where its start satisfies the formula
+abbrev pub ClaimsExactly : Subject → Plan AffineRank → Type 0
+ClaimsExactly subject tree =
+    (input : Store) → IsInput (length subject.names) input → (is_defined (eval tree input) ≡ true) ↔ Sat subject.formula (start subject.body input)
+
+-- Truth: what the trees claim is true. Exactness: in a plain program without loops, whose numbers fit, and within its measures for the normal form,
+-- no satisfied input is left without a claim. Strength: where the normal form of the formula is a whole `A[f U g]` the advisers are asked as long as a
 -- leaf of the cover is undefined, eight times at most, and else never. Where it is `AF exit`, the cover of a countdown program has no undefined
 -- leaf, and that of a program without loops is one leaf, which promises the most steps of a path.
 pub record IsFound (task : Task) (subject : Subject) (found : Found) : Type 0 where
   pub exact : IsExactPart task.formula subject task.delay found.exact
   pub claims : found.claims ≡ claims_for (normal subject.formula)
   pub holds : IsTrueTree subject found.claims (plan_of found.cover)
+  pub exactly : IsLoopless subject.body → IsWithin (length subject.names) subject.body (normal subject.formula) → ClaimsExactly subject (plan_of found.cover)
   pub countdown : normal subject.formula ≡ af_exit → IsCountdown subject.body → IsWhole (plan_of found.cover)
   pub loopless : normal subject.formula ≡ af_exit → HasNoLoop subject.body
       → rank_of (plan_of found.cover) ≡ Some (ranked (constant_of (pos (last_steps subject.body))))

@@ -12,7 +12,10 @@ ghost use Rattle.ctl_formula.specs.Mirror.{ctl};
 ghost use Rattle.decision_tree.specs.Extent.{IsWhole};
 ghost use Rattle.decision_tree.specs.Plans.{plan_of, rank_of};
 ghost use Rattle.ctl_rounds.specs.Asked.{IsAdvised, RoseBy};
-ghost use Rattle.ctl_rounds.specs.Bounds.{SatisfiesInputs, SatisfiesWithin};
+ghost use Rattle.normal_form.specs.Operators.{HasNoNegation};
+ghost use Rattle.exact_families.specs.Completeness.{IsLoopless};
+ghost use Rattle.ctl_rounds.specs.Bounds.{CoversInputs, SatisfiesInputs, SatisfiesWithin};
+ghost use Rattle.ctl_rounds.specs.Families.{IsWithin};
 ghost use Rattle.function_top.specs.Found.{IsExactPart, IsFound, claims_for};
 ghost use Rattle.command_words.specs.Order.{task_of};
 ghost use Rattle.function_top.specs.Printable.{IsExactPrintable, IsFoundPrintable, IsPrintable};
@@ -96,6 +99,9 @@ fn covered<D: NumDomain>(
         (plan_of covered.0)) }
     ensures bounded { (all : Bool) (keep goal : Ctl) → ctl formula.now ≡ until all keep goal → IfOk result (λ covered.
         SatisfiesWithin (length graph.now.names) (statements graph.now.body) (until all keep goal) (plan_of covered.0)) }
+    ensures narrow { IsLoopless (statements graph.now.body) → HasNoNegation (ctl formula.now)
+        → IsWithin (length graph.now.names) (statements graph.now.body) (ctl formula.now) → IfOk result (λ covered.
+        CoversInputs (length graph.now.names) (statements graph.now.body) (ctl formula.now) (plan_of covered.0)) }
     ensures printable { IfOk result (λ covered. IsPrintable (length graph.now.names) (plan_of covered.0)) }
     ensures asked { (times : ℕ) × (times ≤ 8) × RoseBy (λ adviser. asked_of adviser) times advisers.old.items advisers.new.items
         × IfOk result (λ covered. covered.1 ≡ times) }

@@ -2,7 +2,11 @@
 
 ghost use Rattle.std.specs.Prelude.{◌≡◌, ◌++◌, ◌↔◌, ℕ, pos, Option, length};
 ghost use Rattle.step_meaning.specs.Outcome.{Store};
-ghost use Rattle.step_meaning.specs.Run.{IsInput};
+ghost use Rattle.step_meaning.specs.Run.{IsInput, start};
+ghost use Rattle.ctl_formula.specs.Formulas.{normal};
+ghost use Rattle.ctl_formula.specs.Satisfaction.{Sat};
+ghost use Rattle.exact_families.specs.Completeness.{IsLoopless};
+ghost use Rattle.ctl_rounds.specs.Families.{IsWithin};
 ghost use Rattle.decision_tree.specs.declared.affine_rank.AffineRank.{AffineRank};
 ghost use Rattle.decision_tree.specs.declared.tree.Tree.{Tree};
 ghost use Rattle.line_text.specs.declared.claim.Claim.{Claim};
@@ -12,7 +16,7 @@ ghost use Rattle.report_text.specs.declared.report.Stop.{Stop};
 ghost use Rattle.report_text.specs.Leaves.{MeetsOneLine};
 ghost use Rattle.function_top.specs.declared.found.Exact.TheVariants.{Made};
 ghost use Rattle.function_top.specs.declared.found.Found.{Found};
-ghost use Rattle.function_top.specs.Exact.{EndsExactly, MeetsAtMostOneLine, MeetsLine};
+ghost use Rattle.function_top.specs.Exact.{EndsExactly, MeetsAtMostOneLine, MeetsLine, MeetsSomeLine};
 ghost use Rattle.function_top.specs.Found.{IsFound};
 ghost use Rattle.command_words.specs.Order.{Task};
 ghost use Rattle.function_top.specs.Shown.{Shows};
@@ -36,4 +40,12 @@ pub fn exact_lines_are_met_by_exact_runs()
         → (tests : ℕ) (stop : Option Stop) (tree : Tree AffineRank) → found.exact ≡ Made tests stop tree
         → (input : Store) → IsInput (length subject.names) input → (n : ℕ)
         → MeetsLine input (Exactly (pos n)) report.exact ↔ EndsExactly subject.body tests input n }
+{}
+
+/// A law: of a plain program without loops an input meets a proved line exactly where its start satisfies the formula, whose normal form is within
+/// the measures of the program.
+pub fn proved_lines_are_met_by_satisfied_inputs()
+    ensures { (task : Task) (subject : Subject) (found : Found) (report : Report) → IsFound task subject found → Shows found report
+        → IsLoopless subject.body → IsWithin (length subject.names) subject.body (normal subject.formula) → (input : Store)
+        → IsInput (length subject.names) input → MeetsSomeLine input report.proved ↔ Sat subject.formula (start subject.body input) }
 {}

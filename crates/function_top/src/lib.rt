@@ -22,7 +22,7 @@ pub use command_words::{Domain, Query};
 pub use due::Due;
 pub use laws::{
     each_input_meets_at_most_one_exact_line, each_input_meets_one_line,
-    exact_lines_are_met_by_exact_runs,
+    exact_lines_are_met_by_exact_runs, proved_lines_are_met_by_satisfied_inputs,
 };
 pub use status::Status;
 pub use top::run;

@@ -98,13 +98,13 @@ some_last : (path : List Row) (row : Row) (a : Affine) → tells row.affine a �
 some_last [] row a tell = inl tell
 some_last (given ∷ rest) row a tell = inr (some_last rest row a tell)
 
-some_more : (path : List Row) (row : Row) (a : Affine) → SomeTells (path ++ row ∷ []) a → SomeTells path a ⊎ (tells row.affine a ≡ true)
+pub some_more : (path : List Row) (row : Row) (a : Affine) → SomeTells (path ++ row ∷ []) a → SomeTells path a ⊎ (tells row.affine a ≡ true)
 some_more [] row a (inl here) = inr here
 some_more [] row a (inr none) = absurd none
 some_more (given ∷ rest) row a (inl here) = inl (inl here)
 some_more (given ∷ rest) row a (inr later) = ⊎_elim (λ some. inl (inr some)) (λ last. inr last) (some_more rest row a later)
 
-tells_own : (a : Affine) → tells a a ≡ true
+pub tells_own : (a : Affine) → tells a a ≡ true
 tells_own a = (tells-Decides a a).1 (refl, omega (arith, ints))
 
 pub last_told : (path : List Row) (row : Row) → SomeTells (path ++ row ∷ []) row.affine

@@ -48,7 +48,7 @@ module _ (same : AffineRank → AffineRank → Bool) where
     cond_each true this that first second = first
     cond_each false this that first second = second
 
-    node_each : (row : Row) (this that : Plan AffineRank) → P row → Is this → Is that → Is (node same row this that)
+    pub node_each : (row : Row) (this that : Plan AffineRank) → P row → Is this → Is that → Is (node same row this that)
     node_each row this that own first second = cond_each (same_plan same this that) this (branch row this that) first (own, first, second)
 
     side_each : (t : Option Bool) (this that neither : Plan AffineRank) (This That Neither : Type 0) → (This → Is this) → (That → Is that) → (Neither → Is neither)
@@ -62,7 +62,7 @@ module _ (same : AffineRank → AffineRank → Bool) where
     either_each (Some false) this that neither first second both = second
     either_each None this that neither first second both = both
 
-    cut_each : (f : Plan AffineRank → Plan AffineRank) → ((end : Plan AffineRank) → IsEnd end → Is end → Is (f end)) → (path : List Row) (plan : Plan AffineRank)
+    pub cut_each : (f : Plan AffineRank → Plan AffineRank) → ((end : Plan AffineRank) → IsEnd end → Is end → Is (f end)) → (path : List Row) (plan : Plan AffineRank)
         → Is plan → Is (trimmed_with same f path plan)
     cut_each f keeps path bottom each = keeps bottom tt tt
     cut_each f keeps path (top cause) each = keeps (top cause) tt tt

@@ -1,8 +1,12 @@
-use Rattle.std.proofs.Common.{◌≡◌, inl, inr, option_map, rules, subst, ap, sym, ◌∙◌, arith}
+use Rattle.std.proofs.Common.{◌≡◌, inl, inr, All, length, option_map, rules, subst, ap, sym, ◌∙◌, arith}
 use Rattle.step_meaning.specs.Syntax.{statements}
 use Rattle.decision_tree.specs.Extent.{IsWhole}
 use Rattle.decision_tree.specs.Plans.{plan_of, rank_of}
-use Rattle.ctl_rounds.specs.Covers.{IsCover, claims_of}
+use Rattle.ctl_formula.specs.Mirror.{ctl}
+use Rattle.ctl_rounds.specs.Bounds.{CoversInputs}
+use Rattle.ctl_rounds.specs.Covers.{IsCover, IsFitToBegin, claims_of}
+use Rattle.ctl_rounds.specs.Families.{IsUncut}
+use Rattle.ctl_rounds.specs.Finding.{FirstIs}
 use Rattle.ctl_rounds.proofs.Asking.{unasked}
 use Rattle.ctl_rounds.proofs.CoverLaws.{is_the_cover}
 use Rattle.ctl_rounds.proofs.analysis.analyse.Goals as goal
@@ -54,3 +58,22 @@ returns-clause-loopless g c = λ formula free cover is.
     (is_the_cover body found.tops.items (option_map plan_of found.cover) cover c.in_ok-found.ensures.covers
     (subst (λ tops. IsCover body tops cover) c.certificate.ensures.tops is)))
     ∙ c.in_ok-found.ensures.loopless formula free
+
+pub returns-clause-exact : goal.returns-clause-exact
+returns-clause-exact g c = λ loopless free uncut begins cover is.
+    let found = c.in_ok-found.found in
+    let body = statements c.args.graph.now.body in
+    subst (CoversInputs (length c.args.graph.now.names) body (ctl c.args.formula.now))
+    (is_the_cover body found.tops.items (option_map plan_of found.cover) cover c.in_ok-found.ensures.covers
+    (subst (λ tops. IsCover body tops cover) c.certificate.ensures.tops is))
+    ((c.in_ok-found.ensures.exact loopless free).0 (subst (All IsUncut) (c.certificate.ensures.parts ∙ c.in_ok-parts.ensures) uncut)
+    (subst (FirstIs (IsFitToBegin body)) c.certificate.ensures.tops begins))
+
+pub returns-clause-narrow : goal.returns-clause-narrow
+returns-clause-narrow g c = λ loopless free within cover is.
+    let found = c.in_ok-found.found in
+    let body = statements c.args.graph.now.body in
+    subst (CoversInputs (length c.args.graph.now.names) body (ctl c.args.formula.now))
+    (is_the_cover body found.tops.items (option_map plan_of found.cover) cover c.in_ok-found.ensures.covers
+    (subst (λ tops. IsCover body tops cover) c.certificate.ensures.tops is))
+    ((c.in_ok-found.ensures.exact loopless free).1 within)

@@ -1,8 +1,11 @@
-use Rattle.std.proofs.Common.{◌≡◌, All, length, map}
-use Rattle.decision_tree.specs.Plans.{plan_of}
+use Rattle.std.proofs.Common.{◌≡◌, ◌≤◌, All, length, ℕ, ◌<◌}
 use Rattle.ctl_rounds.specs.Fitting.{IsFit}
 use Rattle.ctl_rounds.proofs.fitting.fitted.Given as goal
+use Rattle.backward_transfer.specs.AffineShapes.{plans, tree_at}
+use Rattle.exact_families.specs.Completeness.{AreKept}
 
 abbrev pub invariant-loop-label : goal.invariant-loop-label
 invariant-loop-label l =
-    All (IsFit (length l.names)) (map plan_of l.kept.items) × (length l.kept.items ≡ l.label) × (length l.trees.items ≡ length l.initial.trees.items)
+    ((label : ℕ) → label < l.label → IsFit (length l.names) (tree_at (plans l.trees.items) label)) × AreKept (plans l.initial.trees.items) (plans l.trees.items)
+    × (length l.trees.items ≡ length l.initial.trees.items)
+    × (length l.names ≤ 16 → All (IsFit (length l.names)) (plans l.initial.trees.items) → plans l.trees.items ≡ plans l.initial.trees.items)

@@ -78,6 +78,10 @@ returns-clause-bounded g c = λ all keep goal is.
     (true_of_reached g c) all keep goal certificate.parts certificate.tops (certifies g c (until all keep goal) is)
     (plan_of c.in_ok-cover.cover) (covers g c)
 
+pub returns-clause-narrow : goal.returns-clause-narrow
+returns-clause-narrow g c = λ loopless free within.
+    c.in_ok-certificate.ensures.narrow loopless free within (plan_of c.in_ok-cover.cover) (covers g c)
+
 pub returns-clause-countdown : goal.returns-clause-countdown
 returns-clause-countdown g c = λ ends counted. c.in_ok-certificate.ensures.countdown ends counted (plan_of c.in_ok-cover.cover) (covers g c)
 

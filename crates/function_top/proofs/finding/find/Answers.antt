@@ -1,12 +1,16 @@
-use Rattle.std.proofs.Common.{rules, ◌≤◌, ◌≢◌, ◌∙◌, ap, sym, subst, arith}
+use Rattle.std.proofs.Common.{rules, ◌≤◌, ◌≢◌, ◌∙◌, length, ap, sym, subst, arith}
 use Rattle.ctl_formula.specs.Mirror.{ctl}
 use Rattle.decision_tree.specs.Plans.{plan_of}
+use Rattle.normal_form.specs.Operators.{HasNoNegation}
+use Rattle.normal_form.proofs.NoNegation.{none_in_normal}
 use Rattle.ctl_rounds.specs.Asked.{IsAdvised}
+use Rattle.ctl_rounds.specs.Bounds.{CoversInputs, SatisfiesInputs}
+use Rattle.ctl_rounds.specs.Families.{IsWithin}
 use Rattle.ctl_rounds.proofs.Asking.{unasked}
 use Rattle.report_text.specs.declared.line.Top.TheVariants.{Exact as Counted}
 use Rattle.function_top.specs.Found.{IsTrueTree, claims_for}
 use Rattle.function_top.specs.Subject.{subject_of}
-use Rattle.function_top.proofs.Claiming.{claims_true, no_exact_number}
+use Rattle.function_top.proofs.Claiming.{claims_exactly, claims_true, no_exact_number}
 use Rattle.function_top.proofs.finding.find.Goals as goal
 
 pub returns-in_err-exact-clause-asked : goal.returns-in_err-exact-clause-asked
@@ -23,6 +27,12 @@ returns-clause-finds g c = λ meant is.
       holds = subst (λ claims. IsTrueTree subject claims (plan_of c.in_ok-cover.cover)) (sym c.claims_for.ensures)
           (claims_true c.normal_forms_mean_the_same.ensures subject (plan_of c.in_ok-cover.cover) f is c.in_ok-cover.ensures.satisfied
           c.in_ok-cover.ensures.bounded);
+      exactly = λ loopless within.
+          claims_exactly c.normal_forms_mean_the_same.ensures subject (plan_of c.in_ok-cover.cover)
+          (subst (λ f. SatisfiesInputs (length subject.names) subject.body f (plan_of c.in_ok-cover.cover)) is c.in_ok-cover.ensures.satisfied)
+          (subst (λ f. CoversInputs (length subject.names) subject.body f (plan_of c.in_ok-cover.cover)) is
+          (c.in_ok-cover.ensures.narrow loopless (subst HasNoNegation (sym is) (none_in_normal meant))
+          (subst (IsWithin (length subject.names) subject.body) (sym is) within)));
       countdown = λ ends counts. c.in_ok-cover.ensures.countdown (is ∙ ends) counts;
       loopless = λ ends free. c.in_ok-cover.ensures.loopless (is ∙ ends) free;
       few = subst (λ n. n ≤ 8) (sym asked.3) asked.1;

@@ -15,8 +15,13 @@ returns-in_err-facts-clause-asked g c =
     (0, omega (arith), unasked (λ a. (goal.Adviser-dyn g (a.vtable, a.value)).asked_of a.value) c.args.advisers.now.items, search rules)
 
 pub loop-turns-init : goal.loop-turns-init
-loop-turns-init g c =
-    (c.in_ok-found.ensures.found, c.in_ok-found.ensures.some, omega (arith), unasked (λ a. (goal.Adviser-dyn g (a.vtable, a.value)).asked_of a.value) c.args.advisers.now.items)
+loop-turns-init g c = (
+  c.in_ok-found.ensures.found,
+  c.in_ok-found.ensures.some,
+  omega (arith),
+  unasked (λ a. (goal.Adviser-dyn g (a.vtable, a.value)).asked_of a.value) c.args.advisers.now.items,
+  c.in_ok-found.ensures.exact,
+)
 
 pub consult-requires : goal.consult-requires
 consult-requires g c =
@@ -41,4 +46,5 @@ loop-turns-preserved g c =
       omega (arith, test),
       asked_again (λ a. (goal.Adviser-dyn g (a.vtable, a.value)).asked_of a.value) c.loop-turns.turns c.args.advisers.now.items
           c.loop-turns.advisers.items c.consult.new.advisers.items c.loop-turns.invariant.3 c.in_ok-hints.ensures.asked,
+      c.in_ok-follow.ensures.exact c.loop-turns.invariant.4,
     )

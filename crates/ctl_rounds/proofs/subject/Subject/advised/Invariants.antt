@@ -1,7 +1,7 @@
 use Rattle.std.proofs.Common.{◌≤◌, ◌<◌, ◌-◌, length, option_map}
 use Rattle.decision_tree.specs.Plans.{plan_of}
 use Rattle.ctl_rounds.specs.Asked.{RoseBy}
-use Rattle.ctl_rounds.specs.Finding.{AreFoundSoFar}
+use Rattle.ctl_rounds.specs.Finding.{AreFoundSoFar, BeginsExactly}
 use Rattle.ctl_rounds.proofs.subject.Subject.advised.Given as goal
 
 abbrev pub invariant-loop-turns : goal.invariant-loop-turns
@@ -10,6 +10,7 @@ invariant-loop-turns g l =
     × (0 < length l.found.tops.items)
     × (l.turns ≤ 8)
     × RoseBy (λ a. (goal.Adviser-dyn g (a.vtable, a.value)).asked_of a.value) l.turns l.initial.advisers.items l.advisers.items
+    × BeginsExactly l.self l.found.tops.items
 
 abbrev pub decreases-loop-turns : goal.decreases-loop-turns
 decreases-loop-turns g l = 8 - l.turns

@@ -1,7 +1,13 @@
-use Rattle.std.proofs.Common.{option_map, refl, rules, arith}
+use Rattle.std.proofs.Common.{length, option_map, refl, rules, arith}
 use Rattle.decision_tree.specs.Plans.{plan_of}
 use Rattle.ctl_rounds.specs.Showing.{all_of}
 use Rattle.ctl_rounds.proofs.Asking.{unasked}
+use Rattle.step_meaning.specs.Syntax.{statements}
+use Rattle.ctl_formula.specs.Mirror.{ctl}
+use Rattle.ctl_rounds.specs.Covers.{claims_of}
+use Rattle.ctl_rounds.specs.Families.{IsFamilyFor}
+use Rattle.ctl_rounds.specs.Finding.{IsTop}
+use Rattle.ctl_rounds.proofs.Exactly.{first_covers, first_covers_narrowly, first_of, whole_defined}
 use Rattle.ctl_rounds.proofs.Certifying.{certified}
 use Rattle.ctl_rounds.proofs.subject.Subject.found.Goals as goal
 
@@ -40,3 +46,24 @@ returns-in_ok-sought-in-None-clause-certified g c =
 
 pub returns-in_ok-sought-in-None-clause-covers : goal.returns-in_ok-sought-in-None-clause-covers
 returns-in_ok-sought-in-None-clause-covers g c = c.in_ok-sought-in-None.ensures.found.firsts
+
+pub returns-in_ok-counted-in-Some-clause-exact : goal.returns-in_ok-counted-in-Some-clause-exact
+returns-in_ok-counted-in-Some-clause-exact g c loopless free =
+    let cover = claims_of (option_map plan_of c.in_ok-counted-in-Some.field-0.cover) in (
+      (λ uncut begins input is sat. whole_defined input cover c.in_ok-counted-in-Some.ensures.whole),
+      (λ within input is sat. whole_defined input cover c.in_ok-counted-in-Some.ensures.whole),
+    )
+
+pub returns-in_ok-sought-in-None-clause-exact : goal.returns-in_ok-sought-in-None-clause-exact
+returns-in_ok-sought-in-None-clause-exact g c loopless free =
+    let subject = c.args.self.now in
+    let program = subject.premises.now.graph.now in
+    let found = c.in_ok-sought-in-None.field-0 in
+    let begins = c.in_ok-sought-in-None.ensures.exact loopless free in (
+      (λ uncut fit. first_covers (length program.names) (statements program.body) (ctl subject.formula.now) found.tops.items (option_map plan_of found.cover)
+          (begins.0 uncut) fit
+          (first_of (IsTop g.D.NumDomain subject) (IsFamilyFor (length program.names) (statements program.body)) (λ family top. top.fits) found.tops.items
+          c.in_ok-sought-in-None.ensures.some c.in_ok-sought-in-None.ensures.found.families) c.in_ok-sought-in-None.ensures.found.firsts),
+      (λ within. first_covers_narrowly (length program.names) (statements program.body) (ctl subject.formula.now) found.tops.items (option_map plan_of found.cover) within
+          (begins.1 within) c.in_ok-sought-in-None.ensures.found.firsts),
+    )

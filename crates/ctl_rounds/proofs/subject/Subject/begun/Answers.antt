@@ -1,0 +1,28 @@
+use Rattle.std.proofs.Common.{◌≡◌, List, [], ◌∷◌, ◌++◌, length, ap, subst, sym, ◌∙◌}
+use Rattle.step_meaning.specs.Syntax.{statements}
+use Rattle.ctl_formula.specs.Mirror.{ctl}
+use Rattle.ctl_rounds.specs.Families.{IsExact, IsNarrowFor}
+use Rattle.ctl_rounds.specs.Finding.{FirstIs}
+use Rattle.decision_tree.specs.declared.affine_rank.AffineRank.{AffineRank}
+use Rattle.decision_tree.specs.declared.family.Family.{Family}
+use Rattle.ctl_rounds.specs.Knowing.{told_on}
+use Rattle.ctl_rounds.proofs.Combining.{operand_labels}
+use Rattle.ctl_rounds.proofs.subject.Subject.begun.Goals as goal
+
+pub returns-clause-exact : goal.returns-clause-exact
+returns-clause-exact g c loopless free =
+    let subject = c.args.self.now in
+    let body = statements subject.premises.now.graph.now.body in
+    let vars = length subject.premises.now.graph.now.names in
+    let f = ctl subject.formula.now in
+    let only : c.keep.new.found.tops.items ≡ c.in_ok-first.first ∷ [] =
+    ◌∙◌ {A = List (Family AffineRank)} c.in_ok-keep.ensures.tops (ap (λ (tops : List (Family AffineRank)). tops ++ c.in_ok-first.first ∷ []) c.none-found.ensures.tops) in (
+      (λ uncut. subst (FirstIs (IsExact body f)) (sym only) (c.in_ok-first.ensures.exact loopless (c.requires.subject.smaller.complete loopless free uncut))),
+      (λ within. subst (FirstIs (IsNarrowFor vars body f)) (sym only)
+          (c.in_ok-first.ensures.narrow loopless within (
+            c.requires.subject.smaller.as_many,
+            operand_labels subject.premises.now.graph.now (told_on g.D.NumDomain subject.premises.now) subject.premises.now.labels
+                subject.smaller.now c.requires.subject.smaller c.requires.subject.premises.labels,
+          )
+          (c.requires.subject.smaller.narrow loopless free within))),
+    )

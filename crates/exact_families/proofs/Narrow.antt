@@ -1,0 +1,233 @@
+-- Trees that are proposed within the measures of a program and a formula are narrow and complete, and the check keeps each leaf.
+use Rattle.std.specs.Prelude.{⊤}
+use Rattle.std.proofs.Common.{◌≡◌, ⊎_elim, ℕ, zero, suc, ◌+◌, ◌*◌, ◌^◌, ◌<◌, ◌≤◌, max, Bool, false, true, pos, List, [], length, sym, ap, subst, arith}
+use Rattle.std.proofs.Math.Nat.{le_refl, mul-le-mul}
+use Rattle.step_meaning.specs.Syntax.{Expression, Statements}
+use Rattle.step_meaning.specs.Valid.{IsBody}
+use Rattle.linear_cons.specs.Functions.{IsOver, NumbersFit, complement_of}
+use Rattle.linear_cons.specs.declared.affine.Affine.{Affine}
+use Rattle.linear_cons.specs.declared.row.Row.{Row}
+use Rattle.linear_cons.proofs.Sizes.{sizes_complement, sizes_fit}
+use Rattle.linear_cons.proofs.Over.{over_constant}
+use Rattle.linear_forms.specs.Spreading.{spread_of}
+use Rattle.decision_tree.specs.Extent.{ComplementsFit, IsTreeOver, PickIs}
+use Rattle.decision_tree.specs.Plans.{Plan, bottom, branch, leaf, leaves_of, size_of, top}
+use Rattle.decision_tree.specs.declared.affine_rank.AffineRank.{AffineRank}
+use Rattle.decision_tree.specs.declared.reason.Pick.TheVariants.{All as Every, Yes, No, Value}
+use Rattle.decision_tree.specs.declared.reason.Why.{Why}
+use Rattle.decision_tree.specs.declared.reason.Why.TheVariants.{End, Atom, Both, Left, Right, Now, Dead, Step}
+use Rattle.control_flow.specs.Growth.{factor_at, greatest_of_conjunctions, greatest_of_tests, greatest_size, product_below, row_size}
+use Rattle.control_flow.specs.Labels.{action_at, all_labels, tests}
+use Rattle.control_flow.specs.Measures.{anywhere}
+use Rattle.control_flow.specs.Told.{Told}
+use Rattle.control_flow.specs.Transitions.{AreTold}
+use Rattle.control_flow.specs.declared.transition.Transition.{Transition}
+use Rattle.ctl_formula.specs.declared.formula.Formula.{Formula}
+use Rattle.ctl_formula.specs.Formulas.{Ctl, truth, falsity, exit, not_exit, always, never, least, negation, both, either, next, until, weak}
+use Rattle.ctl_formula.specs.Mirror.{ctl}
+use Rattle.rows_in_hand.specs.Forming.{given}
+use Rattle.backward_transfer.specs.AffineShapes.{tree_at}
+use Rattle.part_trees.specs.Proposed.{AreProposed}
+use Rattle.tree_support.specs.Certificates.{affine_ranks}
+use Rattle.tree_support.specs.Elimination.{Eliminates}
+use Rattle.tree_support.specs.Setting.{Trees, setting_of}
+use Rattle.tree_support.specs.declared.dropped.Dropped.{Dropped}
+use Rattle.unroll.specs.Within.{EachIs, place_by}
+use Rattle.unroll.proofs.Growing.{below_some}
+use Rattle.unroll.proofs.LevelSizes.{at_most_greatest}
+use Rattle.unroll.proofs.WithinRows.{greatest_sizes, turned_fits}
+use Rattle.exact_families.specs.Completeness.{EachPart, IsComplete, IsLoopless, two_parts}
+use Rattle.exact_families.specs.Measures.{IsWithinMeasures, ctl_growth, failing_size, part_size}
+use Rattle.exact_families.specs.Narrowness.{AreAtomsOver, HasNoMore, IsNarrowAndComplete, IsRankAt, IsRowAt, NoValue}
+use Rattle.exact_families.specs.Shut.{AllShut, AllWhole}
+use Rattle.exact_families.proofs.Bounds.{EachAre, rows_only}
+use Rattle.exact_families.proofs.Completed.{below_or, made_complete, made_shut, past_trees}
+use Rattle.exact_families.proofs.Counting.{map_part}
+use Rattle.exact_families.proofs.Fits.{RowsFit}
+use Rattle.exact_families.proofs.Lifting.{untold, untold_keeps}
+use Rattle.exact_families.proofs.Narrowed.{are_fit, stand_fit}
+use Rattle.exact_families.proofs.Narrowing.{narrow_made}
+use Rattle.exact_families.proofs.Programs.{deeds}
+use Rattle.exact_families.proofs.Whole.{IsMade}
+use Rattle.exact_families.proofs.Wholeness.{all_whole}
+
+module _ (body : Statements) (vars : ℕ) (few : vars ≤ 15) (valid : IsBody vars body) (loopless : IsLoopless body) (told : Told)
+    (transitions : List Transition) (same : length transitions ≡ length (all_labels body)) (told_are : AreTold body told transitions)
+    (short : length (all_labels body) ≤ 1024) (formula : Formula) (within : IsWithinMeasures body (ctl formula)) (over : AreAtomsOver vars (ctl formula))
+    (first second trees : List (Plan AffineRank)) (labels : length trees ≡ length (all_labels body)) (are : AreProposed formula transitions first second trees)
+    (each : EachPart (IsNarrowAndComplete vars body) (ctl formula) (two_parts first second)) (none : HasNoMore (ctl formula) first second)
+    (one_labels : length first ≤ length (all_labels body)) (two_labels : length second ≤ length (all_labels body)) where
+  abbrev n : ℕ
+  n = length (all_labels body)
+
+  abbrev parts : ℕ → Trees AffineRank
+  parts = two_parts first second
+
+  abbrev f : Ctl
+  f = ctl formula
+
+  -- ---- the measures
+
+  some_product : 1 ≤ product_below (factor_at body) n
+  some_product = below_some body n
+
+  wide : product_below (factor_at body) n ≤ 2 ^ 100
+  wide =
+      let growth : ctl_growth body f ≤ 2 ^ 100 = within.growth in
+      let more : 1 * product_below (factor_at body) n ≤ ctl_growth body f = mul-le-mul (omega arith) (le_refl (product_below (factor_at body) n)) in
+      omega (arith, growth, more)
+
+  small : greatest_of_tests body * product_below (factor_at body) n ≤ 2 ^ 100
+  small =
+      let growth : ctl_growth body f ≤ 2 ^ 100 = within.growth in
+      let more : greatest_of_tests body * product_below (factor_at body) n ≤ ctl_growth body f = mul-le-mul (omega arith) (le_refl (product_below (factor_at body) n)) in
+      omega (arith, growth, more)
+
+  failing : (l : ℕ) → l < n → (head : Bool) (c : Expression) (p q : ℕ) → tests head c p q ≡ action_at body l
+      → greatest_of_conjunctions (spread_of anywhere c false) ≤ 2 ^ 100
+  failing l low head c p q act =
+      let least = at_most_greatest (λ label. failing_size (action_at body label)) n l low in
+      let own : greatest_of_conjunctions (spread_of anywhere c false) ≡ failing_size (action_at body l) = ap failing_size act in
+      let most = within.failing in
+      omega (arith, least, own, most)
+
+  holding : (l : ℕ) → l < n → (head : Bool) (c : Expression) (p q : ℕ) → tests head c p q ≡ action_at body l
+      → greatest_of_conjunctions (spread_of anywhere c true) ≤ 2 ^ 100
+  holding l low head c p q act =
+      let least = at_most_greatest (λ label. row_size (action_at body label)) n l low in
+      let own : greatest_of_conjunctions (spread_of anywhere c true) ≡ row_size (action_at body l) = ap row_size act in
+      let more : greatest_of_tests body * 1 ≤ greatest_of_tests body * product_below (factor_at body) n = mul-le-mul (le_refl (greatest_of_tests body)) some_product in
+      let most = small in
+      omega (arith, least, own, more, most)
+
+  atom_fits : (a : Affine) → f ≡ least a → NumbersFit (complement_of a)
+  atom_fits a is =
+      let growth : ctl_growth body (least a) ≤ 2 ^ 100 = subst (λ f. ctl_growth body f ≤ 2 ^ 100) is within.growth in
+      let more : (1 + max (greatest_of_tests body) (greatest_size a)) * 1 ≤ ctl_growth body (least a) = mul-le-mul (le_refl (1 + max (greatest_of_tests body) (greatest_size a))) some_product in
+      sizes_fit (1 + greatest_size a) (complement_of a) (omega (arith, growth, more)) (sizes_complement (greatest_size a) a (greatest_sizes a))
+
+  -- ---- the parts
+
+  abbrev R : ℕ → Row → Type 0
+  R l = IsRowAt body vars l
+
+  abbrev Q : ℕ → AffineRank → Type 0
+  Q l = IsRankAt body l
+
+  side_fits : (list : List (Plan AffineRank)) → length list ≤ n → ((l : ℕ) → l < n → EachAre (R l) (Q l) (tree_at list l)) → (l : ℕ) → RowsFit given (tree_at list l)
+  side_fits list most own l =
+      ⊎_elim
+      (λ (low : l < n). stand_fit body vars few valid loopless.fitting loopless.free told.bounds small short wide l (tree_at list l)
+      (rows_only (R l) (Q l) (tree_at list l) (own l low)))
+      (λ past. subst (RowsFit given) (sym (past_trees list l (omega (arith, past, most)))) tt)
+      (below_or l n)
+
+  none_fits : (list : List (Plan AffineRank)) → list ≡ [] → (l : ℕ) → RowsFit given (tree_at list l)
+  none_fits list is l = subst (λ (xs : List (Plan AffineRank)). RowsFit given (tree_at xs l)) (sym is) tt
+
+  rows_of : {g : Ctl} {part : Trees AffineRank} → IsNarrowAndComplete vars body g part → (l : ℕ) → l < n → EachAre (R l) (Q l) (part l)
+  rows_of own l low = (own.0 l low).each
+
+  two_fit : (g h : Ctl) → IsNarrowAndComplete vars body g (tree_at first) → IsNarrowAndComplete vars body h (tree_at second) → (k l : ℕ) → RowsFit given (parts k l)
+  two_fit g h one two zero l = side_fits first one_labels (λ l low. (one.0 l low).each) l
+  two_fit g h one two (suc zero) l = side_fits second two_labels (λ l low. (two.0 l low).each) l
+  two_fit g h one two (suc (suc k)) l = tt
+
+  one_fits : (g : Ctl) → IsNarrowAndComplete vars body g (tree_at first) → second ≡ [] → (k l : ℕ) → RowsFit given (parts k l)
+  one_fits g one is zero l = side_fits first one_labels (λ l low. (one.0 l low).each) l
+  one_fits g one is (suc zero) l = none_fits second is l
+  one_fits g one is (suc (suc k)) l = tt
+
+  none_fit : first ≡ [] → second ≡ [] → (k l : ℕ) → RowsFit given (parts k l)
+  none_fit one two zero l = none_fits first one l
+  none_fit one two (suc zero) l = none_fits second two l
+  none_fit one two (suc (suc k)) l = tt
+
+  fits_by : (f : Ctl) → EachPart (IsNarrowAndComplete vars body) f parts → HasNoMore f first second → (k l : ℕ) → RowsFit given (parts k l)
+  fits_by (both g h) own more k l = two_fit g h own.0 own.1 k l
+  fits_by (either g h) own more k l = two_fit g h own.0 own.1 k l
+  fits_by (until all g h) own more k l = two_fit g h own.0 own.1 k l
+  fits_by (weak all g h) own more k l = two_fit g h own.0 own.1 k l
+  fits_by (next all g) own more k l = one_fits g own more k l
+  fits_by (negation g) own more k l = absurd own
+  fits_by truth own more k l = none_fit more.0 more.1 k l
+  fits_by falsity own more k l = none_fit more.0 more.1 k l
+  fits_by exit own more k l = none_fit more.0 more.1 k l
+  fits_by not_exit own more k l = none_fit more.0 more.1 k l
+  fits_by always own more k l = none_fit more.0 more.1 k l
+  fits_by never own more k l = none_fit more.0 more.1 k l
+  fits_by (least a) own more k l = none_fit more.0 more.1 k l
+
+  -- ---- the whole
+
+  abbrev told_nothing : Told
+  told_nothing = record { bounds = told.bounds; dead = told.dead; rows = λ label. [] }
+
+  made_and_narrow : IsMade n (deeds body vars few valid loopless.fitting told.bounds) told.dead f parts (tree_at trees)
+      × ((l : ℕ) → l < n → EachAre (R l) (Q l) (tree_at trees l) × (size_of (tree_at trees l) ≤ part_size body f l))
+  made_and_narrow =
+      narrow_made body vars few valid loopless.fitting loopless.free told transitions same told_are short small first second trees formula are within.sizes over within.growth
+      (map_part (IsNarrowAndComplete vars body) (λ g part. (l : ℕ) → l < n → EachAre (R l) (Q l) (part l) × (size_of (part l) ≤ part_size body g l))
+      (λ g part own l low. ((own.0 l low).each, (own.0 l low).small)) f parts each)
+
+  whole : AllWhole (untold (setting_of body told f parts)) (tree_at trees)
+  whole =
+      all_whole (untold (setting_of body told f parts)) (tree_at trees)
+      (are_fit body vars few valid loopless.fitting loopless.free told.bounds small short wide failing holding f parts (tree_at trees) told.dead
+      (map_part (IsNarrowAndComplete vars body) (λ g part. (l : ℕ) → l < n → EachAre (R l) (Q l) (part l)) (λ g part own l low. (own.0 l low).each) f parts each)
+      (fits_by f each none) (λ l low. (made_and_narrow.1 l low).0) (λ l past. past_trees trees l (omega (arith, past, labels))) atom_fits)
+
+  shut : AllShut (untold (setting_of body told f parts)) (tree_at trees)
+  shut =
+      made_shut body vars few valid loopless.fitting loopless.free told_nothing parts trees labels f made_and_narrow.0
+      (map_part (IsNarrowAndComplete vars body) (λ g part. ⊤) (λ g part own. tt) f parts each)
+
+  pub narrow_and_complete : IsNarrowAndComplete vars body f (tree_at trees)
+  narrow_and_complete = (
+    (λ l low. let own = made_and_narrow.1 l low in record { each = own.0; small = own.1 }),
+    made_complete body vars few valid loopless.fitting loopless.free told parts trees labels f made_and_narrow.0
+        (map_part (IsNarrowAndComplete vars body) (IsComplete body) (λ g part own. own.1) f parts each),
+  )
+
+  pub narrow_kept : (new : Trees AffineRank) (drops : List Dropped) → Eliminates affine_ranks (setting_of body told f parts) (tree_at trees) drops new → drops ≡ []
+  narrow_kept new drops legal = untold_keeps (setting_of body told f parts) (tree_at trees) new drops shut whole legal
+
+-- ---- such a tree can be printed
+
+over_pick : (vars : ℕ) (why : Why) → NoValue why → PickIs (IsOver vars) why
+over_pick vars (Step Every) plain = tt
+over_pick vars (Step Yes) plain = tt
+over_pick vars (Step No) plain = tt
+over_pick vars (Step (Value a)) plain = absurd plain
+over_pick vars End plain = tt
+over_pick vars Atom plain = tt
+over_pick vars Both plain = tt
+over_pick vars Left plain = tt
+over_pick vars Right plain = tt
+over_pick vars Now plain = tt
+over_pick vars Dead plain = tt
+
+module _ (body : Statements) (vars l : ℕ) where
+  pub narrow_over : (plan : Plan AffineRank) → EachIs (IsRowAt body vars l) (λ why rank. NoValue why × IsRankAt body l rank) plan → IsTreeOver vars plan
+  narrow_over bottom each = tt
+  narrow_over (top cause) each = tt
+  narrow_over (leaf why rank) each =
+      (subst (λ (r : AffineRank). IsOver vars r.value) (sym each.1.is) (over_constant vars (pos each.1.steps)), over_pick vars why each.0)
+  narrow_over (branch row this that) each = (each.0.1, narrow_over this each.1, narrow_over that each.2)
+
+  pub narrow_complements : (plan : Plan AffineRank) → EachIs (IsRowAt body vars l) (λ why rank. NoValue why × IsRankAt body l rank) plan → ComplementsFit plan
+  narrow_complements bottom each = tt
+  narrow_complements (top cause) each = tt
+  narrow_complements (leaf why rank) each = tt
+  narrow_complements (branch row this that) each = (
+    turned_fits (product_below (factor_at body) (place_by false (length (all_labels body)) l)) (2 ^ 100) (below_some body (place_by false (length (all_labels body)) l))
+        (le_refl (2 ^ 100)) row each.0.0,
+    narrow_complements this each.1,
+    narrow_complements that each.2,
+  )
+
+pub leaves_most : (plan : Plan AffineRank) → leaves_of plan ≤ size_of plan
+leaves_most bottom = omega arith
+leaves_most (top cause) = omega arith
+leaves_most (leaf why rank) = omega arith
+leaves_most (branch row this that) = let one = leaves_most this in let two = leaves_most that in omega (arith, one, two)

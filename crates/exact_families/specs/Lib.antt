@@ -1,0 +1,4 @@
+pub mod Shut
+pub mod Completeness
+pub mod Measures
+pub mod Narrowness
