@@ -15,6 +15,8 @@ ghost use Rattle.control_flow.specs.Labels.{entry_of};
 ghost use Rattle.control_flow.specs.Invariants.{AreInvariants};
 ghost use Rattle.tree_support.specs.Setting.{trees_in};
 ghost use Rattle.control_flow.specs.Told.{told_by};
+ghost use Rattle.fitting_ways.specs.Factors.{HasSmallFactors};
+ghost use Rattle.fitting_ways.specs.Ways.{SmallWaysFit};
 ghost use Rattle.ctl_rounds.specs.Knowing.{told_on};
 ghost use Rattle.ctl_rounds.specs.Showing.{all_of};
 ghost use Rattle.ctl_rounds.specs.Asked.{IsAdvised, RoseBy};
@@ -39,13 +41,15 @@ use count_down::laws::{
 };
 use ctl_formula::Formula;
 use decision_tree::{AffineRank, Family};
+use fitting_ways::laws::ways_through_small_candidates_fit;
 use forward_inv::{Inv, transitions_of};
 use num_domain::NumDomain;
 use std::alloc::{AllocError, Global};
 
 /// A certificate of the formula: families of trees for its parts, each supported over those of its operands. The smaller parts have one family
 /// each, and the whole at least one. For `AF exit` a countdown program has one family of the whole, its candidate, of which the check leaves
-/// all; the cover of a program without loops is one leaf, the most steps of a path. For any other formula or program a family is proposed, by
+/// all; the cover of a program without loops is one leaf, the most steps of a path; and where the factors in front of the loop are small, the way of
+/// an input of small numbers through the cover is found within 128 bits. For any other formula or program a family is proposed, by
 /// sweeps that widen at the heads of loops after `max(delay, 1)` of them; and for an `A[f U g]`, as long as an input has no claim, the advisers
 /// propose more, in eight turns. Nothing is assumed of the advisers: a family is there because the check left it so.
 ///
@@ -82,6 +86,8 @@ pub fn analyse<D: NumDomain>(
     ensures loopless { ctl formula.now ≡ af_exit → HasNoLoop (statements graph.now.body) → IfOk result (λ certificate. (cover : Plan AffineRank)
         → IsCover (statements graph.now.body) certificate.tops cover
         → rank_of cover ≡ Some (ranked (constant_of (pos (last_steps (statements graph.now.body)))))) }
+    ensures ways { ctl formula.now ≡ af_exit → IsCountdown (statements graph.now.body) → HasSmallFactors (statements graph.now.body)
+        → IfOk result (λ certificate. (cover : Plan AffineRank) → IsCover (statements graph.now.body) certificate.tops cover → SmallWaysFit cover) }
 {
     let transitions = transitions_of(alloc, graph, inv)?;
     let premises = Premises {
@@ -126,6 +132,9 @@ impl<'a, D: NumDomain> Subject<'a, D> {
         ensures loopless { ctl self.now.formula.now ≡ af_exit → HasNoLoop (statements self.now.premises.now.graph.now.body)
             → IfOk result (λ found. rank_of (claims_of (option_map plan_of found.cover))
             ≡ Some (ranked (constant_of (pos (last_steps (statements self.now.premises.now.graph.now.body)))))) }
+        ensures ways { ctl self.now.formula.now ≡ af_exit → IsCountdown (statements self.now.premises.now.graph.now.body)
+            → HasSmallFactors (statements self.now.premises.now.graph.now.body)
+            → IfOk result (λ found. SmallWaysFit (claims_of (option_map plan_of found.cover))) }
     {
         match self.candidate()? {
             Some(family) => Ok(self.counted(family)?),
@@ -167,10 +176,13 @@ impl<'a, D: NumDomain> Subject<'a, D> {
         ensures loopless { HasNoLoop (statements self.now.premises.now.graph.now.body) → IfOk result (λ found.
             rank_of (claims_of (option_map plan_of found.cover))
             ≡ Some (ranked (constant_of (pos (last_steps (statements self.now.premises.now.graph.now.body)))))) }
+        ensures ways { HasSmallFactors (statements self.now.premises.now.graph.now.body) → IfOk result (λ found.
+            SmallWaysFit (claims_of (option_map plan_of found.cover))) }
     {
         candidates_are_kept();
         candidates_are_over_the_variables();
         loopless_candidates_promise_the_most_steps();
+        ways_through_small_candidates_fit();
         let family = self
             .premises
             .checked(self.formula, self.smaller, family.trees)?;

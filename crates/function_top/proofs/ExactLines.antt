@@ -31,7 +31,8 @@ use Rattle.control_flow.specs.Labels.{all_labels, entry_of}
 use Rattle.control_flow.proofs.LabelLaws.{entry_is_a_label}
 use Rattle.control_flow.proofs.Steps.{entry_is_start}
 use Rattle.backward_transfer.specs.AffineShapes.{tree_at}
-use Rattle.unroll.specs.Levels.{Claims, IsLevel, RanksCount, counted}
+use Rattle.control_flow.specs.Growth.{growth_of}
+use Rattle.unroll.specs.Levels.{Claims, IsLevel, RanksCount, RowsAtMost, counted}
 use Rattle.control_flow.specs.Measures.{IsLight}
 use Rattle.step_meaning.specs.Plain.{IsPlain}
 use Rattle.unroll.specs.Stopping.{IsCause}
@@ -67,7 +68,7 @@ exact_number Holds = 0
 exact_number Unknown = 0
 
 -- an end that claims exactly so many steps is a leaf of that rank
-claimed_by : (end : Plan AffineRank) (n : ℕ) → RanksCount end → claim_at Exact end ≡ Exactly (pos n) → (why : Why) × (end ≡ leaf why (counted n))
+pub claimed_by : (end : Plan AffineRank) (n : ℕ) → RanksCount end → claim_at Exact end ≡ Exactly (pos n) → (why : Why) × (end ≡ leaf why (counted n))
 claimed_by bottom n counts is = cc
 claimed_by (top cause) n counts is = cc
 claimed_by (branch row this that) n counts is = cc
@@ -158,6 +159,7 @@ module _ (body : Statements) (tests : ℕ) (trees : List (Plan AffineRank)) (lev
         light = light;
         exact = λ input is_input n. at input is_input.places n;
         ranks = subst RanksCount (sym is) (level.ranks (entry_of body) low);
+        numbers = subst (RowsAtMost (growth_of body tests)) (sym is) (level.numbers (entry_of body) low);
       }
 
   -- it can be printed

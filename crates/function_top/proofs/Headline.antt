@@ -1,5 +1,5 @@
 -- What a run wrote is true and has a known form, and its status says what it wrote.
-use Rattle.std.proofs.Common.{◌≡◌, ℕ, ◌⊎◌, ◌≤◌, false, inl, inr, List, [], ◌∷◌, ◌++◌, length, take, All, Option, None, Some, codes, refl, sym, ap, ◌∙◌, subst, arith, append-nil}
+use Rattle.std.proofs.Common.{◌≡◌, ◌≢◌, ◌↔◌, pos, ℕ, ◌⊎◌, ◌≤◌, false, inl, inr, List, [], ◌∷◌, ◌++◌, length, take, All, Option, None, Some, codes, refl, sym, ap, ◌∙◌, subst, arith, append-nil}
 use Rattle.std.specs.Io.KnownBytes.{Appends, Keeps}
 use Rattle.std.proofs.lemmas.List.{append_cancel_left, take_all}
 use Rattle.std.proofs.lemmas.List.Elements.{All-append, All-cons, All-head, All-nil, All-tail}
@@ -21,8 +21,11 @@ use Rattle.linear_cons.specs.declared.affine.Affine.{Affine}
 use Rattle.linear_cons.specs.Functions.{complement_of}
 use Rattle.decision_tree.specs.declared.affine_rank.AffineRank.{AffineRank}
 use Rattle.decision_tree.specs.Plans.{Plan, bottom, branch, leaf, plan_of, top}
+use Rattle.decision_tree.specs.Evaluation.{eval}
+use Rattle.fitting_ways.specs.Factors.{HasSmallFactors}
 use Rattle.decision_tree.specs.Extent.{IsWhole}
 use Rattle.line_text.specs.declared.claim.Claim.{Claim}
+use Rattle.line_text.specs.declared.claim.Claim.TheVariants.{Exactly}
 use Rattle.line_text.specs.Names.{AreNames}
 use Rattle.line_text.specs.Spells.{Spells}
 use Rattle.claim_line.specs.Tells.{Tells}
@@ -36,22 +39,27 @@ use Rattle.report_text.specs.Leaves.{AreLines, AreLinesOf, claim_of, claiming_no
 use Rattle.function_top.specs.declared.status.Status.{Status}
 use Rattle.function_top.specs.declared.status.Status.TheVariants.{AllInputs, SomeInputs, Words, Program, Formula, ReadFault, WriteFault, NoMemory}
 use Rattle.function_top.specs.declared.found.Found.{Found}
-use Rattle.function_top.specs.Answer.{Answers, CoversCountdowns, IsComplete, WasDue, Writes, after_failing}
+use Rattle.function_top.specs.Answer.{Answers, AnswersExactly, CoversCountdowns, IsComplete, WasDue, Writes, after_failing}
 use Rattle.function_top.specs.Call.{Call}
 use Rattle.function_top.specs.Asking.{IsInputGiven}
 use Rattle.function_top.specs.Due.{IsAnswerOn, IsCovering, IsDueOn, IsFormulaRefused, IsInputRefused, IsLacking, IsLongFormula, IsNoFormula, IsReport, IsReportOn, IsWithinLimits}
 use Rattle.function_top.specs.Form.{HasKnownLines}
-use Rattle.function_top.specs.Found.{IsFound}
-use Rattle.function_top.specs.Meeting.{AreMetOnce, CountsExactly}
+use Rattle.function_top.specs.Exact.{EndsExactly, HasSmallLevels, IsExact}
+use Rattle.function_top.specs.Found.{IsExactPart, IsFound}
+use Rattle.function_top.specs.Meeting.{AreMetOnce, CountsExactly, TellsClaim, TellsExactly}
 use Rattle.command_words.specs.Order.{Accepted, Ask, Request, Task, analysis, demo}
 use Rattle.function_top.specs.Refusals.{usage_text}
 use Rattle.function_top.specs.Shown.{Shows}
 use Rattle.function_top.specs.Subject.{IsFormulaAsked, IsSubject, Subject}
 use Rattle.function_top.specs.Text.{IsRead}
 use Rattle.function_top.specs.TrueLine.{IsTrueAt}
+use Rattle.exact_families.proofs.Making.{which_leaf}
+use Rattle.ctl_rounds.proofs.Exactly.{whole_defined}
 use Rattle.function_top.proofs.Counted.{counts_exactly}
 use Rattle.function_top.proofs.Formed.{claim_known, formula_known, program_known, report_known, usage_known}
+use Rattle.function_top.proofs.Claiming.{no_exact_number}
 use Rattle.function_top.proofs.MetOnce.{met_once}
+use Rattle.function_top.proofs.ToldExactly.{made_whole, numbers_small, tells_alone, told_exactly}
 use Rattle.function_top.proofs.Named.{program_names}
 use Rattle.function_top.proofs.Truth.{EndAsLines, KnownLines, SaysTrue, fault_true, formula_lacks, program_lacks, report_true, usage_true}
 use Rattle.function_top.proofs.OneTold.{EndAsClaims, KnownClaims, TellsTrue, fault_tells, told_is_true, usage_tells}
@@ -283,6 +291,48 @@ told_answer known task text subject asked input status turns bytes h given due =
     (subst (λ i. IsTrueAt own.formula due.claim i (start own.body i)) input_same
     (told_is_true own known.ending due.input due.input_is.input_is task due.found status due.claim due.finds due.told)))
     due.is_line)
+
+-- the text of an answer tells the exact claim exactly where the runs are as it says
+exact_answer : KnownTexts → (task : Task) (text : Bytes) (subject : Subject) (asked : Bytes) (input : Store) (status : Status) (turns : ℕ) (bytes : Bytes)
+    → IsSubject task text subject → IsInputText subject.names asked input → task.formula ≡ None → HasSmallLevels subject.body task.delay
+    → IsAnswerOn task text asked status turns bytes → TellsExactly subject task.delay input bytes
+exact_answer known task text subject asked input status turns bytes h given unasked small due n =
+    let own = due.subject in
+    let names = own_names known task text own due.is in
+    let same = same_subject known task text own subject due.is h in
+    let claims = known.alone own.names names in
+    let here : IsInputText own.names asked input = subst (λ (s : Subject). IsInputText s.names asked input) (sym same) given in
+    let input_same : due.input ≡ input = same_input own.names names asked input due.input here due.input_is.input_is due.input_is.some in
+    let levels : HasSmallLevels own.body task.delay = subst (λ (s : Subject). HasSmallLevels s.body task.delay) (sym same) small in
+    let exact : IsExact (length own.names) own.body task.delay due.found.exact =
+    subst (λ formula. IsExactPart formula own task.delay due.found.exact) unasked due.finds.exact in
+    let made = made_whole own.body task.delay levels (length own.names) due.found.exact exact in
+    let told = told_exactly (length own.names) own.body task.delay made.stop made.tree made.level levels.growth due.input due.input_is.input_is
+    (numbers_small own.names asked due.input due.input_is) n due.found made.is
+    (subst (λ claims. claims ≢ Counted) (sym due.finds.claims) (no_exact_number (normal own.formula))) status due.claim due.told in
+    let alone = tells_alone own.names claims due.line bytes due.claim due.tells due.is_line (Exactly (pos n)) in
+    subst (λ (s : Subject). TellsClaim s.names bytes (Exactly (pos n)) ↔ EndsExactly s.body task.delay input n) same
+    (subst (λ i. TellsClaim own.names bytes (Exactly (pos n)) ↔ EndsExactly own.body task.delay i n) input_same (
+      (λ says. told.0 (alone.0 says)),
+      (λ ends. alone.1 (told.1 ends)),
+    ))
+
+pub due_exact : KnownTexts → (task : Task) (text : Bytes) (subject : Subject) (asked : Bytes) (input : Store) → task.input ≡ Some asked
+    → IsSubject task text subject → IsInputText subject.names asked input → task.formula ≡ None → HasSmallLevels subject.body task.delay
+    → (status : Status) (advisers turns : ℕ) (bytes : Bytes) → IsDueOn task text status advisers turns bytes → IsReport status
+    → TellsExactly subject task.delay input bytes
+due_exact known task text subject asked input one h given unasked small AllInputs advisers turns bytes due is =
+    exact_answer known task text subject asked input AllInputs turns bytes h given unasked small
+    (subst (λ i. IsCovering i task text advisers turns bytes) one due)
+due_exact known task text subject asked input one h given unasked small SomeInputs advisers turns bytes due is =
+    exact_answer known task text subject asked input SomeInputs turns bytes h given unasked small
+    (subst (λ i. IsLacking i task text advisers turns bytes) one due)
+due_exact known task text subject asked input one h given unasked small Program advisers turns bytes due is = absurd is
+due_exact known task text subject asked input one h given unasked small Words advisers turns bytes due is = absurd is
+due_exact known task text subject asked input one h given unasked small Formula advisers turns bytes due is = absurd is
+due_exact known task text subject asked input one h given unasked small ReadFault advisers turns bytes due is = absurd is
+due_exact known task text subject asked input one h given unasked small WriteFault advisers turns bytes due is = absurd is
+due_exact known task text subject asked input one h given unasked small NoMemory advisers turns bytes due is = absurd is
 
 told_refusal : KnownTexts → (subject : Subject) (input : Store) (names : List Bytes) (formula bytes : Bytes)
     → IsNoFormula names formula bytes ⊎ IsLongFormula names formula bytes → EachWhole (TellsTrue subject input) bytes
@@ -522,22 +572,72 @@ pub covered : (task : Task) (subject : Subject) (found : Found) (report : Report
 covered task subject found report finds shows ends counts =
     shows.unknown ∙ whole_claims found.claims (plan_of found.cover) shows.lines shows.lines_of (finds.countdown ends counts)
 
+-- nothing is left unknown of a countdown program
+not_lacking : KnownTexts → (asked : Option Bytes) (task : Task) (text : Bytes) (subject : Subject) (advisers turns : ℕ) (bytes : Bytes)
+    → IsSubject task text subject → (asked ≡ None) ⊎ HasSmallFactors subject.body → normal subject.formula ≡ af_exit → IsCountdown subject.body
+    → ¬ IsLacking asked task text advisers turns bytes
+not_lacking known None task text subject advisers turns bytes h certain ends counts lacking =
+    let report = lacking.1 in
+    let own : subject ≡ report.subject = same_subject known task text subject report.subject h report.is in
+    lacking.2 (covered task report.subject report.found lacking.0 report.finds report.shows
+    (subst (λ (s : Subject). normal s.formula ≡ af_exit) own ends) (subst (λ (s : Subject). IsCountdown s.body) own counts))
+not_lacking known (Some asked) task text subject advisers turns bytes h (inl whole) ends counts lacking = cc
+not_lacking known (Some asked) task text subject advisers turns bytes h (inr little) ends counts lacking =
+    let own : subject ≡ lacking.subject = same_subject known task text subject lacking.subject h lacking.is in
+    let af = subst (λ (s : Subject). normal s.formula ≡ af_exit) own ends in
+    let countdown = subst (λ (s : Subject). IsCountdown s.body) own counts in
+    let found = lacking.finds in
+    let cover = plan_of lacking.found.cover in
+    let there = which_leaf (eval cover lacking.input) (whole_defined lacking.input cover (found.countdown af countdown)) in
+    let fits = found.ways af countdown (subst (λ (s : Subject). HasSmallFactors s.body) own little) lacking.input
+    (numbers_small lacking.subject.names asked lacking.input lacking.input_is)
+    in
+    lacking.told.1 there.1 (record { fits = fits; why = there.0; is = there.2 })
+
 pub covers_countdowns : KnownTexts → (words : List Bytes) → AskOnce words → (status : Status) (call : Call) → Answers words status call
     → CoversCountdowns words status call
-covers_countdowns known words once SomeInputs call h task told subject ask is program whole ends counts same =
+covers_countdowns known words once SomeInputs call h task told subject ask is program certain ends counts same =
     let due = h.1 in
-    let all : due.task.input ≡ None = subst (λ (t : Task). t.input ≡ None) (same_task words once task due.task ask due.asked) whole in
-    let lacking = subst (λ asked. IsLacking asked due.task due.text (length call.asked) due.turns h.0) all due.due in
-    let report = lacking.1 in
-    let own : subject ≡ report.subject = same_subject known due.task due.text subject report.subject
-    (read_subject words once call SomeInputs h.0 due task told subject ask is program) report.is
-    in
-    lacking.2 (covered due.task report.subject report.found lacking.0 report.finds report.shows
-    (subst (λ (s : Subject). normal s.formula ≡ af_exit) own ends) (subst (λ (s : Subject). IsCountdown s.body) own counts))
-covers_countdowns known words once AllInputs call h task told subject ask is program whole ends counts same = cc
-covers_countdowns known words once Words call h task told subject ask is program whole ends counts same = cc
-covers_countdowns known words once Program call h task told subject ask is program whole ends counts same = cc
-covers_countdowns known words once Formula call h task told subject ask is program whole ends counts same = cc
-covers_countdowns known words once ReadFault call h task told subject ask is program whole ends counts same = cc
-covers_countdowns known words once WriteFault call h task told subject ask is program whole ends counts same = cc
-covers_countdowns known words once NoMemory call h task told subject ask is program whole ends counts same = cc
+    let certain_here = subst (λ (t : Task). (t.input ≡ None) ⊎ HasSmallFactors subject.body) (same_task words once task due.task ask due.asked) certain in
+    not_lacking known due.task.input due.task due.text subject (length call.asked) due.turns h.0
+    (read_subject words once call SomeInputs h.0 due task told subject ask is program) certain_here ends counts due.due
+covers_countdowns known words once AllInputs call h task told subject ask is program certain ends counts same = cc
+covers_countdowns known words once Words call h task told subject ask is program certain ends counts same = cc
+covers_countdowns known words once Program call h task told subject ask is program certain ends counts same = cc
+covers_countdowns known words once Formula call h task told subject ask is program certain ends counts same = cc
+covers_countdowns known words once ReadFault call h task told subject ask is program certain ends counts same = cc
+covers_countdowns known words once WriteFault call h task told subject ask is program certain ends counts same = cc
+covers_countdowns known words once NoMemory call h task told subject ask is program certain ends counts same = cc
+
+-- ---- one input of a program with small levels
+
+-- by what was due and written whole
+module _ (known : KnownTexts) (words : List Bytes) (once : AskOnce words) (call : Call) (status : Status) (bytes : Bytes) where
+  due_answer : (due : WasDue words call status bytes) → IsReport status → Appends call.taken call.taken_after bytes
+      → (task : Task) (text before written asked : List ℕ) (subject : Subject) (input : Store) → Ask words (analysis task) → call.left ≡ Some text
+      → IsSubject task text subject → task.formula ≡ None → task.input ≡ Some asked → IsInputText subject.names asked input
+      → HasSmallLevels subject.body task.delay → call.taken ≡ Some before → call.taken_after ≡ Some (before ++ written)
+      → TellsExactly subject task.delay input written
+  due_answer due report appends task text before written asked subject input ask is h unasked one given small taken taken' =
+      let same = same_task words once task due.task ask due.asked in
+      let own = read_subject words once call status bytes due task text subject ask is h in
+      subst (λ (t : Task). TellsExactly subject t.delay input written) (sym same)
+      (subst (TellsExactly subject due.task.delay input) (sym (written_is call.taken call.taken_after before written bytes taken taken' appends))
+      (due_exact known due.task due.text subject asked input (subst (λ (t : Task). t.input ≡ Some asked) same one) own given
+      (subst (λ (t : Task). t.formula ≡ None) same unasked) (subst (λ (t : Task). HasSmallLevels subject.body t.delay) same small) status
+      (length call.asked) due.turns bytes due.due report))
+
+pub answers_exactly : KnownTexts → (words : List Bytes) → AskOnce words → (status : Status) (call : Call) → Answers words status call
+    → AnswersExactly words status call
+answers_exactly known words once AllInputs call (bytes, inl due, appends) task text before written asked subject input ask is h unasked one given small report =
+    due_answer known words once call AllInputs bytes due report appends task text before written asked subject input ask is h unasked one given small
+answers_exactly known words once AllInputs call (bytes, inr shown, appends) task text before written asked subject input ask is h unasked one given small report =
+    absurd (no_demo words once task ask shown.number shown.asked)
+answers_exactly known words once SomeInputs call (bytes, due, appends) task text before written asked subject input ask is h unasked one given small report =
+    due_answer known words once call SomeInputs bytes due report appends task text before written asked subject input ask is h unasked one given small
+answers_exactly known words once Words call said task text before written asked subject input ask is h unasked one given small report = absurd report
+answers_exactly known words once Program call said task text before written asked subject input ask is h unasked one given small report = absurd report
+answers_exactly known words once Formula call said task text before written asked subject input ask is h unasked one given small report = absurd report
+answers_exactly known words once ReadFault call said task text before written asked subject input ask is h unasked one given small report = absurd report
+answers_exactly known words once WriteFault call said task text before written asked subject input ask is h unasked one given small report = absurd report
+answers_exactly known words once NoMemory call said task text before written asked subject input ask is h unasked one given small report = absurd report

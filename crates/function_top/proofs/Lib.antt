@@ -6,6 +6,8 @@ pub mod ExactLines
 pub mod Truth
 pub mod Summing
 pub mod OneTold
+pub mod Rising
+pub mod ToldExactly
 pub mod Claiming
 pub mod Formed
 pub mod Named

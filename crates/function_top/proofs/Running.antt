@@ -13,7 +13,7 @@ use Rattle.function_top.specs.Refusals.{usage_text}
 use Rattle.function_top.specs.Subject.{IsSubject}
 use Rattle.function_top.specs.Text.{IsRead}
 use Rattle.function_top.proofs.Formed.{summary_known, usage_known}
-use Rattle.function_top.proofs.Headline.{AskOnce, KnownTexts, Serves, Settles, complete, covers_countdowns, due_known, due_told, due_true, front_written, no_demo, nothing_written, refused_answers, same_task, settled_answers, told_read}
+use Rattle.function_top.proofs.Headline.{AskOnce, KnownTexts, Serves, Settles, answers_exactly, complete, covers_countdowns, due_known, due_told, due_true, front_written, no_demo, nothing_written, refused_answers, same_task, settled_answers, told_read}
 use Rattle.function_top.proofs.OneTold.{TellsTrue, usage_tells}
 use Rattle.function_top.proofs.Truth.{SaysTrue, usage_true}
 use Rattle.function_top.proofs.Written.{Bytes}
@@ -49,6 +49,7 @@ module _ (words : List Bytes) (call : Call) where
         refuses = λ none. absurd (none (analysis served.0, served.1));
         complete = complete known words once result call answers;
         countdowns = covers_countdowns known words once result call answers;
+        exactly = answers_exactly known words once result call answers;
         demos = λ number ask. absurd (no_demo words once served.0 served.1 number ask);
       }
 
@@ -65,6 +66,7 @@ module _ (words : List Bytes) (call : Call) where
     refuses = λ none. absurd (none (analysis served.0, served.1));
     complete = complete known words once ReadFault call answers;
     countdowns = covers_countdowns known words once ReadFault call answers;
+    exactly = answers_exactly known words once ReadFault call answers;
     demos = λ number ask. absurd (no_demo words once served.0 served.1 number ask);
   }
 
@@ -80,7 +82,8 @@ module _ (words : List Bytes) (call : Call) where
     answers = answers;
     refuses = λ none. inr refl;
     complete = λ task text subject ask is program limits given limited reads writes. inr (inr refl);
-    countdowns = λ task told subject ask is program whole ends counts same. cc;
+    countdowns = λ task told subject ask is program certain ends counts same. cc;
+    exactly = λ task text before written asked subject input ask is h unasked one given small report. absurd report;
     demos = λ number ask writes. inr refl;
   }
 
@@ -102,6 +105,7 @@ module _ (words : List Bytes) (call : Call) where
         refuses = λ none. inl said.0;
         complete = λ task text subject ask is program limits given limited. absurd (none (analysis task, ask));
         countdowns = λ task told subject ask. absurd (none (analysis task, ask));
+        exactly = λ task text before written asked subject input ask. absurd (none (analysis task, ask));
         demos = λ number ask. absurd (none (demo number, ask));
       }
 
@@ -135,6 +139,7 @@ module _ (words : List Bytes) (call : Call) where
         refuses = λ none. absurd (none (demo number, ask));
         complete = λ task text subject own. absurd (other task own);
         countdowns = λ task told subject own. absurd (other task own);
+        exactly = λ task text before written asked subject input own. absurd (other task own);
         demos = demo_covers result bytes settled;
       }
 

@@ -1,5 +1,5 @@
 -- What is known exactly: for which inputs it is known how long the longest run is.
-use Rattle.std.specs.Prelude.{◌≡◌, ◌⊎◌, ℕ, suc, ◌<◌, ◌≤◌, ◌↔◌, List, Contains, Option, None, Some}
+use Rattle.std.specs.Prelude.{◌≡◌, ◌⊎◌, ℕ, suc, ◌<◌, ◌≤◌, ◌^◌, ◌↔◌, List, Contains, Option, None, Some}
 use Rattle.step_meaning.specs.Outcome.{Store}
 use Rattle.step_meaning.specs.Plain.{IsPlain}
 use Rattle.step_meaning.specs.Run.{EndsInTests, IsInput, Longest, start}
@@ -10,7 +10,9 @@ use Rattle.decision_tree.specs.Plans.{Plan, plan_of}
 use Rattle.decision_tree.specs.declared.affine_rank.AffineRank.{AffineRank}
 use Rattle.decision_tree.specs.declared.reason.Cause.{Cause}
 use Rattle.decision_tree.specs.declared.reason.Cause.TheVariants.{Given, Nodes, Point, Rows, Wide}
-use Rattle.unroll.specs.Levels.{Claims, RanksCount}
+use Rattle.control_flow.specs.Fitting.{IsFitting}
+use Rattle.control_flow.specs.Growth.{growth_of}
+use Rattle.unroll.specs.Levels.{Claims, RanksCount, RowsAtMost}
 use Rattle.control_flow.specs.Measures.{IsHeavy, IsLight}
 use Rattle.unroll.specs.Refusals.{IsWide}
 use Rattle.report_text.specs.declared.line.Line.{Line}
@@ -26,11 +28,18 @@ pub record EndsExactly (body : Statements) (tests : ℕ) (input : Store) (n : �
   pub longest : Longest n (start body input)
 
 -- The tree claims n steps for an input of a program of so many variables exactly where that is so, and nothing else. No level up to this one
--- has a weight above 65,536.
+-- has a weight above 65,536, and no number in a row of the tree is above the growth of this one.
 pub record IsExactTree (vars : ℕ) (body : Statements) (tests : ℕ) (tree : Plan AffineRank) : Type 0 where
   pub light : (level : ℕ) → level ≤ tests → IsLight body level
   pub exact : (input : Store) → IsInput vars input → (n : ℕ) → Claims tree input n ↔ EndsExactly body tests input n
   pub ranks : RanksCount tree
+  pub numbers : RowsAtMost (growth_of body tests) tree
+
+-- A plain program whose numbers fit: the level of so many tests has a weight of at most 65,536, and a growth of at most 2^60.
+pub record HasSmallLevels (body : Statements) (tests : ℕ) : Type 0 where
+  pub fitting : IsFitting body
+  pub light : IsLight body tests
+  pub growth : growth_of body tests ≤ 2 ^ 60
 
 -- the input meets a line of the list that claims this
 pub record MeetsLine (input : Store) (claim : Claim) (lines : List Line) : Type 0 where

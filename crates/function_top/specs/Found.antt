@@ -14,6 +14,8 @@ use Rattle.count_down.specs.Trees.{ranked}
 use Rattle.ctl_formula.specs.Formulas.{Ctl, truth, falsity, exit, not_exit, always, never, least, negation, both, either, next, until, weak, af_exit, normal}
 use Rattle.ctl_formula.specs.Satisfaction.{Sat}
 use Rattle.exact_families.specs.Completeness.{IsLoopless}
+use Rattle.fitting_ways.specs.Factors.{HasSmallFactors}
+use Rattle.fitting_ways.specs.Ways.{SmallWaysFit}
 use Rattle.ctl_rounds.specs.Asked.{IsAdvised}
 use Rattle.ctl_rounds.specs.Families.{IsWithin}
 use Rattle.report_text.specs.declared.line.Top.{Top}
@@ -62,7 +64,8 @@ ClaimsExactly subject tree =
 -- Truth: what the trees claim is true. Exactness: in a plain program without loops, whose numbers fit, and within its measures for the normal form,
 -- no satisfied input is left without a claim. Strength: where the normal form of the formula is a whole `A[f U g]` the advisers are asked as long as a
 -- leaf of the cover is undefined, eight times at most, and else never. Where it is `AF exit`, the cover of a countdown program has no undefined
--- leaf, and that of a program without loops is one leaf, which promises the most steps of a path.
+-- leaf, and that of a program without loops is one leaf, which promises the most steps of a path; and where the factors in front of the loop are small,
+-- the way of an input of small numbers through the cover is found within 128 bits.
 pub record IsFound (task : Task) (subject : Subject) (found : Found) : Type 0 where
   pub exact : IsExactPart task.formula subject task.delay found.exact
   pub claims : found.claims ≡ claims_for (normal subject.formula)
@@ -71,6 +74,7 @@ pub record IsFound (task : Task) (subject : Subject) (found : Found) : Type 0 wh
   pub countdown : normal subject.formula ≡ af_exit → IsCountdown subject.body → IsWhole (plan_of found.cover)
   pub loopless : normal subject.formula ≡ af_exit → HasNoLoop subject.body
       → rank_of (plan_of found.cover) ≡ Some (ranked (constant_of (pos (last_steps subject.body))))
+  pub ways : normal subject.formula ≡ af_exit → IsCountdown subject.body → HasSmallFactors subject.body → SmallWaysFit (plan_of found.cover)
   pub few : found.turns ≤ 8
   pub insists : IsAdvised (normal subject.formula) → IsWhole (plan_of found.cover) ⊎ (found.turns ≡ 8)
   pub spares : ¬ IsAdvised (normal subject.formula) → found.turns ≡ 0

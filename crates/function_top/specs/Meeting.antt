@@ -7,7 +7,8 @@ use Rattle.line_text.specs.declared.claim.Claim.{Claim}
 use Rattle.line_text.specs.declared.claim.Claim.TheVariants.{Exactly}
 use Rattle.line_text.specs.Spells.{MeetsCondition, Spells}
 use Rattle.report_text.specs.declared.report.Stop.{Stop}
-use Rattle.report_text.specs.Sections.{header_lines, sections_of}
+use Rattle.report_text.specs.Sections.{IsWholeLine, header_lines, sections_of}
+use Rattle.claim_line.specs.Tells.{Tells}
 use Rattle.function_top.specs.Exact.{EndsExactly}
 use Rattle.function_top.specs.Shown.{header_of}
 use Rattle.function_top.specs.Subject.{Subject}
@@ -54,3 +55,14 @@ abbrev pub CountsExactly : Subject → List ℕ → Type 0
 CountsExactly subject text =
     (tests : ℕ) → AllowsTests text tests → (input : Store) → IsInput (length subject.names) input → (n : ℕ)
     → MeetsClaim subject.names input (Exactly (pos n)) (sections_of text).exact ↔ EndsExactly subject.body tests input n
+
+-- a whole line of the text is the claim alone
+pub record TellsClaim (names : List (List ℕ)) (text : List ℕ) (claim : Claim) : Type 0 where
+  pub line : List ℕ
+  pub whole : IsWholeLine text line
+  pub tells : Tells names line claim
+
+-- The text tells `exactly n steps` of the input exactly where every run from it ends with at most so many tests of a loop, and the longest has n
+-- steps.
+abbrev pub TellsExactly : Subject → ℕ → Store → List ℕ → Type 0
+TellsExactly subject tests input text = (n : ℕ) → TellsClaim subject.names text (Exactly (pos n)) ↔ EndsExactly subject.body tests input n

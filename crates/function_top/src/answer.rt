@@ -14,7 +14,8 @@ ghost use Rattle.function_top.specs.Due.{IsDueOn, IsDueOnProgram, IsReport, IsVe
 ghost use Rattle.function_top.specs.Explained.{explained, explanation};
 ghost use Rattle.function_top.specs.Form.{HasKnownLines};
 ghost use Rattle.function_top.specs.Headline.{IsTrueAnswer, IsTrueText};
-ghost use Rattle.function_top.specs.Meeting.{AreMetOnce, CountsExactly};
+ghost use Rattle.function_top.specs.Exact.{HasSmallLevels};
+ghost use Rattle.function_top.specs.Meeting.{AreMetOnce, CountsExactly, TellsExactly};
 ghost use Rattle.command_words.specs.Order.{Task, task_of};
 ghost use Rattle.function_top.specs.Printable.{IsFoundPrintable};
 ghost use Rattle.function_top.specs.Refusals.{formula_text, program_text, usage_text};
@@ -72,6 +73,9 @@ pub fn report_on(
         → AreMetOnce subject.names due.bytes.items) }
     ensures counts { IfOk result (λ due. (task_of query.now).input ≡ None → IsReport due.status → (subject : Subject) → IsSubject (task_of query.now) text.now subject
         → CountsExactly subject due.bytes.items) }
+    ensures exactly { IfOk result (λ due. (subject : Subject) (asked : List ℕ) (input : Store) → IsSubject (task_of query.now) text.now subject
+        → (task_of query.now).formula ≡ None → (task_of query.now).input ≡ Some asked → IsInputText subject.names asked input
+        → HasSmallLevels subject.body query.now.delay → IsReport due.status → TellsExactly subject query.now.delay input due.bytes.items) }
     ensures asked { (times : ℕ) × (times ≤ 8) × RoseBy (λ adviser. asked_of adviser) times advisers.old.items advisers.new.items
         × IfOk result (λ due. due.turns ≡ times) }
 {

@@ -11,6 +11,8 @@ ghost use Rattle.ctl_formula.specs.Formulas.{Ctl, af_exit, normal, until};
 ghost use Rattle.ctl_formula.specs.Mirror.{ctl};
 ghost use Rattle.decision_tree.specs.Extent.{IsWhole};
 ghost use Rattle.decision_tree.specs.Plans.{plan_of, rank_of};
+ghost use Rattle.fitting_ways.specs.Factors.{HasSmallFactors};
+ghost use Rattle.fitting_ways.specs.Ways.{SmallWaysFit};
 ghost use Rattle.ctl_rounds.specs.Asked.{IsAdvised, RoseBy};
 ghost use Rattle.normal_form.specs.Operators.{HasNoNegation};
 ghost use Rattle.exact_families.specs.Completeness.{IsLoopless};
@@ -110,6 +112,8 @@ fn covered<D: NumDomain>(
     ensures countdown { ctl formula.now ≡ af_exit → IsCountdown (statements graph.now.body) → IfOk result (λ covered. IsWhole (plan_of covered.0)) }
     ensures loopless { ctl formula.now ≡ af_exit → HasNoLoop (statements graph.now.body) → IfOk result (λ covered.
         rank_of (plan_of covered.0) ≡ Some (ranked (constant_of (pos (last_steps (statements graph.now.body)))))) }
+    ensures ways { ctl formula.now ≡ af_exit → IsCountdown (statements graph.now.body) → HasSmallFactors (statements graph.now.body)
+        → IfOk result (λ covered. SmallWaysFit (plan_of covered.0)) }
 {
     let inv: Inv<D> = invariants(alloc, graph)?;
     let certificate = analyse(alloc, graph, &inv, formula, advisers, delay)?;

@@ -3,6 +3,7 @@ use Rattle.step_meaning.specs.Syntax.{statements}
 use Rattle.decision_tree.specs.Extent.{IsWhole}
 use Rattle.decision_tree.specs.Plans.{plan_of, rank_of}
 use Rattle.ctl_formula.specs.Mirror.{ctl}
+use Rattle.fitting_ways.specs.Ways.{SmallWaysFit}
 use Rattle.ctl_rounds.specs.Bounds.{CoversInputs}
 use Rattle.ctl_rounds.specs.Covers.{IsCover, IsFitToBegin, claims_of}
 use Rattle.ctl_rounds.specs.Families.{IsUncut}
@@ -58,6 +59,15 @@ returns-clause-loopless g c = λ formula free cover is.
     (is_the_cover body found.tops.items (option_map plan_of found.cover) cover c.in_ok-found.ensures.covers
     (subst (λ tops. IsCover body tops cover) c.certificate.ensures.tops is)))
     ∙ c.in_ok-found.ensures.loopless formula free
+
+pub returns-clause-ways : goal.returns-clause-ways
+returns-clause-ways g c = λ formula counted little cover is.
+    let found = c.in_ok-found.found in
+    let body = statements c.args.graph.now.body in
+    subst SmallWaysFit
+    (is_the_cover body found.tops.items (option_map plan_of found.cover) cover c.in_ok-found.ensures.covers
+    (subst (λ tops. IsCover body tops cover) c.certificate.ensures.tops is))
+    (c.in_ok-found.ensures.ways formula counted little)
 
 pub returns-clause-exact : goal.returns-clause-exact
 returns-clause-exact g c = λ loopless free uncut begins cover is.

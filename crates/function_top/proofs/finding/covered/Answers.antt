@@ -88,6 +88,9 @@ returns-clause-countdown g c = λ ends counted. c.in_ok-certificate.ensures.coun
 pub returns-clause-loopless : goal.returns-clause-loopless
 returns-clause-loopless g c = λ ends free. c.in_ok-certificate.ensures.loopless ends free (plan_of c.in_ok-cover.cover) (covers g c)
 
+pub returns-clause-ways : goal.returns-clause-ways
+returns-clause-ways g c = λ ends counted little. c.in_ok-certificate.ensures.ways ends counted little (plan_of c.in_ok-cover.cover) (covers g c)
+
 pub returns-clause-asked : goal.returns-clause-asked
 returns-clause-asked g c = c.in_ok-certificate.ensures.asked
 

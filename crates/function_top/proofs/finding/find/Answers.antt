@@ -35,6 +35,7 @@ returns-clause-finds g c = λ meant is.
           (subst (IsWithin (length subject.names) subject.body) (sym is) within)));
       countdown = λ ends counts. c.in_ok-cover.ensures.countdown (is ∙ ends) counts;
       loopless = λ ends free. c.in_ok-cover.ensures.loopless (is ∙ ends) free;
+      ways = λ ends counts little. c.in_ok-cover.ensures.ways (is ∙ ends) counts little;
       few = subst (λ n. n ≤ 8) (sym asked.3) asked.1;
       insists = λ advised. c.in_ok-cover.ensures.insists (subst IsAdvised (sym is) advised);
       spares = λ unadvised. c.in_ok-cover.ensures.spares (λ advised. unadvised (subst IsAdvised is advised));

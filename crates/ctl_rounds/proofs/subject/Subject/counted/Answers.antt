@@ -9,6 +9,7 @@ use Rattle.tree_support.specs.Certificates.{affine_ranks}
 use Rattle.tree_support.specs.declared.dropped.Dropped.{Dropped}
 use Rattle.tree_support.specs.Elimination.{Eliminates}
 use Rattle.tree_support.specs.Setting.{setting_of, trees_in}
+use Rattle.fitting_ways.specs.Ways.{SmallWaysFit}
 use Rattle.ctl_rounds.specs.Knowing.{told_on}
 use Rattle.ctl_rounds.proofs.Fit.{all_fit}
 use Rattle.ctl_rounds.specs.Covers.{Covers, MayBegin, at_entry, claims_of}
@@ -78,6 +79,14 @@ pub returns-clause-loopless : goal.returns-clause-loopless
 returns-clause-loopless g c = λ free. ap rank_of (claims_are g c)
     ∙ c.loopless_candidates_promise_the_most_steps.ensures c.args.family.trees (statements c.args.self.now.premises.now.graph.now.body) free
     c.requires.candidate
+
+pub returns-clause-ways : goal.returns-clause-ways
+returns-clause-ways g c = λ little.
+    let program = c.args.self.now.premises.now.graph.now in
+    let body = statements program.body in
+    subst SmallWaysFit (sym (claims_are g c))
+    (c.ways_through_small_candidates_fit.ensures (length program.names) body c.args.family.trees program.valid.few program.valid.well_sorted
+    c.requires.candidate little)
 
 pub returns-clause-some : goal.returns-clause-some
 returns-clause-some g c = subst (λ list. 0 < length list) (sym (tops_are g c)) (omega arith)

@@ -67,3 +67,8 @@ returns-in_ok-sought-in-None-clause-exact g c loopless free =
       (λ within. first_covers_narrowly (length program.names) (statements program.body) (ctl subject.formula.now) found.tops.items (option_map plan_of found.cover) within
           (begins.1 within) c.in_ok-sought-in-None.ensures.found.firsts),
     )
+
+pub returns-in_ok-sought-in-None-clause-ways : goal.returns-in_ok-sought-in-None-clause-ways
+returns-in_ok-sought-in-None-clause-ways g c = λ formula counted little.
+    let none = rw c.in-None.is at c.in_ok-family.ensures.none in
+    absurd (none formula counted)

@@ -1,0 +1,3 @@
+pub mod Candidates
+pub mod Rows
+pub mod Values
