@@ -24,7 +24,7 @@ module _ (vars : ℕ) (body : Statements) where
       omega (arith, more, growth)
 
   measured : (h f : Ctl) → IsWithinMeasures body h → AreSizesWithin 4096 body f → atom_size f ≤ atom_size h → IsWithinMeasures body f
-  measured h f own sizes less = record { sizes = sizes; growth = less_growth (atom_size h) (atom_size f) less own.growth; failing = own.failing }
+  measured h f own sizes less = record { sizes = sizes; growth = less_growth (atom_size h) (atom_size f) less own.growth }
 
   pub within_next : (all : Bool) (f : Ctl) → IsWithin vars body (next all f) → IsWithin vars body f
   within_next all f own = (measured (next all f) f own.0 own.0.sizes.1 (le_refl (atom_size f)), own.1)

@@ -34,6 +34,7 @@ pub mod Transiting
 pub mod Proposing
 pub mod Counting
 pub mod Completed
+pub mod SpreadFits
 pub mod Spreads
 pub mod Sizing
 pub mod Measured

@@ -1,24 +1,22 @@
 -- Trees that are proposed within the measures of a program and a formula are narrow and complete, and the check keeps each leaf.
 use Rattle.std.specs.Prelude.{⊤}
-use Rattle.std.proofs.Common.{◌≡◌, ⊎_elim, ℕ, zero, suc, ◌+◌, ◌*◌, ◌^◌, ◌<◌, ◌≤◌, max, Bool, false, true, pos, List, [], length, sym, ap, subst, arith}
+use Rattle.std.proofs.Common.{◌≡◌, ⊎_elim, ℕ, zero, suc, ◌+◌, ◌*◌, ◌^◌, ◌<◌, ◌≤◌, max, false, pos, List, [], length, sym, subst, arith}
 use Rattle.std.proofs.Math.Nat.{le_refl, mul-le-mul}
-use Rattle.step_meaning.specs.Syntax.{Expression, Statements}
+use Rattle.step_meaning.specs.Syntax.{Statements}
 use Rattle.step_meaning.specs.Valid.{IsBody}
 use Rattle.linear_cons.specs.Functions.{IsOver, NumbersFit, complement_of}
 use Rattle.linear_cons.specs.declared.affine.Affine.{Affine}
 use Rattle.linear_cons.specs.declared.row.Row.{Row}
 use Rattle.linear_cons.proofs.Sizes.{sizes_complement, sizes_fit}
 use Rattle.linear_cons.proofs.Over.{over_constant}
-use Rattle.linear_forms.specs.Spreading.{spread_of}
 use Rattle.decision_tree.specs.Extent.{ComplementsFit, IsTreeOver, PickIs}
 use Rattle.decision_tree.specs.Plans.{Plan, bottom, branch, leaf, leaves_of, size_of, top}
 use Rattle.decision_tree.specs.declared.affine_rank.AffineRank.{AffineRank}
 use Rattle.decision_tree.specs.declared.reason.Pick.TheVariants.{All as Every, Yes, No, Value}
 use Rattle.decision_tree.specs.declared.reason.Why.{Why}
 use Rattle.decision_tree.specs.declared.reason.Why.TheVariants.{End, Atom, Both, Left, Right, Now, Dead, Step}
-use Rattle.control_flow.specs.Growth.{factor_at, greatest_of_conjunctions, greatest_of_tests, greatest_size, product_below, row_size}
-use Rattle.control_flow.specs.Labels.{action_at, all_labels, tests}
-use Rattle.control_flow.specs.Measures.{anywhere}
+use Rattle.control_flow.specs.Growth.{factor_at, greatest_of_tests, greatest_size, product_below}
+use Rattle.control_flow.specs.Labels.{all_labels}
 use Rattle.control_flow.specs.Told.{Told}
 use Rattle.control_flow.specs.Transitions.{AreTold}
 use Rattle.control_flow.specs.declared.transition.Transition.{Transition}
@@ -34,10 +32,9 @@ use Rattle.tree_support.specs.Setting.{Trees, setting_of}
 use Rattle.tree_support.specs.declared.dropped.Dropped.{Dropped}
 use Rattle.unroll.specs.Within.{EachIs, place_by}
 use Rattle.unroll.proofs.Growing.{below_some}
-use Rattle.unroll.proofs.LevelSizes.{at_most_greatest}
 use Rattle.unroll.proofs.WithinRows.{greatest_sizes, turned_fits}
 use Rattle.exact_families.specs.Completeness.{EachPart, IsComplete, IsLoopless, two_parts}
-use Rattle.exact_families.specs.Measures.{IsWithinMeasures, ctl_growth, failing_size, part_size}
+use Rattle.exact_families.specs.Measures.{IsWithinMeasures, ctl_growth, part_size}
 use Rattle.exact_families.specs.Narrowness.{AreAtomsOver, HasNoMore, IsNarrowAndComplete, IsRankAt, IsRowAt, NoValue}
 use Rattle.exact_families.specs.Shut.{AllShut, AllWhole}
 use Rattle.exact_families.proofs.Bounds.{EachAre, rows_only}
@@ -82,23 +79,6 @@ module _ (body : Statements) (vars : ℕ) (few : vars ≤ 15) (valid : IsBody va
       let growth : ctl_growth body f ≤ 2 ^ 100 = within.growth in
       let more : greatest_of_tests body * product_below (factor_at body) n ≤ ctl_growth body f = mul-le-mul (omega arith) (le_refl (product_below (factor_at body) n)) in
       omega (arith, growth, more)
-
-  failing : (l : ℕ) → l < n → (head : Bool) (c : Expression) (p q : ℕ) → tests head c p q ≡ action_at body l
-      → greatest_of_conjunctions (spread_of anywhere c false) ≤ 2 ^ 100
-  failing l low head c p q act =
-      let least = at_most_greatest (λ label. failing_size (action_at body label)) n l low in
-      let own : greatest_of_conjunctions (spread_of anywhere c false) ≡ failing_size (action_at body l) = ap failing_size act in
-      let most = within.failing in
-      omega (arith, least, own, most)
-
-  holding : (l : ℕ) → l < n → (head : Bool) (c : Expression) (p q : ℕ) → tests head c p q ≡ action_at body l
-      → greatest_of_conjunctions (spread_of anywhere c true) ≤ 2 ^ 100
-  holding l low head c p q act =
-      let least = at_most_greatest (λ label. row_size (action_at body label)) n l low in
-      let own : greatest_of_conjunctions (spread_of anywhere c true) ≡ row_size (action_at body l) = ap row_size act in
-      let more : greatest_of_tests body * 1 ≤ greatest_of_tests body * product_below (factor_at body) n = mul-le-mul (le_refl (greatest_of_tests body)) some_product in
-      let most = small in
-      omega (arith, least, own, more, most)
 
   atom_fits : (a : Affine) → f ≡ least a → NumbersFit (complement_of a)
   atom_fits a is =
@@ -173,7 +153,7 @@ module _ (body : Statements) (vars : ℕ) (few : vars ≤ 15) (valid : IsBody va
   whole : AllWhole (untold (setting_of body told f parts)) (tree_at trees)
   whole =
       all_whole (untold (setting_of body told f parts)) (tree_at trees)
-      (are_fit body vars few valid loopless.fitting loopless.free told.bounds small short wide failing holding f parts (tree_at trees) told.dead
+      (are_fit body vars few valid loopless.fitting loopless.free told.bounds small short wide f parts (tree_at trees) told.dead
       (map_part (IsNarrowAndComplete vars body) (λ g part. (l : ℕ) → l < n → EachAre (R l) (Q l) (part l)) (λ g part own l low. (own.0 l low).each) f parts each)
       (fits_by f each none) (λ l low. (made_and_narrow.1 l low).0) (λ l past. past_trees trees l (omega (arith, past, labels))) atom_fits)
 

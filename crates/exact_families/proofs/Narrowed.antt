@@ -20,9 +20,8 @@ use Rattle.decision_tree.specs.declared.affine_rank.AffineRank.{AffineRank}
 use Rattle.decision_tree.specs.declared.reason.Why.{Why}
 use Rattle.decision_tree.specs.declared.reason.Why.TheVariants.{End as AtEnd}
 use Rattle.control_flow.specs.Fitting.{IsFitting}
-use Rattle.control_flow.specs.Growth.{factor, factor_at, greatest_of_conjunctions, greatest_of_tests, product_below}
+use Rattle.control_flow.specs.Growth.{factor, factor_at, greatest_of_tests, product_below}
 use Rattle.control_flow.specs.Labels.{Action, ends, assigns, passes, tests, action_at, all_labels}
-use Rattle.control_flow.specs.Measures.{anywhere}
 use Rattle.control_flow.specs.declared.edge.Choice.TheVariants.{Branch}
 use Rattle.ctl_formula.specs.Formulas.{Ctl, truth as holds_always, falsity, exit, not_exit, always, never, least, negation as negated, both, either, next, until, weak}
 use Rattle.rows_in_hand.specs.Claims.{ClaimFits, unnatural}
@@ -32,10 +31,10 @@ use Rattle.tree_support.specs.Certificates.{affine_ranks}
 use Rattle.tree_support.specs.Setting.{Setting, Trees}
 use Rattle.tree_support.specs.Systems.{moved_by}
 use Rattle.tree_support.proofs.Lists.{all_none, all_one}
-use Rattle.unroll.specs.Within.{EachIs, IsSteps, IsWithin, place_by}
+use Rattle.unroll.specs.Within.{EachIs, IsSteps, place_by}
 use Rattle.unroll.proofs.CountedRanks.{met_fits, more_fits, more_steps, put_fits, put_steps}
 use Rattle.unroll.proofs.Growing.{below_more, below_some}
-use Rattle.unroll.proofs.WithinRows.{conjunctions_within, put_row_fits}
+use Rattle.unroll.proofs.WithinRows.{put_row_fits}
 use Rattle.exact_families.specs.Completeness.{EachPart}
 use Rattle.exact_families.specs.Narrowness.{NoValue}
 use Rattle.exact_families.proofs.Acting.{IsFair, IsFittingAction, IsFreeOr, deed_of, deed_of_test}
@@ -45,7 +44,7 @@ use Rattle.exact_families.proofs.Deeds.{FlowsAs, free_arc}
 use Rattle.exact_families.proofs.Fits.{AreFit, ArcFits, EachEnd, ExceedingFits, RowsFit}
 use Rattle.exact_families.proofs.Measured.{place, put_small, within_less}
 use Rattle.exact_families.proofs.Programs.{fits_at, flows}
-use Rattle.exact_families.proofs.Spreads.{spread_same}
+use Rattle.exact_families.proofs.SpreadFits.{RowFits, spread_fits}
 use Rattle.exact_families.proofs.Suiting.{Ranks, Rows, after_at, turns_at}
 
 -- ---- leaves
@@ -194,9 +193,7 @@ module _ (body : Statements) (vars : ℕ) (few : vars ≤ 15) (valid : IsBody va
 
   -- ---- the rows of tests
 
-  module _ (failing : (l : ℕ) → l < n → (head : Bool) (c : Expression) (p q : ℕ) → tests head c p q ≡ action_at body l → greatest_of_conjunctions (spread_of anywhere c false) ≤ 2 ^ 100)
-      (holding : (l : ℕ) → l < n → (head : Bool) (c : Expression) (p q : ℕ) → tests head c p q ≡ action_at body l → greatest_of_conjunctions (spread_of anywhere c true) ≤ 2 ^ 100)
-      (formula : Ctl) (parts : ℕ → Trees AffineRank) (family : Trees AffineRank) (dead : ℕ → Bool)
+  module _ (formula : Ctl) (parts : ℕ → Trees AffineRank) (family : Trees AffineRank) (dead : ℕ → Bool)
       (each_part : EachPart (λ f part. (l : ℕ) → l < n → EachAre (R l) (Q l) (part l)) formula parts)
       (parts_fit : (k l : ℕ) → RowsFit given (parts k l)) (each : (l : ℕ) → l < n → EachAre (R l) (Q l) (family l)) (past : (l : ℕ) → n ≤ l → family l ≡ bottom)
       (atom : (a : Affine) → formula ≡ least a → NumbersFit (complement_of a)) where
@@ -204,12 +201,10 @@ module _ (body : Statements) (vars : ℕ) (few : vars ≤ 15) (valid : IsBody va
     abbrev pub at : Setting AffineRank
     at = record { flow = flow_of body bounds; dead = dead; rows = λ label. []; formula = formula; parts = parts }
 
-    list_fits : (size : ℕ) → size ≤ 2 ^ 100 → (rows : List Row) → EachOf (IsWithin 1 (2 ^ 100)) rows → All FormsWhole (rows_given rows)
-    list_fits size enough [] own = all_none FormsWhole
-    list_fits size enough (row ∷ rest) own =
-        let small = own.0.small in
-        All-append FormsWhole (given row.affine ∷ []) (rows_given rest)
-        (all_one FormsWhole (given row.affine) (sizes_fit own.0.size row.affine (omega (arith, small)) own.0.sizes)) (list_fits size enough rest own.1)
+    list_fits : (rows : List Row) → EachOf RowFits rows → All FormsWhole (rows_given rows)
+    list_fits [] own = all_none FormsWhole
+    list_fits (row ∷ rest) own =
+        All-append FormsWhole (given row.affine ∷ []) (rows_given rest) (all_one FormsWhole (given row.affine) own.0) (list_fits rest own.1)
 
     -- what is moved over an arc
     abbrev Moved : Option (ℕ × Affine) → AffineRank → Plan AffineRank → Type 0
@@ -241,30 +236,23 @@ module _ (body : Statements) (vars : ℕ) (few : vars ≤ 15) (valid : IsBody va
           (λ plan has. subst (λ sets. Moved sets rank plan) (sym none)
           (stand_fit arc.target plan (rows_only (R arc.target) (Q arc.target) plan has), ends_stand arc.target rank own plan has))
 
-      conjunctions : (edge target size : ℕ) → target < n → (list : List (List Row)) → EachOf (EachOf (IsWithin 1 (2 ^ 100))) list → All (Fits rank) (testing edge target list)
-      conjunctions edge target size low [] has = all_none (Fits rank)
-      conjunctions edge target size low (rows ∷ rest) has =
+      conjunctions : (edge target : ℕ) → target < n → (list : List (List Row)) → EachOf (EachOf RowFits) list → All (Fits rank) (testing edge target list)
+      conjunctions edge target low [] has = all_none (Fits rank)
+      conjunctions edge target low (rows ∷ rest) has =
           let arc : Arc = record { edge = edge; target = target; asks = rows_given rows; sets = None } in
           All-append (Fits rank) (arc ∷ []) (testing edge target rest)
-          (all_one (Fits rank) arc (still arc refl (list_fits 0 (omega arith) rows has.0) low)) (conjunctions edge target size low rest has.1)
-
-      within_one : (size : ℕ) → size ≤ 2 ^ 100 → (list : List (List Row)) → greatest_of_conjunctions list ≤ size → EachOf (EachOf (IsWithin 1 (2 ^ 100))) list
-      within_one size enough list within = conjunctions_within 1 (2 ^ 100) size (omega (arith, enough)) list within
+          (all_one (Fits rank) arc (still arc refl (list_fits rows has.0) low)) (conjunctions edge target low rest has.1)
 
       one_arc : (arcs : List Arc) (arc : Arc) → arcs ≡ arc ∷ [] → Fits rank arc → All (Fits rank) arcs
       one_arc arcs arc is has = subst (All (Fits rank)) (sym is) (all_one (Fits rank) arc has)
 
-      test_arcs : (l : ℕ) (head : Bool) (c : Expression) (p q : ℕ) → IsFair c → l < n → tests head c p q ≡ action_at body l → p < n → q < n → (arcs : List Arc)
+      test_arcs : (l : ℕ) (c : Expression) (p q : ℕ) → p < n → q < n → (arcs : List Arc)
           → arcs ≡ testing 0 p (spread_of (bounds l) c true) ++ testing 1 q (spread_of (bounds l) c false) → All (Fits rank) arcs
-      test_arcs l head c p q fair low act p_low q_low arcs is =
+      test_arcs l c p q p_low q_low arcs is =
           subst (All (Fits rank)) (sym is)
           (All-append (Fits rank) (testing 0 p (spread_of (bounds l) c true)) (testing 1 q (spread_of (bounds l) c false))
-          (conjunctions 0 p 0 p_low (spread_of (bounds l) c true)
-          (within_one (2 ^ 100) (le_refl (2 ^ 100)) (spread_of (bounds l) c true)
-          (subst (λ list. greatest_of_conjunctions list ≤ 2 ^ 100) (sym (spread_same (bounds l) anywhere c true fair.2 fair.3)) (holding l low head c p q act))))
-          (conjunctions 1 q 0 q_low (spread_of (bounds l) c false)
-          (within_one (2 ^ 100) (le_refl (2 ^ 100)) (spread_of (bounds l) c false)
-          (subst (λ list. greatest_of_conjunctions list ≤ 2 ^ 100) (sym (spread_same (bounds l) anywhere c false fair.2 fair.3)) (failing l low head c p q act)))))
+          (conjunctions 0 p p_low (spread_of (bounds l) c true) (spread_fits (bounds l) c true))
+          (conjunctions 1 q q_low (spread_of (bounds l) c false) (spread_fits (bounds l) c false)))
 
       free_arcs : (p q : ℕ) → p < n → q < n → (arcs : List Arc) → arcs ≡ free_arc 0 p ∷ (free_arc 1 q ∷ []) → All (Fits rank) arcs
       free_arcs p q p_low q_low arcs is =
@@ -275,17 +263,17 @@ module _ (body : Statements) (vars : ℕ) (few : vars ≤ 15) (valid : IsBody va
       abbrev flow : Flow
       flow = flow_of body bounds
 
-      deed_arcs : (l : ℕ) (c : Expression) (head : Bool) (p q : ℕ) → IsFreeOr c (IsFair c) → l < n → tests head c p q ≡ action_at body l → AreAfter n l (deed_of_test (bounds l) c p q)
+      deed_arcs : (l : ℕ) (c : Expression) (p q : ℕ) → IsFreeOr c (IsFair c) → AreAfter n l (deed_of_test (bounds l) c p q)
           → FlowsAs flow l (deed_of_test (bounds l) c p q) → All (Fits rank) (flow.arcs l)
-      deed_arcs l free head p q fair low act on has = free_arcs p q on.0.0 on.1.0 (flow.arcs l) has.0
-      deed_arcs l (truth b) head p q fair low act on has = test_arcs l head (truth b) p q fair low act on.0.0 on.1.0 (flow.arcs l) has.0
-      deed_arcs l (negation c) head p q fair low act on has = test_arcs l head (negation c) p q fair low act on.0.0 on.1.0 (flow.arcs l) has.0
-      deed_arcs l (pair op a b) head p q fair low act on has = test_arcs l head (pair op a b) p q fair low act on.0.0 on.1.0 (flow.arcs l) has.0
-      deed_arcs l (number z) head p q fair low act on has = absurd fair.2
-      deed_arcs l (variable x) head p q fair low act on has = absurd fair.2
-      deed_arcs l (range lo hi) head p q fair low act on has = absurd fair.2
-      deed_arcs l (negative e) head p q fair low act on has = absurd fair.2
-      deed_arcs l (divided division e b) head p q fair low act on has = absurd fair.2
+      deed_arcs l free p q fair on has = free_arcs p q on.0.0 on.1.0 (flow.arcs l) has.0
+      deed_arcs l (truth b) p q fair on has = test_arcs l (truth b) p q on.0.0 on.1.0 (flow.arcs l) has.0
+      deed_arcs l (negation c) p q fair on has = test_arcs l (negation c) p q on.0.0 on.1.0 (flow.arcs l) has.0
+      deed_arcs l (pair op a b) p q fair on has = test_arcs l (pair op a b) p q on.0.0 on.1.0 (flow.arcs l) has.0
+      deed_arcs l (number z) p q fair on has = absurd fair.2
+      deed_arcs l (variable x) p q fair on has = absurd fair.2
+      deed_arcs l (range lo hi) p q fair on has = absurd fair.2
+      deed_arcs l (negative e) p q fair on has = absurd fair.2
+      deed_arcs l (divided division e b) p q fair on has = absurd fair.2
 
       arcs_as : (l : ℕ) → suc l < n → (action : Action) → action ≡ action_at body (suc l) → IsFittingAction action → AreAfter n (suc l) (deed_of (bounds (suc l)) action)
           → FlowsAs flow (suc l) (deed_of (bounds (suc l)) action) → All (Fits rank) (flow.arcs (suc l))
@@ -300,7 +288,7 @@ module _ (body : Statements) (vars : ℕ) (few : vars ≤ 15) (valid : IsBody va
             put_rows (l) x target fit.0 low (form_of e) enough on.0 plan (rows_only (R target) (Q target) plan known),
             put_ends l x target fit.0 low (form_of e) enough on.0 rank own plan known,
           )))
-      arcs_as l low (tests head c p q) is fit on has = deed_arcs (suc l) c head p q fit low is on has
+      arcs_as l low (tests head c p q) is fit on has = deed_arcs (suc l) c p q fit on has
 
       pub arcs_at : (l : ℕ) → l < n → All (Fits rank) (flow.arcs l)
       arcs_at zero low = all_one (Fits rank) (passing 0) (still (passing 0) refl (all_none FormsWhole) low)

@@ -1,11 +1,10 @@
 -- How many nodes the trees of a formula's parts may have in a program without loops, and how large the numbers in their rows may be: by the
 -- program and the formula alone.
-use Rattle.std.specs.Prelude.{ℕ, zero, suc, ◌+◌, ◌*◌, ◌^◌, ◌≤◌, max, false, length}
+use Rattle.std.specs.Prelude.{ℕ, zero, suc, ◌+◌, ◌*◌, ◌^◌, ◌≤◌, max, length}
 use Rattle.step_meaning.specs.Syntax.{Statements}
-use Rattle.linear_forms.specs.Spreading.{spread_of}
-use Rattle.control_flow.specs.Growth.{factor_at, greatest_of_conjunctions, greatest_of_tests, greatest_size, product_below}
-use Rattle.control_flow.specs.Labels.{Action, action_at, all_labels, assigns, ends, passes, tests}
-use Rattle.control_flow.specs.Measures.{anywhere, greatest_below, size_before}
+use Rattle.control_flow.specs.Growth.{factor_at, greatest_of_tests, greatest_size, product_below}
+use Rattle.control_flow.specs.Labels.{action_at, all_labels}
+use Rattle.control_flow.specs.Measures.{greatest_below, size_before}
 use Rattle.ctl_formula.specs.Formulas.{Ctl, truth, falsity, exit, not_exit, always, never, least, negation, both, either, next, until, weak}
 
 -- An until or weak until, by the sizes of what is to be kept and of the goal: at the end both; elsewhere also what stands before a step, where
@@ -76,15 +75,7 @@ atom_size never = 0
 abbrev pub ctl_growth : Statements → Ctl → ℕ
 ctl_growth body f = (1 + max (greatest_of_tests body) (atom_size f)) * product_below (factor_at body) (length (all_labels body))
 
--- the greatest size of a number in a row of the failure of a test
-abbrev pub failing_size : Action → ℕ
-failing_size (tests head c then_to else_to) = greatest_of_conjunctions (spread_of anywhere c false)
-failing_size ends = 0
-failing_size (assigns x e after) = 0
-failing_size (passes after) = 0
-
--- No size of a part is above 4,096; and neither the growth nor a number in a row of a test's failure is above 2^100.
+-- no size of a part is above 4,096, and the growth isn't above 2^100
 pub record IsWithinMeasures (body : Statements) (f : Ctl) : Type 0 where
   pub sizes : AreSizesWithin 4096 body f
   pub growth : ctl_growth body f ≤ 2 ^ 100
-  pub failing : greatest_below (λ label. failing_size (action_at body label)) (length (all_labels body)) ≤ 2 ^ 100
