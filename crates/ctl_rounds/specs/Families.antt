@@ -9,7 +9,8 @@ use Rattle.ctl_formula.specs.Formulas.{Ctl}
 use Rattle.tree_support.specs.Setting.{Trees, trees_in}
 use Rattle.exact_families.specs.Completeness.{IsComplete, NoneGivenUp}
 use Rattle.exact_families.specs.Measures.{IsWithinMeasures}
-use Rattle.exact_families.specs.Narrowness.{AreAtomsOver, IsNarrowAndComplete}
+use Rattle.exact_families.specs.Narrowness.{IsNarrowAndComplete}
+use Rattle.normal_form.specs.Rows.{RowsAreOver}
 
 -- the trees of a family by their labels
 abbrev pub trees_of : Family AffineRank → Trees AffineRank
@@ -31,9 +32,9 @@ pub record IsFamilyFor (vars : ℕ) (body : Statements) (family : Family AffineR
 abbrev pub IsUncut : Family AffineRank → Type 0
 IsUncut family = (label : ℕ) → NoneGivenUp (trees_of family label)
 
--- no size of the formula's parts is above the most, and its atoms are over the variables
+-- the formula is within the measures of the program, and its rows speak of no variable past those
 abbrev pub IsWithin : ℕ → Statements → Ctl → Type 0
-IsWithin vars body formula = IsWithinMeasures body formula × AreAtomsOver vars formula
+IsWithin vars body formula = IsWithinMeasures body formula × RowsAreOver vars formula
 
 -- the family is as small and narrow as these tell, and defined wherever the formula holds
 abbrev pub IsNarrowFor : ℕ → Statements → Ctl → Family AffineRank → Type 0

@@ -21,6 +21,7 @@ use Rattle.control_flow.specs.Told.{Told}
 use Rattle.control_flow.specs.Transitions.{AreTold}
 use Rattle.control_flow.specs.declared.transition.Transition.{Transition}
 use Rattle.ctl_formula.specs.declared.formula.Formula.{Formula}
+use Rattle.normal_form.specs.Rows.{RowsAreOver}
 use Rattle.ctl_formula.specs.Formulas.{Ctl, truth, falsity, exit, not_exit, always, never, least, negation, both, either, next, until, weak}
 use Rattle.ctl_formula.specs.Mirror.{ctl}
 use Rattle.rows_in_hand.specs.Forming.{given}
@@ -35,7 +36,7 @@ use Rattle.unroll.proofs.Growing.{below_some}
 use Rattle.unroll.proofs.WithinRows.{greatest_sizes, turned_fits}
 use Rattle.exact_families.specs.Completeness.{EachPart, IsComplete, IsLoopless, two_parts}
 use Rattle.exact_families.specs.Measures.{IsWithinMeasures, ctl_growth, part_size}
-use Rattle.exact_families.specs.Narrowness.{AreAtomsOver, HasNoMore, IsNarrowAndComplete, IsRankAt, IsRowAt, NoValue}
+use Rattle.exact_families.specs.Narrowness.{HasNoMore, IsNarrowAndComplete, IsRankAt, IsRowAt, NoValue}
 use Rattle.exact_families.specs.Shut.{AllShut, AllWhole}
 use Rattle.exact_families.proofs.Bounds.{EachAre, rows_only}
 use Rattle.exact_families.proofs.Completed.{below_or, made_complete, made_shut, past_trees}
@@ -50,7 +51,7 @@ use Rattle.exact_families.proofs.Wholeness.{all_whole}
 
 module _ (body : Statements) (vars : ℕ) (few : vars ≤ 15) (valid : IsBody vars body) (loopless : IsLoopless body) (told : Told)
     (transitions : List Transition) (same : length transitions ≡ length (all_labels body)) (told_are : AreTold body told transitions)
-    (short : length (all_labels body) ≤ 1024) (formula : Formula) (within : IsWithinMeasures body (ctl formula)) (over : AreAtomsOver vars (ctl formula))
+    (short : length (all_labels body) ≤ 1024) (formula : Formula) (within : IsWithinMeasures body (ctl formula)) (over : RowsAreOver vars (ctl formula))
     (first second trees : List (Plan AffineRank)) (labels : length trees ≡ length (all_labels body)) (are : AreProposed formula transitions first second trees)
     (each : EachPart (IsNarrowAndComplete vars body) (ctl formula) (two_parts first second)) (none : HasNoMore (ctl formula) first second)
     (one_labels : length first ≤ length (all_labels body)) (two_labels : length second ≤ length (all_labels body)) where

@@ -23,6 +23,7 @@ use Rattle.control_flow.specs.declared.transition.Transition.{Transition}
 use Rattle.control_flow.specs.declared.transition.Transition.TheVariants.{End}
 use Rattle.ctl_formula.specs.declared.formula.Formula.{Formula, Not', And', Or', Next', Until', Weak'}
 use Rattle.ctl_formula.specs.declared.formula.Formula.TheVariants.{True, False, Exit, NotExit, Holds}
+use Rattle.normal_form.specs.Rows.{RowsAreOver}
 use Rattle.ctl_formula.specs.Formulas.{Ctl, truth, falsity, exit, not_exit, always, never, least, negation, both, either, next, until, weak}
 use Rattle.ctl_formula.specs.Mirror.{ctl}
 use Rattle.backward_transfer.specs.AffineShapes.{tree_at}
@@ -43,7 +44,7 @@ use Rattle.unroll.proofs.LevelSizes.{at_most_greatest}
 use Rattle.unroll.proofs.WithinRows.{greatest_sizes}
 use Rattle.exact_families.specs.Completeness.{EachPart, two_parts}
 use Rattle.exact_families.specs.Measures.{AreSizesWithin, IsSizeWithin, ctl_growth, next_size, part_size, until_size}
-use Rattle.exact_families.specs.Narrowness.{AreAtomsOver, NoValue}
+use Rattle.exact_families.specs.Narrowness.{NoValue}
 use Rattle.exact_families.proofs.Bounded.{AtomIs, again, keeping, label_at, anew, stepped_at}
 use Rattle.exact_families.proofs.Bounds.{EachAre, RanksAre, RowsAre, claimed_each, meet_each, ranks_only, rows_only}
 use Rattle.exact_families.proofs.Complete.{AtAfter, LeadsOn, AreAfter, upward}
@@ -524,7 +525,7 @@ module _ (body : Statements) (vars : ℕ) (few : vars ≤ 15) (valid : IsBody va
         subst (IsOver vars) (sym is) over,
       )
 
-  atoms_are : (f : Ctl) → AreAtomsOver vars f → ctl_growth body f ≤ 2 ^ 100 → Atoms f
+  atoms_are : (f : Ctl) → RowsAreOver vars f → ctl_growth body f ≤ 2 ^ 100 → Atoms f
   atoms_are truth over growth = tt
   atoms_are falsity over growth = tt
   atoms_are exit over growth = tt
@@ -666,7 +667,7 @@ module _ (body : Statements) (vars : ℕ) (few : vars ≤ 15) (valid : IsBody va
         (either_most (part_size body f) (part_size body g) one two l low)
 
   pub narrow_made : (formula : Formula) → AreProposed formula transitions first second trees → AreSizesWithin 4096 body (ctl formula)
-      → AreAtomsOver vars (ctl formula) → ctl_growth body (ctl formula) ≤ 2 ^ 100 → Parted (ctl formula) → Result formula
+      → RowsAreOver vars (ctl formula) → ctl_growth body (ctl formula) ≤ 2 ^ 100 → Parted (ctl formula) → Result formula
   narrow_made True are sizes over growth each =
       plain_made True are (atoms_are truth over growth) tt (λ l. omega arith) (λ l none. none) (λ l is. single truth l (family l) (at_once Atom) is (omega arith))
   narrow_made False are sizes over growth each =

@@ -47,23 +47,7 @@ pub record IsNarrowAt (vars : ℕ) (body : Statements) (f : Ctl) (l : ℕ) (plan
 abbrev pub IsNarrow : ℕ → Statements → Ctl → Trees AffineRank → Type 0
 IsNarrow vars body f family = (l : ℕ) → l < length (all_labels body) → IsNarrowAt vars body f l (family l)
 
--- each atom is over the variables
-abbrev pub AreAtomsOver : ℕ → Ctl → Type 0
-AreAtomsOver vars (least a) = IsOver vars a
-AreAtomsOver vars (negation f) = AreAtomsOver vars f
-AreAtomsOver vars (both f g) = AreAtomsOver vars f × AreAtomsOver vars g
-AreAtomsOver vars (either f g) = AreAtomsOver vars f × AreAtomsOver vars g
-AreAtomsOver vars (next all f) = AreAtomsOver vars f
-AreAtomsOver vars (until all f g) = AreAtomsOver vars f × AreAtomsOver vars g
-AreAtomsOver vars (weak all f g) = AreAtomsOver vars f × AreAtomsOver vars g
-AreAtomsOver vars truth = ⊤
-AreAtomsOver vars falsity = ⊤
-AreAtomsOver vars exit = ⊤
-AreAtomsOver vars not_exit = ⊤
-AreAtomsOver vars always = ⊤
-AreAtomsOver vars never = ⊤
-
--- so is each tree of the parts that a formula has, and the others claim nothing
+-- there are no trees of a part that the formula doesn't have
 abbrev pub HasNoMore : Ctl → List (Plan AffineRank) → List (Plan AffineRank) → Type 0
 HasNoMore (both f g) first second = ⊤
 HasNoMore (either f g) first second = ⊤

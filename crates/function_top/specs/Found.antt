@@ -14,10 +14,10 @@ use Rattle.count_down.specs.Trees.{ranked}
 use Rattle.ctl_formula.specs.Formulas.{Ctl, truth, falsity, exit, not_exit, always, never, least, negation, both, either, next, until, weak, af_exit, normal}
 use Rattle.ctl_formula.specs.Satisfaction.{Sat}
 use Rattle.exact_families.specs.Completeness.{IsLoopless}
+use Rattle.exact_families.specs.Measures.{IsWithinMeasures}
 use Rattle.fitting_ways.specs.Factors.{HasSmallFactors}
 use Rattle.fitting_ways.specs.Ways.{SmallWaysFit}
 use Rattle.ctl_rounds.specs.Asked.{IsAdvised}
-use Rattle.ctl_rounds.specs.Families.{IsWithin}
 use Rattle.report_text.specs.declared.line.Top.{Top}
 use Rattle.report_text.specs.declared.line.Top.TheVariants.{Bound, Plain}
 use Rattle.report_text.specs.Leaves.{claim_at}
@@ -70,7 +70,7 @@ pub record IsFound (task : Task) (subject : Subject) (found : Found) : Type 0 wh
   pub exact : IsExactPart task.formula subject task.delay found.exact
   pub claims : found.claims ≡ claims_for (normal subject.formula)
   pub holds : IsTrueTree subject found.claims (plan_of found.cover)
-  pub exactly : IsLoopless subject.body → IsWithin (length subject.names) subject.body (normal subject.formula) → ClaimsExactly subject (plan_of found.cover)
+  pub exactly : IsLoopless subject.body → IsWithinMeasures subject.body (normal subject.formula) → ClaimsExactly subject (plan_of found.cover)
   pub countdown : normal subject.formula ≡ af_exit → IsCountdown subject.body → IsWhole (plan_of found.cover)
   pub loopless : normal subject.formula ≡ af_exit → HasNoLoop subject.body
       → rank_of (plan_of found.cover) ≡ Some (ranked (constant_of (pos (last_steps subject.body))))

@@ -5,6 +5,7 @@ ghost use Rattle.step_meaning.specs.Outcome.{Store};
 ghost use Rattle.step_meaning.specs.Syntax.{size_of, statements};
 ghost use Rattle.control_flow.specs.Faults.{wide_offsets};
 ghost use Rattle.ctl_formula.specs.Mirror.{ctl};
+ghost use Rattle.normal_form.specs.Rows.{RowsAreOver};
 ghost use Rattle.ctl_rounds.specs.Asked.{RoseBy};
 ghost use Rattle.input_text.specs.Input.{IsInputText};
 ghost use Rattle.report_text.specs.declared.report.Report.{Report};
@@ -197,6 +198,7 @@ fn found_on(
 ) -> Result<Due, AllocError>
     requires input { IsReadAs graph.now.names (task_of query.now).input input.now }
     requires formula { IsNormalAsked graph.now.names (task_of query.now).formula (ctl formula.now) }
+    requires over { RowsAreOver (length graph.now.names) (ctl formula.now) }
     requires patient { All (λ adviser. asked_of adviser ≤ 2 ^ 32) advisers.old.items }
     ensures due { IfOk result (λ due. IsDueOnProgram (task_of query.now) graph.now due.status (length advisers.old.items) due.turns due.bytes.items) }
     ensures asked { (times : ℕ) × (times ≤ 8) × RoseBy (λ adviser. asked_of adviser) times advisers.old.items advisers.new.items
@@ -220,6 +222,7 @@ fn analysed<D: NumDomain>(
 ) -> Result<Due, AllocError>
     requires input { IsReadAs graph.now.names (task_of query.now).input input.now }
     requires formula { IsNormalAsked graph.now.names (task_of query.now).formula (ctl formula.now) }
+    requires over { RowsAreOver (length graph.now.names) (ctl formula.now) }
     requires patient { All (λ adviser. asked_of adviser ≤ 2 ^ 32) advisers.old.items }
     ensures due { IfOk result (λ due. IsDueOnProgram (task_of query.now) graph.now due.status (length advisers.old.items) due.turns due.bytes.items) }
     ensures asked { (times : ℕ) × (times ≤ 8) × RoseBy (λ adviser. asked_of adviser) times advisers.old.items advisers.new.items

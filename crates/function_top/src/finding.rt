@@ -15,6 +15,7 @@ ghost use Rattle.fitting_ways.specs.Factors.{HasSmallFactors};
 ghost use Rattle.fitting_ways.specs.Ways.{SmallWaysFit};
 ghost use Rattle.ctl_rounds.specs.Asked.{IsAdvised, RoseBy};
 ghost use Rattle.normal_form.specs.Operators.{HasNoNegation};
+ghost use Rattle.normal_form.specs.Rows.{RowsAreOver};
 ghost use Rattle.exact_families.specs.Completeness.{IsLoopless};
 ghost use Rattle.ctl_rounds.specs.Bounds.{CoversInputs, SatisfiesInputs, SatisfiesWithin};
 ghost use Rattle.ctl_rounds.specs.Families.{IsWithin};
@@ -38,8 +39,8 @@ use report_text::Top;
 use std::alloc::{AllocError, Global};
 use tree_support::laws::invariants_tell_the_truth;
 
-/// What is found of a program with its graph and of a formula in normal form, over one kind of sets, by what is asked. The only error is
-/// want of memory; the advisers may have been asked by then.
+/// What is found of a program with its graph and of a formula in normal form over its variables, over one kind of sets, by what is asked. The only
+/// error is want of memory; the advisers may have been asked by then.
 pub(crate) fn find<D: NumDomain>(
     alloc: Global,
     query: &Query,
@@ -47,6 +48,7 @@ pub(crate) fn find<D: NumDomain>(
     graph: &Graph,
     advisers: &mut Vec<Box<dyn Adviser>>,
 ) -> Result<Found, AllocError>
+    requires over { RowsAreOver (length graph.now.names) (ctl formula.now) }
     requires patient { All (λ adviser. asked_of adviser ≤ 2 ^ 32) advisers.old.items }
     ensures finds { IfOk result (λ found. (meant : Ctl) → ctl formula.now ≡ normal meant
         → IsFound (task_of query.now) (subject_of graph.now meant) found) }

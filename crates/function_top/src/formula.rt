@@ -2,6 +2,7 @@
 
 ghost use Rattle.std.specs.Prelude.{◌≤◌, IfErr, IfOk, length, option_map};
 ghost use Rattle.ctl_formula.specs.Mirror.{ctl};
+ghost use Rattle.normal_form.specs.Rows.{RowsAreOver};
 ghost use Rattle.function_top.specs.Asking.{IsFaultAsked, IsFaultRead, IsNormalAsked, IsNormalRead};
 
 use ctl_formula::Formula;
@@ -19,6 +20,7 @@ pub(crate) fn formula_asked(
 ) -> Result<Formula, FormulaFault>
     requires { length names.now ≤ 15 }
     ensures formula { IfOk result (λ formula. IsNormalAsked names.now (option_map (λ bytes. bytes.now) text.entry) (ctl formula)) }
+    ensures variables { IfOk result (λ formula. RowsAreOver (length names.now) (ctl formula)) }
     ensures fault { IfErr result (IsFaultAsked names.now (option_map (λ bytes. bytes.now) text.entry)) }
 {
     match text {
@@ -31,6 +33,7 @@ pub(crate) fn formula_asked(
 fn normal_read(alloc: Global, text: &[u8], names: &Names) -> Result<Formula, FormulaFault>
     requires { length names.now ≤ 15 }
     ensures formula { IfOk result (λ formula. IsNormalRead names.now text.now (ctl formula)) }
+    ensures variables { IfOk result (λ formula. RowsAreOver (length names.now) (ctl formula)) }
     ensures fault { IfErr result (IsFaultRead names.now text.now) }
 {
     let formula = read_formula(alloc, text, names)?;

@@ -6,7 +6,7 @@ ghost use Rattle.step_meaning.specs.Run.{IsInput, start};
 ghost use Rattle.ctl_formula.specs.Formulas.{normal};
 ghost use Rattle.ctl_formula.specs.Satisfaction.{Sat};
 ghost use Rattle.exact_families.specs.Completeness.{IsLoopless};
-ghost use Rattle.ctl_rounds.specs.Families.{IsWithin};
+ghost use Rattle.exact_families.specs.Measures.{IsWithinMeasures};
 ghost use Rattle.decision_tree.specs.declared.affine_rank.AffineRank.{AffineRank};
 ghost use Rattle.decision_tree.specs.declared.tree.Tree.{Tree};
 ghost use Rattle.line_text.specs.declared.claim.Claim.{Claim};
@@ -46,6 +46,6 @@ pub fn exact_lines_are_met_by_exact_runs()
 /// the measures of the program.
 pub fn proved_lines_are_met_by_satisfied_inputs()
     ensures { (task : Task) (subject : Subject) (found : Found) (report : Report) → IsFound task subject found → Shows found report
-        → IsLoopless subject.body → IsWithin (length subject.names) subject.body (normal subject.formula) → (input : Store)
-        → IsInput (length subject.names) input → MeetsSomeLine input report.proved ↔ Sat subject.formula (start subject.body input) }
+        → IsLoopless subject.body → IsWithinMeasures subject.body (normal subject.formula) → (input : Store) → IsInput (length subject.names) input
+        → MeetsSomeLine input report.proved ↔ Sat subject.formula (start subject.body input) }
 {}

@@ -3,9 +3,9 @@ use Rattle.ctl_formula.specs.Mirror.{ctl}
 use Rattle.decision_tree.specs.Plans.{plan_of}
 use Rattle.normal_form.specs.Operators.{HasNoNegation}
 use Rattle.normal_form.proofs.NoNegation.{none_in_normal}
+use Rattle.exact_families.specs.Measures.{IsWithinMeasures}
 use Rattle.ctl_rounds.specs.Asked.{IsAdvised}
 use Rattle.ctl_rounds.specs.Bounds.{CoversInputs, SatisfiesInputs}
-use Rattle.ctl_rounds.specs.Families.{IsWithin}
 use Rattle.ctl_rounds.proofs.Asking.{unasked}
 use Rattle.report_text.specs.declared.line.Top.TheVariants.{Exact as Counted}
 use Rattle.function_top.specs.Found.{IsTrueTree, claims_for}
@@ -32,7 +32,7 @@ returns-clause-finds g c = λ meant is.
           (subst (λ f. SatisfiesInputs (length subject.names) subject.body f (plan_of c.in_ok-cover.cover)) is c.in_ok-cover.ensures.satisfied)
           (subst (λ f. CoversInputs (length subject.names) subject.body f (plan_of c.in_ok-cover.cover)) is
           (c.in_ok-cover.ensures.narrow loopless (subst HasNoNegation (sym is) (none_in_normal meant))
-          (subst (IsWithin (length subject.names) subject.body) (sym is) within)));
+          (subst (IsWithinMeasures subject.body) (sym is) within, c.requires.over)));
       countdown = λ ends counts. c.in_ok-cover.ensures.countdown (is ∙ ends) counts;
       loopless = λ ends free. c.in_ok-cover.ensures.loopless (is ∙ ends) free;
       ways = λ ends counts little. c.in_ok-cover.ensures.ways (is ∙ ends) counts little;
