@@ -13,6 +13,7 @@ pub mod Formed
 pub mod Named
 pub mod Over
 pub mod Headline
+pub mod Certain
 pub mod Running
 pub mod Reading
 pub mod Reported

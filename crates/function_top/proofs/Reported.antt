@@ -24,7 +24,7 @@ use Rattle.command_words.specs.Order.{Task}
 use Rattle.function_top.specs.OneInput.{IsToldOf}
 use Rattle.function_top.specs.Shown.{Shows}
 use Rattle.function_top.specs.Subject.{IsFormulaAsked, subject_of}
-use Rattle.function_top.proofs.Headline.{whole_claims}
+use Rattle.function_top.proofs.Certain.{whole_claims}
 
 module _ (task : Task) (text : List ℕ) (program : Parsed) (meant : Ctl) (found : Found) (report : Report) (advisers turns : ℕ) (bytes : List ℕ)
     (short : length text ≤ 65536) (derived : IsProgramText text program.names (statements program.body))

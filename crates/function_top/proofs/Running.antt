@@ -13,7 +13,8 @@ use Rattle.function_top.specs.Refusals.{usage_text}
 use Rattle.function_top.specs.Subject.{IsSubject}
 use Rattle.function_top.specs.Text.{IsRead}
 use Rattle.function_top.proofs.Formed.{summary_known, usage_known}
-use Rattle.function_top.proofs.Headline.{AskOnce, KnownTexts, Serves, Settles, answers_exactly, complete, covers_countdowns, due_known, due_told, due_true, front_written, no_demo, nothing_written, refused_answers, same_task, settled_answers, told_read}
+use Rattle.function_top.proofs.Certain.{answers_exactly, covers_countdowns}
+use Rattle.function_top.proofs.Headline.{AskOnce, KnownTexts, Serves, Settles, complete, due_known, due_told, due_true, front_written, no_demo, nothing_written, refused_answers, same_task, settled_answers, told_read}
 use Rattle.function_top.proofs.OneTold.{TellsTrue, usage_tells}
 use Rattle.function_top.proofs.Truth.{SaysTrue, usage_true}
 use Rattle.function_top.proofs.Written.{Bytes}

@@ -6,6 +6,7 @@ use Rattle.step_meaning.specs.Outcome.{Store}
 use Rattle.step_meaning.specs.Run.{IsInput}
 use Rattle.step_meaning.specs.Syntax.{Statements}
 use Rattle.control_flow.specs.Growth.{growth_of}
+use Rattle.tree_support.proofs.Lists.{contains_first}
 use Rattle.decision_tree.specs.declared.affine_rank.AffineRank.{AffineRank}
 use Rattle.decision_tree.specs.declared.tree.Tree.{Tree}
 use Rattle.decision_tree.specs.Evaluation.{eval}
@@ -24,20 +25,19 @@ use Rattle.report_text.specs.declared.report.Stop.TheVariants.{NotPlain, TooMany
 use Rattle.report_text.specs.Leaves.{claim_at, claim_of}
 use Rattle.report_text.specs.Sections.{IsWholeLine, whole_lines}
 use Rattle.report_text.proofs.Cutting.{whole_lines_are}
-use Rattle.tree_support.proofs.Lists.{contains_first}
 use Rattle.claim_line.specs.Tells.{Tells}
-use Rattle.function_top.specs.Meeting.{TellsClaim}
-use Rattle.function_top.proofs.Rising.{growth_up, none_heavy}
-use Rattle.function_top.proofs.OneTold.{KnownClaims}
-use Rattle.function_top.proofs.Written.{Bytes, Lacks, one_good}
 use Rattle.function_top.specs.declared.found.Exact.{Exact}
 use Rattle.function_top.specs.declared.found.Exact.TheVariants.{Made, Unasked, Unmade}
 use Rattle.function_top.specs.declared.found.Found.{Found}
 use Rattle.function_top.specs.declared.status.Status.{Status}
 use Rattle.function_top.specs.declared.status.Status.TheVariants.{AllInputs, SomeInputs, Words, Program, Formula, ReadFault, WriteFault, NoMemory}
 use Rattle.function_top.specs.Exact.{EndsExactly, HasSmallLevels, IsExact, IsExactTree, IsStopAt}
+use Rattle.function_top.specs.Meeting.{TellsClaim}
 use Rattle.function_top.specs.OneInput.{IsTold, IsToldOf, LeadsExactly, LeadsTo}
 use Rattle.function_top.proofs.ExactLines.{claimed_by, ranks_at}
+use Rattle.function_top.proofs.OneTold.{KnownClaims}
+use Rattle.function_top.proofs.Rising.{growth_up, none_heavy}
+use Rattle.function_top.proofs.Written.{Bytes, Lacks, one_good}
 
 -- ---- the numbers of an input
 

@@ -4,10 +4,12 @@ use Rattle.std.specs.Io.KnownBytes.{Appends, Keeps}
 use Rattle.outside.specs.Faults.{Rose}
 use Rattle.outside.specs.Sink.{AppendsFront, WritesOrFails}
 use Rattle.step_meaning.specs.Countdown.{IsCountdown}
+use Rattle.step_meaning.specs.Outcome.{Store}
 use Rattle.ctl_formula.specs.Formulas.{af_exit, normal}
 use Rattle.normal_form.specs.Operators.{operators}
 use Rattle.fitting_ways.specs.Factors.{HasSmallFactors}
 use Rattle.ctl_rounds.specs.Asked.{RoseBy}
+use Rattle.input_text.specs.Input.{IsInputText}
 use Rattle.function_top.specs.declared.status.Status.{Status}
 use Rattle.function_top.specs.declared.status.Status.TheVariants.{AllInputs, SomeInputs, Words, Program, Formula, ReadFault, WriteFault, NoMemory}
 use Rattle.function_top.specs.Asking.{IsInputGiven}
@@ -18,8 +20,6 @@ use Rattle.function_top.specs.Exact.{HasSmallLevels}
 use Rattle.function_top.specs.Form.{Form}
 use Rattle.function_top.specs.Headline.{AnswerHeadline, Headline}
 use Rattle.function_top.specs.Meeting.{TellsExactly}
-use Rattle.input_text.specs.Input.{IsInputText}
-use Rattle.step_meaning.specs.Outcome.{Store}
 use Rattle.command_words.specs.Order.{Accepted, Ask, Task, analysis, demo}
 use Rattle.function_top.specs.Refusals.{usage_text}
 use Rattle.function_top.specs.Subject.{IsSubject, Subject}

@@ -12,8 +12,8 @@ use Rattle.decision_tree.specs.declared.reason.Cause.{Cause}
 use Rattle.decision_tree.specs.declared.reason.Cause.TheVariants.{Given, Nodes, Point, Rows, Wide}
 use Rattle.control_flow.specs.Fitting.{IsFitting}
 use Rattle.control_flow.specs.Growth.{growth_of}
-use Rattle.unroll.specs.Levels.{Claims, RanksCount, RowsAtMost}
 use Rattle.control_flow.specs.Measures.{IsHeavy, IsLight}
+use Rattle.unroll.specs.Levels.{Claims, RanksCount, RowsAtMost}
 use Rattle.unroll.specs.Refusals.{IsWide}
 use Rattle.report_text.specs.declared.line.Line.{Line}
 use Rattle.report_text.specs.Leaves.{MeetsOneLine, NoneOf}

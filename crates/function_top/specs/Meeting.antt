@@ -6,9 +6,9 @@ use Rattle.linear_cons.specs.declared.affine.Affine.{Affine}
 use Rattle.line_text.specs.declared.claim.Claim.{Claim}
 use Rattle.line_text.specs.declared.claim.Claim.TheVariants.{Exactly}
 use Rattle.line_text.specs.Spells.{MeetsCondition, Spells}
+use Rattle.claim_line.specs.Tells.{Tells}
 use Rattle.report_text.specs.declared.report.Stop.{Stop}
 use Rattle.report_text.specs.Sections.{IsWholeLine, header_lines, sections_of}
-use Rattle.claim_line.specs.Tells.{Tells}
 use Rattle.function_top.specs.Exact.{EndsExactly}
 use Rattle.function_top.specs.Shown.{header_of}
 use Rattle.function_top.specs.Subject.{Subject}

@@ -17,7 +17,13 @@ const WIDE: &str =
     "int main() { int x, y; x = 4611686018427387904*x + y; x = 4611686018427387904*x + y; \
     if (x > 0) y = 1; else { y = 2; y = 3; } }";
 
-const CASES: [Case; 16] = [
+// The greatest numbers with which an input is sure to be told: factors with a product of 2^28 in front of a loop, and a growth of 2^60.
+const LARGE_FACTOR: &str = "int main() { int x, y; x = 268435455*y; while (x >= 1) x = x - 1; }";
+
+const LARGE_GROWTH: &str =
+    "int main() { int x, y; x = 576460752303423486*x + y; if (x > 0) y = 1; else { y = 2; y = 3; } }";
+
+const CASES: [Case; 18] = [
     (
         COUNT_UP,
         &["function", "--at", "x=1"],
@@ -89,6 +95,24 @@ const CASES: [Case; 16] = [
         &["function", "--at", "x=9223372036854775807,y=0"],
         AllInputs,
         "within 5 steps\n",
+    ),
+    (
+        LARGE_FACTOR,
+        &["function", "--at", "x=0,y=9223372036854775807"],
+        AllInputs,
+        "within 4951760138694777025350074372 steps\n",
+    ),
+    (
+        LARGE_GROWTH,
+        &[
+            "function",
+            "--delay",
+            "0",
+            "--at",
+            "x=9223372036854775807,y=-9223372036854775807",
+        ],
+        AllInputs,
+        "exactly 3 steps\n",
     ),
     (
         "int main() { int x; x = 1; }",

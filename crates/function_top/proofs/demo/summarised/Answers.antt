@@ -8,7 +8,7 @@ use Rattle.demo_program.specs.Demo.{demo_text}
 use Rattle.function_top.specs.Demo.{defaults, demo_subject, summary_lines}
 use Rattle.function_top.specs.Found.{IsFound}
 use Rattle.function_top.specs.Subject.{Subject, subject_of}
-use Rattle.function_top.proofs.Headline.{covered}
+use Rattle.function_top.proofs.Certain.{covered}
 use Rattle.function_top.proofs.demo.summarised.Goals as goal
 
 pub returns-in_err-formula-clause-asked : goal.returns-in_err-formula-clause-asked
