@@ -25,6 +25,7 @@ use Rattle.tree_support.specs.Certificates.{affine_ranks}
 use Rattle.tree_support.specs.Elimination.{Eliminates}
 use Rattle.tree_support.specs.Setting.{setting_of, trees_in}
 use Rattle.exact_families.specs.Completeness.{EachPart, two_parts}
+use Rattle.formula_measures.specs.Measures.{ctl_growth}
 use Rattle.exact_families.specs.Narrowness.{HasNoMore, IsNarrowAndComplete, IsNarrowAt}
 use Rattle.exact_families.proofs.Counting.{same_parts}
 use Rattle.exact_families.proofs.Narrow.{leaves_most, narrow_and_complete, narrow_complements, narrow_kept, narrow_over}
@@ -146,8 +147,8 @@ module _ (body : Statements) (vars : ℕ) (few : vars ≤ 15) (valid : IsBody va
       let small = here.small in
       let most = size_at body (ctl formula) within.0.sizes label (omega (arith, low, labels)) in
       record {
-        over = narrow_over body vars label (tree_at trees label) here.each;
-        complements = narrow_complements body vars label (tree_at trees label) here.each;
+        over = narrow_over (ctl_growth body (ctl formula)) body vars label (tree_at trees label) here.each;
+        complements = narrow_complements (ctl_growth body (ctl formula)) body vars label within.0.growth (tree_at trees label) here.each;
         leaves = omega (arith, leaves, small, most);
       })
       (λ past. subst (IsFit vars) (sym (get_or_past trees label bottom past)) (bottom_fit vars))

@@ -1,11 +1,10 @@
 -- A formula's parts are within the measures where it is.
-use Rattle.std.proofs.Common.{◌≡◌, ℕ, zero, suc, ◌+◌, ◌*◌, ◌^◌, ◌≤◌, max, Bool, List, [], ◌∷◌, ◌++◌, drop, length, take, refl, ap, arith}
-use Rattle.std.proofs.Math.Nat.{le_refl, mul-le-mul}
+use Rattle.std.proofs.Common.{◌≡◌, ℕ, zero, suc, ◌≤◌, Bool, List, [], ◌∷◌, ◌++◌, drop, take, refl, ap, arith}
+use Rattle.std.proofs.Math.Nat.{le_refl}
 use Rattle.step_meaning.specs.Syntax.{Statements}
-use Rattle.control_flow.specs.Growth.{factor_at, greatest_of_tests, product_below}
-use Rattle.control_flow.specs.Labels.{all_labels}
 use Rattle.ctl_formula.specs.Formulas.{Ctl, both, either, next, until, weak}
-use Rattle.exact_families.specs.Measures.{AreSizesWithin, IsWithinMeasures, atom_size}
+use Rattle.formula_measures.specs.Measures.{AreSizesWithin, IsWithinMeasures, atom_size}
+use Rattle.exact_families.proofs.Narrow.{less_growth}
 use Rattle.ctl_rounds.specs.Families.{IsWithin}
 
 -- a list is its front with its rest
@@ -15,16 +14,9 @@ take_drop (suc n) [] = refl
 take_drop (suc n) (x ∷ xs) = ap (λ ys. x ∷ ys) (take_drop n xs)
 
 module _ (vars : ℕ) (body : Statements) where
-  less_growth : (most less : ℕ) → less ≤ most → (1 + max (greatest_of_tests body) most) * product_below (factor_at body) (length (all_labels body)) ≤ 2 ^ 100
-      → (1 + max (greatest_of_tests body) less) * product_below (factor_at body) (length (all_labels body)) ≤ 2 ^ 100
-  less_growth most less is growth =
-      let more : (1 + max (greatest_of_tests body) less) * product_below (factor_at body) (length (all_labels body))
-      ≤ (1 + max (greatest_of_tests body) most) * product_below (factor_at body) (length (all_labels body)) =
-      mul-le-mul (omega (arith, is)) (le_refl (product_below (factor_at body) (length (all_labels body)))) in
-      omega (arith, more, growth)
-
   measured : (h f : Ctl) → IsWithinMeasures body h → AreSizesWithin 4096 body f → atom_size f ≤ atom_size h → IsWithinMeasures body f
-  measured h f own sizes less = record { sizes = sizes; growth = less_growth (atom_size h) (atom_size f) less own.growth }
+  measured h f own sizes less =
+      let part = less_growth body f h less in let whole = own.growth in record { sizes = sizes; growth = omega (arith, part, whole) }
 
   pub within_next : (all : Bool) (f : Ctl) → IsWithin vars body (next all f) → IsWithin vars body f
   within_next all f own = (measured (next all f) f own.0 own.0.sizes.1 (le_refl (atom_size f)), own.1)

@@ -8,8 +8,9 @@ use Rattle.ctl_formula.specs.Formulas.{Ctl}
 use Rattle.ctl_formula.specs.Satisfaction.{Sat, WithinBound}
 use Rattle.decision_tree.specs.declared.affine_rank.AffineRank.{AffineRank}
 use Rattle.decision_tree.specs.declared.reason.Why.{Why}
-use Rattle.decision_tree.specs.Evaluation.{eval}
+use Rattle.decision_tree.specs.Evaluation.{WayFits, eval}
 use Rattle.decision_tree.specs.Plans.{Plan, is_defined, leaf}
+use Rattle.fitting_ways.specs.Ways.{HasSmallNumbers}
 
 -- wherever the tree is defined at an input of a program of `vars` variables, the property holds of the leaf's rank and the input
 abbrev pub HoldsAtInputs : ℕ → (AffineRank → Store → Type 0) → Plan AffineRank → Type 0
@@ -32,3 +33,8 @@ BoundsInputs vars body tree = HoldsAtInputs vars (λ rank input. EndsWithinBound
 -- and it is defined at each input from which the formula holds
 abbrev pub CoversInputs : ℕ → Statements → Ctl → Plan AffineRank → Type 0
 CoversInputs vars body formula tree = (input : Store) → IsInput vars input → Sat formula (start body input) → is_defined (eval tree input) ≡ true
+
+-- and, if its numbers are small, its way through the tree is found within 128 bits
+abbrev pub FindsInputs : ℕ → Statements → Ctl → Plan AffineRank → Type 0
+FindsInputs vars body formula tree =
+    (input : Store) → IsInput vars input → HasSmallNumbers input → Sat formula (start body input) → WayFits tree input

@@ -8,7 +8,7 @@ use Rattle.decision_tree.specs.declared.family.Family.{Family}
 use Rattle.ctl_formula.specs.Formulas.{Ctl}
 use Rattle.tree_support.specs.Setting.{Trees, trees_in}
 use Rattle.exact_families.specs.Completeness.{IsComplete, NoneGivenUp}
-use Rattle.exact_families.specs.Measures.{IsWithinMeasures}
+use Rattle.formula_measures.specs.Measures.{IsWithinMeasures}
 use Rattle.exact_families.specs.Narrowness.{IsNarrowAndComplete}
 use Rattle.normal_form.specs.Rows.{RowsAreOver}
 

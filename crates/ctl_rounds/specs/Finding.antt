@@ -1,5 +1,5 @@
 -- What is found on the way to a certificate.
-use Rattle.std.specs.Prelude.{ℕ, List, [], ◌∷◌, Option, None, All, length}
+use Rattle.std.specs.Prelude.{ℕ, ◌≤◌, ◌^◌, List, [], ◌∷◌, Option, None, All, length}
 use Rattle.step_meaning.specs.Syntax.{Statements, statements}
 use Rattle.ctl_formula.specs.Formulas.{Ctl}
 use Rattle.ctl_formula.specs.Mirror.{ctl}
@@ -12,8 +12,9 @@ use Rattle.ctl_rounds.specs.Showing.{AreSmaller, Shows, all_of}
 use Rattle.ctl_rounds.specs.Covers.{Covers, at_entry, IsFitToBegin, claims_of}
 use Rattle.normal_form.specs.Operators.{HasNoNegation}
 use Rattle.exact_families.specs.Completeness.{IsLoopless}
+use Rattle.formula_measures.specs.Measures.{ctl_growth}
 use Rattle.ctl_rounds.specs.Families.{IsExact, IsNarrowFor, IsUncut, IsWithin}
-use Rattle.ctl_rounds.specs.Bounds.{CoversInputs}
+use Rattle.ctl_rounds.specs.Bounds.{CoversInputs, FindsInputs}
 use Rattle.ctl_rounds.specs.declared.subject.Subject.{Subject}
 
 -- the first of the families is such
@@ -39,12 +40,14 @@ module _ {D : Type 0} (subject : Subject D) where
       → (All IsUncut (all_of subject.smaller.now) → FirstIs (IsExact body_of formula_of) tops)
       × (IsWithin vars_of body_of formula_of → FirstIs (IsNarrowFor vars_of body_of formula_of) tops)
 
-  -- and the cover of the families is defined at each input from which it holds: if the first tree has at most 4,096 nodes, and within the measures
+  -- And the cover of the families is defined at each input from which it holds: if the first tree has at most 4,096 nodes, and within the measures. Where
+  -- the growth is at most 2^60 the way of such an input, if its numbers are small, is found within 128 bits.
   abbrev pub CoversExactly : List (Family AffineRank) → Option (Plan AffineRank) → Type 0
   CoversExactly tops cover =
       IsLoopless body_of → HasNoNegation formula_of
       → (All IsUncut (all_of subject.smaller.now) → FirstIs (IsFitToBegin body_of) tops → CoversInputs vars_of body_of formula_of (claims_of cover))
       × (IsWithin vars_of body_of formula_of → CoversInputs vars_of body_of formula_of (claims_of cover))
+      × (IsWithin vars_of body_of formula_of → ctl_growth body_of formula_of ≤ 2 ^ 60 → FindsInputs vars_of body_of formula_of (claims_of cover))
 
 module _ {D : Type 0} (domain : Domain D) (subject : Subject D) where
   -- What is known of the program is so, and the families show the smaller parts of the formula, whose numbers begin with 0.

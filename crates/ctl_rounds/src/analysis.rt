@@ -23,9 +23,10 @@ ghost use Rattle.ctl_rounds.specs.Asked.{IsAdvised, RoseBy};
 ghost use Rattle.ctl_rounds.specs.Certified.{Certifies};
 ghost use Rattle.ctl_rounds.specs.Covers.{Covers, IsCover, IsFitToBegin, at_entry, claims_of};
 ghost use Rattle.ctl_rounds.specs.Finding.{AreFoundSoFar, CoversExactly, FirstIs, IsSubject};
-ghost use Rattle.ctl_rounds.specs.Bounds.{CoversInputs};
+ghost use Rattle.ctl_rounds.specs.Bounds.{CoversInputs, FindsInputs};
 ghost use Rattle.ctl_rounds.specs.Families.{IsUncut, IsWithin};
 ghost use Rattle.exact_families.specs.Completeness.{IsLoopless};
+ghost use Rattle.formula_measures.specs.Measures.{ctl_growth};
 ghost use Rattle.normal_form.specs.Operators.{HasNoNegation};
 
 use crate::certificate::Certificate;
@@ -53,6 +54,9 @@ use std::alloc::{AllocError, Global};
 /// sweeps that widen at the heads of loops after `max(delay, 1)` of them; and for an `A[f U g]`, as long as an input has no claim, the advisers
 /// propose more, in eight turns. Nothing is assumed of the advisers: a family is there because the check left it so.
 ///
+/// In a plain program without loops each input from which the formula holds has a claim, where no leaf was given up and the first tree is small, and
+/// within the measures of the two; where the growth of these is at most 2^60 its way there is found within 128 bits, if its numbers are small.
+///
 /// The invariants have each state that is reached. The only error is want of memory, as for a formula of
 /// more than 2^32 parts; the advisers may have been asked by then.
 pub fn analyse<D: NumDomain>(
@@ -75,6 +79,10 @@ pub fn analyse<D: NumDomain>(
         → IsWithin (length graph.now.names) (statements graph.now.body) (ctl formula.now) → IfOk result (λ certificate. (cover : Plan AffineRank)
         → IsCover (statements graph.now.body) certificate.tops cover
         → CoversInputs (length graph.now.names) (statements graph.now.body) (ctl formula.now) cover) }
+    ensures narrow_ways { IsLoopless (statements graph.now.body) → HasNoNegation (ctl formula.now)
+        → IsWithin (length graph.now.names) (statements graph.now.body) (ctl formula.now) → ctl_growth (statements graph.now.body) (ctl formula.now) ≤ 2 ^ 60
+        → IfOk result (λ certificate. (cover : Plan AffineRank) → IsCover (statements graph.now.body) certificate.tops cover
+        → FindsInputs (length graph.now.names) (statements graph.now.body) (ctl formula.now) cover) }
     ensures turns { IsAdvised (ctl formula.now) → IfOk result (λ certificate. (cover : Plan AffineRank)
         → IsCover (statements graph.now.body) certificate.tops cover → IsWhole cover ⊎ (certificate.turns ≡ 8)) }
     ensures unadvised { (IsAdvised (ctl formula.now) → ⊥) → IfOk result (λ certificate. certificate.turns ≡ 0) }

@@ -28,7 +28,6 @@ pub mod Bounds
 pub mod Bounded
 pub mod Fits
 pub mod Wholeness
-pub mod Loopless
 pub mod Programs
 pub mod Transiting
 pub mod Proposing

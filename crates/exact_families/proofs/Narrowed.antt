@@ -91,19 +91,16 @@ exceeds_fits rank other one two =
 -- ---- rows
 
 module _ (body : Statements) (vars : ℕ) (few : vars ≤ 15) (valid : IsBody vars body) (fitting : IsFitting body) (loopless : HasNoLoop body) (bounds : ℕ → Bounds)
-    (small : greatest_of_tests body * product_below (factor_at body) (length (all_labels body)) ≤ 2 ^ 100) (short : length (all_labels body) ≤ 1024)
-    (wide : product_below (factor_at body) (length (all_labels body)) ≤ 2 ^ 100) where
+    (largest : ℕ) (small : greatest_of_tests body * product_below (factor_at body) (length (all_labels body)) ≤ largest) (most_small : largest ≤ 2 ^ 100)
+    (short : length (all_labels body) ≤ 1024) (wide : product_below (factor_at body) (length (all_labels body)) ≤ 2 ^ 100) where
   abbrev n : ℕ
   n = length (all_labels body)
 
-  abbrev most_small : 2 ^ 100 ≤ 2 ^ 100
-  most_small = le_refl (2 ^ 100)
-
   abbrev R : ℕ → Row → Type 0
-  R = Rows body vars few valid fitting loopless bounds (2 ^ 100) small most_small short
+  R = Rows body vars few valid fitting loopless bounds largest small most_small short
 
   abbrev Q : ℕ → AffineRank → Type 0
-  Q = Ranks body vars few valid fitting loopless bounds (2 ^ 100) small most_small short
+  Q = Ranks body vars few valid fitting loopless bounds largest small most_small short
 
   few_steps : (l : ℕ) (rank : AffineRank) → Q l rank → Few rank
   few_steps l rank own = let enough = own.few in record { steps = own.steps; few = omega (arith, enough, short); is = own.is }
@@ -113,10 +110,10 @@ module _ (body : Statements) (vars : ℕ) (few : vars ≤ 15) (valid : IsBody va
       let some : 1 ≤ product_below (factor_at body) (place_by false n l) = below_some body (place_by false n l) in
       let least : own.0.size * 1 ≤ own.0.size * product_below (factor_at body) (place_by false n l) = mul-le-mul (le_refl own.0.size) some in
       let enough = own.0.small in
-      sizes_fit own.0.size row.affine (omega (arith, least, enough)) own.0.sizes
+      sizes_fit own.0.size row.affine (omega (arith, least, enough, most_small)) own.0.sizes
 
   turned : (l : ℕ) (row : Row) → R l row → NumbersFit (complement_of row.affine)
-  turned l row own = turns_at body vars few valid fitting loopless bounds (2 ^ 100) small most_small short l row own
+  turned l row own = turns_at body vars few valid fitting loopless bounds largest small most_small short l row own
 
   -- as they stand
   pub stand_fit : (l : ℕ) (plan : Plan AffineRank) → RowsAre (R l) plan → RowsFit given plan
@@ -151,8 +148,8 @@ module _ (body : Statements) (vars : ℕ) (few : vars ≤ 15) (valid : IsBody va
 
     moved_row : (row : Row) → R t row → SubstitutionFits row.affine x by
     moved_row row own =
-        put_row_fits x place_low by (product_below (factor_at body) (suc l)) (2 ^ 100) (below_some body (suc l)) most_small row
-        (within_less body vars few valid fitting loopless bounds (2 ^ 100) small (product_below (factor_at body) (place_by false n t))
+        put_row_fits x place_low by (product_below (factor_at body) (suc l)) largest (below_some body (suc l)) most_small row
+        (within_less body vars few valid fitting loopless bounds largest small (product_below (factor_at body) (place_by false n t))
         ((1 + T) * product_below (factor_at body) (suc l)) row enough own.0)
 
     moved_turned : (row : Row) → R t row → SubstitutionFits (complement_of row.affine) x by
@@ -170,7 +167,7 @@ module _ (body : Statements) (vars : ℕ) (few : vars ≤ 15) (valid : IsBody va
         let turned_product : T * (1 + size) ≡ T * size + T = ap (λ k. T * k) (sym after) ∙ mul-suc T size in
         let most = factor_most in
         substitution_fits x place_low by (1 + size) (complement_of row.affine) (sizes_complement size row.affine own.0.sizes)
-        (omega (arith, own_small, whole, part, product, turned_product, most))
+        (omega (arith, own_small, whole, part, product, turned_product, most, most_small))
 
     put_rows : (plan : Plan AffineRank) → RowsAre (R t) plan → RowsFit (moved_by (Some (x, by))) plan
     put_rows bottom each = tt
@@ -281,7 +278,7 @@ module _ (body : Statements) (vars : ℕ) (few : vars ≤ 15) (valid : IsBody va
       arcs_as l low (passes target) is fit on has =
           one_arc (flow.arcs (suc l)) (passing target) has.0 (still (passing target) refl (all_none FormsWhole) on.0)
       arcs_as l low (assigns x e target) is fit on has =
-          let enough = put_small body vars few valid fitting loopless bounds (2 ^ 100) small l target low on (form_of e) (ap factor (sym is)) in
+          let enough = put_small body vars few valid fitting loopless bounds largest small l target low on (form_of e) (ap factor (sym is)) in
           one_arc (flow.arcs (suc l)) (putting x target (form_of e)) has.0
           (arc_by formula rank each_part (putting x target (form_of e)) (all_none FormsWhole) on.0
           (λ plan known. (
@@ -294,7 +291,7 @@ module _ (body : Statements) (vars : ℕ) (few : vars ≤ 15) (valid : IsBody va
       arcs_at zero low = all_one (Fits rank) (passing 0) (still (passing 0) refl (all_none FormsWhole) low)
       arcs_at (suc l) low =
           arcs_as l low (action_at body (suc l)) refl (fits_at body vars few valid fitting (suc l))
-          (after_at body vars few valid fitting loopless bounds (2 ^ 100) small most_small short (suc l) low) (flows body vars few valid fitting bounds (suc l))
+          (after_at body vars few valid fitting loopless bounds largest small most_small short (suc l) low) (flows body vars few valid fitting bounds (suc l))
 
       -- an outcome that is picked
       picks_deed : (l : ℕ) (c : Expression) (p q : ℕ) → IsFreeOr c (IsFair c) → AreAfter n l (deed_of_test (bounds l) c p q) → FlowsAs flow l (deed_of_test (bounds l) c p q)
@@ -320,7 +317,7 @@ module _ (body : Statements) (vars : ℕ) (few : vars ≤ 15) (valid : IsBody va
       pub picks_at : (l : ℕ) → l < n → flow.choice l ≡ Branch → (outcome : Bool) → All (Fits rank) (flow.arcs_of l outcome)
       picks_at l low branching outcome =
           picks_as l (action_at body l) (fits_at body vars few valid fitting l)
-          (after_at body vars few valid fitting loopless bounds (2 ^ 100) small most_small short l low) (flows body vars few valid fitting bounds l) branching outcome
+          (after_at body vars few valid fitting loopless bounds largest small most_small short l low) (flows body vars few valid fitting bounds l) branching outcome
 
     below_or : (a b : ℕ) → (a < b) ⊎ (b ≤ a)
     below_or a zero = inr (omega arith)

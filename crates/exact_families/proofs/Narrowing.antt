@@ -43,7 +43,7 @@ use Rattle.unroll.proofs.Keeping.{each_more}
 use Rattle.unroll.proofs.LevelSizes.{at_most_greatest}
 use Rattle.unroll.proofs.WithinRows.{greatest_sizes}
 use Rattle.exact_families.specs.Completeness.{EachPart, two_parts}
-use Rattle.exact_families.specs.Measures.{AreSizesWithin, IsSizeWithin, ctl_growth, next_size, part_size, until_size}
+use Rattle.formula_measures.specs.Measures.{AreSizesWithin, IsSizeWithin, ctl_growth, next_size, part_size, until_size}
 use Rattle.exact_families.specs.Narrowness.{NoValue}
 use Rattle.exact_families.proofs.Bounded.{AtomIs, again, keeping, label_at, anew, stepped_at}
 use Rattle.exact_families.proofs.Bounds.{EachAre, RanksAre, RowsAre, claimed_each, meet_each, ranks_only, rows_only}
@@ -119,8 +119,8 @@ size_at body f sizes l low =
 
 module _ (body : Statements) (vars : ℕ) (few : vars ≤ 15) (valid : IsBody vars body) (fitting : IsFitting body) (loopless : HasNoLoop body) (told : Told)
     (transitions : List Transition) (same : length transitions ≡ length (all_labels body)) (told_are : AreTold body told transitions)
-    (short : length (all_labels body) ≤ 1024) (small : greatest_of_tests body * product_below (factor_at body) (length (all_labels body)) ≤ 2 ^ 100)
-    (first second trees : List (Plan AffineRank)) where
+    (short : length (all_labels body) ≤ 1024) (largest : ℕ) (small : greatest_of_tests body * product_below (factor_at body) (length (all_labels body)) ≤ largest)
+    (most_small : largest ≤ 2 ^ 100) (first second trees : List (Plan AffineRank)) where
   abbrev n : ℕ
   n = length (all_labels body)
 
@@ -133,24 +133,21 @@ module _ (body : Statements) (vars : ℕ) (few : vars ≤ 15) (valid : IsBody va
   abbrev family : Trees AffineRank
   family l = tree_at trees l
 
-  abbrev most_small : 2 ^ 100 ≤ 2 ^ 100
-  most_small = le_refl (2 ^ 100)
-
   abbrev R : ℕ → Row → Type 0
-  R = Rows body vars few valid fitting loopless told.bounds (2 ^ 100) small most_small short
+  R = Rows body vars few valid fitting loopless told.bounds largest small most_small short
 
   abbrev Q : ℕ → AffineRank → Type 0
-  Q = Ranks body vars few valid fitting loopless told.bounds (2 ^ 100) small most_small short
+  Q = Ranks body vars few valid fitting loopless told.bounds largest small most_small short
 
   abbrev B : ℕ → AffineRank → Type 0
-  B = Behind body vars few valid fitting loopless told.bounds (2 ^ 100) small most_small short
+  B = Behind body vars few valid fitting loopless told.bounds largest small most_small short
 
   pub after : (l : ℕ) → l < n → AreAfter n l (done l)
-  after = after_at body vars few valid fitting loopless told.bounds (2 ^ 100) small most_small short
+  after = after_at body vars few valid fitting loopless told.bounds largest small most_small short
 
   turns : (l : ℕ) (plan : Plan AffineRank) → RowsAre (R l) plan → RowsAre Turns plan
   turns l plan each =
-      each_more (R l) Turns (λ why rank. ⊤) (λ why rank. ⊤) (turns_at body vars few valid fitting loopless told.bounds (2 ^ 100) small most_small short l) (λ why rank own. tt) plan each
+      each_more (R l) Turns (λ why rank. ⊤) (λ why rank. ⊤) (turns_at body vars few valid fitting loopless told.bounds largest small most_small short l) (λ why rank own. tt) plan each
 
   -- what is known of the families of the parts, and of this one
   abbrev Part : (ℕ → ℕ) → Trees AffineRank → Type 0
@@ -161,18 +158,18 @@ module _ (body : Statements) (vars : ℕ) (few : vars ≤ 15) (valid : IsBody va
 
   rerank_rows : (Z : ℕ → ℕ) (part : Trees AffineRank) → Part Z part → (l : ℕ) → l < n → RowsAre (R l) (reranked (part l))
   rerank_rows Z part own l low =
-      keeping n done told.dead after R Q B (suits_at body vars few valid fitting loopless told.bounds (2 ^ 100) small most_small short)
-      (fresh_at body vars few valid fitting loopless told.bounds (2 ^ 100) small most_small short)
-      (more_at body vars few valid fitting loopless told.bounds (2 ^ 100) small most_small short)
-      (met_at body vars few valid fitting loopless told.bounds (2 ^ 100) small most_small short) part (rows_of Z part own) l low
+      keeping n done told.dead after R Q B (suits_at body vars few valid fitting loopless told.bounds largest small most_small short)
+      (fresh_at body vars few valid fitting loopless told.bounds largest small most_small short)
+      (more_at body vars few valid fitting loopless told.bounds largest small most_small short)
+      (met_at body vars few valid fitting loopless told.bounds largest small most_small short) part (rows_of Z part own) l low
 
   claim_rows : (why : Why) → NoValue why → (Z : ℕ → ℕ) (part : Trees AffineRank) → Part Z part → (l : ℕ) → l < n → RowsAre (R l) (claimed why (part l))
   claim_rows why plain Z part own l low =
       rows_only (R l) (Q l) (claimed why (part l))
-      (anew n done told.dead after R Q B (suits_at body vars few valid fitting loopless told.bounds (2 ^ 100) small most_small short)
-      (fresh_at body vars few valid fitting loopless told.bounds (2 ^ 100) small most_small short)
-      (more_at body vars few valid fitting loopless told.bounds (2 ^ 100) small most_small short)
-      (met_at body vars few valid fitting loopless told.bounds (2 ^ 100) small most_small short) why plain part (rows_of Z part own) l low)
+      (anew n done told.dead after R Q B (suits_at body vars few valid fitting loopless told.bounds largest small most_small short)
+      (fresh_at body vars few valid fitting loopless told.bounds largest small most_small short)
+      (more_at body vars few valid fitting loopless told.bounds largest small most_small short)
+      (met_at body vars few valid fitting loopless told.bounds largest small most_small short) why plain part (rows_of Z part own) l low)
 
   -- what a tree is at a target, as it is asked of those behind a step
   abbrev Stands : (ℕ → ℕ) → Trees AffineRank → ℕ → Type 0
@@ -209,7 +206,7 @@ module _ (body : Statements) (vars : ℕ) (few : vars ≤ 15) (valid : IsBody va
   reached_at all Z trees l low alive each enough =
       ready_as (told.bounds (suc l)) trees all (action_at body (suc l)) (transition_in transitions (suc l)) (fits_at body vars few valid fitting (suc l))
       (told_over body vars few valid fitting loopless told transitions same told_are (suc l) low alive)
-      (ready_at body vars few valid fitting loopless told.bounds (2 ^ 100) small most_small short l low trees Z all each enough)
+      (ready_at body vars few valid fitting loopless told.bounds largest small most_small short l low trees Z all each enough)
 
   before_size : (all : Bool) (Z : ℕ → ℕ) (trees : Trees AffineRank) (l : ℕ) → AtAfter (done l) (Stands Z trees)
       → size_of (before_deed all (done l) trees) ≤ size_before Z (action_at body l)
@@ -319,10 +316,10 @@ module _ (body : Statements) (vars : ℕ) (few : vars ≤ 15) (valid : IsBody va
     step_rows : (all : Bool) (l : ℕ) → suc l < n → AtAfter (done (suc l)) Fine → RowsAre (R (suc l)) (before_deed all (done (suc l)) family)
     step_rows all l low each =
         rows_only (R (suc l)) (Q (suc l)) (before_deed all (done (suc l)) family)
-        (stepped_at n done told.dead after R Q B (suits_at body vars few valid fitting loopless told.bounds (2 ^ 100) small most_small short)
-        (fresh_at body vars few valid fitting loopless told.bounds (2 ^ 100) small most_small short)
-        (more_at body vars few valid fitting loopless told.bounds (2 ^ 100) small most_small short)
-        (met_at body vars few valid fitting loopless told.bounds (2 ^ 100) small most_small short) all family (suc l) low
+        (stepped_at n done told.dead after R Q B (suits_at body vars few valid fitting loopless told.bounds largest small most_small short)
+        (fresh_at body vars few valid fitting loopless told.bounds largest small most_small short)
+        (more_at body vars few valid fitting loopless told.bounds largest small most_small short)
+        (met_at body vars few valid fitting loopless told.bounds largest small most_small short) all family (suc l) low
         (after_map (done (suc l)) Fine (λ t. RanksAre (R t) (Q t) (family t)) (λ t own. ranks_only (R t) (Q t) (family t) own.0) each))
 
     module _ (limit : (l : ℕ) → l < n → Z n l ≤ 4096) where
@@ -458,7 +455,7 @@ module _ (body : Statements) (vars : ℕ) (few : vars ≤ 15) (valid : IsBody va
               claimed_rows : (l : ℕ) (plan : Plan AffineRank) → RowsAre (R l) plan → RowsAre (R l) (claimed (Step Every) plan)
               claimed_rows l plan each =
                   rows_only (R l) (Q l) (claimed (Step Every) plan)
-                  (claimed_each (R l) (Q l) (fresh_at body vars few valid fitting loopless told.bounds (2 ^ 100) small most_small short l) (Step Every) tt plan each)
+                  (claimed_each (R l) (Q l) (fresh_at body vars few valid fitting loopless told.bounds largest small most_small short l) (Step Every) tt plan each)
       kept_held all (suc l) low alive each is =
           let held = sweep_held all l (n - 1) low (omega (arith, low)) alive each in
           never_top (family (suc l)) _ _ held.0 held.1 is
@@ -471,10 +468,10 @@ module _ (body : Statements) (vars : ℕ) (few : vars ≤ 15) (valid : IsBody va
     Good l = EachAre (R l) (Q l) (family l) × S l (family l)
 
     module _ (formula : Formula) (are : AreProposed formula transitions first second trees)
-        (atom : AtomIs n done told.dead after R Q B (suits_at body vars few valid fitting loopless told.bounds (2 ^ 100) small most_small short)
-        (fresh_at body vars few valid fitting loopless told.bounds (2 ^ 100) small most_small short)
-        (more_at body vars few valid fitting loopless told.bounds (2 ^ 100) small most_small short)
-        (met_at body vars few valid fitting loopless told.bounds (2 ^ 100) small most_small short) (ctl formula))
+        (atom : AtomIs n done told.dead after R Q B (suits_at body vars few valid fitting loopless told.bounds largest small most_small short)
+        (fresh_at body vars few valid fitting loopless told.bounds largest small most_small short)
+        (more_at body vars few valid fitting loopless told.bounds largest small most_small short)
+        (met_at body vars few valid fitting loopless told.bounds largest small most_small short) (ctl formula))
         (rows : EachPart (λ f part. (l : ℕ) → l < n → RowsAre (R l) (part l)) (ctl formula) parts)
         (none : (l : ℕ) → l < n → AtAfter (done l) Good → S l (at_once NeverReached))
         (held : (l : ℕ) → l < n → told.dead l ≡ false → AtAfter (done l) Good
@@ -487,13 +484,13 @@ module _ (body : Statements) (vars : ℕ) (few : vars ≤ 15) (valid : IsBody va
           by true dead =
               let is = dead_is body vars few valid fitting loopless told transitions same told_are first second trees formula are l low dead in
               subst (λ (t : Plan AffineRank). EachAre (R l) (Q l) t × S l t) (sym is)
-              ((tt, fresh_at body vars few valid fitting loopless told.bounds (2 ^ 100) small most_small short l), none l low each)
+              ((tt, fresh_at body vars few valid fitting loopless told.bounds largest small most_small short l), none l low each)
           by false alive =
               let made = made_at body vars few valid fitting loopless told transitions same told_are first second trees formula are l low alive (held l low alive each) in (
-                label_at n done told.dead after R Q B (suits_at body vars few valid fitting loopless told.bounds (2 ^ 100) small most_small short)
-                    (fresh_at body vars few valid fitting loopless told.bounds (2 ^ 100) small most_small short)
-                    (more_at body vars few valid fitting loopless told.bounds (2 ^ 100) small most_small short)
-                    (met_at body vars few valid fitting loopless told.bounds (2 ^ 100) small most_small short) parts family (ctl formula) atom rows l low
+                label_at n done told.dead after R Q B (suits_at body vars few valid fitting loopless told.bounds largest small most_small short)
+                    (fresh_at body vars few valid fitting loopless told.bounds largest small most_small short)
+                    (more_at body vars few valid fitting loopless told.bounds largest small most_small short)
+                    (met_at body vars few valid fitting loopless told.bounds largest small most_small short) parts family (ctl formula) atom rows l low
                     (after_map (done l) Good (λ t. EachAre (R t) (Q t) (family t)) (λ t own. own.0) each) made,
                 size l low each made,
               )
@@ -508,16 +505,16 @@ module _ (body : Statements) (vars : ℕ) (few : vars ≤ 15) (valid : IsBody va
 
   -- what holds of each atom
   abbrev Atoms : Ctl → Type 0
-  Atoms f = AtomIs n done told.dead after R Q B (suits_at body vars few valid fitting loopless told.bounds (2 ^ 100) small most_small short)
-      (fresh_at body vars few valid fitting loopless told.bounds (2 ^ 100) small most_small short)
-      (more_at body vars few valid fitting loopless told.bounds (2 ^ 100) small most_small short)
-      (met_at body vars few valid fitting loopless told.bounds (2 ^ 100) small most_small short) f
+  Atoms f = AtomIs n done told.dead after R Q B (suits_at body vars few valid fitting loopless told.bounds largest small most_small short)
+      (fresh_at body vars few valid fitting loopless told.bounds largest small most_small short)
+      (more_at body vars few valid fitting loopless told.bounds largest small most_small short)
+      (met_at body vars few valid fitting loopless told.bounds largest small most_small short) f
 
   place_most : (l : ℕ) → l < n → place_by false n l ≤ n
   place_most zero low = le_refl n
   place_most (suc l) low = omega (arith, low)
 
-  atom_row : (a : Affine) → IsOver vars a → greatest_size a * product_below (factor_at body) n ≤ 2 ^ 100 → (l : ℕ) → l < n → (row : Row) → row.affine ≡ a → R l row
+  atom_row : (a : Affine) → IsOver vars a → greatest_size a * product_below (factor_at body) n ≤ largest → (l : ℕ) → l < n → (row : Row) → row.affine ≡ a → R l row
   atom_row a over enough l low row is =
       let more : greatest_size a * product_below (factor_at body) (place_by false n l) ≤ greatest_size a * product_below (factor_at body) n =
       mul-le-mul (le_refl (greatest_size a)) (below_more body (place_by false n l) n (place_most l low)) in (
@@ -525,7 +522,7 @@ module _ (body : Statements) (vars : ℕ) (few : vars ≤ 15) (valid : IsBody va
         subst (IsOver vars) (sym is) over,
       )
 
-  atoms_are : (f : Ctl) → RowsAreOver vars f → ctl_growth body f ≤ 2 ^ 100 → Atoms f
+  atoms_are : (f : Ctl) → RowsAreOver vars f → ctl_growth body f ≤ largest → Atoms f
   atoms_are truth over growth = tt
   atoms_are falsity over growth = tt
   atoms_are exit over growth = tt
@@ -588,10 +585,10 @@ module _ (body : Statements) (vars : ℕ) (few : vars ≤ 15) (valid : IsBody va
     behind_stands l low =
         after_all (suc l) (done (suc l)) (Stands (part_size body f) behind_trees) (after (suc l) low)
         (λ t t_low. let less = taken_size None (parts 0 t) in let own = (one t t_low).1 in (
-          again n done told.dead after R Q B (suits_at body vars few valid fitting loopless told.bounds (2 ^ 100) small most_small short)
-              (fresh_at body vars few valid fitting loopless told.bounds (2 ^ 100) small most_small short)
-              (more_at body vars few valid fitting loopless told.bounds (2 ^ 100) small most_small short)
-              (met_at body vars few valid fitting loopless told.bounds (2 ^ 100) small most_small short) (parts 0) (rows_all f (parts 0) one) t t_low,
+          again n done told.dead after R Q B (suits_at body vars few valid fitting loopless told.bounds largest small most_small short)
+              (fresh_at body vars few valid fitting loopless told.bounds largest small most_small short)
+              (more_at body vars few valid fitting loopless told.bounds largest small most_small short)
+              (met_at body vars few valid fitting loopless told.bounds largest small most_small short) (parts 0) (rows_all f (parts 0) one) t t_low,
           omega (arith, less, own),
         ))
 
@@ -667,7 +664,7 @@ module _ (body : Statements) (vars : ℕ) (few : vars ≤ 15) (valid : IsBody va
         (either_most (part_size body f) (part_size body g) one two l low)
 
   pub narrow_made : (formula : Formula) → AreProposed formula transitions first second trees → AreSizesWithin 4096 body (ctl formula)
-      → RowsAreOver vars (ctl formula) → ctl_growth body (ctl formula) ≤ 2 ^ 100 → Parted (ctl formula) → Result formula
+      → RowsAreOver vars (ctl formula) → ctl_growth body (ctl formula) ≤ largest → Parted (ctl formula) → Result formula
   narrow_made True are sizes over growth each =
       plain_made True are (atoms_are truth over growth) tt (λ l. omega arith) (λ l none. none) (λ l is. single truth l (family l) (at_once Atom) is (omega arith))
   narrow_made False are sizes over growth each =

@@ -23,7 +23,7 @@ use Rattle.exact_families.proofs.Complete.{AreAfter, LeadsOn}
 use Rattle.exact_families.proofs.Deeds.{Deed, FlowsAs, finishes}
 use Rattle.exact_families.proofs.Flowing.{flows_as}
 use Rattle.exact_families.proofs.Following.{goes_as}
-use Rattle.exact_families.proofs.Loopless.{no_heads}
+use Rattle.formula_measures.proofs.Loopless.{no_heads}
 use Rattle.exact_families.proofs.Whole.{IsProgram}
 
 -- something is done, so the deed isn't the end

@@ -32,7 +32,7 @@ use Rattle.tree_support.specs.Setting.{Trees}
 use Rattle.unroll.proofs.Ordering.{does_something}
 use Rattle.exact_families.specs.Completeness.{NoneGivenUp, two_parts}
 use Rattle.exact_families.proofs.Deeds.{Deed, IsMadeAt, before as before_deed}
-use Rattle.exact_families.proofs.Loopless.{no_heads}
+use Rattle.formula_measures.proofs.Loopless.{no_heads}
 use Rattle.exact_families.proofs.Programs.{deeds, fits_at}
 use Rattle.exact_families.proofs.Transiting.{end_as, head_as, is_end, open_as, reached_as, reached_by}
 use Rattle.exact_families.proofs.Whole.{IsMade}

@@ -1,4 +1,3 @@
 pub mod Shut
 pub mod Completeness
-pub mod Measures
 pub mod Narrowness

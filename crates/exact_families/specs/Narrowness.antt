@@ -1,5 +1,5 @@
 -- Families whose trees are as small, and their numbers as narrow, as a program and a formula tell.
-use Rattle.std.specs.Prelude.{◌≡◌, ℕ, ◌-◌, ◌^◌, ◌<◌, ◌≤◌, false, List, [], length, ⊤}
+use Rattle.std.specs.Prelude.{◌≡◌, ℕ, ◌-◌, ◌<◌, ◌≤◌, false, List, [], length, ⊤}
 use Rattle.step_meaning.specs.Syntax.{Statements}
 use Rattle.linear_cons.specs.Functions.{IsOver}
 use Rattle.linear_cons.specs.declared.row.Row.{Row}
@@ -14,7 +14,7 @@ use Rattle.decision_tree.specs.declared.reason.Why.TheVariants.{Atom, Both, Dead
 use Rattle.tree_support.specs.Setting.{Trees}
 use Rattle.unroll.specs.Within.{EachIs, IsSteps, IsWithin, place_by}
 use Rattle.exact_families.specs.Completeness.{IsComplete}
-use Rattle.exact_families.specs.Measures.{part_size}
+use Rattle.formula_measures.specs.Measures.{ctl_growth, part_size}
 
 -- no value is picked
 abbrev pub NoValue : Why → Type 0
@@ -30,18 +30,18 @@ NoValue Right = ⊤
 NoValue Now = ⊤
 NoValue Dead = ⊤
 
--- the row's numbers, times the factors of the assignments that it has yet to be moved over, are at most 2^100; it is over the variables
-abbrev pub IsRowAt : Statements → ℕ → ℕ → Row → Type 0
-IsRowAt body vars l row =
-    IsWithin (product_below (factor_at body) (place_by false (length (all_labels body)) l)) (2 ^ 100) row × IsOver vars row.affine
+-- the row's numbers, times the factors of the assignments that it has yet to be moved over, are at most `most`; it is over the variables
+abbrev pub IsRowAt : ℕ → Statements → ℕ → ℕ → Row → Type 0
+IsRowAt most body vars l row =
+    IsWithin (product_below (factor_at body) (place_by false (length (all_labels body)) l)) most row × IsOver vars row.affine
 
 -- the rank is a number of steps, at most those that are left to the end
 abbrev pub IsRankAt : Statements → ℕ → AffineRank → Type 0
 IsRankAt body l rank = IsSteps (length (all_labels body) - place_by false (length (all_labels body)) l) rank
 
--- so are each row and rank of the label's tree; no value is picked, and the tree is as small as the part's size
+-- so are each row of the label's tree, by the growth of the part, and each rank; no value is picked, and the tree is as small as the part's size
 pub record IsNarrowAt (vars : ℕ) (body : Statements) (f : Ctl) (l : ℕ) (plan : Plan AffineRank) : Type 0 where
-  pub each : EachIs (IsRowAt body vars l) (λ why rank. NoValue why × IsRankAt body l rank) plan
+  pub each : EachIs (IsRowAt (ctl_growth body f) body vars l) (λ why rank. NoValue why × IsRankAt body l rank) plan
   pub small : size_of plan ≤ part_size body f l
 
 abbrev pub IsNarrow : ℕ → Statements → Ctl → Trees AffineRank → Type 0

@@ -116,7 +116,7 @@ true_report known task text subject report advisers turns bytes h due =
     task due.found report bytes due.finds due.shows due.printed)
 
 -- the names of a text that is a program
-own_names : KnownTexts → (task : Task) (text : Bytes) (subject : Subject) → IsSubject task text subject → AreNames subject.names
+pub own_names : KnownTexts → (task : Task) (text : Bytes) (subject : Subject) → IsSubject task text subject → AreNames subject.names
 own_names known task text subject is = program_names known.spelled known.distinct text subject.names subject.body is.program
 
 true_answer : KnownTexts → (task : Task) (text : Bytes) (subject : Subject) (asked : Bytes) (status : Status) (turns : ℕ) (bytes : Bytes)

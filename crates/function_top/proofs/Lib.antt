@@ -14,6 +14,7 @@ pub mod Named
 pub mod Over
 pub mod Headline
 pub mod Certain
+pub mod Satisfied
 pub mod Running
 pub mod Reading
 pub mod Reported

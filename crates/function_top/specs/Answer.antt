@@ -1,11 +1,13 @@
 -- What each status of the command says.
-use Rattle.std.specs.Prelude.{◌≡◌, ◌≢◌, ℕ, ◌≤◌, ◌⊎◌, List, ◌++◌, None, Some, length}
+use Rattle.std.specs.Prelude.{◌≡◌, ◌≢◌, ◌↔◌, ℕ, ◌≤◌, ◌⊎◌, List, ◌++◌, None, Some, length}
 use Rattle.std.specs.Io.KnownBytes.{Appends, Keeps}
 use Rattle.outside.specs.Faults.{Rose}
 use Rattle.outside.specs.Sink.{AppendsFront, WritesOrFails}
 use Rattle.step_meaning.specs.Countdown.{IsCountdown}
 use Rattle.step_meaning.specs.Outcome.{Store}
+use Rattle.step_meaning.specs.Run.{start}
 use Rattle.ctl_formula.specs.Formulas.{af_exit, normal}
+use Rattle.ctl_formula.specs.Satisfaction.{Sat}
 use Rattle.normal_form.specs.Operators.{operators}
 use Rattle.fitting_ways.specs.Factors.{HasSmallFactors}
 use Rattle.ctl_rounds.specs.Asked.{RoseBy}
@@ -18,6 +20,7 @@ use Rattle.function_top.specs.Demo.{IsDemoDue}
 use Rattle.function_top.specs.Due.{IsDueOn, IsReport, IsWithinLimits}
 use Rattle.function_top.specs.Exact.{HasSmallLevels}
 use Rattle.function_top.specs.Form.{Form}
+use Rattle.function_top.specs.Found.{HasSmallMeasures}
 use Rattle.function_top.specs.Headline.{AnswerHeadline, Headline}
 use Rattle.function_top.specs.Meeting.{TellsExactly}
 use Rattle.command_words.specs.Order.{Accepted, Ask, Task, analysis, demo}
@@ -110,6 +113,14 @@ AnswersExactly words status call =
     → HasSmallLevels subject.body task.delay → IsReport status → call.taken ≡ Some before → call.taken_after ≡ Some (before ++ written)
     → TellsExactly subject task.delay input written
 
+-- Where one input is asked for, of a plain program without loops, and the measures of the program and the formula are small, what is written whole claims
+-- something of the input exactly where its start satisfies the formula.
+abbrev pub AnswersSatisfied : List (List ℕ) → Status → Call → Type 0
+AnswersSatisfied words status call =
+    (task : Task) (text asked : List ℕ) (subject : Subject) (input : Store) → Ask words (analysis task) → call.left ≡ Some text
+    → IsSubject task text subject → task.input ≡ Some asked → IsInputText subject.names asked input → HasSmallMeasures subject → IsReport status
+    → (status ≡ AllInputs) ↔ Sat subject.formula (start subject.body input)
+
 -- All that is said of a call of the command with these words that ended with this status.
 pub record IsRun (words : List (List ℕ)) (status : Status) (call : Call) : Type 0 where
   pub headline : Headline words call
@@ -120,4 +131,5 @@ pub record IsRun (words : List (List ℕ)) (status : Status) (call : Call) : Typ
   pub complete : IsComplete words status call
   pub countdowns : CoversCountdowns words status call
   pub exactly : AnswersExactly words status call
+  pub satisfied : AnswersSatisfied words status call
   pub demos : CoversDemos words status call

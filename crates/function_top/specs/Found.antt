@@ -1,5 +1,5 @@
 -- What the analysis finds of a subject, before any of it is text.
-use Rattle.std.specs.Prelude.{◌≡◌, ◌⊎◌, ◌↔◌, ◌≤◌, ℕ, pos, true, List, length, Option, None, Some}
+use Rattle.std.specs.Prelude.{◌≡◌, ◌⊎◌, ◌↔◌, ◌≤◌, ◌^◌, ℕ, pos, true, List, length, Option, None, Some}
 use Rattle.step_meaning.specs.Outcome.{Store}
 use Rattle.step_meaning.specs.Run.{IsInput, start}
 use Rattle.step_meaning.specs.Countdown.{IsCountdown}
@@ -14,10 +14,11 @@ use Rattle.count_down.specs.Trees.{ranked}
 use Rattle.ctl_formula.specs.Formulas.{Ctl, truth, falsity, exit, not_exit, always, never, least, negation, both, either, next, until, weak, af_exit, normal}
 use Rattle.ctl_formula.specs.Satisfaction.{Sat}
 use Rattle.exact_families.specs.Completeness.{IsLoopless}
-use Rattle.exact_families.specs.Measures.{IsWithinMeasures}
+use Rattle.formula_measures.specs.Measures.{IsWithinMeasures, ctl_growth}
 use Rattle.fitting_ways.specs.Factors.{HasSmallFactors}
 use Rattle.fitting_ways.specs.Ways.{SmallWaysFit}
 use Rattle.ctl_rounds.specs.Asked.{IsAdvised}
+use Rattle.ctl_rounds.specs.Bounds.{FindsInputs}
 use Rattle.report_text.specs.declared.line.Top.{Top}
 use Rattle.report_text.specs.declared.line.Top.TheVariants.{Bound, Plain}
 use Rattle.report_text.specs.Leaves.{claim_at}
@@ -61,8 +62,15 @@ abbrev pub ClaimsExactly : Subject → Plan AffineRank → Type 0
 ClaimsExactly subject tree =
     (input : Store) → IsInput (length subject.names) input → (is_defined (eval tree input) ≡ true) ↔ Sat subject.formula (start subject.body input)
 
+-- A plain program without loops, whose numbers fit, and a formula: the normal form is within its measures, and the growth is at most 2^60.
+pub record HasSmallMeasures (subject : Subject) : Type 0 where
+  pub loopless : IsLoopless subject.body
+  pub within : IsWithinMeasures subject.body (normal subject.formula)
+  pub growth : ctl_growth subject.body (normal subject.formula) ≤ 2 ^ 60
+
 -- Truth: what the trees claim is true. Exactness: in a plain program without loops, whose numbers fit, and within its measures for the normal form,
--- no satisfied input is left without a claim. Strength: where the normal form of the formula is a whole `A[f U g]` the advisers are asked as long as a
+-- no satisfied input is left without a claim; and where the growth is small too, the way of one of small numbers through the cover is found within
+-- 128 bits. Strength: where the normal form of the formula is a whole `A[f U g]` the advisers are asked as long as a
 -- leaf of the cover is undefined, eight times at most, and else never. Where it is `AF exit`, the cover of a countdown program has no undefined
 -- leaf, and that of a program without loops is one leaf, which promises the most steps of a path; and where the factors in front of the loop are small,
 -- the way of an input of small numbers through the cover is found within 128 bits.
@@ -71,6 +79,7 @@ pub record IsFound (task : Task) (subject : Subject) (found : Found) : Type 0 wh
   pub claims : found.claims ≡ claims_for (normal subject.formula)
   pub holds : IsTrueTree subject found.claims (plan_of found.cover)
   pub exactly : IsLoopless subject.body → IsWithinMeasures subject.body (normal subject.formula) → ClaimsExactly subject (plan_of found.cover)
+  pub narrow_ways : HasSmallMeasures subject → FindsInputs (length subject.names) subject.body subject.formula (plan_of found.cover)
   pub countdown : normal subject.formula ≡ af_exit → IsCountdown subject.body → IsWhole (plan_of found.cover)
   pub loopless : normal subject.formula ≡ af_exit → HasNoLoop subject.body
       → rank_of (plan_of found.cover) ≡ Some (ranked (constant_of (pos (last_steps subject.body))))

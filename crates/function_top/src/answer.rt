@@ -1,10 +1,12 @@
 //! From a text to what is to be written for it.
 
-ghost use Rattle.std.specs.Prelude.{◌≡◌, ◌≤◌, ◌<◌, ◌+◌, ◌^◌, ℕ, List, [], All, IfOk, None, Some, length};
+ghost use Rattle.std.specs.Prelude.{◌≡◌, ◌↔◌, ◌≤◌, ◌<◌, ◌+◌, ◌^◌, ℕ, List, [], All, IfOk, None, Some, length};
 ghost use Rattle.step_meaning.specs.Outcome.{Store};
+ghost use Rattle.step_meaning.specs.Run.{start};
 ghost use Rattle.step_meaning.specs.Syntax.{size_of, statements};
 ghost use Rattle.control_flow.specs.Faults.{wide_offsets};
 ghost use Rattle.ctl_formula.specs.Mirror.{ctl};
+ghost use Rattle.ctl_formula.specs.Satisfaction.{Sat};
 ghost use Rattle.normal_form.specs.Rows.{RowsAreOver};
 ghost use Rattle.ctl_rounds.specs.Asked.{RoseBy};
 ghost use Rattle.input_text.specs.Input.{IsInputText};
@@ -14,6 +16,7 @@ ghost use Rattle.function_top.specs.Asking.{IsNormalAsked, IsReadAs};
 ghost use Rattle.function_top.specs.Due.{IsDueOn, IsDueOnProgram, IsReport, IsVerdict};
 ghost use Rattle.function_top.specs.Explained.{explained, explanation};
 ghost use Rattle.function_top.specs.Form.{HasKnownLines};
+ghost use Rattle.function_top.specs.Found.{HasSmallMeasures};
 ghost use Rattle.function_top.specs.Headline.{IsTrueAnswer, IsTrueText};
 ghost use Rattle.function_top.specs.Exact.{HasSmallLevels};
 ghost use Rattle.function_top.specs.Meeting.{AreMetOnce, CountsExactly, TellsExactly};
@@ -77,6 +80,9 @@ pub fn report_on(
     ensures exactly { IfOk result (λ due. (subject : Subject) (asked : List ℕ) (input : Store) → IsSubject (task_of query.now) text.now subject
         → (task_of query.now).formula ≡ None → (task_of query.now).input ≡ Some asked → IsInputText subject.names asked input
         → HasSmallLevels subject.body query.now.delay → IsReport due.status → TellsExactly subject query.now.delay input due.bytes.items) }
+    ensures satisfied { IfOk result (λ due. (subject : Subject) (asked : List ℕ) (input : Store) → IsSubject (task_of query.now) text.now subject
+        → (task_of query.now).input ≡ Some asked → IsInputText subject.names asked input → HasSmallMeasures subject → IsReport due.status
+        → (due.status ≡ Status.AllInputs) ↔ Sat subject.formula (start subject.body input)) }
     ensures asked { (times : ℕ) × (times ≤ 8) × RoseBy (λ adviser. asked_of adviser) times advisers.old.items advisers.new.items
         × IfOk result (λ due. due.turns ≡ times) }
 {

@@ -17,7 +17,8 @@ ghost use Rattle.ctl_rounds.specs.Asked.{IsAdvised, RoseBy};
 ghost use Rattle.normal_form.specs.Operators.{HasNoNegation};
 ghost use Rattle.normal_form.specs.Rows.{RowsAreOver};
 ghost use Rattle.exact_families.specs.Completeness.{IsLoopless};
-ghost use Rattle.ctl_rounds.specs.Bounds.{CoversInputs, SatisfiesInputs, SatisfiesWithin};
+ghost use Rattle.formula_measures.specs.Measures.{ctl_growth};
+ghost use Rattle.ctl_rounds.specs.Bounds.{CoversInputs, FindsInputs, SatisfiesInputs, SatisfiesWithin};
 ghost use Rattle.ctl_rounds.specs.Families.{IsWithin};
 ghost use Rattle.function_top.specs.Found.{IsExactPart, IsFound, claims_for};
 ghost use Rattle.command_words.specs.Order.{task_of};
@@ -106,6 +107,9 @@ fn covered<D: NumDomain>(
     ensures narrow { IsLoopless (statements graph.now.body) → HasNoNegation (ctl formula.now)
         → IsWithin (length graph.now.names) (statements graph.now.body) (ctl formula.now) → IfOk result (λ covered.
         CoversInputs (length graph.now.names) (statements graph.now.body) (ctl formula.now) (plan_of covered.0)) }
+    ensures narrow_ways { IsLoopless (statements graph.now.body) → HasNoNegation (ctl formula.now)
+        → IsWithin (length graph.now.names) (statements graph.now.body) (ctl formula.now) → ctl_growth (statements graph.now.body) (ctl formula.now) ≤ 2 ^ 60
+        → IfOk result (λ covered. FindsInputs (length graph.now.names) (statements graph.now.body) (ctl formula.now) (plan_of covered.0)) }
     ensures printable { IfOk result (λ covered. IsPrintable (length graph.now.names) (plan_of covered.0)) }
     ensures asked { (times : ℕ) × (times ≤ 8) × RoseBy (λ adviser. asked_of adviser) times advisers.old.items advisers.new.items
         × IfOk result (λ covered. covered.1 ≡ times) }

@@ -6,7 +6,7 @@ ghost use Rattle.step_meaning.specs.Run.{IsInput, start};
 ghost use Rattle.ctl_formula.specs.Formulas.{normal};
 ghost use Rattle.ctl_formula.specs.Satisfaction.{Sat};
 ghost use Rattle.exact_families.specs.Completeness.{IsLoopless};
-ghost use Rattle.exact_families.specs.Measures.{IsWithinMeasures};
+ghost use Rattle.formula_measures.specs.Measures.{IsWithinMeasures};
 ghost use Rattle.decision_tree.specs.declared.affine_rank.AffineRank.{AffineRank};
 ghost use Rattle.decision_tree.specs.declared.tree.Tree.{Tree};
 ghost use Rattle.line_text.specs.declared.claim.Claim.{Claim};

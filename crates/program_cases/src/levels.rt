@@ -63,7 +63,8 @@ pub fn push_growth(
     push_unsigned(alloc, graph.growth(tests), answer)
 }
 
-fn push_unsigned(alloc: Global, number: u128, answer: &mut Answer) -> Result<(), AllocError> {
+/// Adds the number.
+pub fn push_unsigned(alloc: Global, number: u128, answer: &mut Answer) -> Result<(), AllocError> {
     let digits = format!(in alloc; "{number}")?;
     answer.push(digits.as_str());
     Ok(())

@@ -5,6 +5,7 @@
 //! - `candidate` has the trees of the candidate, or says that there is none. Behind it `at N` asks for the tree of that label alone, as behind `level`.
 //! - `level N` says which level is made where that one is asked for, and why no further one is, and has its trees.
 //! - `weight N` and `growth N` are those of that level, and `plain` says whether there are levels.
+//! - `measures FORMULA` has the formula's sizes at the labels from 0 on, the greatest of a part, and its growth.
 //! - `boxes N ..` has the ends of the program's variables at those labels.
 //! - `unreached` has the labels that no store comes to, as octagons see it.
 //! - `kept at ENDS at ENDS ..` has the ends that the edges keep of those guessed at the labels from 0 on.
@@ -23,6 +24,7 @@ mod graphs;
 mod invariants;
 mod levels;
 mod loops;
+mod measures;
 mod programs;
 
 use crate::programs::{graph_of, read_program};
@@ -70,6 +72,7 @@ fn of_graph(
         "level" => levels::push_level(alloc, graph, words, answer)?,
         "weight" => levels::push_weight(alloc, graph, words, answer)?,
         "growth" => levels::push_growth(alloc, graph, words, answer)?,
+        "measures" => measures::push_measures(alloc, graph, words, answer)?,
         _ => return of_sets(alloc, name, words, graph.program().vars(), graph, answer),
     }
     Ok(true)

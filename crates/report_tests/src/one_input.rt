@@ -23,7 +23,12 @@ const LARGE_FACTOR: &str = "int main() { int x, y; x = 268435455*y; while (x >= 
 const LARGE_GROWTH: &str =
     "int main() { int x, y; x = 576460752303423486*x + y; if (x > 0) y = 1; else { y = 2; y = 3; } }";
 
-const CASES: [Case; 18] = [
+// The same with a formula: the growth is 2^60, by what is assigned, and by the atom.
+const LARGE_STEP: &str = "int main() { int x, y; x = 576460752303423486*x + y; }";
+
+const LARGE_ATOM: &str = "AX 1152921504606846975*x >= y";
+
+const CASES: [Case; 24] = [
     (
         COUNT_UP,
         &["function", "--at", "x=1"],
@@ -125,6 +130,78 @@ const CASES: [Case; 18] = [
         &["function", "--ctl", "AX AX x == 1", "--at", "x=7"],
         AllInputs,
         "holds\n",
+    ),
+    (
+        LARGE_STEP,
+        &[
+            "function",
+            "--ctl",
+            "AX x >= 0",
+            "--at",
+            "x=9223372036854775807,y=-9223372036854775807",
+        ],
+        AllInputs,
+        "holds\n",
+    ),
+    (
+        LARGE_STEP,
+        &[
+            "function",
+            "--ctl",
+            "AX x >= 0",
+            "--at",
+            "x=1,y=-576460752303423487",
+        ],
+        SomeInputs,
+        "unknown\n",
+    ),
+    (
+        LARGE_STEP,
+        &[
+            "function",
+            "--ctl",
+            "AF x >= 0",
+            "--at",
+            "x=-1,y=576460752303423486",
+        ],
+        AllInputs,
+        "within 1 step\n",
+    ),
+    (
+        LARGE_STEP,
+        &[
+            "function",
+            "--ctl",
+            "EF x >= 0",
+            "--at",
+            "x=-1,y=576460752303423485",
+        ],
+        SomeInputs,
+        "unknown\n",
+    ),
+    (
+        "int main() { int x, y; ; }",
+        &[
+            "function",
+            "--ctl",
+            LARGE_ATOM,
+            "--at",
+            "x=9223372036854775807,y=9223372036854775807",
+        ],
+        AllInputs,
+        "holds\n",
+    ),
+    (
+        "int main() { int x, y; ; }",
+        &[
+            "function",
+            "--ctl",
+            LARGE_ATOM,
+            "--at",
+            "x=1,y=1152921504606846976",
+        ],
+        SomeInputs,
+        "unknown\n",
     ),
     (
         COUNT_UP,

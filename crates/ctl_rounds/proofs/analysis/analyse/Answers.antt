@@ -4,7 +4,7 @@ use Rattle.decision_tree.specs.Extent.{IsWhole}
 use Rattle.decision_tree.specs.Plans.{plan_of, rank_of}
 use Rattle.ctl_formula.specs.Mirror.{ctl}
 use Rattle.fitting_ways.specs.Ways.{SmallWaysFit}
-use Rattle.ctl_rounds.specs.Bounds.{CoversInputs}
+use Rattle.ctl_rounds.specs.Bounds.{CoversInputs, FindsInputs}
 use Rattle.ctl_rounds.specs.Covers.{IsCover, IsFitToBegin, claims_of}
 use Rattle.ctl_rounds.specs.Families.{IsUncut}
 use Rattle.ctl_rounds.specs.Finding.{FirstIs}
@@ -87,3 +87,12 @@ returns-clause-narrow g c = λ loopless free within cover is.
     (is_the_cover body found.tops.items (option_map plan_of found.cover) cover c.in_ok-found.ensures.covers
     (subst (λ tops. IsCover body tops cover) c.certificate.ensures.tops is))
     ((c.in_ok-found.ensures.exact loopless free).1 within)
+
+pub returns-clause-narrow_ways : goal.returns-clause-narrow_ways
+returns-clause-narrow_ways g c = λ loopless free within growth cover is.
+    let found = c.in_ok-found.found in
+    let body = statements c.args.graph.now.body in
+    subst (FindsInputs (length c.args.graph.now.names) body (ctl c.args.formula.now))
+    (is_the_cover body found.tops.items (option_map plan_of found.cover) cover c.in_ok-found.ensures.covers
+    (subst (λ tops. IsCover body tops cover) c.certificate.ensures.tops is))
+    ((c.in_ok-found.ensures.exact loopless free).2 within growth)

@@ -1,6 +1,7 @@
 use Rattle.std.proofs.Common.{Some, length, refl}
 use Rattle.command_words.specs.Order.{task_of}
 use Rattle.function_top.proofs.Headline.{KnownTexts, due_counted, due_exact, due_known, due_met, due_told, due_true, known_texts}
+use Rattle.function_top.proofs.Satisfied.{due_satisfied}
 use Rattle.function_top.proofs.answer.report_on.Given as given
 use Rattle.function_top.proofs.answer.report_on.Goals as goal
 
@@ -38,4 +39,9 @@ returns-clause-answer g c subject asked input is one given line claim whole tell
 pub returns-clause-exactly : goal.returns-clause-exactly
 returns-clause-exactly g c subject asked input is unasked one given small report =
     due_exact (known g c) (task_of c.args.query.now) c.args.text.now subject asked input one is given unasked small c.in_ok-due.due.status
+    (length c.args.advisers.now.items) c.in_ok-due.due.turns c.in_ok-due.due.bytes.items c.in_ok-due.ensures.due report
+
+pub returns-clause-satisfied : goal.returns-clause-satisfied
+returns-clause-satisfied g c subject asked input is one given small report =
+    due_satisfied (known g c) (task_of c.args.query.now) c.args.text.now subject asked input one is given small c.in_ok-due.due.status
     (length c.args.advisers.now.items) c.in_ok-due.due.turns c.in_ok-due.due.bytes.items c.in_ok-due.ensures.due report

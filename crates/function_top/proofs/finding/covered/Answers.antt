@@ -82,6 +82,10 @@ pub returns-clause-narrow : goal.returns-clause-narrow
 returns-clause-narrow g c = λ loopless free within.
     c.in_ok-certificate.ensures.narrow loopless free within (plan_of c.in_ok-cover.cover) (covers g c)
 
+pub returns-clause-narrow_ways : goal.returns-clause-narrow_ways
+returns-clause-narrow_ways g c = λ loopless free within growth.
+    c.in_ok-certificate.ensures.narrow_ways loopless free within growth (plan_of c.in_ok-cover.cover) (covers g c)
+
 pub returns-clause-countdown : goal.returns-clause-countdown
 returns-clause-countdown g c = λ ends counted. c.in_ok-certificate.ensures.countdown ends counted (plan_of c.in_ok-cover.cover) (covers g c)
 

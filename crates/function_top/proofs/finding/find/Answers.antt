@@ -1,9 +1,11 @@
-use Rattle.std.proofs.Common.{rules, ◌≤◌, ◌≢◌, ◌∙◌, length, ap, sym, subst, arith}
+use Rattle.std.proofs.Common.{rules, ◌≤◌, ◌^◌, ◌≢◌, ◌∙◌, length, ap, sym, subst, arith}
+use Rattle.step_meaning.specs.Run.{start}
 use Rattle.ctl_formula.specs.Mirror.{ctl}
+use Rattle.ctl_formula.specs.Satisfaction.{Sat}
 use Rattle.decision_tree.specs.Plans.{plan_of}
 use Rattle.normal_form.specs.Operators.{HasNoNegation}
 use Rattle.normal_form.proofs.NoNegation.{none_in_normal}
-use Rattle.exact_families.specs.Measures.{IsWithinMeasures}
+use Rattle.formula_measures.specs.Measures.{IsWithinMeasures, ctl_growth}
 use Rattle.ctl_rounds.specs.Asked.{IsAdvised}
 use Rattle.ctl_rounds.specs.Bounds.{CoversInputs, SatisfiesInputs}
 use Rattle.ctl_rounds.proofs.Asking.{unasked}
@@ -33,6 +35,11 @@ returns-clause-finds g c = λ meant is.
           (subst (λ f. CoversInputs (length subject.names) subject.body f (plan_of c.in_ok-cover.cover)) is
           (c.in_ok-cover.ensures.narrow loopless (subst HasNoNegation (sym is) (none_in_normal meant))
           (subst (IsWithinMeasures subject.body) (sym is) within, c.requires.over)));
+      narrow_ways = λ small input is_input numbers sat.
+          c.in_ok-cover.ensures.narrow_ways small.loopless (subst HasNoNegation (sym is) (none_in_normal meant))
+          (subst (IsWithinMeasures subject.body) (sym is) small.within, c.requires.over) (subst (λ f. ctl_growth subject.body f ≤ 2 ^ 60) (sym is) small.growth)
+          input is_input numbers
+          (subst (λ f. Sat f (start subject.body input)) (sym is) ((c.normal_forms_mean_the_same.ensures meant (start subject.body input)).1 sat));
       countdown = λ ends counts. c.in_ok-cover.ensures.countdown (is ∙ ends) counts;
       loopless = λ ends free. c.in_ok-cover.ensures.loopless (is ∙ ends) free;
       ways = λ ends counts little. c.in_ok-cover.ensures.ways (is ∙ ends) counts little;

@@ -1,4 +1,4 @@
-use Rattle.std.proofs.Common.{length, option_map, refl, rules, arith}
+use Rattle.std.proofs.Common.{inl, length, option_map, refl, rules, arith}
 use Rattle.decision_tree.specs.Plans.{plan_of}
 use Rattle.ctl_rounds.specs.Showing.{all_of}
 use Rattle.ctl_rounds.proofs.Asking.{unasked}
@@ -7,7 +7,7 @@ use Rattle.ctl_formula.specs.Mirror.{ctl}
 use Rattle.ctl_rounds.specs.Covers.{claims_of}
 use Rattle.ctl_rounds.specs.Families.{IsFamilyFor}
 use Rattle.ctl_rounds.specs.Finding.{IsTop}
-use Rattle.ctl_rounds.proofs.Exactly.{first_covers, first_covers_narrowly, first_of, whole_defined}
+use Rattle.ctl_rounds.proofs.Exactly.{first_covers, first_covers_narrowly, first_finds_narrowly, first_of, whole_defined}
 use Rattle.ctl_rounds.proofs.Certifying.{certified}
 use Rattle.ctl_rounds.proofs.subject.Subject.found.Goals as goal
 
@@ -52,6 +52,7 @@ returns-in_ok-counted-in-Some-clause-exact g c loopless free =
     let cover = claims_of (option_map plan_of c.in_ok-counted-in-Some.field-0.cover) in (
       (λ uncut begins input is sat. whole_defined input cover c.in_ok-counted-in-Some.ensures.whole),
       (λ within input is sat. whole_defined input cover c.in_ok-counted-in-Some.ensures.whole),
+      (λ within growth input is small sat. c.in_ok-counted-in-Some.ensures.ways (inl loopless.free) input small),
     )
 
 pub returns-in_ok-sought-in-None-clause-exact : goal.returns-in_ok-sought-in-None-clause-exact
@@ -66,6 +67,8 @@ returns-in_ok-sought-in-None-clause-exact g c loopless free =
           c.in_ok-sought-in-None.ensures.some c.in_ok-sought-in-None.ensures.found.families) c.in_ok-sought-in-None.ensures.found.firsts),
       (λ within. first_covers_narrowly (length program.names) (statements program.body) (ctl subject.formula.now) found.tops.items (option_map plan_of found.cover) within
           (begins.1 within) c.in_ok-sought-in-None.ensures.found.firsts),
+      (λ within growth. first_finds_narrowly (length program.names) (statements program.body) (ctl subject.formula.now) found.tops.items (option_map plan_of found.cover) within
+          growth (begins.1 within) c.in_ok-sought-in-None.ensures.found.firsts),
     )
 
 pub returns-in_ok-sought-in-None-clause-ways : goal.returns-in_ok-sought-in-None-clause-ways

@@ -36,9 +36,28 @@ part_size body (next all f) label = next_size body (part_size body f) label
 part_size body (until all f g) label = until_size body (part_size body f) (part_size body g) (length (all_labels body)) label
 part_size body (weak all f g) label = until_size body (part_size body f) (part_size body g) (length (all_labels body)) label
 
+-- the greatest size of the formula at a label, and the greatest of a part of it
+abbrev pub greatest_own : Statements → Ctl → ℕ
+greatest_own body f = greatest_below (part_size body f) (length (all_labels body))
+
+abbrev pub greatest_part : Statements → Ctl → ℕ
+greatest_part body (negation f) = max (greatest_own body (negation f)) (greatest_part body f)
+greatest_part body (both f g) = max (greatest_own body (both f g)) (max (greatest_part body f) (greatest_part body g))
+greatest_part body (either f g) = max (greatest_own body (either f g)) (max (greatest_part body f) (greatest_part body g))
+greatest_part body (next all f) = max (greatest_own body (next all f)) (greatest_part body f)
+greatest_part body (until all f g) = max (greatest_own body (until all f g)) (max (greatest_part body f) (greatest_part body g))
+greatest_part body (weak all f g) = max (greatest_own body (weak all f g)) (max (greatest_part body f) (greatest_part body g))
+greatest_part body truth = greatest_own body truth
+greatest_part body falsity = greatest_own body falsity
+greatest_part body exit = greatest_own body exit
+greatest_part body not_exit = greatest_own body not_exit
+greatest_part body always = greatest_own body always
+greatest_part body never = greatest_own body never
+greatest_part body (least a) = greatest_own body (least a)
+
 -- that of the formula is at most the number at each label, and so is that of each part
 abbrev pub IsSizeWithin : ℕ → Statements → Ctl → Type 0
-IsSizeWithin most body f = greatest_below (part_size body f) (length (all_labels body)) ≤ most
+IsSizeWithin most body f = greatest_own body f ≤ most
 
 abbrev pub AreSizesWithin : ℕ → Statements → Ctl → Type 0
 AreSizesWithin most body (negation f) = IsSizeWithin most body (negation f) × AreSizesWithin most body f
