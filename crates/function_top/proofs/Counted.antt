@@ -64,7 +64,7 @@ module _ (names : List Bytes) where
 
 module _ (names : List Bytes) (known : KnownLines names) (input : Store) (claim : Claim) (lines : List Line) (texts : List Bytes)
     (are : AreTextsOf names lines texts) where
-  line_met : MeetsClaim names input claim texts → MeetsLine input claim lines
+  pub line_met : MeetsClaim names input claim texts → MeetsLine input claim lines
   line_met met =
       let member = Contains-permutation texts are.unsorted met.line (IsPermutation-sym are.unsorted texts are.same) met.among in
       let found = line_of names lines are.unsorted are.each met.line member in
@@ -77,7 +77,7 @@ module _ (names : List Bytes) (known : KnownLines names) (input : Store) (claim 
         claims = same.1;
       }
 
-  text_met : MeetsLine input claim lines → MeetsClaim names input claim texts
+  pub text_met : MeetsLine input claim lines → MeetsClaim names input claim texts
   text_met met =
       let found = text_of names lines are.unsorted are.each met.line met.among in
       let is = found.2 in

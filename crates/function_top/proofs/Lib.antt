@@ -15,6 +15,7 @@ pub mod Over
 pub mod Headline
 pub mod Certain
 pub mod Satisfied
+pub mod Proving
 pub mod Running
 pub mod Reading
 pub mod Reported

@@ -1,19 +1,30 @@
 -- An input meets a line that claims something exactly where the tree does.
-use Rattle.std.proofs.Common.{◌≡◌, ◌↔◌, Bool, true, false, cond, not, List, [], ◌∷◌, Contains, All, refl, sym, ap, ◌∙◌, subst}
+use Rattle.std.proofs.Common.{◌≡◌, ◌↔◌, Bool, true, false, cond, not, List, [], ◌∷◌, length, Contains, All, refl, sym, ap, ◌∙◌, subst}
 use Rattle.std.proofs.lemmas.Bool.{false≢true}
 use Rattle.std.proofs.lemmas.List.Elements.{All-cons, All-contains, All-filter, All-nil}
 use Rattle.step_meaning.specs.Outcome.{Store}
+use Rattle.step_meaning.specs.Run.{IsInput, start}
+use Rattle.ctl_formula.specs.Formulas.{normal}
+use Rattle.ctl_formula.specs.Satisfaction.{Sat}
 use Rattle.linear_cons.specs.Rows.{MeetsAll}
 use Rattle.decision_tree.specs.Evaluation.{eval}
-use Rattle.decision_tree.specs.Plans.{Plan, bottom, branch, is_defined, leaf, top}
+use Rattle.decision_tree.specs.Plans.{Plan, bottom, branch, is_defined, leaf, plan_of, top}
 use Rattle.decision_tree.specs.declared.affine_rank.AffineRank.{AffineRank}
+use Rattle.exact_families.specs.Completeness.{IsLoopless}
+use Rattle.formula_measures.specs.Measures.{IsWithinMeasures}
 use Rattle.line_text.specs.declared.claim.Claim.{Claim}
 use Rattle.report_text.specs.declared.line.Line.{Line}
 use Rattle.report_text.specs.declared.line.Top.{Top}
 use Rattle.report_text.specs.declared.line.Top.TheVariants.{Bound, Exact, Plain}
+use Rattle.report_text.specs.declared.report.Report.{Report}
 use Rattle.report_text.specs.Leaves.{AreLinesOf, claim_at, claiming, is_unknown}
 use Rattle.report_text.proofs.Standing.{one_line_met}
+use Rattle.command_words.specs.Order.{Task}
+use Rattle.function_top.specs.declared.found.Found.{Found}
 use Rattle.function_top.specs.Exact.{MeetsLine, MeetsSomeLine}
+use Rattle.function_top.specs.Found.{IsFound}
+use Rattle.function_top.specs.Shown.{Shows}
+use Rattle.function_top.specs.Subject.{Subject}
 use Rattle.function_top.proofs.ExactLines.{claiming_meets}
 use Rattle.function_top.proofs.OnlyMet.{met_is_one}
 
@@ -67,3 +78,12 @@ module _ (claims : Top) (tree : Plan AffineRank) (all lines : List Line) (are : 
             subst (MeetsLine input claim) (sym shown)
                 (claiming_meets input claim (known_leaf claims (eval tree input) own) all (one_line_met claims input tree all are)),
           )
+
+-- where what was found claims exactly, by satisfied inputs
+pub met_by_satisfied : (task : Task) (subject : Subject) (found : Found) (report : Report) → IsFound task subject found → Shows found report
+    → IsLoopless subject.body → IsWithinMeasures subject.body (normal subject.formula) → (input : Store) → IsInput (length subject.names) input
+    → MeetsSomeLine input report.proved ↔ Sat subject.formula (start subject.body input)
+met_by_satisfied task subject found report finds shows loopless within input is_input =
+    let met = met_where_defined found.claims (plan_of found.cover) shows.lines report.proved shows.lines_of shows.proved input in
+    let claimed = finds.exactly loopless within input is_input in
+    ((λ some. claimed.0 (met.0 some)), (λ sat. met.1 (claimed.1 sat)))

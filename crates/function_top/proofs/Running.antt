@@ -16,6 +16,7 @@ use Rattle.function_top.proofs.Formed.{summary_known, usage_known}
 use Rattle.function_top.proofs.Certain.{answers_exactly, covers_countdowns}
 use Rattle.function_top.proofs.Headline.{AskOnce, KnownTexts, Serves, Settles, complete, due_known, due_told, due_true, front_written, no_demo, nothing_written, refused_answers, same_task, settled_answers, told_read}
 use Rattle.function_top.proofs.OneTold.{TellsTrue, usage_tells}
+use Rattle.function_top.proofs.Proving.{answers_proving}
 use Rattle.function_top.proofs.Satisfied.{answers_satisfied}
 use Rattle.function_top.proofs.Truth.{SaysTrue, usage_true}
 use Rattle.function_top.proofs.Written.{Bytes}
@@ -52,6 +53,7 @@ module _ (words : List Bytes) (call : Call) where
         complete = complete known words once result call answers;
         countdowns = covers_countdowns known words once result call answers;
         exactly = answers_exactly known words once result call answers;
+        proves = answers_proving known words once result call answers;
         satisfied = answers_satisfied known words once result call answers;
         demos = λ number ask. absurd (no_demo words once served.0 served.1 number ask);
       }
@@ -70,6 +72,7 @@ module _ (words : List Bytes) (call : Call) where
     complete = complete known words once ReadFault call answers;
     countdowns = covers_countdowns known words once ReadFault call answers;
     exactly = answers_exactly known words once ReadFault call answers;
+    proves = answers_proving known words once ReadFault call answers;
     satisfied = answers_satisfied known words once ReadFault call answers;
     demos = λ number ask. absurd (no_demo words once served.0 served.1 number ask);
   }
@@ -88,6 +91,7 @@ module _ (words : List Bytes) (call : Call) where
     complete = λ task text subject ask is program limits given limited reads writes. inr (inr refl);
     countdowns = λ task told subject ask is program certain ends counts same. cc;
     exactly = λ task text before written asked subject input ask is h unasked one given small report. absurd report;
+    proves = λ task text before written subject ask is h whole loopless within report. absurd report;
     satisfied = λ task text asked subject input ask is h one given small report. absurd report;
     demos = λ number ask writes. inr refl;
   }
@@ -111,6 +115,7 @@ module _ (words : List Bytes) (call : Call) where
         complete = λ task text subject ask is program limits given limited. absurd (none (analysis task, ask));
         countdowns = λ task told subject ask. absurd (none (analysis task, ask));
         exactly = λ task text before written asked subject input ask. absurd (none (analysis task, ask));
+        proves = λ task text before written subject ask. absurd (none (analysis task, ask));
         satisfied = λ task text asked subject input ask. absurd (none (analysis task, ask));
         demos = λ number ask. absurd (none (demo number, ask));
       }
@@ -146,6 +151,7 @@ module _ (words : List Bytes) (call : Call) where
         complete = λ task text subject own. absurd (other task own);
         countdowns = λ task told subject own. absurd (other task own);
         exactly = λ task text before written asked subject input own. absurd (other task own);
+        proves = λ task text before written subject own. absurd (other task own);
         satisfied = λ task text asked subject input own. absurd (other task own);
         demos = demo_covers result bytes settled;
       }

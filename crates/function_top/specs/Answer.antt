@@ -9,6 +9,8 @@ use Rattle.step_meaning.specs.Run.{start}
 use Rattle.ctl_formula.specs.Formulas.{af_exit, normal}
 use Rattle.ctl_formula.specs.Satisfaction.{Sat}
 use Rattle.normal_form.specs.Operators.{operators}
+use Rattle.exact_families.specs.Completeness.{IsLoopless}
+use Rattle.formula_measures.specs.Measures.{IsWithinMeasures}
 use Rattle.fitting_ways.specs.Factors.{HasSmallFactors}
 use Rattle.ctl_rounds.specs.Asked.{RoseBy}
 use Rattle.input_text.specs.Input.{IsInputText}
@@ -22,7 +24,7 @@ use Rattle.function_top.specs.Exact.{HasSmallLevels}
 use Rattle.function_top.specs.Form.{Form}
 use Rattle.function_top.specs.Found.{HasSmallMeasures}
 use Rattle.function_top.specs.Headline.{AnswerHeadline, Headline}
-use Rattle.function_top.specs.Meeting.{TellsExactly}
+use Rattle.function_top.specs.Meeting.{ProvesExactly, TellsExactly}
 use Rattle.command_words.specs.Order.{Accepted, Ask, Task, analysis, demo}
 use Rattle.function_top.specs.Refusals.{usage_text}
 use Rattle.function_top.specs.Subject.{IsSubject, Subject}
@@ -113,6 +115,14 @@ AnswersExactly words status call =
     → HasSmallLevels subject.body task.delay → IsReport status → call.taken ≡ Some before → call.taken_after ≡ Some (before ++ written)
     → TellsExactly subject task.delay input written
 
+-- Where no input is asked for, of a plain program without loops, and the formula's normal form is within the measures of the program, an input meets a
+-- proved line of what is written whole exactly where its start satisfies the formula.
+abbrev pub AnswersProving : List (List ℕ) → Status → Call → Type 0
+AnswersProving words status call =
+    (task : Task) (text before written : List ℕ) (subject : Subject) → Ask words (analysis task) → call.left ≡ Some text
+    → IsSubject task text subject → task.input ≡ None → IsLoopless subject.body → IsWithinMeasures subject.body (normal subject.formula)
+    → IsReport status → call.taken ≡ Some before → call.taken_after ≡ Some (before ++ written) → ProvesExactly subject written
+
 -- Where one input is asked for, of a plain program without loops, and the measures of the program and the formula are small, what is written whole claims
 -- something of the input exactly where its start satisfies the formula.
 abbrev pub AnswersSatisfied : List (List ℕ) → Status → Call → Type 0
@@ -131,5 +141,6 @@ pub record IsRun (words : List (List ℕ)) (status : Status) (call : Call) : Typ
   pub complete : IsComplete words status call
   pub countdowns : CoversCountdowns words status call
   pub exactly : AnswersExactly words status call
+  pub proves : AnswersProving words status call
   pub satisfied : AnswersSatisfied words status call
   pub demos : CoversDemos words status call

@@ -1,7 +1,8 @@
 -- Which lines of a text an input meets.
 use Rattle.std.specs.Prelude.{◌≡◌, ◌⊎◌, ◌↔◌, ℕ, pos, List, ◌∷◌, ◌++◌, length, All, Contains, IsPermutation, Option}
 use Rattle.step_meaning.specs.Outcome.{Store}
-use Rattle.step_meaning.specs.Run.{IsInput}
+use Rattle.step_meaning.specs.Run.{IsInput, start}
+use Rattle.ctl_formula.specs.Satisfaction.{Sat}
 use Rattle.linear_cons.specs.declared.affine.Affine.{Affine}
 use Rattle.line_text.specs.declared.claim.Claim.{Claim}
 use Rattle.line_text.specs.declared.claim.Claim.TheVariants.{Exactly}
@@ -55,6 +56,16 @@ abbrev pub CountsExactly : Subject → List ℕ → Type 0
 CountsExactly subject text =
     (tests : ℕ) → AllowsTests text tests → (input : Store) → IsInput (length subject.names) input → (n : ℕ)
     → MeetsClaim subject.names input (Exactly (pos n)) (sections_of text).exact ↔ EndsExactly subject.body tests input n
+
+-- one of the lines says something over the names under a condition that the input meets
+abbrev pub MeetsSome : List (List ℕ) → Store → List (List ℕ) → Type 0
+MeetsSome names input lines = (claim : Claim) × MeetsClaim names input claim lines
+
+-- an input meets a line of the text's proved section exactly where its start satisfies the formula
+abbrev pub ProvesExactly : Subject → List ℕ → Type 0
+ProvesExactly subject text =
+    (input : Store) → IsInput (length subject.names) input
+    → MeetsSome subject.names input (sections_of text).proved ↔ Sat subject.formula (start subject.body input)
 
 -- a whole line of the text is the claim alone
 pub record TellsClaim (names : List (List ℕ)) (text : List ℕ) (claim : Claim) : Type 0 where

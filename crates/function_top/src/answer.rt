@@ -5,9 +5,12 @@ ghost use Rattle.step_meaning.specs.Outcome.{Store};
 ghost use Rattle.step_meaning.specs.Run.{start};
 ghost use Rattle.step_meaning.specs.Syntax.{size_of, statements};
 ghost use Rattle.control_flow.specs.Faults.{wide_offsets};
+ghost use Rattle.ctl_formula.specs.Formulas.{normal};
 ghost use Rattle.ctl_formula.specs.Mirror.{ctl};
 ghost use Rattle.ctl_formula.specs.Satisfaction.{Sat};
 ghost use Rattle.normal_form.specs.Rows.{RowsAreOver};
+ghost use Rattle.exact_families.specs.Completeness.{IsLoopless};
+ghost use Rattle.formula_measures.specs.Measures.{IsWithinMeasures};
 ghost use Rattle.ctl_rounds.specs.Asked.{RoseBy};
 ghost use Rattle.input_text.specs.Input.{IsInputText};
 ghost use Rattle.report_text.specs.declared.report.Report.{Report};
@@ -19,7 +22,7 @@ ghost use Rattle.function_top.specs.Form.{HasKnownLines};
 ghost use Rattle.function_top.specs.Found.{HasSmallMeasures};
 ghost use Rattle.function_top.specs.Headline.{IsTrueAnswer, IsTrueText};
 ghost use Rattle.function_top.specs.Exact.{HasSmallLevels};
-ghost use Rattle.function_top.specs.Meeting.{AreMetOnce, CountsExactly, TellsExactly};
+ghost use Rattle.function_top.specs.Meeting.{AreMetOnce, CountsExactly, ProvesExactly, TellsExactly};
 ghost use Rattle.command_words.specs.Order.{Task, task_of};
 ghost use Rattle.function_top.specs.Printable.{IsFoundPrintable};
 ghost use Rattle.function_top.specs.Refusals.{formula_text, program_text, usage_text};
@@ -77,6 +80,8 @@ pub fn report_on(
         → AreMetOnce subject.names due.bytes.items) }
     ensures counts { IfOk result (λ due. (task_of query.now).input ≡ None → IsReport due.status → (subject : Subject) → IsSubject (task_of query.now) text.now subject
         → CountsExactly subject due.bytes.items) }
+    ensures proves { IfOk result (λ due. (task_of query.now).input ≡ None → IsReport due.status → (subject : Subject) → IsSubject (task_of query.now) text.now subject
+        → IsLoopless subject.body → IsWithinMeasures subject.body (normal subject.formula) → ProvesExactly subject due.bytes.items) }
     ensures exactly { IfOk result (λ due. (subject : Subject) (asked : List ℕ) (input : Store) → IsSubject (task_of query.now) text.now subject
         → (task_of query.now).formula ≡ None → (task_of query.now).input ≡ Some asked → IsInputText subject.names asked input
         → HasSmallLevels subject.body query.now.delay → IsReport due.status → TellsExactly subject query.now.delay input due.bytes.items) }

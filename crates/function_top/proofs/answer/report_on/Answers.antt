@@ -1,6 +1,7 @@
 use Rattle.std.proofs.Common.{Some, length, refl}
 use Rattle.command_words.specs.Order.{task_of}
 use Rattle.function_top.proofs.Headline.{KnownTexts, due_counted, due_exact, due_known, due_met, due_told, due_true, known_texts}
+use Rattle.function_top.proofs.Proving.{due_proving}
 use Rattle.function_top.proofs.Satisfied.{due_satisfied}
 use Rattle.function_top.proofs.answer.report_on.Given as given
 use Rattle.function_top.proofs.answer.report_on.Goals as goal
@@ -30,6 +31,11 @@ pub returns-clause-counts : goal.returns-clause-counts
 returns-clause-counts g c all report subject is =
     due_counted (known g c) (task_of c.args.query.now) c.args.text.now subject c.in_ok-due.due.status (length c.args.advisers.now.items) c.in_ok-due.due.turns c.in_ok-due.due.bytes.items is
     all c.in_ok-due.ensures.due report
+
+pub returns-clause-proves : goal.returns-clause-proves
+returns-clause-proves g c all report subject is loopless within =
+    due_proving (known g c) (task_of c.args.query.now) c.args.text.now subject is loopless within c.in_ok-due.due.status (length c.args.advisers.now.items)
+    c.in_ok-due.due.turns c.in_ok-due.due.bytes.items all c.in_ok-due.ensures.due report
 
 pub returns-clause-answer : goal.returns-clause-answer
 returns-clause-answer g c subject asked input is one given line claim whole tells =
