@@ -46,6 +46,7 @@ impl<R: Rank> Way<R> {
 
     /// The same by a walk, which adds the rows on the way to a leaf.
     #[cycle(walk)]
+    #[inline(always)]
     fn refute(
         &self,
         tree: &Tree<R>,

@@ -182,7 +182,7 @@ const DOWN_ONE_SIDE: [(&str, &str); 15] = [
 
 /// What the check of a family gives up first, which has a line at the end of a program of two steps. A store is at each leaf of the line, whose own leaves
 /// stand, since the program has ended there. The rank 0 of each is less than 1.
-const CHECKED: [(&str, &str); 4] = [
+const CHECKED: [(&str, &str); 6] = [
     (
         "first all true until exit over int x; ; ; with all atom 0 with at 0 end 0 claims at 0 line yes 32767 x - k + 32767 >= 0 beside end 0 then end 0 at 1 step 2 at 2 step 1",
         "nothing is given up",
@@ -199,6 +199,15 @@ const CHECKED: [(&str, &str); 4] = [
     (
         "first all true until exit over int x; ; ; with all atom 0 with at 0 end 0 claims at 0 line no 32767 x - k + 1 >= 0 beside end 0 then nothing at 1 step 2 at 2 step 1",
         "gives up 0 at 2 over the first edge for a point",
+    ),
+    // The label before the end has such a line too, and a claim at its last leaf alone: what is looked at for it is the whole line behind the whole line.
+    (
+        "first all true until exit over int x; ; ; with all atom 0 with at 0 end 0 claims at 0 line yes 32767 x - k + 32767 >= 0 beside end 0 then end 0 at 2 line yes 32767 x - k + 32767 >= 0 beside nothing then step 1",
+        "nothing is given up",
+    ),
+    (
+        "first all true until exit over int x; ; ; with all atom 0 with at 0 end 0 claims at 0 line no 32767 x - k + 1 >= 0 beside end 0 then nothing at 2 line no 32767 x - k + 1 >= 0 beside nothing then step 1",
+        "gives up 32767 at 2 over the first edge for a point",
     ),
 ];
 

@@ -270,13 +270,13 @@ impl<'a, D: NumDomain, R: Rank> Premises<'a, D, R> {
         ensures cleared { OnOk result (AreCleared R.Rank.own (setting_on D.NumDomain.own self.now)
             (trees_in (map plan_of trees.new)) (Some dropped.now) label []) }
     {
-        let mut narrow = self.path_to(label, dropped, trees)?;
+        let narrow = self.path_to(label, dropped, trees)?;
         let span = Span {
             first: 0,
             collects: true,
             narrows: true,
         };
-        let found = self.refuted(label, span, &mut narrow, rows, trees)?;
+        let found = self.refuted(label, span, narrow, rows, trees)?;
         self.give_up_each(label, &found, trees, drops)?;
         Ok(())
     }
@@ -422,13 +422,13 @@ impl<'a, D: NumDomain, R: Rank> Premises<'a, D, R> {
         ensures supported { IfOk result (λ whole. (whole ≡ true) ⊎ (drops.new.items ≡ drops.old.items)
             → IsSupportedAt R.Rank.own (setting_on D.NumDomain.own self.now) (trees_in (map plan_of trees.new)) label) }
     {
-        let mut nothing = Hand::new(self.alloc);
+        let nothing = Hand::new(self.alloc);
         let span = Span {
             first: 0,
             collects: true,
             narrows: false,
         };
-        let found = self.refuted(label, span, &mut nothing, rows, trees)?;
+        let found = self.refuted(label, span, nothing, rows, trees)?;
         self.give_up_each(label, &found, trees, drops)?;
         Ok(true)
     }
@@ -474,13 +474,13 @@ impl<'a, D: NumDomain, R: Rank> Premises<'a, D, R> {
         ensures { IfOk result (λ refuted.
             IsFirst R.Rank.own (setting_on D.NumDomain.own self.now) (trees_in (map plan_of trees.now)) label first refuted) }
     {
-        let mut nothing = Hand::new(self.alloc);
+        let nothing = Hand::new(self.alloc);
         let span = Span {
             first,
             collects: false,
             narrows: false,
         };
-        let refuted = self.refuted(label, span, &mut nothing, rows, trees)?;
+        let refuted = self.refuted(label, span, nothing, rows, trees)?;
         match refuted.first() {
             Some(refuted) => Ok(Some(*refuted)),
             None => Ok(None),
@@ -492,7 +492,7 @@ impl<'a, D: NumDomain, R: Rank> Premises<'a, D, R> {
         &self,
         label: u32,
         span: Span,
-        narrow: &mut Hand,
+        narrow: Hand,
         rows: &[Row],
         trees: &[Tree<R>],
     ) -> Result<Vec<Refuted>, AllocError>
@@ -501,7 +501,7 @@ impl<'a, D: NumDomain, R: Rank> Premises<'a, D, R> {
         requires ready { IsReady D.NumDomain.own self.now }
         requires alive { (setting_on D.NumDomain.own self.now).dead label ≡ false }
         requires rows { (setting_on D.NumDomain.own self.now).rows label ≡ rows.now }
-        ensures { IfOk result (λ refuted. WhereAsked narrow.old (λ within. IsReviewed R.Rank.own (setting_on D.NumDomain.own self.now)
+        ensures { IfOk result (λ refuted. WhereAsked narrow (λ within. IsReviewed R.Rank.own (setting_on D.NumDomain.own self.now)
             (trees_in (map plan_of trees.now)) label span within refuted.items)) }
     {
         let survey = Survey {

@@ -31,6 +31,16 @@ pub(crate) struct Span {
     pub(crate) narrows: bool,
 }
 
+/// How far a survey came: how many leaves it passed, the rows in hand before the next, those in the second hand where it is narrowed, and the
+/// leaves with a reason against them. One thing, so that a call of the walk takes little of the stack.
+#[derive(Drop)]
+struct Progress {
+    passed: u64,
+    hand: Hand,
+    narrow: Hand,
+    refuted: Vec<Refuted>,
+}
+
 /// A survey of the leaves of a label's tree.
 #[derive(Drop)]
 pub(crate) struct Survey<'a, R: Rank> {
@@ -44,14 +54,14 @@ impl<'a, R: Rank> Survey<'a, R> {
         &self,
         alloc: Global,
         rows: &[Row],
-        narrow: &mut Hand,
+        narrow: Hand,
     ) -> Result<Vec<Refuted>, AllocError>
         requires few { leaves_of (trees_in (map plan_of self.now.stand.family.now) self.now.stand.label) < 2 ^ 64 - 1 }
         ensures { IfOk result (λ refuted. WhereStood self.now.stand (λ at. at.dead self.now.stand.label ≡ false
-            → at.rows self.now.stand.label ≡ rows.now → WhereAsked narrow.old (λ within.
+            → at.rows self.now.stand.label ≡ rows.now → WhereAsked narrow (λ within.
             IsReviewed R.Rank.own at (trees_in (map plan_of self.now.stand.family.now)) self.now.stand.label self.now.span within refuted.items))) }
     {
-        let mut refuted = Vec::new(alloc);
+        let refuted = Vec::new(alloc);
         let Some(tree) = self.stand.family.get(self.stand.label as usize) else {
             return Ok(refuted);
         };
@@ -59,42 +69,43 @@ impl<'a, R: Rank> Survey<'a, R> {
         if !add_rows(rows, &mut hand)? {
             return Ok(refuted);
         }
-        let mut passed = 0;
-        self.refute(tree, &mut passed, &mut hand, narrow, &mut refuted)?;
-        Ok(refuted)
+        let mut progress = Progress {
+            passed: 0,
+            hand,
+            narrow,
+            refuted,
+        };
+        self.refute(tree, &mut progress)?;
+        Ok(progress.refuted)
     }
 
     /// Lists the leaves of the tree with a reason against them, behind the rows in hand, and counts the leaves that it passes.
     #[cycle(survey)]
-    fn refute(
-        &self,
-        tree: &Tree<R>,
-        passed: &mut u64,
-        hand: &mut Hand,
-        narrow: &mut Hand,
-        refuted: &mut Vec<Refuted>,
-    ) -> Result<(), AllocError>
-        requires few { passed.old + leaves_of (plan_of tree.now) < 2 ^ 64 - 1 }
-        ensures same { OnOk result (IsSame hand.old hand.new) }
-        ensures narrow { OnOk result (IsSame narrow.old narrow.new) }
-        ensures passed { OnOk result (passed.new ≡ passed.old + leaves_of (plan_of tree.now)) }
-        ensures surveyed { OnOk result (WhereStood self.now.stand (λ at. WhereAsked hand.old (λ asks. WhereAsked narrow.old (λ within.
+    #[inline(always)]
+    fn refute(&self, tree: &Tree<R>, progress: &mut Progress) -> Result<(), AllocError>
+        requires few { progress.old.passed + leaves_of (plan_of tree.now) < 2 ^ 64 - 1 }
+        ensures same { OnOk result (IsSame progress.old.hand progress.new.hand) }
+        ensures narrow { OnOk result (IsSame progress.old.narrow progress.new.narrow) }
+        ensures passed { OnOk result (progress.new.passed ≡ progress.old.passed + leaves_of (plan_of tree.now)) }
+        ensures surveyed { OnOk result (WhereStood self.now.stand (λ at.
+            WhereAsked progress.old.hand (λ asks. WhereAsked progress.old.narrow (λ within.
             IsSurveyed R.Rank.own at (trees_in (map plan_of self.now.stand.family.now)) self.now.stand.label self.now.span
-            (plan_of tree.now) asks within passed.old refuted.old.items refuted.new.items)))) }
+            (plan_of tree.now) asks within progress.old.passed progress.old.refuted.items progress.new.refuted.items)))) }
     {
         match tree {
             Tree::Node { row, yes, no } => {
-                self.refute_behind(row, true, yes, passed, hand, narrow, refuted)?;
-                self.refute_behind(row, false, no, passed, hand, narrow, refuted)?;
+                self.refute_behind(row, true, yes, progress)?;
+                self.refute_behind(row, false, no, progress)?;
                 Ok(())
             }
             Tree::Leaf { why, rank } => {
-                self.refute_leaf(why, rank, *passed, hand, refuted)?;
-                *passed += 1;
+                let number = progress.passed;
+                self.refute_leaf(why, rank, number, &mut progress.hand, &mut progress.refuted)?;
+                progress.passed += 1;
                 Ok(())
             }
             Tree::Bottom | Tree::Top(_) => {
-                *passed += 1;
+                progress.passed += 1;
                 Ok(())
             }
         }
@@ -167,31 +178,29 @@ impl<'a, R: Rank> Survey<'a, R> {
         row: &Row,
         holds: bool,
         side: &Tree<R>,
-        passed: &mut u64,
-        hand: &mut Hand,
-        narrow: &mut Hand,
-        refuted: &mut Vec<Refuted>,
+        progress: &mut Progress,
     ) -> Result<(), AllocError>
-        requires few { passed.old + leaves_of (plan_of side.now) < 2 ^ 64 - 1 }
-        ensures same { OnOk result (IsSame hand.old hand.new) }
-        ensures narrow { OnOk result (IsSame narrow.old narrow.new) }
-        ensures passed { OnOk result (passed.new ≡ passed.old + leaves_of (plan_of side.now)) }
-        ensures surveyed { OnOk result (WhereStood self.now.stand (λ at. WhereAsked hand.old (λ asks. WhereAsked narrow.old (λ within.
+        requires few { progress.old.passed + leaves_of (plan_of side.now) < 2 ^ 64 - 1 }
+        ensures same { OnOk result (IsSame progress.old.hand progress.new.hand) }
+        ensures narrow { OnOk result (IsSame progress.old.narrow progress.new.narrow) }
+        ensures passed { OnOk result (progress.new.passed ≡ progress.old.passed + leaves_of (plan_of side.now)) }
+        ensures surveyed { OnOk result (WhereStood self.now.stand (λ at.
+            WhereAsked progress.old.hand (λ asks. WhereAsked progress.old.narrow (λ within.
             IsSurveyed R.Rank.own at (trees_in (map plan_of self.now.stand.family.now)) self.now.stand.label self.now.span (plan_of side.now)
             (asks ++ given (side_of row.now.affine holds) ∷ []) (within ++ given (side_of row.now.affine holds) ∷ [])
-            passed.old refuted.old.items refuted.new.items)))) }
+            progress.old.passed progress.old.refuted.items progress.new.refuted.items)))) }
     {
-        if self.skips(side, *passed, refuted) {
-            *passed += side.leaves();
+        if self.skips(side, progress.passed, &progress.refuted) {
+            progress.passed += side.leaves();
             return Ok(());
         }
-        let mark = hand.mark();
-        if !self.enter(row, holds, hand)? {
-            *passed += side.leaves();
+        let mark = progress.hand.mark();
+        if !self.enter(row, holds, &mut progress.hand)? {
+            progress.passed += side.leaves();
             return Ok(());
         }
-        self.refute_within(row, holds, side, passed, hand, narrow, refuted)?;
-        hand.back(mark);
+        self.refute_within(row, holds, side, progress)?;
+        progress.hand.back(mark);
         Ok(())
     }
 
@@ -202,30 +211,29 @@ impl<'a, R: Rank> Survey<'a, R> {
         row: &Row,
         holds: bool,
         side: &Tree<R>,
-        passed: &mut u64,
-        hand: &mut Hand,
-        narrow: &mut Hand,
-        refuted: &mut Vec<Refuted>,
+        progress: &mut Progress,
     ) -> Result<(), AllocError>
-        requires few { passed.old + leaves_of (plan_of side.now) < 2 ^ 64 - 1 }
-        ensures same { OnOk result (IsSame hand.old hand.new) }
-        ensures narrow { OnOk result (IsSame narrow.old narrow.new) }
-        ensures passed { OnOk result (passed.new ≡ passed.old + leaves_of (plan_of side.now)) }
-        ensures surveyed { OnOk result (WhereStood self.now.stand (λ at. WhereAsked hand.old (λ asks. WhereAsked narrow.old (λ within.
+        requires few { progress.old.passed + leaves_of (plan_of side.now) < 2 ^ 64 - 1 }
+        ensures same { OnOk result (IsSame progress.old.hand progress.new.hand) }
+        ensures narrow { OnOk result (IsSame progress.old.narrow progress.new.narrow) }
+        ensures passed { OnOk result (progress.new.passed ≡ progress.old.passed + leaves_of (plan_of side.now)) }
+        ensures surveyed { OnOk result (WhereStood self.now.stand (λ at.
+            WhereAsked progress.old.hand (λ asks. WhereAsked progress.old.narrow (λ within.
             IsSurveyed R.Rank.own at (trees_in (map plan_of self.now.stand.family.now)) self.now.stand.label self.now.span (plan_of side.now)
-            asks (within ++ given (side_of row.now.affine holds) ∷ []) passed.old refuted.old.items refuted.new.items)))) }
+            asks (within ++ given (side_of row.now.affine holds) ∷ [])
+            progress.old.passed progress.old.refuted.items progress.new.refuted.items)))) }
     {
         if !self.span.narrows {
-            self.refute(side, passed, hand, narrow, refuted)?;
+            self.refute(side, progress)?;
             return Ok(());
         }
-        let mark = narrow.mark();
-        if !self.enter(row, holds, narrow)? {
-            *passed += side.leaves();
+        let mark = progress.narrow.mark();
+        if !self.enter(row, holds, &mut progress.narrow)? {
+            progress.passed += side.leaves();
             return Ok(());
         }
-        self.refute(side, passed, hand, narrow, refuted)?;
-        narrow.back(mark);
+        self.refute(side, progress)?;
+        progress.narrow.back(mark);
         Ok(())
     }
 

@@ -14,12 +14,12 @@ pub refute-returns-in_ok-refute_behind-in-Node-2-clause-surveyed :
     goal.refute-returns-in_ok-refute_behind-in-Node-2-clause-surveyed
 refute-returns-in_ok-refute_behind-in-Node-2-clause-surveyed g t c at is_at asks held within narrowed =
     let near = rw c.deref.ensures at c.in_ok-refute_behind-in-Node.ensures.surveyed at is_at asks held within narrowed in
-    let again = held_same (all_asked asks) c.args.hand.now c.refute_behind.new.hand c.in_ok-refute_behind-in-Node.ensures.same held in
-    let still = held_same (all_asked within) c.args.narrow.now c.refute_behind.new.narrow c.in_ok-refute_behind-in-Node.ensures.narrow narrowed in
+    let again = held_same (all_asked asks) c.args.progress.now.hand c.refute_behind.new.progress.hand c.in_ok-refute_behind-in-Node.ensures.same held in
+    let still = held_same (all_asked within) c.args.progress.now.narrow c.refute_behind.new.progress.narrow c.in_ok-refute_behind-in-Node.ensures.narrow narrowed in
     let far = rw c.deref-in-Node.ensures at c.in_ok-refute_behind-in-Node-2.ensures.surveyed at is_at asks again within still in
     let count = rw c.deref.ensures at c.in_ok-refute_behind-in-Node.ensures.passed in
     rw c.in-Node.is
-    (surveyed_both g.R.Rank at (trees_in (map plan_of c.args.self.now.stand.family.now)) c.args.self.now.stand.label c.args.self.now.span c.in-Node.row (plan_of c.in-Node.yes.value) (plan_of c.in-Node.no.value) asks within c.args.passed.now c.refute_behind.new.passed c.args.refuted.now.items c.refute_behind.new.refuted.items c.refute_behind-in-Node.new.refuted.items count near far)
+    (surveyed_both g.R.Rank at (trees_in (map plan_of c.args.self.now.stand.family.now)) c.args.self.now.stand.label c.args.self.now.span c.in-Node.row (plan_of c.in-Node.yes.value) (plan_of c.in-Node.no.value) asks within c.args.progress.now.passed c.refute_behind.new.progress.passed c.args.progress.now.refuted.items c.refute_behind.new.progress.refuted.items c.refute_behind-in-Node.new.progress.refuted.items count near far)
 
 pub refute-returns-in_ok-refute_leaf-in-Leaf-clause-surveyed :
     goal.refute-returns-in_ok-refute_leaf-in-Leaf-clause-surveyed
@@ -29,20 +29,20 @@ refute-returns-in_ok-refute_leaf-in-Leaf-clause-surveyed g t c at is_at asks hel
 pub refute-returns-in-Bottom-clause-surveyed : goal.refute-returns-in-Bottom-clause-surveyed
 refute-returns-in-Bottom-clause-surveyed g t c at is_at asks held within narrowed =
     ⊎_elim
-    (λ is. rw is (surveyed_undefined g.R.Rank at (trees_in (map plan_of c.args.self.now.stand.family.now)) c.args.self.now.stand.label c.args.self.now.span bottom asks within c.args.passed.now c.args.refuted.now.items refl (all_none (HasNoStore g.R.Rank))))
-    (λ is. rw is.1 (surveyed_undefined g.R.Rank at (trees_in (map plan_of c.args.self.now.stand.family.now)) c.args.self.now.stand.label c.args.self.now.span (top is.0) asks within c.args.passed.now c.args.refuted.now.items refl (all_none (HasNoStore g.R.Rank))))
+    (λ is. rw is (surveyed_undefined g.R.Rank at (trees_in (map plan_of c.args.self.now.stand.family.now)) c.args.self.now.stand.label c.args.self.now.span bottom asks within c.args.progress.now.passed c.args.progress.now.refuted.items refl (all_none (HasNoStore g.R.Rank))))
+    (λ is. rw is.1 (surveyed_undefined g.R.Rank at (trees_in (map plan_of c.args.self.now.stand.family.now)) c.args.self.now.stand.label c.args.self.now.span (top is.0) asks within c.args.progress.now.passed c.args.progress.now.refuted.items refl (all_none (HasNoStore g.R.Rank))))
     c.in-Bottom.is
 
 pub refute_behind-returns-then-skips-clause-surveyed :
     goal.refute_behind-returns-then-skips-clause-surveyed
 refute_behind-returns-then-skips-clause-surveyed g t c at is_at asks held within narrowed =
     let before = rw c.deref.ensures.value at c.skips.ensures.before c.if-skips.true in
-    surveyed_before g.R.Rank at (trees_in (map plan_of c.args.self.now.stand.family.now)) c.args.self.now.stand.label c.args.self.now.span (plan_of c.args.side.now) (asks ++ given (side_of c.args.row.now.affine c.args.holds) ∷ []) (within ++ given (side_of c.args.row.now.affine c.args.holds) ∷ []) c.args.passed.now c.args.refuted.now.items before
+    surveyed_before g.R.Rank at (trees_in (map plan_of c.args.self.now.stand.family.now)) c.args.self.now.stand.label c.args.self.now.span (plan_of c.args.side.now) (asks ++ given (side_of c.args.row.now.affine c.args.holds) ∷ []) (within ++ given (side_of c.args.row.now.affine c.args.holds) ∷ []) c.args.progress.now.passed c.args.progress.now.refuted.items before
 
 pub refute_behind-returns-then-not-branch-clause-surveyed :
     goal.refute_behind-returns-then-not-branch-clause-surveyed
 refute_behind-returns-then-not-branch-clause-surveyed g t c at is_at asks held within narrowed =
-    surveyed_nowhere g.R.Rank at (trees_in (map plan_of c.args.self.now.stand.family.now)) c.args.self.now.stand.label c.args.self.now.span (plan_of c.args.side.now) (asks ++ given (side_of c.args.row.now.affine c.args.holds) ∷ []) (within ++ given (side_of c.args.row.now.affine c.args.holds) ∷ []) c.args.passed.now c.args.refuted.now.items
+    surveyed_nowhere g.R.Rank at (trees_in (map plan_of c.args.self.now.stand.family.now)) c.args.self.now.stand.label c.args.self.now.span (plan_of c.args.side.now) (asks ++ given (side_of c.args.row.now.affine c.args.holds) ∷ []) (within ++ given (side_of c.args.row.now.affine c.args.holds) ∷ []) c.args.progress.now.passed c.args.progress.now.refuted.items
     (c.in_ok-enter.ensures.nowhere c.if-not-branch.true asks held)
 
 pub refute_behind-returns-clause-surveyed : goal.refute_behind-returns-clause-surveyed
@@ -51,12 +51,12 @@ refute_behind-returns-clause-surveyed g t c at is_at asks held within narrowed =
 
 pub refute_within-returns-then-not-self-clause-surveyed : goal.refute_within-returns-then-not-self-clause-surveyed
 refute_within-returns-then-not-self-clause-surveyed g t c at is_at asks held within narrowed =
-    surveyed_wholly g.R.Rank at (trees_in (map plan_of c.args.self.now.stand.family.now)) c.args.self.now.stand.label c.args.self.now.span (plan_of c.args.side.now) asks within (within ++ given (side_of c.args.row.now.affine c.args.holds) ∷ []) c.args.passed.now c.args.refuted.now.items c.refute.new.refuted.items
+    surveyed_wholly g.R.Rank at (trees_in (map plan_of c.args.self.now.stand.family.now)) c.args.self.now.stand.label c.args.self.now.span (plan_of c.args.side.now) asks within (within ++ given (side_of c.args.row.now.affine c.args.holds) ∷ []) c.args.progress.now.passed c.args.progress.now.refuted.items c.refute.new.progress.refuted.items
     c.if-not-self.true (c.in_ok-refute.ensures.surveyed at is_at asks held within narrowed)
 
 pub refute_within-returns-then-not-branch-clause-surveyed : goal.refute_within-returns-then-not-branch-clause-surveyed
 refute_within-returns-then-not-branch-clause-surveyed g t c at is_at asks held within narrowed =
-    surveyed_beyond g.R.Rank at (trees_in (map plan_of c.args.self.now.stand.family.now)) c.args.self.now.stand.label c.args.self.now.span (plan_of c.args.side.now) asks (within ++ given (side_of c.args.row.now.affine c.args.holds) ∷ []) c.args.passed.now c.args.refuted.now.items
+    surveyed_beyond g.R.Rank at (trees_in (map plan_of c.args.self.now.stand.family.now)) c.args.self.now.stand.label c.args.self.now.span (plan_of c.args.side.now) asks (within ++ given (side_of c.args.row.now.affine c.args.holds) ∷ []) c.args.progress.now.passed c.args.progress.now.refuted.items
     c.if-not-self.false (c.in_ok-enter.ensures.nowhere c.if-not-branch.true within narrowed)
 
 pub refute_within-returns-clause-surveyed : goal.refute_within-returns-clause-surveyed

@@ -27,6 +27,6 @@ returns g c at is_at alive rows_are within narrowed =
     let is : family label ≡ plan_of c.in-Some.tree.now = tree_at c.args.self.now.stand.family.now label c.in-Some.tree.now (ltb-true label (length c.args.self.now.stand.family.now) (sym c.in-Some.ensures.lookup.0)) c.in-Some.ensures.lookup.1 in
     let empty : c.new-refuted.result.items ≡ [] = search rules in
     let from_none = subst
-    (λ old. IsSurveyed g.R.Rank at family label c.args.self.now.span (plan_of c.in-Some.tree.now) (rows_given c.args.rows.now) within 0 old c.refute.new.refuted.items)
+    (λ old. IsSurveyed g.R.Rank at family label c.args.self.now.span (plan_of c.in-Some.tree.now) (rows_given c.args.rows.now) within 0 old c.refute.new.progress.refuted.items)
     empty surveyed in
-    reviewed g.R.Rank at family label c.args.self.now.span within c.refute.new.refuted.items alive (rw (is, rows_are) from_none)
+    reviewed g.R.Rank at family label c.args.self.now.span within c.refute.new.progress.refuted.items alive (rw (is, rows_are) from_none)
