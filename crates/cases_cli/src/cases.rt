@@ -103,9 +103,13 @@ fn try_case<W: Write>(
     Ok(Outcome::Other)
 }
 
-/// The answer of the call, or why the line says no call. The text of a formula stands in its line as it is, while other texts are made of pieces.
+/// The answer of the call, or why the line says no call. The text of a formula stands in its line as it is, while other texts are made of pieces; and so do the
+/// words of a run.
 fn answer_of(alloc: Global, call: &str) -> Result<Result<Vec<u8>, &'static str>, AllocError> {
     if let Some(answer) = formula_cases::answer(alloc, call)? {
+        return Ok(Ok(answer));
+    }
+    if let Some(answer) = run_cases::answer(alloc, call)? {
         return Ok(Ok(answer));
     }
     let mut answer = Answer::new(alloc)?;

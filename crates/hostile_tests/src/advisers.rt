@@ -65,7 +65,7 @@ const LOOPS: [&str; 4] = [
 fn hints_that_say_nothing_change_nothing(rt: HostRuntime) -> Result<(), Fail> {
     let alloc = rt.alloc();
     for text in LOOPS {
-        let (status, written) = unadvised(alloc, text)?;
+        let (status, written) = unadvised(alloc, NO_OPTIONS, text.as_bytes())?;
         let mut advisers: Vec<Box<dyn Adviser>> = Vec::with_capacity(alloc, 2)?;
         advisers.push(Box::new(alloc, steady(1, Affine::constant(0)))?)?;
         advisers.push(Box::new(alloc, steady(1, Affine::constant(0)))?)?;
@@ -94,7 +94,7 @@ fn how_often_an_adviser_was_asked_is_told(rt: HostRuntime) -> Result<(), Fail> {
 
 #[test]
 fn nobody_need_advise(rt: HostRuntime) -> Result<(), Fail> {
-    let (status, written) = unadvised(rt.alloc(), COUNT_UP)?;
+    let (status, written) = unadvised(rt.alloc(), NO_OPTIONS, COUNT_UP.as_bytes())?;
     assert_eq!(rt; written.as_slice(), COUNT_UP_REPORT.as_bytes());
     assert_eq!(rt; status, Status::SomeInputs);
     Ok(())

@@ -2,7 +2,6 @@
 
 ghost use Rattle.std.specs.Prelude.{None};
 
-use crate::words::USAGE;
 use function_top::Status;
 use memory_runs::{
     COUNTDOWN, COUNTDOWN_REPORT, EMPTY, EMPTY_REPORT, NO_OPTIONS, outcome, outcome_within,
@@ -10,6 +9,10 @@ use memory_runs::{
 use outside::{Got, MemorySource, Source};
 use std::alloc::{AllocError, Global};
 use std::test::Fail;
+
+/// What is written for words that are refused.
+const USAGE: &str =
+    "usage: function [--ctl TEXT] [--domain boxes|octagons|polyhedra] [--delay N] [--at TEXT] [--explain] [--demo N]\n";
 
 // Gives one byte a call.
 #[derive(Drop)]

@@ -1,4 +1,4 @@
-//! Rows on `run` under hostile use: sources and sinks that drip, fail or never end, words and texts that are refused, texts and formulas up to the limits
+//! Rows on `run` under hostile use: sources and sinks that drip, fail or never end, a text that is cut off, no words at all, formulas up to the limits
 //! and past them, and advisers that lie.
 //!
 //! It holds tests alone, which need only the public calls of the crates below.

@@ -1,5 +1,5 @@
-//! Tests of single layers that no line of `cases_cli` can say: sources and sinks that fail, what is long or deep, the concrete trees of texts, the lines of
-//! trees and the texts of reports, and advisers that are asked turn after turn.
+//! Tests of single layers that no line of `cases_cli` can say: sources and sinks that fail, what is long or deep, the lines of trees and the texts of
+//! reports, and advisers that are asked turn after turn.
 //!
 //! It holds tests alone, which need only the public calls of the crates below.
 #![tactic(auto)]
@@ -14,5 +14,3 @@ mod lines;
 mod reports;
 #[cfg(test)]
 mod streams;
-#[cfg(test)]
-mod trees;

@@ -8,19 +8,11 @@ pub const EMPTY_REPORT: &str =
 /// What is written for each formula that holds of all inputs, and that is no until.
 pub const ALWAYS_HOLDS: &str = "proved:\nalways: holds\nunknown:\nverdict: all inputs\n";
 
-/// What is written for each program of one assignment.
-pub const ONE_STEP: &str =
-    "exact, 2 tests:\nalways: exactly 1 step\nproved:\nalways: within 1 step\nunknown:\nverdict: all inputs\n";
-
 pub const COUNTDOWN: &str = "int main() { int x; while (x > 0) x = x - 1; }";
 
 /// A test and a step a turn, and the last test.
 pub const COUNTDOWN_REPORT: &str =
     "exact, 2 tests:\n-x + 1 >= 0 and x - 1 >= 0: exactly 3 steps\n-x >= 0: exactly 1 step\n\
-    proved:\n-x >= 0: within 1 step\nx - 1 >= 0: within 2*x + 1 steps\nunknown:\nverdict: all inputs\n";
-
-/// The same with the option `--delay 0`.
-pub const COUNTDOWN_REPORT_BEFORE_TESTS: &str = "exact, 0 tests:\n\
     proved:\n-x >= 0: within 1 step\nx - 1 >= 0: within 2*x + 1 steps\nunknown:\nverdict: all inputs\n";
 
 /// A loop without an end, where it is begun.
@@ -30,18 +22,8 @@ pub const COUNT_UP_REPORT: &str =
     "exact, 2 tests:\n-x >= 0: exactly 1 step\nproved:\n-x >= 0: within 1 step\n\
     unknown:\nx - 1 >= 0: unknown\nverdict: some inputs\n";
 
-pub const ONE_TEST: &str = "int main() { int x; if (x > 0) x = 1; }";
-
-pub const ONE_TEST_REPORT: &str =
-    "exact, 2 tests:\n-x >= 0: exactly 1 step\nx - 1 >= 0: exactly 2 steps\n\
-    proved:\nalways: within 2 steps\nunknown:\nverdict: all inputs\n";
-
 pub const TWO_SPEEDS: &str =
     "int main() { int x; while (x > 0) { if (?) x = x - 1; else x = x - 2; } }";
-
-pub const TWO_SPEEDS_REPORT: &str =
-    "exact, 1 tests, then too many nodes:\n-x >= 0: exactly 1 step\n\
-    proved:\n-x >= 0: within 1 step\nx - 1 >= 0: within 3*x + 1 steps\nunknown:\nverdict: all inputs\n";
 
 /// A loop whose test comes down to `x - 1 >= 0`, counted down under noise in `y`.
 pub const NOISE: &str = "extern int __VERIFIER_nondet_int(void);

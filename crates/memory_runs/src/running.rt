@@ -75,9 +75,13 @@ pub fn outcome_by(
 }
 
 /// The status and the bytes of a run on a text without advisers.
-pub fn unadvised(alloc: Global, text: &str) -> Result<(Status, Vec<u8>), AllocError> {
+pub fn unadvised(
+    alloc: Global,
+    words: &[&str],
+    text: &[u8],
+) -> Result<(Status, Vec<u8>), AllocError> {
     let mut nobody: Vec<Box<dyn Adviser>> = Vec::new(alloc);
-    outcome_by(alloc, NO_OPTIONS, text.as_bytes(), &mut nobody)
+    outcome_by(alloc, words, text, &mut nobody)
 }
 
 // The status of a run, and the bytes that a sink with the room took.

@@ -1,6 +1,7 @@
 //! First faults of texts.
 ghost use Rattle.std.specs.Prelude.{◌≤◌, length};
 
+use crate::trees::push_tree;
 use case_text::Answer;
 use derivation::Rule;
 use source_lex::LexFault;
@@ -12,19 +13,21 @@ use std::alloc::{AllocError, Global};
 fn first_fault(alloc: Global, text: &[u8]) -> Result<Option<(u8, u32)>, AllocError>
     requires { length text.now ≤ 65536 }
 {
-    let fault = match read_syntax(alloc, text) {
-        Ok(_) => return Ok(None),
-        Err(fault) => fault,
-    };
-    Ok(Some(match fault {
-        SyntaxFault::Lex(LexFault::BadByte { at }) => (1, at),
-        SyntaxFault::Lex(LexFault::BigNumber { at }) => (2, at),
-        SyntaxFault::Lex(LexFault::OpenComment { at }) => (3, at),
-        SyntaxFault::Broken { rule, at } => (number_of(rule), at),
-        SyntaxFault::Lex(LexFault::Memory(error)) | SyntaxFault::Memory(error) => {
-            return Err(error);
-        }
-    }))
+    match read_syntax(alloc, text) {
+        Ok(_) => Ok(None),
+        Err(fault) => Ok(Some(numbered(fault)?)),
+    }
+}
+
+/// The number of the fault, and its offset.
+fn numbered(fault: SyntaxFault) -> Result<(u8, u32), AllocError> {
+    match fault {
+        SyntaxFault::Lex(LexFault::BadByte { at }) => Ok((1, at)),
+        SyntaxFault::Lex(LexFault::BigNumber { at }) => Ok((2, at)),
+        SyntaxFault::Lex(LexFault::OpenComment { at }) => Ok((3, at)),
+        SyntaxFault::Broken { rule, at } => Ok((number_of(rule), at)),
+        SyntaxFault::Lex(LexFault::Memory(error)) | SyntaxFault::Memory(error) => Err(error),
+    }
 }
 
 /// The number of the fault that a broken rule is.
@@ -34,6 +37,17 @@ fn number_of(rule: Rule) -> u8 {
         Rule::Nesting => 10,
         Rule::Operators => 11,
     }
+}
+
+/// Adds the tree of the text, or its first fault by the grammar and its limits.
+pub fn push_read(alloc: Global, text: &[u8], answer: &mut Answer) -> Result<(), AllocError>
+    requires { length text.now ≤ 65536 }
+{
+    match read_syntax(alloc, text) {
+        Ok(syntax) => push_tree(&syntax.tree, answer),
+        Err(fault) => push_numbered(Some(numbered(fault)?), "", answer),
+    }
+    Ok(())
 }
 
 /// Adds the first fault by the grammar and its limits, or that the text has a tree.

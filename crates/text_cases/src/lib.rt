@@ -1,6 +1,7 @@
 //! Calls on texts, and on what is written of functions and claims, as lines say them. Behind most calls stands a text.
 //! - `tokens` has its tokens, each with its offset and the offset behind it, or its fault, and `pieces` has their bytes, with `|` behind each, and `count` how many there are.
 //! - `syntax` says whether it has a tree or which fault is its first, as the number of the fault and its offset.
+//! - `tree` has its concrete tree, with the number of a token before what begins with it, and braces around each part of a statement.
 //! - `beginnings` has what `syntax` says of the texts that begin it and are shorter, without the offsets and each once.
 //! - `fault` says whether it is a program or which fault is its first.
 //! - `program` has the program whose `main` has these items: operators have parentheses, the parts of a statement braces, and a missing end of a range is `*`.
@@ -17,6 +18,7 @@ mod lines;
 mod programs;
 mod shown;
 mod tokens;
+mod trees;
 
 use case_text::{Answer, Words};
 pub use lines::answers as written;
@@ -42,6 +44,7 @@ pub fn answers(
         "pieces" => tokens::push_pieces(alloc, text, answer)?,
         "count" => tokens::push_count(alloc, text, answer)?,
         "syntax" => faults::push_syntax(alloc, text, answer)?,
+        "tree" => faults::push_read(alloc, text, answer)?,
         "beginnings" => faults::push_beginnings(alloc, text, answer)?,
         "fault" => faults::push_fault(alloc, text, answer)?,
         "program" => programs::push_program(alloc, text, words, answer)?,

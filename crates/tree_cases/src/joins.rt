@@ -1,9 +1,12 @@
 //! Calls that trim, prune, join and widen trees: `trim R and R .. in T`, `prune R and R .. in T`, `either T and T`, and so `both`, `later`, and `widen` for the
-//! first tree widened by the second. Behind `is` may stand a tree: then the answer is whether it was made.
+//! first tree widened by the second. Behind `is` may stand a tree: then the answer is whether it was made. Behind `prune` may stand `octagons` or `polyhedra`,
+//! where it isn't boxes that keep the rows.
 use case_text::{Answer, Words, read_rows, read_tree};
 use decision_tree::{AffineRank, Tree};
 use interval_dom::Boxes;
 use num_domain::NumDomain;
+use octagon_dom::Octagon;
+use poly_dom::Poly;
 use std::alloc::{AllocError, Global};
 use tree_unify::{TreeFault, both, either, later, prune, trim};
 use tree_widening::widen;
@@ -36,18 +39,29 @@ fn trimmed(alloc: Global, words: &mut Words<'_>) -> Result<Made, AllocError> {
     Ok(trim(alloc, &tree, &rows))
 }
 
-/// Reads rows and a tree behind `in`, and prunes it by the box of the rows.
+/// Reads the name of a domain, where one stands there, rows and a tree behind `in`, and prunes it by what the domain keeps of the rows.
 fn pruned(alloc: Global, words: &mut Words<'_>) -> Result<Made, AllocError> {
-    let members = members(alloc, words)?;
+    if words.takes("octagons") {
+        return pruned_by::<Octagon>(alloc, words);
+    }
+    if words.takes("polyhedra") {
+        return pruned_by::<Poly>(alloc, words);
+    }
+    pruned_by::<Boxes>(alloc, words)
+}
+
+/// The same under one domain.
+fn pruned_by<D: NumDomain>(alloc: Global, words: &mut Words<'_>) -> Result<Made, AllocError> {
+    let members: D = members(alloc, words)?;
     words.expect("in");
     let tree = read_tree(alloc, words)?;
     Ok(prune(alloc, &tree, &members))
 }
 
-/// Reads rows, and gives the box of the stores that meet them.
-fn members(alloc: Global, words: &mut Words<'_>) -> Result<Boxes, AllocError> {
+/// Reads rows, and gives what the domain keeps of the stores that meet them.
+fn members<D: NumDomain>(alloc: Global, words: &mut Words<'_>) -> Result<D, AllocError> {
     let rows = read_rows(alloc, words)?;
-    let mut members = Boxes::top(alloc)?;
+    let mut members = D::top(alloc)?;
     for row in &rows {
         members.meet_row(alloc, row)?;
     }
