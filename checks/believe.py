@@ -1,9 +1,9 @@
 #!/usr/bin/env python3
 """Sees that docs/PROOFS.md lists the definitions that a reader of the headline has to believe: all that `Headline` and `Form` name, and what
-those name, down to the words of the standard library.
+those name, down to the words of the standard library; and that in each file they stand first, before a line that says where they end.
 
-The list is a table between two marks. Where it isn't what the definitions give the check says so and ends with 1; with `--write` it writes the
-table anew.
+The list is made of tables between two marks, one for each question that a reader may have. Where it isn't what the definitions give the check says so and
+ends with 1; with `--write` it writes the tables anew.
 """
 import re
 import sys
@@ -13,6 +13,17 @@ TOP = Path(__file__).resolve().parent.parent
 PAGE = TOP / "docs/PROOFS.md"
 BEGIN, END = "<!-- begin: checks/believe.py -->", "<!-- end -->"
 ROOTS = [("function_top", "Headline", "Headline"), ("function_top", "Form", "Form")]
+
+# What a reader asks, with the crates whose definitions answer it.
+QUESTIONS = {
+    "What is claimed of a program": ("function_top", "ctl_formula", "step_meaning"),
+    "What a line of a report says": ("claim_line", "report_text", "line_text", "linear_cons"),
+    "Which text is which program": ("source_parse", "elaboration", "source_syntax", "concrete_syntax", "derivation", "source_lex"),
+    "Which text is which formula": ("formula_parse", "normal_form", "formula_syntax", "linear_forms"),
+    "What the words of the command line ask": ("command_words",),
+}
+# What stands behind the definitions that the list names, in a file that has more.
+LAST = "-- What follows has no part in the headline."
 
 HEAD = re.compile(r"^(\s*)(?:abbrev |unfoldable )?(?:pub )?(?:abbrev |unfoldable )?(data |record )?([\w'-]+)(?: [({][^=]*)? : ")
 IMPORT = re.compile(r"^\s*(?:pub )?use ([\w.]+?)(?:\.\{([^}]*)\})?(?: as (\w+))?$")
@@ -27,20 +38,22 @@ def without_comment(line):
 class Definition:
     """A definition with the constructors that it has, and the text in which it names others."""
 
-    def __init__(self, name, indent, family, around):
-        self.name, self.indent, self.family, self.around, self.lines, self.parts = name, indent, family, around, [], []
+    def __init__(self, name, at, indent, family, around):
+        self.name, self.at, self.indent, self.family, self.around, self.lines = name, at, indent, family, around, []
 
     def words(self):
         return WORD.findall("\n".join(self.around + self.lines))
 
 
 class Module:
-    """A file of definitions: what it imports, and what each name that it has belongs to."""
+    """A file of definitions: what it imports, what each name that it has belongs to, and behind which line none is in the list."""
 
     def __init__(self, path):
         self.imports, self.aliases, self.names = {}, {}, {}
         current, around = None, []
-        for line in map(without_comment, path.read_text().splitlines()):
+        lines = path.read_text().splitlines()
+        self.last = lines.index(LAST) if LAST in lines else len(lines)
+        for at, line in enumerate(map(without_comment, lines)):
             if not line.strip():
                 continue
             if match := IMPORT.match(line):
@@ -57,7 +70,7 @@ class Module:
                 around = []
             inside = current and current.family and indent > current.indent
             if not inside and (match := HEAD.match(line)):
-                current = Definition(match.group(3), indent, match.group(2), list(around))
+                current = Definition(match.group(3), at, indent, match.group(2), list(around))
                 self.names[current.name] = current
             if current:
                 current.lines.append(line)
@@ -94,6 +107,8 @@ class Repository:
         if parts[0] != "Rattle" or len(parts) < 4 or parts[1] not in self.crates or parts[2] != "specs":
             return None
         crate, rest = parts[1], parts[3:]
+        if rest[0] == "Laws":
+            return None
         if rest[0] == "declared":
             return crate, None, next(part for part in reversed(rest) if part != "TheVariants")
         found = self.module(crate, ".".join(rest))
@@ -142,34 +157,64 @@ def believed(repository):
     return found
 
 
-def table(repository):
-    files = {}
-    for crate, file, item in believed(repository):
-        files.setdefault((crate, file or ""), set()).add(item)
+def table(repository, files):
+    """The rows of the files, and how many lines of definitions they have."""
     rows, count = [], 0
-    for crate, file in sorted(files, key=lambda at: (-repository.crates.index(at[0]), at[1])):
+    for crate, file in files:
         items = files[crate, file]
         names = sorted(item.name if file else item for item in items)
         lines = sum(len(item.lines) for item in items) if file else sum(repository.lines_of_type(crate, item) for item in items)
         count += lines
         place = f"`{crate}/specs/{file.replace('.', '/')}`" if file else f"`{crate}`, types of the code"
         rows.append(f"| {place} | {', '.join(f'`{name}`' for name in names)} | {lines} |")
-    head = ["| where | what | lines |", "| --- | --- | --- |"]
-    return "\n".join(head + rows) + f"\n\nThese are {count} lines in {len(rows)} places."
+    return rows, count
+
+
+def tables(repository):
+    """A table for each question, in the order of the crates from the top down."""
+    files = {}
+    for crate, file, item in believed(repository):
+        files.setdefault((crate, file or ""), set()).add(item)
+    places = sorted(files, key=lambda at: (-repository.crates.index(at[0]), at[1]))
+    parts, total = [], 0
+    for question, crates in QUESTIONS.items():
+        rows, count = table(repository, {at: files[at] for at in places if at[0] in crates})
+        total += count
+        parts += [f"**{question}** ({count} lines)\n", "| where | what | lines |", "| --- | --- | --- |", *rows, ""]
+    left = {crate for crate, _ in places} - {crate for crates in QUESTIONS.values() for crate in crates}
+    if left:
+        sys.exit(f"checks/believe.py: no question is answered by {' '.join(sorted(left))}")
+    return "\n".join(parts) + f"\nThese are {total} lines in {len(places)} places."
+
+
+def misplaced(repository):
+    """Lines on files in which the definitions of the list aren't those before the line that says where they end."""
+    needed = {}
+    for crate, file, item in believed(repository):
+        if file:
+            needed.setdefault((crate, file), set()).add(item)
+    for (crate, file), items in sorted(needed.items(), key=lambda at: at[0]):
+        module = repository.module(crate, file)
+        for item in sorted(set(module.names.values()), key=lambda item: item.at):
+            if (item in items) != (item.at < module.last):
+                yield f"crates/{crate}/specs/{file}.antt: {item.name} stands on the wrong side of '{LAST}'"
 
 
 def main():
-    made = f"{BEGIN}\n{table(Repository())}\n{END}"
+    repository = Repository()
+    wrong = list(misplaced(repository))
+    for line in wrong:
+        print(line)
+    made = f"{BEGIN}\n{tables(repository)}\n{END}"
     page = PAGE.read_text()
     begin, end = page.index(BEGIN), page.index(END) + len(END)
     if page[begin:end] == made:
-        return 0
+        return int(bool(wrong))
     if "--write" in sys.argv[1:]:
         PAGE.write_text(page[:begin] + made + page[end:])
-        return 0
+        return int(bool(wrong))
     print("docs/PROOFS.md: what a reader has to believe has changed; see it with checks/believe.py --write")
     return 1
-
 
 if __name__ == "__main__":
     sys.exit(main())

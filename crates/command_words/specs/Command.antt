@@ -22,10 +22,12 @@ command =
 abbrev pub AreTaken : List Text → Type 0
 AreTaken words = fault_of command words ≡ []
 
--- the values of the options that were read, by their names
-abbrev pub values_of : Found → Text → Option Text
-values_of found name = first_of name (rows_of found)
-
 -- the value that `clap` reads for an option, where it is given; that of a flag is `true`, or `false` where it isn't given
 abbrev pub value_in : List Text → Text → Option Text
 value_in words name = first_of name (matches_of command words)
+
+-- What follows has no part in the headline.
+
+-- the values of the options that were read, by their names
+abbrev pub values_of : Found → Text → Option Text
+values_of found name = first_of name (rows_of found)

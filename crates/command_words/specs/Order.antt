@@ -23,20 +23,6 @@ pub data Request : Type 0 where
   analysis : Task → Request
   demo : ℕ → Request
 
--- what a query and an order ask
-abbrev pub task_of : Query → Task
-task_of query = record {
-  domain = query.domain;
-  delay = query.delay;
-  formula = option_map (λ text. text.now) query.formula;
-  input = option_map (λ text. text.now) query.input;
-  explain = query.explain;
-}
-
-abbrev pub request_of : Order → Request
-request_of (Analysis query) = analysis (task_of query)
-request_of (Demo number) = demo number
-
 -- how a domain is named
 abbrev pub name_of : Domain → Text
 name_of Boxes = codes "boxes"
@@ -92,6 +78,22 @@ Requests value (demo number) = IsDemo value number
 -- The words, the program's name first, ask for this: `clap` takes them, and the values that it reads ask for it. Other words ask for nothing.
 abbrev pub Ask : List Text → Request → Type 0
 Ask words request = AreTaken words × Requests (value_in words) request
+
+-- What follows has no part in the headline.
+
+-- what a query and an order ask
+abbrev pub task_of : Query → Task
+task_of query = record {
+  domain = query.domain;
+  delay = query.delay;
+  formula = option_map (λ text. text.now) query.formula;
+  input = option_map (λ text. text.now) query.input;
+  explain = query.explain;
+}
+
+abbrev pub request_of : Order → Request
+request_of (Analysis query) = analysis (task_of query)
+request_of (Demo number) = demo number
 
 -- the words ask for something
 abbrev pub Accepted : List Text → Type 0

@@ -10,6 +10,8 @@ ctl_of_kind Always = always
 ctl_of_kind Never = never
 ctl_of_kind (Kept row) = least row.affine
 
+-- What follows has no part in the headline.
+
 abbrev pub ctl : Formula → Ctl
 ctl True = truth
 ctl False = falsity

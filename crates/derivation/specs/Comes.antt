@@ -11,6 +11,14 @@ pub record Phrase (L : Language) : Type 1 where
   pub Tree : Type 0
   pub pieces : Tree → List (Piece L)
 
+-- the words are what this tree spells, within the limits
+pub record IsSpelledBy {L : Language} (A : Phrase L) (all : List L.Word) (tree : A.Tree) : Type 0 where
+  pub spelled : all ≡ spelling (A.pieces tree)
+  pub fits : Fits 0 (A.pieces tree)
+  pub within : AllWithin 0 (A.pieces tree)
+
+-- What follows has no part in the headline.
+
 -- a next word that may stand in place of another: whatever the other meets it meets too
 abbrev pub MayStandFor : (L : Language) → Option L.Word → Option L.Word → Type 0
 MayStandFor L next other = (l : L.Look) (n : ℕ) → L.Meets l n other → L.Meets l n next
@@ -74,9 +82,3 @@ pub record FirstFault {L : Language} (A : Phrase L) (all : List L.Word) (rule : 
   pub fits : Fits 0 (A.pieces tree)
   pub begins : A.pieces tree ≡ front ++ rest
   pub cause : Cause 0 0 A rule front rest (first to)
-
--- the words are what this tree spells, within the limits
-pub record IsSpelledBy {L : Language} (A : Phrase L) (all : List L.Word) (tree : A.Tree) : Type 0 where
-  pub spelled : all ≡ spelling (A.pieces tree)
-  pub fits : Fits 0 (A.pieces tree)
-  pub within : AllWithin 0 (A.pieces tree)

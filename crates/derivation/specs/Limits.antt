@@ -17,10 +17,6 @@ abbrev pub IsCounted : ℕ → ℕ → Counting → Type 0
 IsCounted most count one_more = count + 1 ≤ most
 IsCounted most count _ = ⊤
 
-abbrev pub IsTooMany : ℕ → ℕ → Counting → Type 0
-IsTooMany most count one_more = most < count + 1
-IsTooMany most count _ = ⊥
-
 -- a token within the limits, where its expression has so many operators before it
 abbrev pub IsWithin : {L : Language} → ℕ → Token L → Type 0
 IsWithin {L} count t = (t.level ≤ 64) × IsCounted L.most_operators count t.counting
@@ -30,6 +26,12 @@ abbrev pub AllWithin : {L : Language} → ℕ → List (Piece L) → Type 0
 AllWithin count [] = ⊤
 AllWithin count (token t ∷ more) = IsWithin count t × AllWithin (count_on count t.counting) more
 AllWithin count (look l ∷ more) = AllWithin count more
+
+-- What follows has no part in the headline.
+
+abbrev pub IsTooMany : ℕ → ℕ → Counting → Type 0
+IsTooMany most count one_more = most < count + 1
+IsTooMany most count _ = ⊥
 
 -- the number of operators behind the pieces
 abbrev pub count_behind : {L : Language} → ℕ → List (Piece L) → ℕ

@@ -19,33 +19,17 @@ pub data Piece (L : Language) : Type 0 where
   token : Token L → Piece L
   look : L.Look → Piece L
 
--- what is still to be read: the number of its first token, counted from 0, and its words
-pub record Rest (L : Language) : Type 0 where
-  pub number : ℕ
-  pub words : List L.Word
-
 -- the words of the pieces
 abbrev pub spelling : {L : Language} → List (Piece L) → List L.Word
 spelling [] = []
 spelling (token t ∷ more) = t.word ∷ spelling more
 spelling (look l ∷ more) = spelling more
 
--- the next word, if there is one
-abbrev pub first : {W : Type 0} → List W → Option W
-first [] = None
-first (next ∷ more) = Some next
-
 -- the first word of the pieces, or where they have none the one behind them
 abbrev pub first_before : {L : Language} → List (Piece L) → Option L.Word → Option L.Word
 first_before [] behind = behind
 first_before (token t ∷ more) behind = Some t.word
 first_before (look l ∷ more) behind = first_before more behind
-
--- the number of the token behind the pieces, from that of their first
-abbrev pub number_behind : {L : Language} → ℕ → List (Piece L) → ℕ
-number_behind n [] = n
-number_behind n (token t ∷ more) = number_behind (n + 1) more
-number_behind n (look l ∷ more) = number_behind n more
 
 -- from the token of the number `n` on and before this next word, each token is as it is asked for
 abbrev pub FitsBefore : {L : Language} → ℕ → List (Piece L) → Option L.Word → Type 0
@@ -56,3 +40,21 @@ FitsBefore {L} n (look l ∷ more) behind = L.Meets l n (first_before more behin
 -- the same where nothing stands behind the pieces
 abbrev pub Fits : {L : Language} → ℕ → List (Piece L) → Type 0
 Fits n pieces = FitsBefore n pieces None
+
+-- What follows has no part in the headline.
+
+-- what is still to be read: the number of its first token, counted from 0, and its words
+pub record Rest (L : Language) : Type 0 where
+  pub number : ℕ
+  pub words : List L.Word
+
+-- the next word, if there is one
+abbrev pub first : {W : Type 0} → List W → Option W
+first [] = None
+first (next ∷ more) = Some next
+
+-- the number of the token behind the pieces, from that of their first
+abbrev pub number_behind : {L : Language} → ℕ → List (Piece L) → ℕ
+number_behind n [] = n
+number_behind n (token t ∷ more) = number_behind (n + 1) more
+number_behind n (look l ∷ more) = number_behind n more

@@ -30,15 +30,17 @@ names_of p = (walked p).scope.declared
 abbrev pub body_of : Program → Statements
 body_of p = of_list (walked p).body
 
--- the offsets in the text of its statements
-abbrev pub program_offsets : List Token → Program → List ℕ
-program_offsets tokens p = offsets_in tokens (walked p).tokens
-
 -- the tree has no such fault, and stands for the program of these names and this body
 pub record StandsFor (p : Program) (names : List Name) (body : Statements) : Type 0 where
   pub faultless : faults_of p ≡ []
   pub declares : names ≡ names_of p
   pub means : body ≡ body_of p
+
+-- What follows has no part in the headline.
+
+-- the offsets in the text of its statements
+abbrev pub program_offsets : List Token → Program → List ℕ
+program_offsets tokens p = offsets_in tokens (walked p).tokens
 
 -- the tree's first fault of names, sorts, jumps and divisors
 abbrev pub HasFirstFault : Program → faults.Fault → Type 0

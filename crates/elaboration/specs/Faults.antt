@@ -4,6 +4,11 @@ use Rattle.elaboration.specs.declared.fault.Rule.{Rule}
 use Rattle.elaboration.specs.declared.fault.Rule.TheVariants.{Unknown, Twice, Mixed, BadRange, Variables, Outside, ZeroDivisor}
 use Rattle.elaboration.specs.declared.fault.Fault.{Fault}
 
+abbrev pub fault : Rule → ℕ → Fault
+fault rule token = record { rule = rule; token = token }
+
+-- What follows has no part in the headline.
+
 -- the rules in their order: of two faults at one token the one of the earlier rule comes first
 abbrev pub order_of : Rule → ℕ
 order_of Unknown = 0
@@ -31,6 +36,3 @@ earliest (Some g) (f ∷ more) = earliest (Some (first_of g f)) more
 pub record IsFirstOf (faults : List Fault) (f : Fault) : Type 0 where
   pub among : Contains faults f
   pub least : All (λ g. is_before g f ≡ Bool.false) faults
-
-abbrev pub fault : Rule → ℕ → Fault
-fault rule token = record { rule = rule; token = token }

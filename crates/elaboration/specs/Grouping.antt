@@ -45,6 +45,8 @@ attach (leaf a) joint = joined (leaf a) joint
 attach (node top l r) joint = if nat_lt (tightness top) (joint_tightness joint) then node top l (attach r joint) else joined (node top l r) joint
 attach (divided sign l by) joint = joined (divided sign l by) joint
 
+-- What follows has no part in the headline.
+
 -- the operands in the order of the text: the first one, and what stands behind it, one by one
 abbrev pub first_operand : {A : Type 0} → Grouped A → A
 first_operand (leaf a) = a

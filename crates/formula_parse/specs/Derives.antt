@@ -22,5 +22,7 @@ pub record IsFormulaOf (text : List ℕ) (names : List (List ℕ)) (f : Ctl) : T
   pub spelled : IsFormulaText text tree
   pub stands : StandsFor names tree f
 
+-- What follows has no part in the headline.
+
 abbrev pub DerivesFormula : List ℕ → List (List ℕ) → Formula → Type 0
 DerivesFormula text names formula = IsFormulaOf text names (ctl formula)

@@ -53,13 +53,6 @@ abbrev mutual
 abbrev pub unknown_in : List (List ℕ) → Formula → Option ℕ
 unknown_in names f = or_else (unknown_in_part names f.part) (unknown_in_chain names f.chain)
 
--- the number of a sum's first token
-abbrev pub first_of_factor : Factor → ℕ
-first_of_factor (factor_at at kind) = at
-
-abbrev pub first_token : Sum → ℕ
-first_token s = first_of_factor s.factor
-
 -- both sides of a comparison are affine, and all numbers that they and it form are within 128 bits
 pub record AtomFits (comparison : Comparison) (left right : Expression) : Type 0 where
   pub left_affine : IsAffine left
@@ -84,6 +77,15 @@ abbrev mutual
 
 abbrev pub AllFit : List (List ℕ) → Formula → Type 0
 AllFit names f = PartFits names f.part × ChainFits names f.chain
+
+-- What follows has no part in the headline.
+
+-- the number of a sum's first token
+abbrev pub first_of_factor : Factor → ℕ
+first_of_factor (factor_at at kind) = at
+
+abbrev pub first_token : Sum → ℕ
+first_token s = first_of_factor s.factor
 
 -- the first atom that doesn't fit begins at this token
 abbrev mutual

@@ -39,11 +39,13 @@ Token = TokenOf language
 abbrev pub Piece : Type 0
 Piece = PieceOf language
 
-abbrev pub Rest : Type 0
-Rest = RestOf language
-
 abbrev pub Phrase : Type 1
 Phrase = PhraseOf language
+
+-- What follows has no part in the headline.
+
+abbrev pub Rest : Type 0
+Rest = RestOf language
 
 -- a word that no end forbids
 abbrev pub IsQuiet : Option Word → Type 0

@@ -70,6 +70,8 @@ word text token = word_of token.kind (lexeme text token)
 abbrev pub words : List ℕ → List Token → List Word
 words text tokens = map (word text) tokens
 
+-- What follows has no part in the headline.
+
 -- the words that the reader's own lexemes are
 abbrev pub spelled : Lexeme → Word
 spelled (L.Sign s) = sign s

@@ -12,6 +12,15 @@ use Rattle.function_top.specs.Found.{IsFound}
 use Rattle.function_top.specs.Shown.{Shows}
 use Rattle.function_top.specs.Subject.{Subject}
 
+-- a summary: the number, how many bytes the text has, how many labels the program has, the final one among them, how many lines are proved, and
+-- the verdict
+abbrev pub summary_lines : (number bytes labels proved : ℕ) → List (List ℕ)
+summary_lines number bytes labels proved =
+    (codes "demo " ++ numeral number) ∷ ((codes "bytes " ++ numeral bytes) ∷ ((codes "labels " ++ numeral labels)
+    ∷ ((codes "proved lines " ++ numeral proved) ∷ (codes "verdict: all inputs" ∷ []))))
+
+-- What follows has no part in the headline.
+
 -- what is asked of an analysis where nothing is chosen
 abbrev pub defaults : Task
 defaults = record { domain = Boxes; delay = 2; formula = None; input = None; explain = false }
@@ -19,13 +28,6 @@ defaults = record { domain = Boxes; delay = 2; formula = None; input = None; exp
 -- the demo program of a number, and that each of its runs ends
 abbrev pub demo_subject : ℕ → Subject
 demo_subject number = record { names = demo_names; body = demo_body number; formula = af_exit }
-
--- a summary: the number, how many bytes the text has, how many labels the program has, the final one among them, how many lines are proved, and
--- the verdict
-abbrev pub summary_lines : (number bytes labels proved : ℕ) → List (List ℕ)
-summary_lines number bytes labels proved =
-    (codes "demo " ++ numeral number) ∷ ((codes "bytes " ++ numeral bytes) ∷ ((codes "labels " ++ numeral labels)
-    ∷ ((codes "proved lines " ++ numeral proved) ∷ (codes "verdict: all inputs" ∷ []))))
 
 -- By the demo program of this number these bytes are due, and each adviser is asked for them so many times: with the defaults this was found of
 -- the program, and the report that shows it covers all inputs; the bytes are its summary.

@@ -6,12 +6,14 @@ use Rattle.line_text.specs.Numeral.{numeral}
 abbrev pub usage_line : List ℕ
 usage_line = codes "usage: function [--ctl TEXT] [--domain boxes|octagons|polyhedra] [--delay N] [--at TEXT] [--explain] [--demo N]"
 
-abbrev pub usage_text : List ℕ
-usage_text = usage_line ++ 10 ∷ []
-
 -- the line of a fault: what has it, a program or a formula, its number and its offset
 abbrev pub fault_line : List ℕ → ℕ → ℕ → List ℕ
 fault_line what number offset = what ++ (codes ": " ++ (numeral number ++ (codes " at " ++ numeral offset)))
+
+-- What follows has no part in the headline.
+
+abbrev pub usage_text : List ℕ
+usage_text = usage_line ++ 10 ∷ []
 
 abbrev pub fault_text : List ℕ → ℕ → ℕ → List ℕ
 fault_text what number offset = fault_line what number offset ++ 10 ∷ []

@@ -13,10 +13,6 @@ pub record Subject : Type 0 where
   pub body : Statements
   pub formula : Ctl
 
--- a program with a formula
-abbrev pub subject_of : Program → Ctl → Subject
-subject_of program formula = record { names = program.names; body = statements program.body; formula = formula }
-
 -- over the names the text, where one is asked about, is this formula; where none is, it is `AF exit`, that each run ends
 abbrev pub IsFormulaAsked : List (List ℕ) → Option (List ℕ) → Ctl → Type 0
 IsFormulaAsked names None formula = formula ≡ af_exit
@@ -26,3 +22,9 @@ IsFormulaAsked names (Some text) formula = IsFormulaOf text names formula
 pub record IsSubject (task : Task) (text : List ℕ) (subject : Subject) : Type 0 where
   pub program : IsProgramText text subject.names subject.body
   pub formula : IsFormulaAsked subject.names task.formula subject.formula
+
+-- What follows has no part in the headline.
+
+-- a program with a formula
+abbrev pub subject_of : Program → Ctl → Subject
+subject_of program formula = record { names = program.names; body = statements program.body; formula = formula }

@@ -28,10 +28,6 @@ row_texts names rows = map (λ row. row_text names row) rows
 abbrev pub condition_text : List (List ℕ) → List Affine → List ℕ
 condition_text names condition = joined (row_texts names condition)
 
--- the functions of rows, which are what a condition speaks of
-abbrev pub functions_of : List Row → List Affine
-functions_of rows = map (λ row. row.affine) rows
-
 -- the function is the constant 1
 abbrev pub is_one : Affine → Bool
 is_one affine = int_eq affine.constant (pos 1) && list_all (λ number. int_eq number (pos 0)) affine.coef
@@ -50,3 +46,9 @@ claim_text names Unknown = codes "unknown"
 -- a line, without the newline byte that ends it
 abbrev pub line_text : List (List ℕ) → List Affine → Claim → List ℕ
 line_text names condition claim = condition_text names condition ++ (codes ": " ++ claim_text names claim)
+
+-- What follows has no part in the headline.
+
+-- the functions of rows, which are what a condition speaks of
+abbrev pub functions_of : List Row → List Affine
+functions_of rows = map (λ row. row.affine) rows

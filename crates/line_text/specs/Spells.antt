@@ -24,6 +24,8 @@ pub record Spells (names : List (List ℕ)) (line : List ℕ) (condition : List 
 abbrev pub MeetsCondition : List ℤ → List Affine → Type 0
 MeetsCondition store condition = All (λ row. pos 0 ≤ℤ value_at row store) condition
 
+-- What follows has no part in the headline.
+
 -- the bytes end with those of the ending
 abbrev pub EndsWith : List ℕ → List ℕ → Type 0
 EndsWith bytes ending = (front : List ℕ) × (bytes ≡ front ++ ending)

@@ -16,6 +16,8 @@ abbrev pub IsUpTo : Option ℤ → ℤ → Type 0
 IsUpTo None z = ⊤
 IsUpTo (Some hi) z = z ≤ℤ hi
 
+-- What follows has no part in the headline.
+
 -- the lower and the upper end at a place; past the last there are none
 abbrev pub lower_end : Bounds → ℕ → Option ℤ
 lower_end bounds i = (slice_index_or bounds.ends i (None, None)).0

@@ -12,10 +12,6 @@ pub record IsDivisorOf (xs : List ℤ) (g : ℕ) : Type 0 where
   pub divides : DividesAll g xs
   pub greatest : (d : ℕ) → DividesAll d xs → d ∣ g
 
--- the greatest common divisor is 1: no other number divides all sixteen
-abbrev pub IsPrimitive : List ℤ → Type 0
-IsPrimitive xs = (d : ℕ) → DividesAll d xs → d ≡ 1
-
 -- Euclid's algorithm in so many steps
 abbrev pub gcd_within : ℕ → ℕ → ℕ → ℕ
 gcd_within zero a b = a
@@ -33,3 +29,9 @@ divisor_below (suc n) xs = gcd (unsigned_abs (number_at xs n)) (divisor_below n 
 -- that of all sixteen
 abbrev pub divisor_of : List ℤ → ℕ
 divisor_of xs = divisor_below 16 xs
+
+-- What follows has no part in the headline.
+
+-- the greatest common divisor is 1: no other number divides all sixteen
+abbrev pub IsPrimitive : List ℤ → Type 0
+IsPrimitive xs = (d : ℕ) → DividesAll d xs → d ≡ 1

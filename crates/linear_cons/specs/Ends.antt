@@ -6,6 +6,12 @@ use Rattle.linear_cons.specs.declared.bounds.Linear.{Linear}
 use Rattle.linear_cons.specs.Functions.{coefficient}
 use Rattle.linear_cons.specs.Bounds.{lower_end, upper_end}
 
+-- exactly the function, which leaves nothing out
+abbrev pub exactly : Affine → Linear
+exactly a = record { affine = a; lo = Some (pos 0); hi = Some (pos 0) }
+
+-- What follows has no part in the headline.
+
 -- the number is at least -2^127 and below 2^127
 unfoldable pub fits : ℤ → Bool
 fits (pos n) = nat_lt n (2 ^ 127)
@@ -44,10 +50,6 @@ terms_end (suc n) a own other =
 -- the end of the whole: the terms, then the constant, then the form's own end
 abbrev pub value_end : Affine → (ℕ → Option ℤ) → (ℕ → Option ℤ) → Option ℤ → Option ℤ
 value_end a own other last = ends_from (λ v e. v +ℤ e) (end_from (λ s. s +ℤ a.constant) (terms_end 16 a own other)) last
-
--- exactly the function, which leaves nothing out
-abbrev pub exactly : Affine → Linear
-exactly a = record { affine = a; lo = Some (pos 0); hi = Some (pos 0) }
 
 -- the least and the greatest value of a linear form over the bounds
 abbrev pub least_value : Linear → Bounds → Option ℤ

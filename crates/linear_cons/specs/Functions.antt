@@ -23,6 +23,25 @@ value_at a store = form_at a store (pos 1)
 abbrev pub constant_of : ℤ → Affine
 constant_of c = record { coef = at_places (λ i. pos 0); constant = c }
 
+-- the first less the second, place by place
+abbrev pub difference_of : Affine → Affine → Affine
+difference_of a b = record { coef = at_places (λ i. coefficient a i -ℤ coefficient b i); constant = a.constant -ℤ b.constant }
+
+-- every number of the function fits 128 bits
+pub record NumbersFit (a : Affine) : Type 0 where
+  pub coefficients : (i : ℕ) → i < 16 → Fits128 (coefficient a i)
+  pub constants : Fits128 a.constant
+
+-- the function divided by a positive number, each of its numbers rounded down
+abbrev pub quotient_by : ℕ → Affine → Affine
+quotient_by g a = record { coef = at_places (λ i. floor_by g (coefficient a i)); constant = floor_by g a.constant }
+
+-- `-e - 1`, which is at least 0 at exactly the stores where `e` is not
+abbrev pub complement_of : Affine → Affine
+complement_of e = difference_of (constant_of (negsuc 0)) e
+
+-- What follows has no part in the headline.
+
 -- the function whose value is the number at the place
 abbrev pub variable_at : ℕ → Affine
 variable_at place = record { coef = at_places (λ i. if i == place then pos 1 else pos 0); constant = pos 0 }
@@ -30,10 +49,6 @@ variable_at place = record { coef = at_places (λ i. if i == place then pos 1 el
 -- the sum, place by place
 abbrev pub sum_of : Affine → Affine → Affine
 sum_of a b = record { coef = at_places (λ i. coefficient a i +ℤ coefficient b i); constant = a.constant +ℤ b.constant }
-
--- the first less the second, place by place
-abbrev pub difference_of : Affine → Affine → Affine
-difference_of a b = record { coef = at_places (λ i. coefficient a i -ℤ coefficient b i); constant = a.constant -ℤ b.constant }
 
 -- the operation on the two numbers at each place
 abbrev pub combined : Op → Affine → Affine → Affine
@@ -59,11 +74,6 @@ products_added a place by = multiple_of by (coefficient a place)
 -- the function with another put in for the variable at the place
 abbrev pub substituted : Affine → ℕ → Affine → Affine
 substituted a place by = sum_of (without a place) (products_added a place by)
-
--- every number of the function fits 128 bits
-pub record NumbersFit (a : Affine) : Type 0 where
-  pub coefficients : (i : ℕ) → i < 16 → Fits128 (coefficient a i)
-  pub constants : Fits128 a.constant
 
 -- both products of two numbers with their factors, and the sum of the two, fit 128 bits
 pub record ProductsFit (left by right times : ℤ) : Type 0 where
@@ -105,10 +115,6 @@ pub record IsOver (vars : ℕ) (a : Affine) : Type 0 where
   pub places : length a.coef ≡ 16
   pub past : (place : ℕ) → vars ≤ place → coefficient a place ≡ pos 0
 
--- the function divided by a positive number, each of its numbers rounded down
-abbrev pub quotient_by : ℕ → Affine → Affine
-quotient_by g a = record { coef = at_places (λ i. floor_by g (coefficient a i)); constant = floor_by g a.constant }
-
 -- the second function is the first divided by a positive number, its constant rounded down
 pub record IsQuotient (a quotient : Affine) : Type 0 where
   pub divisor : ℕ
@@ -117,10 +123,6 @@ pub record IsQuotient (a quotient : Affine) : Type 0 where
   pub coefficients : (i : ℕ) → i < 16 → coefficient a i ≡ pos divisor *ℤ coefficient quotient i
   pub at_most : (pos divisor *ℤ quotient.constant) ≤ℤ a.constant
   pub below_next : a.constant <ℤ (pos divisor *ℤ (quotient.constant +ℤ pos 1))
-
--- `-e - 1`, which is at least 0 at exactly the stores where `e` is not
-abbrev pub complement_of : Affine → Affine
-complement_of e = difference_of (constant_of (negsuc 0)) e
 
 -- each coefficient of the one is the negative of the other's
 abbrev pub HasNegatives : Affine → Affine → Type 0

@@ -8,6 +8,17 @@ use Rattle.linear_cons.specs.Divisor.{IsDivisorOf, divisor_of}
 use Rattle.linear_cons.specs.Functions.{HasNegatives, IsConstant, IsQuotient, complement_of, form_at, quotient_by}
 use Rattle.linear_cons.specs.Laws.Primitive.{divisor_is, primitive_complement, primitive_quotient}
 
+-- the kind by the greatest common divisor of the coefficients: where that is 0 no variable occurs, and the constant's sign tells
+abbrev pub kind_by : (a : Affine) (g : ℕ) → IsDivisorOf a.coef g → RowKind
+kind_by a zero divisor = if int_lt a.constant (pos 0) then Never else Always
+kind_by a (suc n) divisor = Kept (record { affine = quotient_by (suc n) a; primitive = primitive_quotient a n divisor })
+
+-- what `a >= 0` is as a row: `IsRowOf` holds of this kind and of no other
+unfoldable pub row_kind_of : Affine → RowKind
+row_kind_of a = kind_by a (divisor_of a.coef) (divisor_is a.coef)
+
+-- What follows has no part in the headline.
+
 -- the point num / den, with den above 0, meets the row: the value there, times den, is at least 0
 abbrev pub PointMeets : List ℤ → ℤ → Row → Type 0
 PointMeets num den row = pos 0 ≤ℤ form_at row.affine num den
@@ -40,15 +51,6 @@ abbrev pub IsRowOf : Affine → RowKind → Type 0
 IsRowOf a Always = IsConstant a × (pos 0 ≤ℤ a.constant)
 IsRowOf a Never = IsConstant a × (a.constant <ℤ pos 0)
 IsRowOf a (Kept row) = IsQuotient a row.affine
-
--- the kind by the greatest common divisor of the coefficients: where that is 0 no variable occurs, and the constant's sign tells
-abbrev pub kind_by : (a : Affine) (g : ℕ) → IsDivisorOf a.coef g → RowKind
-kind_by a zero divisor = if int_lt a.constant (pos 0) then Never else Always
-kind_by a (suc n) divisor = Kept (record { affine = quotient_by (suc n) a; primitive = primitive_quotient a n divisor })
-
--- what `a >= 0` is as a row: `IsRowOf` holds of this kind and of no other
-unfoldable pub row_kind_of : Affine → RowKind
-row_kind_of a = kind_by a (divisor_of a.coef) (divisor_is a.coef)
 
 -- the row that is met by exactly the stores that don't meet this one
 abbrev pub complement : Row → Row

@@ -15,23 +15,6 @@ use Rattle.linear_cons.specs.Rows.{row_kind_of}
 use Rattle.linear_cons.specs.Ends.{ends_from}
 use Rattle.linear_forms.specs.Linearising.{linear_of, numbers_fit}
 
--- the comparison that holds exactly where this one doesn't
-abbrev pub opposite : Op2 → Op2
-opposite Less = GreaterEqual
-opposite LessEqual = Greater
-opposite Greater = LessEqual
-opposite GreaterEqual = Less
-opposite Equal = NotEqual
-opposite NotEqual = Equal
-opposite Add = Add
-opposite Sub = Sub
-opposite Mul = Mul
-opposite And = And
-opposite Or = Or
-
-abbrev pub comparison_for : Bool → Op2 → Op2
-comparison_for outcome op = if outcome then op else opposite op
-
 -- what a row of a comparison says: the one side is at least the other, or greater where the row is strict
 pub record Claim : Type 0 where
   pub greater : Linear
@@ -57,6 +40,25 @@ claims Sub x y = []
 claims Mul x y = []
 claims And x y = []
 claims Or x y = []
+
+-- What follows has no part in the headline.
+
+-- the comparison that holds exactly where this one doesn't
+abbrev pub opposite : Op2 → Op2
+opposite Less = GreaterEqual
+opposite LessEqual = Greater
+opposite Greater = LessEqual
+opposite GreaterEqual = Less
+opposite Equal = NotEqual
+opposite NotEqual = Equal
+opposite Add = Add
+opposite Sub = Sub
+opposite Mul = Mul
+opposite And = And
+opposite Or = Or
+
+abbrev pub comparison_for : Bool → Op2 → Op2
+comparison_for outcome op = if outcome then op else opposite op
 
 -- the function, where its numbers fit
 abbrev pub fitting : Affine → Option Affine

@@ -4,6 +4,12 @@ use Rattle.linear_cons.specs.declared.affine.Affine.{Affine}
 use Rattle.linear_cons.specs.Functions.{IsOver, NumbersFit, complement_of}
 use Rattle.ctl_formula.specs.Formulas.{Ctl, truth, falsity, exit, not_exit, always, never, least, negation, both, either, next, until, weak}
 
+-- the complement of each row fits 128 bits
+abbrev pub HasComplement : Affine → Type 0
+HasComplement a = NumbersFit (complement_of a)
+
+-- What follows has no part in the headline.
+
 -- the function of each row has the property
 abbrev pub EachRow : (Affine → Type 0) → Ctl → Type 0
 EachRow P truth = ⊤
@@ -19,10 +25,6 @@ EachRow P (either f g) = EachRow P f × EachRow P g
 EachRow P (next all f) = EachRow P f
 EachRow P (until all f g) = EachRow P f × EachRow P g
 EachRow P (weak all f g) = EachRow P f × EachRow P g
-
--- the complement of each row fits 128 bits
-abbrev pub HasComplement : Affine → Type 0
-HasComplement a = NumbersFit (complement_of a)
 
 abbrev pub ComplementsFit : Ctl → Type 0
 ComplementsFit f = EachRow HasComplement f

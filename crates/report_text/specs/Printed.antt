@@ -16,28 +16,6 @@ use Rattle.report_text.specs.declared.report.Report.{Report}
 use Rattle.report_text.specs.declared.report.Stop.{Stop}
 use Rattle.report_text.specs.declared.report.Stop.TheVariants.{WideNumbers, TooManyNodes, NotPlain}
 
--- the texts stand in the order of their bytes
-abbrev pub AreInOrder : List (List ℕ) → Type 0
-AreInOrder texts = IsSorted (slice_cmp nat_cmp) texts
-
--- the texts of rows
-abbrev pub row_texts : List (List ℕ) → List Row → List (List ℕ)
-row_texts names rows = map (λ (row : Row). row_text names row.affine) rows
-
--- The text is that of the line: its rows are put in the order of their bytes, and then it spells them and the claim.
-pub record IsLineText (names : List (List ℕ)) (line : Line) (text : List ℕ) : Type 0 where
-  pub condition : List Row
-  pub same : IsPermutation line.rows condition
-  pub sorted : AreInOrder (row_texts names condition)
-  pub spells : Spells names text (functions_of condition) line.claim
-
--- The texts are those of the lines, each one once, in the order of their bytes.
-pub record AreTextsOf (names : List (List ℕ)) (lines : List Line) (texts : List (List ℕ)) : Type 0 where
-  pub unsorted : List (List ℕ)
-  pub each : AllZip (λ line text. IsLineText names line text) lines unsorted
-  pub same : IsPermutation unsorted texts
-  pub sorted : AreInOrder texts
-
 -- a cause in words
 abbrev pub cause_text : Stop → List ℕ
 cause_text WideNumbers = codes "wide numbers"
@@ -67,6 +45,30 @@ explained explain =
 abbrev pub explain_part : Option Explain → List (List ℕ)
 explain_part None = []
 explain_part (Some explain) = codes "explain:" ∷ explained explain
+
+-- What follows has no part in the headline.
+
+-- the texts stand in the order of their bytes
+abbrev pub AreInOrder : List (List ℕ) → Type 0
+AreInOrder texts = IsSorted (slice_cmp nat_cmp) texts
+
+-- the texts of rows
+abbrev pub row_texts : List (List ℕ) → List Row → List (List ℕ)
+row_texts names rows = map (λ (row : Row). row_text names row.affine) rows
+
+-- The text is that of the line: its rows are put in the order of their bytes, and then it spells them and the claim.
+pub record IsLineText (names : List (List ℕ)) (line : Line) (text : List ℕ) : Type 0 where
+  pub condition : List Row
+  pub same : IsPermutation line.rows condition
+  pub sorted : AreInOrder (row_texts names condition)
+  pub spells : Spells names text (functions_of condition) line.claim
+
+-- The texts are those of the lines, each one once, in the order of their bytes.
+pub record AreTextsOf (names : List (List ℕ)) (lines : List Line) (texts : List (List ℕ)) : Type 0 where
+  pub unsorted : List (List ℕ)
+  pub each : AllZip (λ line text. IsLineText names line text) lines unsorted
+  pub same : IsPermutation unsorted texts
+  pub sorted : AreInOrder texts
 
 -- every input meets a proved line exactly where no line is unknown
 abbrev pub verdict_line : {A : Type 0} → List A → List ℕ

@@ -22,6 +22,8 @@ whole_lines text = lines_after [] text
 abbrev pub IsWholeLine : List ℕ → List ℕ → Type 0
 IsWholeLine text line = Contains (whole_lines text) line
 
+-- What follows has no part in the headline.
+
 -- What a line is in a report: the header of the exact part, or one of its lines; `proved:`, or a line behind it; and so on. Before the
 -- first line stands the start.
 pub data Role : Type 0 where

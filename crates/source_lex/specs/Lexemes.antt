@@ -7,6 +7,8 @@ use Rattle.source_lex.specs.declared.token.Token.{Token}
 abbrev pub lexeme : List ℕ → Token → List ℕ
 lexeme text token = slice_range text token.start token.end
 
+-- What follows has no part in the headline.
+
 -- the token stands in the text, at its offset and with its kind
 abbrev pub StandsIn : List ℕ → Token → Type 0
 StandsIn text token = TokenAt text token.start token.end token.kind

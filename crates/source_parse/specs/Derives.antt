@@ -15,6 +15,8 @@ pub record IsProgramText (text : List ℕ) (names : List (List ℕ)) (body : Sta
   pub spelled : IsSyntaxOf text tree
   pub stands : StandsFor tree names body
 
+-- What follows has no part in the headline.
+
 -- the text is this program
 abbrev pub Derives : List ℕ → Program → Type 0
 Derives text program = IsProgramText text program.names (statements program.body)

@@ -23,6 +23,8 @@ pub record IsTreeText (text : List ℕ) (tree : Program) : Type 0 where
   pub lexed : TokensOf text tokens
   pub spelled : IsSpelledBy programs (words text tokens) tree
 
+-- What follows has no part in the headline.
+
 -- the offset in the text of the token of this number, counted from 0; the end is a token too, at the text's length
 abbrev pub offset_in : List ℕ → List Token → ℕ → ℕ
 offset_in text tokens number = start_of tokens number (length text)

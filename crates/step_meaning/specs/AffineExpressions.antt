@@ -101,6 +101,8 @@ ExpressionFits (divided division e b) = ⊤
 ExpressionFits (truth b) = ⊤
 ExpressionFits (negation c) = ⊤
 
+-- What follows has no part in the headline.
+
 -- the expressions `a - b`, and `a - b - 1`
 abbrev pub less : Expression → Expression → Expression
 less a b = pair Sub a b

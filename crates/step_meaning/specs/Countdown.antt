@@ -21,6 +21,8 @@ use Rattle.step_meaning.specs.Counts.{HasNoLoop, before, none}
 abbrev pub form_of : Expression → Affine
 form_of e = record { coef = at_places (λ place. coefficient_in e place); constant = constant_in e }
 
+-- What follows has no part in the headline.
+
 -- each number is at most 2^31 in size
 pub record IsSmall (e : Affine) : Type 0 where
   pub coefficients : (place : ℕ) → place < 16 → unsigned_abs (coefficient e place) ≤ 2 ^ 31

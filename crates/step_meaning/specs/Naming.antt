@@ -14,6 +14,8 @@ HasNoName (range lo hi) = ⊤
 HasNoName (divided division e b) = HasNoName e
 HasNoName (truth b) = ⊤
 
+-- What follows has no part in the headline.
+
 -- the variable at the place isn't named
 abbrev pub IsUnnamed : ℕ → Expression → Type 0
 IsUnnamed place (variable x) = place ≢ x

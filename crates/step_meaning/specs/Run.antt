@@ -14,6 +14,18 @@ pub record IsInput (vars : ℕ) (input : Store) : Type 0 where
 abbrev pub start : Statements → Store → Configuration
 start body input = record { todo = items_of body; store = input }
 
+-- every run from `c` ends within `n` steps: `c` is final, or some step is left and every successor ends within one step less
+abbrev pub EndsWithin : ℕ → Configuration → Type 0
+EndsWithin zero c = IsFinal c
+EndsWithin (suc n) c = IsFinal c ⊎ ((d : Configuration) → Step c d → EndsWithin n d)
+
+-- the longest run from `c` has exactly `n` steps
+abbrev pub Longest : ℕ → Configuration → Type 0
+Longest zero c = EndsWithin zero c
+Longest (suc n) c = EndsWithin (suc n) c × ¬ EndsWithin n c
+
+-- What follows has no part in the headline.
+
 -- steps lead from `c` to `d`
 pub data Reaches : Configuration → Configuration → Type 0 where
   here : {c : Configuration} → Reaches c c
@@ -23,20 +35,10 @@ pub data Reaches : Configuration → Configuration → Type 0 where
 abbrev pub IsReachable : ℕ → Statements → Configuration → Type 0
 IsReachable vars body c = (input : Store) × IsInput vars input × Reaches (start body input) c
 
--- every run from `c` ends within `n` steps: `c` is final, or some step is left and every successor ends within one step less
-abbrev pub EndsWithin : ℕ → Configuration → Type 0
-EndsWithin zero c = IsFinal c
-EndsWithin (suc n) c = IsFinal c ⊎ ((d : Configuration) → Step c d → EndsWithin n d)
-
 -- the same for a whole number; no run ends within fewer than 0 steps
 abbrev pub EndsWithinBound : ℤ → Configuration → Type 0
 EndsWithinBound (pos n) c = EndsWithin n c
 EndsWithinBound (negsuc n) c = ⊥
-
--- the longest run from `c` has exactly `n` steps
-abbrev pub Longest : ℕ → Configuration → Type 0
-Longest zero c = EndsWithin zero c
-Longest (suc n) c = EndsWithin (suc n) c × ¬ EndsWithin n c
 
 -- With `tests` tests of a loop left, the next step of this list may be taken, and of the number left behind it `Behind` is said: a test of a
 -- loop needs one and leaves one less.

@@ -28,20 +28,6 @@ pub data Expression : Type 0 where
   pair : Op2 → Expression → Expression → Expression
   divided : Division → Expression → ℤ → Expression
 
--- what an `Expr` is
-abbrev pub expression : Expr → Expression
-expression (Number z) = number z
-expression (Name x) = variable x
-expression Free = free
-expression (Range lo hi) = range lo hi
-expression True = truth true
-expression False = truth false
-expression (Quot' p e by) = divided quotient (expression e) by
-expression (Rem' p e by) = divided remainder (expression e) by
-expression (Neg' p e) = negative (expression e)
-expression (Not' p c) = negation (expression c)
-expression (Pair' op p l q r) = pair op (expression l) (expression r)
-
 -- a statement, and a list of statements
 mutual
   pub data Statement : Type 0 where
@@ -58,15 +44,31 @@ mutual
     empty : Statements
     sequence : Statement → Statements → Statements
 
--- the list that a `Statements` is
-abbrev pub list_of : Statements → List Statement
-list_of empty = []
-list_of (sequence s more) = s ∷ list_of more
-
 -- the `Statements` that a list is
 abbrev pub of_list : List Statement → Statements
 of_list [] = empty
 of_list (s ∷ more) = sequence s (of_list more)
+
+-- What follows has no part in the headline.
+
+-- what an `Expr` is
+abbrev pub expression : Expr → Expression
+expression (Number z) = number z
+expression (Name x) = variable x
+expression Free = free
+expression (Range lo hi) = range lo hi
+expression True = truth true
+expression False = truth false
+expression (Quot' p e by) = divided quotient (expression e) by
+expression (Rem' p e by) = divided remainder (expression e) by
+expression (Neg' p e) = negative (expression e)
+expression (Not' p c) = negation (expression c)
+expression (Pair' op p l q r) = pair op (expression l) (expression r)
+
+-- the list that a `Statements` is
+abbrev pub list_of : Statements → List Statement
+list_of empty = []
+list_of (sequence s more) = s ∷ list_of more
 
 -- what a `Block` is, statement for statement
 abbrev mutual
