@@ -1,5 +1,5 @@
 #!/usr/bin/env python3
-"""Times the walk over a tree with its rows in hand, as a ratio to a copy of the tree.
+"""Times the walk over a tree with its rows on the stack, as a ratio to a copy of the tree.
 
     python3 bench/walk.py [PROGRAM]
 

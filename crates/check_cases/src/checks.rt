@@ -14,7 +14,7 @@ use ctl_formula::Formula;
 use decision_tree::{AffineRank, Family, Tree, TreeList};
 use forward_inv::{Inv, invariants};
 use interval_dom::Boxes;
-use rows_in_hand::Reason;
+use constraint_stack::Reason;
 use std::alloc::{AllocError, Global};
 use tree_check::check;
 use tree_support::Dropped;

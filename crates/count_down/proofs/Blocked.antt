@@ -10,14 +10,14 @@ use Rattle.linear_cons.specs.Rows.{MeetsKind, PointMeetsKind, row_kind_of}
 use Rattle.linear_cons.proofs.RowLaws.{opposed_never}
 use Rattle.decision_tree.specs.declared.affine_rank.AffineRank.{AffineRank}
 use Rattle.tree_support.specs.declared.dropped.Dropped.{Dropped}
-use Rattle.rows_in_hand.specs.declared.reason.Reason.{Reason}
-use Rattle.rows_in_hand.specs.declared.reason.Reason.TheVariants.{Point, Wide as TooWide, Rows}
+use Rattle.constraint_stack.specs.declared.reason.Reason.{Reason}
+use Rattle.constraint_stack.specs.declared.reason.Reason.TheVariants.{Point, Wide as TooWide, Rows}
 use Rattle.tree_support.specs.Certificates.{affine_ranks}
 use Rattle.tree_support.specs.Elimination.{Eliminates}
-use Rattle.rows_in_hand.specs.Reasons.{IsOpen, IsSeen, Justifies, Shows, rows_in}
-use Rattle.rows_in_hand.specs.Forming.{Formed, exact}
+use Rattle.constraint_stack.specs.Reasons.{IsOpen, IsSeen, Justifies, Shows, rows_in}
+use Rattle.constraint_stack.specs.Forming.{Formed, exact}
 use Rattle.tree_support.specs.Setting.{Setting, Trees}
-use Rattle.rows_in_hand.specs.Claims.{ClaimFits, HasNoStore, choices, kinds_of, Claim, nothing, unnatural, exceeding, System}
+use Rattle.constraint_stack.specs.Claims.{ClaimFits, HasNoStore, choices, kinds_of, Claim, nothing, unnatural, exceeding, System}
 use Rattle.tree_support.specs.Support.{IsSupported}
 use Rattle.tree_support.specs.Systems.{systems}
 use Rattle.count_down.specs.Blocking.{AllBlocked, AsksFor, ClaimAsks, IsBlocked}

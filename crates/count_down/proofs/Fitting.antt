@@ -10,7 +10,7 @@ use Rattle.linear_cons.proofs.Sizes.{sizes_difference, sizes_fit, sizes_quotient
 use Rattle.linear_cons.specs.Sizes.{SizesAtMost}
 use Rattle.decision_tree.specs.AffineRanks.{excess_of}
 use Rattle.tree_support.specs.Certificates.{affine_ranks}
-use Rattle.rows_in_hand.specs.Claims.{ClaimFits, MoveFits, moved_rank, exceeding, unnatural}
+use Rattle.constraint_stack.specs.Claims.{ClaimFits, MoveFits, moved_rank, exceeding, unnatural}
 use Rattle.count_down.specs.Building.{IsModest}
 use Rattle.count_down.specs.Trees.{bound, ranked}
 use Rattle.count_down.proofs.Modest.{bound_small}

@@ -21,7 +21,7 @@ use Rattle.linear_cons.specs.Sizes.{total_size}
 use Rattle.step_meaning.specs.Syntax.{Expression, Statements, assign, sequence}
 use Rattle.decision_tree.specs.declared.affine_rank.AffineRank.{AffineRank}
 use Rattle.tree_support.specs.Arcs.{assigning, rows_given, testing}
-use Rattle.rows_in_hand.specs.Forming.{Formed}
+use Rattle.constraint_stack.specs.Forming.{Formed}
 use Rattle.tree_support.specs.Setting.{Trees}
 use Rattle.tree_support.specs.Systems.{at_leaves, moved_by, unless_less}
 use Rattle.control_flow.specs.Told.{Told}

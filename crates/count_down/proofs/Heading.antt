@@ -12,8 +12,8 @@ use Rattle.decision_tree.specs.declared.reason.Why.{Why}
 use Rattle.decision_tree.specs.Plans.{leaf}
 use Rattle.tree_support.specs.Certificates.{affine_ranks}
 use Rattle.tree_support.specs.Arcs.{rows_given}
-use Rattle.rows_in_hand.specs.Forming.{Formed, given}
-use Rattle.rows_in_hand.specs.Claims.{ClaimFits, exceeding}
+use Rattle.constraint_stack.specs.Forming.{Formed, given}
+use Rattle.constraint_stack.specs.Claims.{ClaimFits, exceeding}
 use Rattle.tree_support.specs.Systems.{at_leaves, moved_by, unless_less}
 use Rattle.tree_support.proofs.Lists.{all_one, contains_first, contains_later}
 use Rattle.tree_support.proofs.Moving.{store_after}

@@ -20,7 +20,7 @@ use Rattle.step_meaning.specs.Syntax.{Expression, Statements}
 use Rattle.step_meaning.specs.Turns.{MayAssign}
 use Rattle.decision_tree.specs.declared.affine_rank.AffineRank.{AffineRank}
 use Rattle.tree_support.specs.Arcs.{Arc, assigning, rows_given, testing}
-use Rattle.rows_in_hand.specs.Forming.{Formed}
+use Rattle.constraint_stack.specs.Forming.{Formed}
 use Rattle.tree_support.specs.Setting.{Trees}
 use Rattle.control_flow.specs.Told.{Told}
 use Rattle.tree_support.proofs.Lists.{all_one}

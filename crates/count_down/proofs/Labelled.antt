@@ -22,9 +22,9 @@ use Rattle.decision_tree.specs.Plans.{Plan, bottom, top, leaf, branch}
 use Rattle.ctl_formula.specs.Formulas.{af_exit}
 use Rattle.tree_support.specs.Certificates.{affine_ranks}
 use Rattle.tree_support.specs.Arcs.{Arc, flow_of, rows_given}
-use Rattle.rows_in_hand.specs.Forming.{Formed, given}
+use Rattle.constraint_stack.specs.Forming.{Formed, given}
 use Rattle.tree_support.specs.Setting.{Setting, Trees, setting_of}
-use Rattle.rows_in_hand.specs.Claims.{ClaimFits, System, unnatural}
+use Rattle.constraint_stack.specs.Claims.{ClaimFits, System, unnatural}
 use Rattle.tree_support.specs.Systems.{at_leaves, moved_by, of_leaf, region, systems, undefined_at, unedged, unless_less}
 use Rattle.control_flow.specs.Told.{Told}
 use Rattle.tree_support.proofs.Lists.{all_none, contains_first, contains_later}

@@ -17,9 +17,9 @@ use Rattle.decision_tree.specs.declared.reason.Why.TheVariants.{Step}
 use Rattle.decision_tree.specs.Plans.{leaf}
 use Rattle.tree_support.specs.Certificates.{affine_ranks}
 use Rattle.tree_support.specs.Arcs.{Arc, arcs_by, assigning, rows_given, testing}
-use Rattle.rows_in_hand.specs.Forming.{Formed}
+use Rattle.constraint_stack.specs.Forming.{Formed}
 use Rattle.tree_support.specs.Setting.{Trees}
-use Rattle.rows_in_hand.specs.Claims.{ClaimFits, exceeding}
+use Rattle.constraint_stack.specs.Claims.{ClaimFits, exceeding}
 use Rattle.control_flow.specs.Told.{Told}
 use Rattle.tree_support.proofs.Lists.{all_one}
 use Rattle.count_down.specs.Building.{IsFew}

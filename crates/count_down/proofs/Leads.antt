@@ -16,7 +16,7 @@ use Rattle.step_meaning.specs.Valid.{IsBody}
 use Rattle.decision_tree.specs.declared.affine_rank.AffineRank.{AffineRank}
 use Rattle.ctl_formula.specs.Formulas.{af_exit}
 use Rattle.tree_support.specs.Arcs.{Arc, above_end, arcs_by, assigning, below_end, rows_given, testing}
-use Rattle.rows_in_hand.specs.Forming.{Formed}
+use Rattle.constraint_stack.specs.Forming.{Formed}
 use Rattle.tree_support.specs.Setting.{Trees, setting_of}
 use Rattle.tree_support.specs.Systems.{at_leaves, moved_by, systems, unless_less}
 use Rattle.control_flow.specs.Told.{Told}

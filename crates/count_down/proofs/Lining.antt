@@ -6,8 +6,8 @@ use Rattle.linear_cons.specs.declared.affine.Affine.{Affine}
 use Rattle.linear_cons.specs.Functions.{value_at}
 use Rattle.linear_cons.proofs.Ring.{mul_add, mul_assoc, mul_le, mul_neg, mul_zero, one_mul}
 use Rattle.decision_tree.specs.declared.affine_rank.AffineRank.{AffineRank}
-use Rattle.rows_in_hand.specs.Forming.{Formed}
-use Rattle.rows_in_hand.specs.Claims.{System}
+use Rattle.constraint_stack.specs.Forming.{Formed}
+use Rattle.constraint_stack.specs.Claims.{System}
 use Rattle.count_down.specs.Blocking.{AskedIn, AsksFor, IsBlocked}
 use Rattle.count_down.specs.Cancelling.{Cancel}
 

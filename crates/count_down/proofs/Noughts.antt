@@ -12,7 +12,7 @@ use Rattle.linear_cons.proofs.Ring.{mul_zero, zero_mul}
 use Rattle.linear_cons.proofs.Sizes.{sizes_fit, sizes_quotient, sizes_sum, sizes_complement, sizes_grown, sizes_without}
 use Rattle.linear_cons.specs.Sizes.{SizesAtMost}
 use Rattle.tree_support.specs.Certificates.{affine_ranks}
-use Rattle.rows_in_hand.specs.Claims.{ClaimFits, exceeding}
+use Rattle.constraint_stack.specs.Claims.{ClaimFits, exceeding}
 use Rattle.count_down.specs.Building.{IsModest}
 use Rattle.count_down.specs.Trees.{bound, ranked, shifted}
 use Rattle.count_down.proofs.Fitting.{bound_sizes, claim_fits, most_size, steps_sizes}

@@ -20,8 +20,8 @@ use Rattle.linear_cons.proofs.Sums.{value_is}
 use Rattle.decision_tree.specs.declared.affine_rank.AffineRank.{AffineRank}
 use Rattle.decision_tree.specs.AffineRanks.{excess_of}
 use Rattle.tree_support.specs.Certificates.{affine_ranks}
-use Rattle.rows_in_hand.specs.Forming.{Formed, FormsWhole, exact}
-use Rattle.rows_in_hand.specs.Claims.{ClaimFits, moved_rank, System, exceeding}
+use Rattle.constraint_stack.specs.Forming.{Formed, FormsWhole, exact}
+use Rattle.constraint_stack.specs.Claims.{ClaimFits, moved_rank, System, exceeding}
 use Rattle.tree_support.specs.Systems.{at_leaves, moved_by, unless_less}
 use Rattle.tree_support.proofs.Lists.{all_one}
 use Rattle.tree_support.proofs.Moving.{store_after}

@@ -11,9 +11,9 @@ use Rattle.decision_tree.specs.Paths.{leaf_numbered}
 use Rattle.decision_tree.specs.Plans.{leaf}
 use Rattle.tree_support.specs.Certificates.{affine_ranks}
 use Rattle.tree_support.specs.Arcs.{Arc, flow_of, rows_given}
-use Rattle.rows_in_hand.specs.Forming.{Formed}
+use Rattle.constraint_stack.specs.Forming.{Formed}
 use Rattle.tree_support.specs.Setting.{Trees}
-use Rattle.rows_in_hand.specs.Claims.{ClaimFits, exceeding}
+use Rattle.constraint_stack.specs.Claims.{ClaimFits, exceeding}
 use Rattle.tree_support.specs.Systems.{at_leaves, moved_by, of_leaf, region, systems, unless_less}
 use Rattle.control_flow.specs.Told.{Told}
 use Rattle.tree_support.proofs.Lists.{all_one}

@@ -10,9 +10,9 @@ use Rattle.control_flow.specs.Labels.{all_labels}
 use Rattle.decision_tree.specs.declared.affine_rank.AffineRank.{AffineRank}
 use Rattle.decision_tree.specs.AffineRanks.{excess_of}
 use Rattle.tree_support.specs.Certificates.{affine_ranks}
-use Rattle.rows_in_hand.specs.Forming.{Formed, FormsWhole, exact}
+use Rattle.constraint_stack.specs.Forming.{Formed, FormsWhole, exact}
 use Rattle.tree_support.specs.Setting.{Setting, Trees}
-use Rattle.rows_in_hand.specs.Claims.{ClaimFits, moved_rank, Claim, nothing, unnatural, exceeding, System}
+use Rattle.constraint_stack.specs.Claims.{ClaimFits, moved_rank, Claim, nothing, unnatural, exceeding, System}
 use Rattle.tree_support.specs.Systems.{systems}
 use Rattle.count_down.specs.Cancelling.{Cancel}
 use Rattle.decision_tree.specs.Extent.{IsWhole}

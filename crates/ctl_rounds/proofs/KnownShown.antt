@@ -19,7 +19,7 @@ use Rattle.tree_check.specs.Checking.{families_of}
 use Rattle.tree_support.specs.Certificates.{IsShown, SparesPlace, affine_ranks}
 use Rattle.control_flow.specs.Told.{chosen_place, Told}
 use Rattle.tree_support.specs.Setting.{Setting, Trees, setting_of, trees_in}
-use Rattle.rows_in_hand.specs.Claims.{HasNoStore, System}
+use Rattle.constraint_stack.specs.Claims.{HasNoStore, System}
 use Rattle.tree_support.specs.Support.{IsSupported}
 use Rattle.tree_support.specs.Systems.{of_leaf, region}
 use Rattle.ctl_rounds.specs.Families.{IsFamilyFor}

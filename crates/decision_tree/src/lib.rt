@@ -3,7 +3,7 @@
 //!
 //! It stands on `linear_cons`. A tree divides the stores by the sides of its rows; each defined leaf
 //! says why it stands and how many steps it promises. The front door: `Tree` with `leaf_at` and
-//! `path`, `Trail` for walks with the rows in hand, the trait `Rank` with its laws, and `AffineRank`.
+//! `path`, `Trail` for walks with the rows on the stack, the trait `Rank` with its laws, and `AffineRank`.
 //! `specs/Laws/` holds proofs that its impls cite.
 #![tactic(auto)]
 

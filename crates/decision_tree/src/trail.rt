@@ -1,4 +1,4 @@
-//! The rows in hand on a walk over a tree.
+//! The rows of a walk over a tree, as a stack.
 ghost use Rattle.std.specs.Prelude.{◌≡◌, List, [], ◌∷◌, ◌++◌, Err, IfOk, OnOk, OnErr, length};
 ghost use Rattle.linear_cons.specs.Exact.{IsOutside};
 ghost use Rattle.linear_cons.specs.Functions.{NumbersFit, complement_of};

@@ -13,7 +13,7 @@ use Rattle.decision_tree.specs.declared.reason.Why.{Why}
 use Rattle.decision_tree.specs.declared.reason.Why.TheVariants.{End, Atom, Both, Left, Right, Now, Dead, Step}
 use Rattle.ctl_formula.specs.Formulas.{Ctl, truth, exit, not_exit, always, least, next, until}
 use Rattle.tree_support.specs.Arcs.{Flow}
-use Rattle.rows_in_hand.specs.Forming.{Formed, given}
+use Rattle.constraint_stack.specs.Forming.{Formed, given}
 use Rattle.tree_support.specs.Setting.{Setting, Trees}
 use Rattle.tree_support.specs.Systems.{of_rank, of_why, systems, unedged}
 use Rattle.tree_support.proofs.Lists.{all_none}

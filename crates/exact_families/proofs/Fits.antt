@@ -12,9 +12,9 @@ use Rattle.ctl_formula.specs.Formulas.{Ctl, truth, falsity, exit, not_exit, alwa
 use Rattle.control_flow.specs.declared.edge.Choice.TheVariants.{Branch}
 use Rattle.tree_support.specs.Certificates.{affine_ranks}
 use Rattle.tree_support.specs.Arcs.{Arc, rows_given}
-use Rattle.rows_in_hand.specs.Forming.{Formed, FormsWhole, given}
+use Rattle.constraint_stack.specs.Forming.{Formed, FormsWhole, given}
 use Rattle.tree_support.specs.Setting.{Setting, Trees}
-use Rattle.rows_in_hand.specs.Claims.{ClaimFits, exceeding, unnatural}
+use Rattle.constraint_stack.specs.Claims.{ClaimFits, exceeding, unnatural}
 use Rattle.tree_support.specs.Systems.{moved_by}
 
 -- each row, and its complement, is moved without leaving 128 bits

@@ -13,9 +13,9 @@ use Rattle.control_flow.specs.declared.edge.Choice.{Choice}
 use Rattle.control_flow.specs.declared.edge.Choice.TheVariants.{None as NoChoice, Branch, Range}
 use Rattle.ctl_formula.specs.Formulas.{Ctl, truth, falsity, exit, not_exit, always, never, least, negation, both, either, next, until, weak}
 use Rattle.tree_support.specs.Arcs.{Arc}
-use Rattle.rows_in_hand.specs.Forming.{Formed, given, minus}
+use Rattle.constraint_stack.specs.Forming.{Formed, given, minus}
 use Rattle.tree_support.specs.Setting.{Setting, Trees}
-use Rattle.rows_in_hand.specs.Claims.{System, exceeding, unnatural}
+use Rattle.constraint_stack.specs.Claims.{System, exceeding, unnatural}
 use Rattle.tree_support.specs.Systems.{above_range, at_leaves, below_range, if_undefined, is_existential, moved_by, of_arcs, of_atom, of_both, of_end, of_keep, of_now, of_outcome, of_pick, of_rank, of_side, of_value, of_why, unedged, undefined_at, unless_less}
 use Rattle.tree_support.proofs.Lists.{all_none, all_one}
 use Rattle.exact_families.proofs.Judges.{Granted, IsJudge}

@@ -10,7 +10,7 @@ use Rattle.linear_cons.specs.Settling.{tells}
 use Rattle.decision_tree.specs.Plans.{Plan, branch}
 use Rattle.linear_forms.specs.Duality.{EachOf, SomeOf}
 use Rattle.linear_cons.specs.declared.row.Row.{Row}
-use Rattle.rows_in_hand.specs.Forming.{Formed, exact}
+use Rattle.constraint_stack.specs.Forming.{Formed, exact}
 
 abbrev pub judge_kind : (Affine → Bool) → RowKind → Bool
 judge_kind v Always = true

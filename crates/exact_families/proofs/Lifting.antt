@@ -18,11 +18,11 @@ use Rattle.decision_tree.specs.declared.reason.Pick.TheVariants.{All as Every, Y
 use Rattle.decision_tree.specs.declared.reason.Why.{Why}
 use Rattle.decision_tree.specs.declared.reason.Why.TheVariants.{End, Atom, Both, Left, Right, Now, Dead, Step}
 use Rattle.ctl_formula.specs.Formulas.{Ctl, truth, falsity, exit, not_exit, always, never, least, negation, both, either, next, until, weak}
-use Rattle.rows_in_hand.specs.declared.reason.Reason.{Reason}
-use Rattle.rows_in_hand.specs.declared.reason.Reason.TheVariants.{Point, Wide as TooWide, Rows}
-use Rattle.rows_in_hand.specs.Claims.{System, kinds_of}
-use Rattle.rows_in_hand.specs.Forming.{Formed, exact, given, minus}
-use Rattle.rows_in_hand.specs.Reasons.{IsOpen, IsWhole, Justifies, Shows}
+use Rattle.constraint_stack.specs.declared.reason.Reason.{Reason}
+use Rattle.constraint_stack.specs.declared.reason.Reason.TheVariants.{Point, Wide as TooWide, Rows}
+use Rattle.constraint_stack.specs.Claims.{System, kinds_of}
+use Rattle.constraint_stack.specs.Forming.{Formed, exact, given, minus}
+use Rattle.constraint_stack.specs.Reasons.{IsOpen, IsWhole, Justifies, Shows}
 use Rattle.tree_support.specs.declared.dropped.Dropped.{Dropped}
 use Rattle.tree_support.specs.Arcs.{Arc, rows_given}
 use Rattle.tree_support.specs.Certificates.{affine_ranks}

@@ -17,7 +17,7 @@ use Rattle.backward_transfer.specs.Tests.{tested}
 use Rattle.tree_support.specs.Certificates.{affine_ranks}
 use Rattle.tree_support.specs.Arcs.{Arc, Flow, putting, rows_given, testing}
 use Rattle.tree_support.specs.Setting.{Trees}
-use Rattle.rows_in_hand.specs.Claims.{moved_rank}
+use Rattle.constraint_stack.specs.Claims.{moved_rank}
 use Rattle.tree_support.specs.Systems.{moved_by}
 use Rattle.exact_families.proofs.Judges.{Granted, GrantsOne, GrantsRows, IsJudge, judged}
 use Rattle.exact_families.proofs.Leaves.{equal_rank, equal_why}

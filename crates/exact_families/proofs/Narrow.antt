@@ -24,7 +24,7 @@ use Rattle.ctl_formula.specs.declared.formula.Formula.{Formula}
 use Rattle.normal_form.specs.Rows.{RowsAreOver}
 use Rattle.ctl_formula.specs.Formulas.{Ctl, truth, falsity, exit, not_exit, always, never, least, negation, both, either, next, until, weak}
 use Rattle.ctl_formula.specs.Mirror.{ctl}
-use Rattle.rows_in_hand.specs.Forming.{given}
+use Rattle.constraint_stack.specs.Forming.{given}
 use Rattle.backward_transfer.specs.AffineShapes.{tree_at}
 use Rattle.part_trees.specs.Proposed.{AreProposed}
 use Rattle.tree_support.specs.Certificates.{affine_ranks}

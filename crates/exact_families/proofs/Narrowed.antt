@@ -24,8 +24,8 @@ use Rattle.control_flow.specs.Growth.{factor, factor_at, greatest_of_tests, prod
 use Rattle.control_flow.specs.Labels.{Action, ends, assigns, passes, tests, action_at, all_labels}
 use Rattle.control_flow.specs.declared.edge.Choice.TheVariants.{Branch}
 use Rattle.ctl_formula.specs.Formulas.{Ctl, truth as holds_always, falsity, exit, not_exit, always, never, least, negation as negated, both, either, next, until, weak}
-use Rattle.rows_in_hand.specs.Claims.{ClaimFits, unnatural}
-use Rattle.rows_in_hand.specs.Forming.{FormsWhole, given}
+use Rattle.constraint_stack.specs.Claims.{ClaimFits, unnatural}
+use Rattle.constraint_stack.specs.Forming.{FormsWhole, given}
 use Rattle.tree_support.specs.Arcs.{Arc, Flow, flow_of, passing, putting, rows_given, testing}
 use Rattle.tree_support.specs.Certificates.{affine_ranks}
 use Rattle.tree_support.specs.Setting.{Setting, Trees}

@@ -19,7 +19,7 @@ use Rattle.linear_cons.proofs.KindLaws.{primitive_kind, row_kind_is}
 use Rattle.linear_cons.proofs.Places.{length-at_places, number_at_places}
 use Rattle.linear_cons.proofs.Telling.{tells-Decides}
 use Rattle.linear_forms.proofs.DualLists.{AreComplements, complement_kinds}
-use Rattle.rows_in_hand.specs.Reasons.{rows_in}
+use Rattle.constraint_stack.specs.Reasons.{rows_in}
 use Rattle.exact_families.proofs.Judges.{IsJudge, judge_kind}
 use Rattle.exact_families.specs.Shut.{IsConsistent}
 use Rattle.unroll.proofs.Agreeing.{SomeTells, some_told, tells_own, told_some}

@@ -10,7 +10,7 @@ use Rattle.decision_tree.specs.declared.reason.Why.{Why}
 use Rattle.decision_tree.specs.declared.reason.Why.TheVariants.{End, Atom, Both, Left, Right, Now, Dead, Step}
 use Rattle.ctl_formula.specs.Formulas.{Ctl, both, either}
 use Rattle.tree_support.specs.Arcs.{Flow}
-use Rattle.rows_in_hand.specs.Forming.{Formed, given}
+use Rattle.constraint_stack.specs.Forming.{Formed, given}
 use Rattle.tree_support.specs.Setting.{Setting, Trees}
 use Rattle.tree_support.specs.Systems.{of_why, systems, unedged, undefined_at}
 use Rattle.tree_unify.specs.Shapes.{joined}

@@ -15,13 +15,13 @@ use Rattle.decision_tree.specs.Plans.{IsEnd, Plan, bottom, branch, is_defined, l
 use Rattle.decision_tree.specs.declared.affine_rank.AffineRank.{AffineRank}
 use Rattle.tree_support.specs.Certificates.{affine_ranks}
 use Rattle.tree_support.specs.declared.dropped.Dropped.{Dropped}
-use Rattle.rows_in_hand.specs.declared.reason.Reason.{Reason}
-use Rattle.rows_in_hand.specs.declared.reason.Reason.TheVariants.{Point, Wide as TooWide, Rows}
+use Rattle.constraint_stack.specs.declared.reason.Reason.{Reason}
+use Rattle.constraint_stack.specs.declared.reason.Reason.TheVariants.{Point, Wide as TooWide, Rows}
 use Rattle.tree_support.specs.Elimination.{Eliminates}
-use Rattle.rows_in_hand.specs.Reasons.{IsOpen, IsWhole, Justifies, Shows}
-use Rattle.rows_in_hand.specs.Forming.{Formed, FormsWhole, exact, given}
+use Rattle.constraint_stack.specs.Reasons.{IsOpen, IsWhole, Justifies, Shows}
+use Rattle.constraint_stack.specs.Forming.{Formed, FormsWhole, exact, given}
 use Rattle.tree_support.specs.Setting.{Setting, Trees}
-use Rattle.rows_in_hand.specs.Claims.{HasNoPoint, choices, kinds_of, moved_rank, System, exceeding, nothing, unnatural}
+use Rattle.constraint_stack.specs.Claims.{HasNoPoint, choices, kinds_of, moved_rank, System, exceeding, nothing, unnatural}
 use Rattle.tree_support.specs.Support.{IsFirm}
 use Rattle.tree_support.specs.Systems.{at_leaves, if_undefined, plain, systems, unless_less}
 use Rattle.tree_support.proofs.Lists.{all_none, all_one, contains_first, contains_later}

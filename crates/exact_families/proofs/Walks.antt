@@ -15,7 +15,7 @@ use Rattle.control_flow.specs.declared.edge.Choice.{Choice}
 use Rattle.control_flow.specs.declared.edge.Choice.TheVariants.{None as NoChoice, Branch, Range}
 use Rattle.ctl_formula.specs.Formulas.{Ctl, next, until, weak}
 use Rattle.tree_support.specs.Arcs.{Arc, Flow}
-use Rattle.rows_in_hand.specs.Forming.{Formed, given}
+use Rattle.constraint_stack.specs.Forming.{Formed, given}
 use Rattle.tree_support.specs.Setting.{Setting, Trees}
 use Rattle.tree_support.specs.Systems.{is_existential, moved_by, of_arcs, of_outcome, of_pick, of_rank, of_why, plain, systems, unedged, undefined_at}
 use Rattle.backward_sweeps.specs.Claiming.{claimed, reranked}

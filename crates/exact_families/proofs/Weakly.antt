@@ -13,7 +13,7 @@ use Rattle.ctl_formula.specs.Formulas.{Ctl, weak}
 use Rattle.backward_transfer.specs.Steps.{stepped}
 use Rattle.tree_support.specs.Certificates.{affine_ranks}
 use Rattle.tree_support.specs.Arcs.{Arc, Flow}
-use Rattle.rows_in_hand.specs.Forming.{Formed, given}
+use Rattle.constraint_stack.specs.Forming.{Formed, given}
 use Rattle.tree_support.specs.Setting.{Setting, Trees}
 use Rattle.tree_support.specs.Systems.{moved_by, of_arcs, of_why, systems, unedged, undefined_at}
 use Rattle.tree_unify.specs.Shapes.{joined, trimmed}

@@ -16,11 +16,11 @@ use Rattle.control_flow.specs.declared.edge.Choice.{Choice}
 use Rattle.control_flow.specs.declared.edge.Choice.TheVariants.{None as NoChoice, Branch, Range}
 use Rattle.ctl_formula.specs.Formulas.{Ctl, truth, falsity, exit, not_exit, always, never, least, negation, both, either, next, until, weak}
 use Rattle.tree_support.specs.Certificates.{affine_ranks}
-use Rattle.rows_in_hand.specs.Reasons.{IsWhole}
+use Rattle.constraint_stack.specs.Reasons.{IsWhole}
 use Rattle.tree_support.specs.Arcs.{Arc, rows_given}
-use Rattle.rows_in_hand.specs.Forming.{Formed, FormsWhole, given}
+use Rattle.constraint_stack.specs.Forming.{Formed, FormsWhole, given}
 use Rattle.tree_support.specs.Setting.{Setting, Trees}
-use Rattle.rows_in_hand.specs.Claims.{ClaimFits, System, exceeding, nothing, unnatural}
+use Rattle.constraint_stack.specs.Claims.{ClaimFits, System, exceeding, nothing, unnatural}
 use Rattle.tree_support.specs.Systems.{at_leaves, if_undefined, is_existential, moved_by, of_arcs, of_atom, of_both, of_end, of_keep, of_leaf, of_now, of_outcome, of_pick, of_rank, of_side, of_why, plain, region, unedged, undefined_at, unless_less}
 use Rattle.tree_support.proofs.Lists.{all_none, all_one}
 use Rattle.exact_families.specs.Shut.{AllWhole}

@@ -20,9 +20,9 @@ use Rattle.decision_tree.specs.declared.affine_rank.AffineRank.{AffineRank}
 use Rattle.decision_tree.specs.declared.reason.Why.{Why}
 use Rattle.ctl_formula.specs.Formulas.{Ctl, next, until, weak}
 use Rattle.tree_support.specs.Arcs.{Arc, rows_given}
-use Rattle.rows_in_hand.specs.Forming.{Formed, given}
+use Rattle.constraint_stack.specs.Forming.{Formed, given}
 use Rattle.tree_support.specs.Setting.{Setting, Trees}
-use Rattle.rows_in_hand.specs.Claims.{System}
+use Rattle.constraint_stack.specs.Claims.{System}
 use Rattle.tree_support.specs.Systems.{at_leaves, if_undefined, moved_by, of_arcs, of_leaf, of_rank, of_why, region, systems, unless_less}
 use Rattle.tree_support.proofs.Lists.{all_none, contains_first, contains_later}
 use Rattle.exact_families.proofs.Judges.{Granted, IsJudge, judged}

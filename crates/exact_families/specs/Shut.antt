@@ -6,9 +6,9 @@ use Rattle.linear_cons.specs.declared.row.RowKind.TheVariants.{Never, Row as Kep
 use Rattle.linear_cons.specs.Rows.{AreOpposed}
 use Rattle.decision_tree.specs.declared.affine_rank.AffineRank.{AffineRank}
 use Rattle.tree_support.specs.Certificates.{affine_ranks}
-use Rattle.rows_in_hand.specs.Reasons.{IsWhole}
+use Rattle.constraint_stack.specs.Reasons.{IsWhole}
 use Rattle.tree_support.specs.Setting.{Setting, Trees}
-use Rattle.rows_in_hand.specs.Claims.{choices, kinds_of, System}
+use Rattle.constraint_stack.specs.Claims.{choices, kinds_of, System}
 use Rattle.tree_support.specs.Systems.{systems}
 
 -- none of the constraints is impossible, and no two are opposed

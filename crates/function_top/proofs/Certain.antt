@@ -26,7 +26,7 @@ use Rattle.function_top.specs.declared.status.Status.TheVariants.{AllInputs, Som
 use Rattle.function_top.specs.declared.found.Found.{Found}
 use Rattle.function_top.specs.Answer.{Answers, AnswersExactly, CoversCountdowns, WasDue}
 use Rattle.function_top.specs.Call.{Call}
-use Rattle.function_top.specs.Due.{IsLacking, IsReport}
+use Rattle.function_top.specs.Output.{IsLacking, IsReport}
 use Rattle.function_top.specs.Exact.{HasSmallLevels}
 use Rattle.function_top.specs.Found.{IsFound}
 use Rattle.function_top.specs.Meeting.{TellsExactly}

@@ -30,7 +30,7 @@ use Rattle.function_top.specs.declared.status.Status.TheVariants.{AllInputs, Som
 use Rattle.function_top.specs.Answer.{Answers, IsComplete, WasDue, Writes, after_failing}
 use Rattle.function_top.specs.Call.{Call}
 use Rattle.function_top.specs.Asking.{IsInputGiven}
-use Rattle.function_top.specs.Due.{IsAnswerOn, IsCovering, IsDueOn, IsFormulaRefused, IsInputRefused, IsLacking, IsLongFormula, IsNoFormula, IsReport, IsReportOn, IsWithinLimits}
+use Rattle.function_top.specs.Output.{IsAnswerOn, IsCovering, IsDueOn, IsFormulaRefused, IsInputRefused, IsLacking, IsLongFormula, IsNoFormula, IsReport, IsReportOn, IsWithinLimits}
 use Rattle.function_top.specs.Form.{HasKnownLines}
 use Rattle.function_top.specs.Exact.{EndsExactly, HasSmallLevels, IsExact}
 use Rattle.function_top.specs.Found.{IsExactPart}

@@ -17,7 +17,7 @@ use Rattle.function_top.specs.declared.status.Status.TheVariants.{AllInputs, Som
 use Rattle.function_top.specs.declared.found.Found.{Found}
 use Rattle.function_top.specs.Answer.{Answers, AnswersProving, WasDue}
 use Rattle.function_top.specs.Call.{Call}
-use Rattle.function_top.specs.Due.{IsCovering, IsDueOn, IsLacking, IsReport, IsReportOn}
+use Rattle.function_top.specs.Output.{IsCovering, IsDueOn, IsLacking, IsReport, IsReportOn}
 use Rattle.function_top.specs.Found.{IsFound}
 use Rattle.function_top.specs.Meeting.{MeetsSome, ProvesExactly}
 use Rattle.function_top.specs.Shown.{Shows}

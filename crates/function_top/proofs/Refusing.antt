@@ -15,7 +15,7 @@ use Rattle.source_parse.specs.Derives.{DerivesNone}
 use Rattle.source_parse.specs.Faults.{IsFaultOf, IsMemory, numbered}
 use Rattle.source_parse.specs.Laws.{ProgramsHaveNoFault}
 use Rattle.function_top.specs.Asking.{IsFaultAsked}
-use Rattle.function_top.specs.Due.{IsLongFormula, IsNoFormula}
+use Rattle.function_top.specs.Output.{IsLongFormula, IsNoFormula}
 use Rattle.function_top.specs.Refusals.{formula_text}
 
 -- a fault with a number isn't want of memory

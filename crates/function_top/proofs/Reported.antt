@@ -17,7 +17,7 @@ use Rattle.function_top.specs.declared.found.Found.{Found}
 use Rattle.function_top.specs.declared.status.Status.{Status}
 use Rattle.function_top.specs.declared.status.Status.TheVariants.{AllInputs, SomeInputs, Words, Program, Formula, ReadFault, WriteFault, NoMemory}
 use Rattle.function_top.specs.Asking.{IsInputGiven, IsReadAs}
-use Rattle.function_top.specs.Due.{IsAnswerOn, IsCovering, IsDueOn, IsLacking, IsReportOn, IsVerdict}
+use Rattle.function_top.specs.Output.{IsAnswerOn, IsCovering, IsDueOn, IsLacking, IsReportOn, IsVerdict}
 use Rattle.function_top.specs.Explained.{explained, explanation}
 use Rattle.function_top.specs.Found.{IsFound}
 use Rattle.command_words.specs.Order.{Task}

@@ -7,7 +7,7 @@ use Rattle.function_top.specs.declared.status.Status.TheVariants.{AllInputs, NoM
 use Rattle.function_top.specs.Answer.{Answers, CoversDemos, IsRun, WasDemo}
 use Rattle.function_top.specs.Call.{Call}
 use Rattle.function_top.specs.Demo.{IsDemoDue}
-use Rattle.function_top.specs.Due.{IsDueOn}
+use Rattle.function_top.specs.Output.{IsDueOn}
 use Rattle.function_top.specs.Form.{IsKnown}
 use Rattle.function_top.specs.Refusals.{usage_text}
 use Rattle.function_top.specs.Subject.{IsSubject}

@@ -18,7 +18,7 @@ use Rattle.function_top.specs.declared.status.Status.TheVariants.{AllInputs, Som
 use Rattle.function_top.specs.declared.found.Found.{Found}
 use Rattle.function_top.specs.Answer.{Answers, AnswersSatisfied, WasDue}
 use Rattle.function_top.specs.Call.{Call}
-use Rattle.function_top.specs.Due.{IsAnswerOn, IsCovering, IsDueOn, IsLacking, IsReport}
+use Rattle.function_top.specs.Output.{IsAnswerOn, IsCovering, IsDueOn, IsLacking, IsReport}
 use Rattle.function_top.specs.Found.{HasSmallMeasures, IsExactPart, IsFound}
 use Rattle.function_top.specs.OneInput.{IsToldOf, LeadsExactly, LeadsTo}
 use Rattle.function_top.specs.Subject.{IsFormulaAsked, IsSubject, Subject}

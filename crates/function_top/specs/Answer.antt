@@ -19,7 +19,7 @@ use Rattle.function_top.specs.declared.status.Status.TheVariants.{AllInputs, Som
 use Rattle.function_top.specs.Asking.{IsInputGiven}
 use Rattle.function_top.specs.Call.{Call}
 use Rattle.function_top.specs.Demo.{IsDemoDue}
-use Rattle.function_top.specs.Due.{IsDueOn, IsReport, IsWithinLimits}
+use Rattle.function_top.specs.Output.{IsDueOn, IsReport, IsWithinLimits}
 use Rattle.function_top.specs.Exact.{HasSmallLevels}
 use Rattle.function_top.specs.Form.{Form}
 use Rattle.function_top.specs.Found.{HasSmallMeasures}

@@ -11,7 +11,7 @@ pub mod Shown
 pub mod Explained
 pub mod Printable
 pub mod OneInput
-pub mod Due
+pub mod Output
 pub mod Demo
 pub mod Form
 pub mod Meeting

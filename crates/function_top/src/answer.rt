@@ -16,7 +16,7 @@ ghost use Rattle.input_text.specs.Input.{IsInputText};
 ghost use Rattle.report_text.specs.declared.report.Report.{Report};
 ghost use Rattle.report_text.specs.Printed.{IsReportText};
 ghost use Rattle.function_top.specs.Asking.{IsNormalAsked, IsReadAs};
-ghost use Rattle.function_top.specs.Due.{IsDueOn, IsDueOnProgram, IsReport, IsVerdict};
+ghost use Rattle.function_top.specs.Output.{IsDueOn, IsDueOnProgram, IsReport, IsVerdict};
 ghost use Rattle.function_top.specs.Explained.{explained, explanation};
 ghost use Rattle.function_top.specs.Form.{HasKnownLines};
 ghost use Rattle.function_top.specs.Found.{HasSmallMeasures};
@@ -29,13 +29,13 @@ ghost use Rattle.function_top.specs.Refusals.{formula_text, program_text, usage_
 ghost use Rattle.function_top.specs.Shown.{Shows};
 ghost use Rattle.function_top.specs.Subject.{IsSubject, Subject};
 
-use crate::due::Due;
 use crate::explaining::explained;
 use crate::finding::find;
 use crate::formula::formula_asked;
 use crate::found::Found;
 use crate::input::input_asked;
 use crate::one_input::answer_at;
+use crate::output::Output;
 use crate::report::{fault as fault_line, report, usage};
 use crate::status::Status;
 use advice::Adviser;
@@ -68,7 +68,7 @@ pub fn report_on(
     query: &Query,
     text: &[u8],
     advisers: &mut Vec<Box<dyn Adviser>>,
-) -> Result<Due, AllocError>
+) -> Result<Output, AllocError>
     requires patient { All (λ adviser. asked_of adviser ≤ 2 ^ 32) advisers.old.items }
     ensures due { IfOk result (λ due. IsDueOn (task_of query.now) text.now due.status (length advisers.old.items) due.turns due.bytes.items) }
     ensures headline { IfOk result (λ due. (subject : Subject) → IsSubject (task_of query.now) text.now subject
@@ -109,7 +109,7 @@ fn due_on(
     query: &Query,
     text: &[u8],
     advisers: &mut Vec<Box<dyn Adviser>>,
-) -> Result<Due, AllocError>
+) -> Result<Output, AllocError>
     requires patient { All (λ adviser. asked_of adviser ≤ 2 ^ 32) advisers.old.items }
     ensures due { IfOk result (λ due. IsDueOn (task_of query.now) text.now due.status (length advisers.old.items) due.turns due.bytes.items) }
     ensures asked { (times : ℕ) × (times ≤ 8) × RoseBy (λ adviser. asked_of adviser) times advisers.old.items advisers.new.items
@@ -134,7 +134,7 @@ fn due_on_program(
     query: &Query,
     program: Program,
     advisers: &mut Vec<Box<dyn Adviser>>,
-) -> Result<Due, AllocError>
+) -> Result<Output, AllocError>
     requires patient { All (λ adviser. asked_of adviser ≤ 2 ^ 32) advisers.old.items }
     ensures due { IfOk result (λ due. IsDueOnProgram (task_of query.now) program due.status (length advisers.old.items) due.turns due.bytes.items) }
     ensures asked { (times : ℕ) × (times ≤ 8) × RoseBy (λ adviser. asked_of adviser) times advisers.old.items advisers.new.items
@@ -155,7 +155,7 @@ fn due_on_graph(
     query: &Query,
     graph: &Graph,
     advisers: &mut Vec<Box<dyn Adviser>>,
-) -> Result<Due, AllocError>
+) -> Result<Output, AllocError>
     requires labels { size_of (statements graph.now.body) < 1024 }
     requires conjunctions { wide_offsets graph.now.body ≡ [] }
     requires patient { All (λ adviser. asked_of adviser ≤ 2 ^ 32) advisers.old.items }
@@ -179,7 +179,7 @@ fn due_on_input(
     input: &Option<[i128; 16]>,
     graph: &Graph,
     advisers: &mut Vec<Box<dyn Adviser>>,
-) -> Result<Due, AllocError>
+) -> Result<Output, AllocError>
     requires input { IsReadAs graph.now.names (task_of query.now).input input.now }
     requires labels { size_of (statements graph.now.body) < 1024 }
     requires conjunctions { wide_offsets graph.now.body ≡ [] }
@@ -206,7 +206,7 @@ fn found_on(
     formula: &Formula,
     graph: &Graph,
     advisers: &mut Vec<Box<dyn Adviser>>,
-) -> Result<Due, AllocError>
+) -> Result<Output, AllocError>
     requires input { IsReadAs graph.now.names (task_of query.now).input input.now }
     requires formula { IsNormalAsked graph.now.names (task_of query.now).formula (ctl formula.now) }
     requires over { RowsAreOver (length graph.now.names) (ctl formula.now) }
@@ -230,7 +230,7 @@ fn analysed<D: NumDomain>(
     formula: &Formula,
     graph: &Graph,
     advisers: &mut Vec<Box<dyn Adviser>>,
-) -> Result<Due, AllocError>
+) -> Result<Output, AllocError>
     requires input { IsReadAs graph.now.names (task_of query.now).input input.now }
     requires formula { IsNormalAsked graph.now.names (task_of query.now).formula (ctl formula.now) }
     requires over { RowsAreOver (length graph.now.names) (ctl formula.now) }
@@ -254,7 +254,7 @@ fn report_on_found(
     advisers: usize,
     found: &Found,
     graph: &Graph,
-) -> Result<Due, AllocError>
+) -> Result<Output, AllocError>
     requires printable { IsFoundPrintable (length graph.now.names) found.now }
     ensures shows { IfOk result (λ due. (report : Report) × Shows found.now report × IsReportText graph.now.names report due.bytes.items
         × IsVerdict due.status report.unknown × (report.explain
@@ -267,12 +267,12 @@ fn report_on_found(
 }
 
 /// The usage line for the text of an input that is none of the program's, for which no adviser is asked.
-fn no_input(alloc: Global) -> Result<Due, AllocError>
+fn no_input(alloc: Global) -> Result<Output, AllocError>
     ensures line { IfOk result (λ due. due.bytes.items ≡ usage_text) }
     ensures status { IfOk result (λ due. due.status ≡ Status.Words) }
     ensures unasked { IfOk result (λ due. due.turns ≡ 0) }
 {
-    Ok(Due {
+    Ok(Output {
         bytes: usage().to_vec(alloc)?,
         status: Status::Words,
         turns: 0,
@@ -280,7 +280,7 @@ fn no_input(alloc: Global) -> Result<Due, AllocError>
 }
 
 /// The line of a text of more than 65,536 bytes. The only error is want of memory.
-pub(crate) fn too_long(alloc: Global) -> Result<Due, AllocError>
+pub(crate) fn too_long(alloc: Global) -> Result<Output, AllocError>
     ensures due { IfOk result (λ due. (task : Task) (text : List ℕ) (advisers : ℕ) → 65536 < length text
         → IsDueOn task text due.status advisers due.turns due.bytes.items) }
     ensures unasked { IfOk result (λ due. due.turns ≡ 0) }
@@ -289,12 +289,12 @@ pub(crate) fn too_long(alloc: Global) -> Result<Due, AllocError>
 }
 
 /// The line of a program's fault, for which no adviser is asked.
-fn no_program(alloc: Global, number: u8, offset: u32) -> Result<Due, AllocError>
+fn no_program(alloc: Global, number: u8, offset: u32) -> Result<Output, AllocError>
     ensures line { IfOk result (λ due. due.bytes.items ≡ program_text number offset) }
     ensures status { IfOk result (λ due. due.status ≡ Status.Program) }
     ensures unasked { IfOk result (λ due. due.turns ≡ 0) }
 {
-    Ok(Due {
+    Ok(Output {
         bytes: fault_line(alloc, b"program", number, offset)?,
         status: Status::Program,
         turns: 0,
@@ -302,12 +302,12 @@ fn no_program(alloc: Global, number: u8, offset: u32) -> Result<Due, AllocError>
 }
 
 /// The line of a formula's fault, for which no adviser is asked.
-fn no_formula(alloc: Global, number: u8, offset: u32) -> Result<Due, AllocError>
+fn no_formula(alloc: Global, number: u8, offset: u32) -> Result<Output, AllocError>
     ensures line { IfOk result (λ due. due.bytes.items ≡ formula_text number offset) }
     ensures status { IfOk result (λ due. due.status ≡ Status.Formula) }
     ensures unasked { IfOk result (λ due. due.turns ≡ 0) }
 {
-    Ok(Due {
+    Ok(Output {
         bytes: fault_line(alloc, b"formula", number, offset)?,
         status: Status::Formula,
         turns: 0,

@@ -8,8 +8,8 @@ ghost use Rattle.ctl_rounds.specs.Asked.{RoseBy};
 ghost use Rattle.demo_program.specs.Demo.{demo_body, demo_names, demo_text};
 ghost use Rattle.function_top.specs.Demo.{IsDemoDue, summary_lines};
 
-use crate::due::Due;
 use crate::finding::find;
+use crate::output::Output;
 use crate::report::shown;
 use crate::status::Status;
 use advice::Adviser;
@@ -42,7 +42,7 @@ pub(crate) fn demo(
     alloc: Global,
     number: u32,
     advisers: &mut Vec<Box<dyn Adviser>>,
-) -> Result<Due, AllocError>
+) -> Result<Output, AllocError>
     requires few { number ≤ 1000 }
     requires patient { All (λ adviser. asked_of adviser ≤ 2 ^ 32) advisers.old.items }
     ensures due { IfOk result (λ due. IsDemoDue number due.turns due.bytes.items) }
@@ -71,7 +71,7 @@ fn summarised(
     bytes: usize,
     graph: &Graph,
     advisers: &mut Vec<Box<dyn Adviser>>,
-) -> Result<Due, AllocError>
+) -> Result<Output, AllocError>
     requires few { number ≤ 1000 }
     requires names { graph.now.names ≡ demo_names }
     requires body { statements graph.now.body ≡ demo_body number }
@@ -87,7 +87,7 @@ fn summarised(
     let formula = Formula::af_exit(alloc)?;
     let found = find::<Boxes>(alloc, &DEFAULTS, &formula, graph, advisers)?;
     let report = shown(alloc, &found, None, &graph.program().names)?;
-    Ok(Due {
+    Ok(Output {
         bytes: summary(alloc, number, bytes, graph.labels(), &report)?,
         status: Status::AllInputs,
         turns: found.turns,

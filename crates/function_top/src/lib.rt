@@ -4,7 +4,6 @@
 
 mod answer;
 mod demo;
-mod due;
 mod exact;
 mod explaining;
 mod finding;
@@ -13,16 +12,17 @@ mod found;
 mod input;
 mod laws;
 mod one_input;
+mod output;
 mod report;
 mod status;
 mod top;
 
 pub use answer::report_on;
 pub use command_words::{Domain, Query};
-pub use due::Due;
 pub use laws::{
     each_input_meets_at_most_one_exact_line, each_input_meets_one_line,
     exact_lines_are_met_by_exact_runs, proved_lines_are_met_by_satisfied_inputs,
 };
+pub use output::Output;
 pub use status::Status;
 pub use top::run;

@@ -9,8 +9,8 @@ ghost use Rattle.claim_line.specs.Tells.{Tells};
 ghost use Rattle.function_top.specs.OneInput.{IsTold, IsToldAs, IsToldOf, LeadsExactly, LeadsTo};
 ghost use Rattle.function_top.specs.Printable.{IsFoundPrintable};
 
-use crate::due::Due;
 use crate::found::{Exact, Found};
+use crate::output::Output;
 use crate::status::Status;
 use decision_tree::{AffineRank, Tree};
 use line_text::{Claim, push_claim};
@@ -26,7 +26,7 @@ pub(crate) fn answer_at(
     found: &Found,
     input: &[i128; 16],
     names: &Names,
-) -> Result<Due, AllocError>
+) -> Result<Output, AllocError>
     requires few { length names.now ≤ 15 }
     requires printable { IsFoundPrintable (length names.now) found.now }
     ensures told { IfOk result (λ due. (claim : Claim) × IsToldOf found.now input.now due.status claim
@@ -37,7 +37,7 @@ pub(crate) fn answer_at(
     let mut bytes = Vec::new(alloc);
     push_claim(&mut bytes, &claim, names)?;
     bytes.push(b'\n')?;
-    Ok(Due {
+    Ok(Output {
         bytes,
         status,
         turns: found.turns,

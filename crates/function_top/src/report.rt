@@ -3,13 +3,13 @@
 ghost use Rattle.std.specs.Prelude.{◌≡◌, ◌≤◌, ℕ, IfOk, length};
 ghost use Rattle.report_text.specs.declared.report.Report.{Report};
 ghost use Rattle.report_text.specs.Printed.{IsReportOver, IsReportText};
-ghost use Rattle.function_top.specs.Due.{IsVerdict};
+ghost use Rattle.function_top.specs.Output.{IsVerdict};
 ghost use Rattle.function_top.specs.Printable.{IsExactPrintable, IsFoundPrintable};
 ghost use Rattle.function_top.specs.Refusals.{fault_text, usage_text};
 ghost use Rattle.function_top.specs.Shown.{Shows, ShowsExact, header_of};
 
-use crate::due::Due;
 use crate::found::{Exact, Found};
+use crate::output::Output;
 use crate::status::Status;
 use line_text::push_numeral;
 use report_text::{Explain, Header, Lines, Report, Stop, Top, lines, print};
@@ -30,7 +30,7 @@ pub(crate) fn report(
     found: &Found,
     explain: Option<Explain>,
     names: &Names,
-) -> Result<Due, AllocError>
+) -> Result<Output, AllocError>
     requires few { length names.now ≤ 15 }
     requires printable { IsFoundPrintable (length names.now) found.now }
     ensures shows { IfOk result (λ due. (report : Report) × Shows found.now report × IsReportText names.now report due.bytes.items
@@ -39,7 +39,7 @@ pub(crate) fn report(
 {
     let report = shown(alloc, found, explain, names)?;
     let bytes = print(alloc, &report, names)?;
-    Ok(Due {
+    Ok(Output {
         bytes,
         status: verdict(&report.unknown),
         turns: found.turns,

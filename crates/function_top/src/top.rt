@@ -8,12 +8,12 @@ ghost use Rattle.outside.specs.Source.{ConsumesUpTo};
 ghost use Rattle.ctl_rounds.specs.Asked.{RoseBy};
 ghost use Rattle.command_words.specs.Order.{Ask, Task, analysis, task_of};
 ghost use Rattle.function_top.specs.Answer.{IsRun, after_failing};
-ghost use Rattle.function_top.specs.Due.{IsDueOn};
+ghost use Rattle.function_top.specs.Output.{IsDueOn};
 ghost use Rattle.function_top.specs.Text.{IsRead};
 
 use crate::answer::{report_on, too_long};
 use crate::demo::demo;
-use crate::due::Due;
+use crate::output::Output;
 use crate::report::usage;
 use crate::status::Status;
 use advice::Adviser;
@@ -90,7 +90,7 @@ fn answer<S: Source>(
     query: &Query,
     source: &mut S,
     advisers: &mut Vec<Box<dyn Adviser>>,
-) -> Result<Option<Due>, AllocError>
+) -> Result<Option<Output>, AllocError>
     requires patient { All (λ adviser. asked_of adviser ≤ 2 ^ 32) advisers.old.items }
     ensures due { IfOk result (λ outcome. MatchOption outcome (Rose (S.faults source.old) (S.faults source.new))
         (λ due. (text : List ℕ) × IsRead (S.left source.old) text × (S.faults source.new ≡ S.faults source.old)

@@ -15,15 +15,15 @@ use Rattle.decision_tree.specs.declared.tree.Tree.{Tree}
 use Rattle.decision_tree.specs.Plans.{bottom, plan_of}
 use Rattle.tree_support.specs.Arcs.{Arc, above_end, below_end, choosing, rows_given, testing}
 use Rattle.tree_support.specs.Setting.{Trees, trees_in}
-use Rattle.rows_in_hand.specs.Claims.{HasNoStore}
-use Rattle.rows_in_hand.specs.declared.finding.Finding.{Finding}
+use Rattle.constraint_stack.specs.Claims.{HasNoStore}
+use Rattle.constraint_stack.specs.declared.finding.Finding.{Finding}
 use Rattle.leaf_search.specs.Arcs.{over_arc, over_each}
-use Rattle.rows_in_hand.specs.Searches.{IsSearched}
+use Rattle.constraint_stack.specs.Searches.{IsSearched}
 use Rattle.leaf_search.specs.Walks.{systems_behind}
-use Rattle.rows_in_hand.specs.Forming.{Formed, given}
-use Rattle.rows_in_hand.specs.Hands.{Adds, AreFormed, Held, IsMetNowhere, all_asked, asked}
-use Rattle.rows_in_hand.proofs.Choosing.{nowhere_with}
-use Rattle.rows_in_hand.proofs.Holding.{held_more, nowhere_added}
+use Rattle.constraint_stack.specs.Forming.{Formed, given}
+use Rattle.constraint_stack.specs.Stacks.{Adds, AreFormed, Held, IsMetNowhere, all_asked, asked}
+use Rattle.constraint_stack.proofs.Choosing.{nowhere_with}
+use Rattle.constraint_stack.proofs.Holding.{held_more, nowhere_added}
 use Rattle.leaf_search.proofs.Walking.{asked_more, searched_first, searched_then}
 
 -- ---- rows that are asked for, one after the other

@@ -1,4 +1,4 @@
--- Rows that are moved back to themselves, and sides that the rows in hand exclude.
+-- Rows that are moved back to themselves, and sides that the rows on the stack exclude.
 use Rattle.std.proofs.Common.{◌≡◌, ℕ, ℤ, pos, negsuc, neg_ℤ, ◌+ℤ◌, ◌-ℤ◌, ◌*ℤ◌, ◌≤ℤ◌, ◌↔◌, ◌<◌, Bool, true, false, not, List, [], ◌∷◌, ◌++◌, length, All, Contains, Option, None, Some, Ok, Err, IfSome, refl, sym, ap, subst, ◌∙◌, arith}
 use Rattle.std.specs.Option.{is_some}
 use Rattle.std.proofs.lemmas.Int.{ints}
@@ -22,14 +22,14 @@ use Rattle.linear_cons.proofs.Telling.{settled_row_fails, settled_row_holds, tol
 use Rattle.decision_tree.specs.Laws.AffineLaws.{kind_met}
 use Rattle.decision_tree.specs.declared.rank.Rank.{Ghosts as Ranks}
 use Rattle.decision_tree.specs.Plans.{Plan, branch}
-use Rattle.rows_in_hand.specs.Forming.{Formed, exact}
+use Rattle.constraint_stack.specs.Forming.{Formed, exact}
 use Rattle.linear_solve.proofs.Lists.{all_of, in_map, member_of}
-use Rattle.rows_in_hand.specs.Claims.{HasNoStore}
+use Rattle.constraint_stack.specs.Claims.{HasNoStore}
 use Rattle.tree_support.specs.Systems.{moved_by}
-use Rattle.rows_in_hand.specs.Hands.{Forms, Held, IsMetNowhere, IsToldByOne, all_asked, asked, kind_of, kinds}
-use Rattle.rows_in_hand.specs.Searches.{IsSearched}
-use Rattle.rows_in_hand.specs.declared.finding.Finding.{Finding}
-use Rattle.rows_in_hand.proofs.Holding.{among_more}
+use Rattle.constraint_stack.specs.Stacks.{Forms, Held, IsMetNowhere, IsToldByOne, all_asked, asked, kind_of, kinds}
+use Rattle.constraint_stack.specs.Searches.{IsSearched}
+use Rattle.constraint_stack.specs.declared.finding.Finding.{Finding}
+use Rattle.constraint_stack.proofs.Holding.{among_more}
 use Rattle.leaf_search.specs.Walks.{Excludes, IsKept, WhereAmong, side_of, systems_behind}
 use Rattle.leaf_search.proofs.Walking.{asked_more, nowhere_behind}
 
@@ -123,7 +123,7 @@ always_excludes sets a rows low forms = excludes_complement sets a rows low (λ 
 pub never_excludes : (sets : Option (ℕ × Affine)) (a : Affine) (rows : List Row) → Forms (asked (moved_by sets a)) (Ok Never) → Excludes rows (moved_by sets (side_of a true))
 never_excludes sets a rows forms store met here = subst (λ kind. MeetsKind store kind) (sym forms.0) here
 
--- where a row in hand tells the row, its complement is met nowhere
+-- where a row on the stack tells the row, its complement is met nowhere
 pub told_nowhere : (sets : Option (ℕ × Affine)) (row : Row) (rows : List Row) (asks : List Formed) → length row.affine.coef ≡ 16 → IfSome sets (λ s. s.0 < 16) → IsKept sets row.affine → All (λ r. Contains (kinds (all_asked asks)) (Kept r)) rows → IsToldByOne row rows → IsMetNowhere (all_asked (asks ++ moved_by sets (complement_of row.affine) ∷ []))
 told_nowhere sets row rows asks long low kept among told =
     excluded_nowhere rows asks (moved_by sets (complement_of row.affine)) among
@@ -160,7 +160,7 @@ module _ {R : Type 0} (ranks : Ranks R) (edge : ℕ) (sets : Option (ℕ × Affi
       (excluded_clear this (moved_by sets row.affine) asks among excludes)
       (no_clear (asks ++ moved_by sets (complement_of row.affine) ∷ []) (among_asked rows asks (moved_by sets (complement_of row.affine)) among))
 
-  -- the rows in hand are among those of the functions that they are of
+  -- the rows on the stack are among those of the functions that they are of
   pub clear_searched : (limit : Option R) (plan : Plan R) (asks : List Formed) (wide : Option Wide) (found : Option Finding) → is_some limit ≡ false → Held (all_asked asks) rows wide → IsClear plan → IsSearched ranks (systems_behind edge sets limit plan asks) false found
   clear_searched None plan asks wide found none held clear = clear asks held.among
   clear_searched (Some limit) plan asks wide found none held clear = absurd (cc)

@@ -9,14 +9,14 @@ use Rattle.decision_tree.specs.declared.family.Family.{Family}
 use Rattle.decision_tree.specs.declared.rank.Rank.{Ghosts as Ranks}
 use Rattle.decision_tree.specs.Plans.{bottom}
 use Rattle.tree_support.specs.Arcs.{Arc}
-use Rattle.rows_in_hand.specs.Forming.{Formed, given}
+use Rattle.constraint_stack.specs.Forming.{Formed, given}
 use Rattle.tree_support.specs.Setting.{Setting, Trees, trees_in}
-use Rattle.rows_in_hand.specs.Claims.{HasNoStore, System, unnatural}
+use Rattle.constraint_stack.specs.Claims.{HasNoStore, System, unnatural}
 use Rattle.tree_support.specs.Systems as systems
 use Rattle.tree_support.specs.Systems.{above_range, below_range, of_arcs, of_atom, of_both, of_end, of_keep, of_now, of_outcome, of_rank, of_side, of_value, plain, undefined_at, unedged}
-use Rattle.rows_in_hand.specs.declared.finding.Finding.{Finding}
-use Rattle.rows_in_hand.specs.Hands.{IsTried, all_asked}
-use Rattle.rows_in_hand.specs.Searches.{IsSearched}
+use Rattle.constraint_stack.specs.declared.finding.Finding.{Finding}
+use Rattle.constraint_stack.specs.Stacks.{IsTried, all_asked}
+use Rattle.constraint_stack.specs.Searches.{IsSearched}
 use Rattle.leaf_search.specs.Operands.{families_of}
 use Rattle.leaf_search.specs.declared.part.Part.{Part}
 use Rattle.leaf_search.specs.declared.part.Part.TheVariants.{Next, Until, Weak}

@@ -12,15 +12,15 @@ use Rattle.decision_tree.specs.declared.rank.Rank.{Ghosts as Ranks}
 use Rattle.decision_tree.specs.declared.reason.Cause.{Cause}
 use Rattle.decision_tree.specs.Plans.{Plan, bottom, top, leaf, branch}
 use Rattle.linear_solve.proofs.Lists.{all_of, member_of}
-use Rattle.rows_in_hand.specs.Forming.{Formed}
-use Rattle.rows_in_hand.specs.Claims.{HasNoStore, choices, kinds_of, Claim, System, exceeding, nothing}
+use Rattle.constraint_stack.specs.Forming.{Formed}
+use Rattle.constraint_stack.specs.Claims.{HasNoStore, choices, kinds_of, Claim, System, exceeding, nothing}
 use Rattle.tree_support.specs.Systems.{moved_by, plain}
-use Rattle.rows_in_hand.specs.declared.finding.Finding.{Finding}
-use Rattle.rows_in_hand.specs.Hands.{IsMetNowhere, IsTried, Refutes, all_asked, all_chosen, asked, kind_of, kinds, unformed}
-use Rattle.rows_in_hand.specs.Searches.{Finds, IsClaimFormed, IsClaimTried, IsSearched, lists_there}
+use Rattle.constraint_stack.specs.declared.finding.Finding.{Finding}
+use Rattle.constraint_stack.specs.Stacks.{IsMetNowhere, IsTried, Refutes, all_asked, all_chosen, asked, kind_of, kinds, unformed}
+use Rattle.constraint_stack.specs.Searches.{Finds, IsClaimFormed, IsClaimTried, IsSearched, lists_there}
 use Rattle.leaf_search.specs.Walks.{ending, side_of, systems_behind}
-use Rattle.rows_in_hand.proofs.Choosing.{nowhere_with}
-use Rattle.rows_in_hand.proofs.Justifying.{justified, justified_unformed, kinds_with}
+use Rattle.constraint_stack.proofs.Choosing.{nowhere_with}
+use Rattle.constraint_stack.proofs.Justifying.{justified, justified_unformed, kinds_with}
 
 pub asked_more : (asks : List Formed) (a : Formed) → all_asked (asks ++ a ∷ []) ≡ all_asked asks ++ asked a ∷ []
 asked_more asks a = map-append (λ a. asked a) asks (a ∷ [])

@@ -3,10 +3,10 @@ use Rattle.std.specs.Prelude.{◌≡◌, ℕ, Bool, List, ◌++◌, Option}
 use Rattle.std.specs.List.{flat_map}
 use Rattle.linear_cons.specs.declared.affine.Affine.{Affine}
 use Rattle.tree_support.specs.Arcs.{Arc, arcs_of, outcome_arcs, value_arcs}
-use Rattle.rows_in_hand.specs.Forming.{Formed}
+use Rattle.constraint_stack.specs.Forming.{Formed}
 use Rattle.control_flow.specs.declared.transition.Transition.{Transition}
 use Rattle.tree_support.specs.Setting.{Setting, Trees}
-use Rattle.rows_in_hand.specs.Claims.{System}
+use Rattle.constraint_stack.specs.Claims.{System}
 use Rattle.leaf_search.specs.Walks.{systems_behind}
 
 module _ {R : Type 0} where

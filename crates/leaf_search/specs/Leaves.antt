@@ -6,12 +6,12 @@ use Rattle.control_flow.specs.declared.edge.Choice.{Choice}
 use Rattle.decision_tree.specs.declared.family.Family.{Family}
 use Rattle.decision_tree.specs.Plans.{plan_of}
 use Rattle.tree_support.specs.Arcs.{Arc}
-use Rattle.rows_in_hand.specs.Forming.{Formed, given, minus}
+use Rattle.constraint_stack.specs.Forming.{Formed, given, minus}
 use Rattle.tree_support.specs.Setting.{Setting, trees_in}
-use Rattle.rows_in_hand.specs.Claims.{System}
+use Rattle.constraint_stack.specs.Claims.{System}
 use Rattle.tree_support.specs.Systems.{is_existential, plain, unedged}
-use Rattle.rows_in_hand.specs.Hands.{IsTried, all_asked}
-use Rattle.rows_in_hand.specs.declared.finding.Finding.{Finding}
+use Rattle.constraint_stack.specs.Stacks.{IsTried, all_asked}
+use Rattle.constraint_stack.specs.declared.finding.Finding.{Finding}
 use Rattle.leaf_search.specs.Operands.{families_of}
 use Rattle.leaf_search.specs.declared.leaf.Stand.{Stand}
 use Rattle.leaf_search.specs.declared.step.Targets.{Targets}
@@ -21,7 +21,7 @@ use Rattle.leaf_search.specs.Arcs.{IsTransitionAt, over_each}
 use Rattle.leaf_search.specs.Parts.{part_of}
 
 module _ {R : Type 0} where
-  -- what the code has in hand at the label is what the setting says
+  -- what the code has on the stack at the label is what the setting says
   pub record IsAt (at : Setting R) (part : Part) (label : ℕ) (choice : Choice) (transition : Transition) (smaller : List (Family R)) : Type 0 where
     pub formula : part_of at.formula ≡ part
     pub follows : IsTransitionAt at label transition

@@ -6,9 +6,9 @@ use Rattle.linear_cons.specs.declared.row.RowKind.TheVariants.{Row as Kept}
 use Rattle.linear_cons.specs.Functions.{coefficient, complement_of}
 use Rattle.linear_cons.specs.Rows.{MeetsAll, MeetsKind, row_kind_of}
 use Rattle.decision_tree.specs.Plans.{Plan}
-use Rattle.rows_in_hand.specs.Claims.{System}
-use Rattle.rows_in_hand.specs.Forming.{Formed, exact}
-use Rattle.rows_in_hand.specs.Hands.{all_asked, kinds}
+use Rattle.constraint_stack.specs.Claims.{System}
+use Rattle.constraint_stack.specs.Forming.{Formed, exact}
+use Rattle.constraint_stack.specs.Stacks.{all_asked, kinds}
 use Rattle.tree_support.specs.Systems.{at_leaves, if_undefined, moved_by, unless_less}
 
 -- what is asked on a side of a row: the row's function, or its complement

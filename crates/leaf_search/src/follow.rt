@@ -2,63 +2,63 @@
 ghost use Rattle.std.specs.Prelude.{◌≡◌, ◌++◌, ◌∷◌, [], ◌<◌, List, true, false, IfOk, OnOk, IfSome, map};
 ghost use Rattle.decision_tree.specs.Plans.{plan_of};
 ghost use Rattle.tree_support.specs.Arcs.{above_end, below_end, putting, rows_given, testing, arcs_of, outcome_arcs, value_arcs};
-ghost use Rattle.rows_in_hand.specs.Forming.{Formed, given, minus, plus};
+ghost use Rattle.constraint_stack.specs.Forming.{Formed, given, minus, plus};
 ghost use Rattle.tree_support.specs.Setting.{trees_in};
 ghost use Rattle.linear_cons.specs.Functions.{constant_of, variable_at};
-ghost use Rattle.rows_in_hand.specs.Hands.{AreFormed, Forms, IsMetNowhere, all_asked, asked};
+ghost use Rattle.constraint_stack.specs.Stacks.{AreFormed, Forms, IsMetNowhere, all_asked, asked};
 ghost use Rattle.leaf_search.specs.Arcs.{over_each};
-ghost use Rattle.rows_in_hand.specs.Searches.{Holds, IsLonger, IsSame, IsSearched, WhereAsked};
+ghost use Rattle.constraint_stack.specs.Searches.{Holds, IsLonger, IsSame, IsSearched, WhereAsked};
 ghost use Rattle.leaf_search.specs.Walks.{systems_behind};
 
 use crate::walk::{Way, has_sixteen_places};
+use constraint_stack::{ConstraintStack, Finding};
 use control_flow::{Place, Transition};
 use decision_tree::{Rank, Tree};
 use linear_cons::{Affine, Linear, Row, RowKind, Rows, Wide};
-use rows_in_hand::{Finding, Hand};
 use std::alloc::AllocError;
 
 /// The place that is no variable's, where a value is kept while it is chosen.
 const CHOSEN_PLACE: u8 = 15;
 
-/// Adds the rows. False where no store meets the rows in hand with them. The error is want of memory.
-pub fn add_rows(rows: &[Row], hand: &mut Hand) -> Result<bool, AllocError>
-    ensures longer { IfOk result (λ added. IsLonger hand.old hand.new) }
-    ensures held { IfOk result (λ added. added ≡ true → WhereAsked hand.old (λ asks.
-        Holds hand.new (all_asked (asks ++ rows_given rows.now)))) }
-    ensures nowhere { IfOk result (λ added. added ≡ false → WhereAsked hand.old (λ asks.
+/// Adds the rows. False where no store meets the rows on the stack with them. The error is want of memory.
+pub fn add_rows(rows: &[Row], stack: &mut ConstraintStack) -> Result<bool, AllocError>
+    ensures longer { IfOk result (λ added. IsLonger stack.old stack.new) }
+    ensures held { IfOk result (λ added. added ≡ true → WhereAsked stack.old (λ asks.
+        Holds stack.new (all_asked (asks ++ rows_given rows.now)))) }
+    ensures nowhere { IfOk result (λ added. added ≡ false → WhereAsked stack.old (λ asks.
         IsMetNowhere (all_asked (asks ++ rows_given rows.now)))) }
 {
     for row in rows {
         has_sixteen_places(row);
-        if !hand.add_row(row)? {
+        if !stack.add_row(row)? {
             return Ok(false);
         }
     }
     Ok(true)
 }
 
-/// Looks for a reason against the systems of the tree at a label, behind the rows in hand; past the last tree nothing is defined. False
+/// Looks for a reason against the systems of the tree at a label, behind the rows on the stack; past the last tree nothing is defined. False
 /// where no store meets any of them. The error is want of memory.
 pub fn refute_at<R: Rank>(
     trees: &[Tree<R>],
     way: &Way<R>,
     label: u32,
-    hand: &mut Hand,
+    stack: &mut ConstraintStack,
     found: &mut Option<Finding>,
 ) -> Result<bool, AllocError>
     requires { IfSome way.now.sets (λ s. s.0 < 16) }
-    ensures same { OnOk result (IsSame hand.old hand.new) }
-    ensures searched { IfOk result (λ refuted. WhereAsked hand.old (λ asks.
+    ensures same { OnOk result (IsSame stack.old stack.new) }
+    ensures searched { IfOk result (λ refuted. WhereAsked stack.old (λ asks.
         IsSearched R.Rank.own (systems_behind way.now.edge way.now.sets way.now.limit (trees_in (map plan_of trees.now) label) asks)
         refuted found.new)) }
 {
     match trees.get(label as usize) {
         Some(tree) => {
-            let refuted = way.refute_tree(tree, hand, found)?;
+            let refuted = way.refute_tree(tree, stack, found)?;
             Ok(refuted)
         }
         None => {
-            let refuted = hand.settle(way.edge, found)?;
+            let refuted = stack.check(way.edge, found)?;
             Ok(refuted)
         }
     }
@@ -70,22 +70,22 @@ fn refute_behind<R: Rank>(
     trees: &[Tree<R>],
     way: &Way<R>,
     label: u32,
-    hand: &mut Hand,
+    stack: &mut ConstraintStack,
     found: &mut Option<Finding>,
 ) -> Result<bool, AllocError>
     requires { IfSome way.now.sets (λ s. s.0 < 16) }
-    ensures same { OnOk result (IsSame hand.old hand.new) }
-    ensures searched { IfOk result (λ refuted. WhereAsked hand.old (λ asks.
+    ensures same { OnOk result (IsSame stack.old stack.new) }
+    ensures searched { IfOk result (λ refuted. WhereAsked stack.old (λ asks.
         IsSearched R.Rank.own (systems_behind way.now.edge way.now.sets way.now.limit (trees_in (map plan_of trees.now) label)
         (asks ++ rows_given rows.now)) refuted found.new)) }
 {
-    let mark = hand.mark();
-    if !add_rows(rows, hand)? {
-        hand.back(mark);
+    let checkpoint = stack.checkpoint();
+    if !add_rows(rows, stack)? {
+        stack.restore(checkpoint);
         return Ok(false);
     }
-    let refuted = refute_at(trees, way, label, hand, found)?;
-    hand.back(mark);
+    let refuted = refute_at(trees, way, label, stack, found)?;
+    stack.restore(checkpoint);
     Ok(refuted)
 }
 
@@ -96,11 +96,11 @@ fn refute_each<R: Rank>(
     limit: Option<R>,
     edge: u32,
     label: u32,
-    hand: &mut Hand,
+    stack: &mut ConstraintStack,
     found: &mut Option<Finding>,
 ) -> Result<bool, AllocError>
-    ensures same { OnOk result (IsSame hand.old hand.new) }
-    ensures searched { IfOk result (λ refuted. WhereAsked hand.old (λ asks.
+    ensures same { OnOk result (IsSame stack.old stack.new) }
+    ensures searched { IfOk result (λ refuted. WhereAsked stack.old (λ asks.
         IsSearched R.Rank.own (over_each (trees_in (map plan_of trees.now)) limit (testing edge label conjunctions.now) asks)
         refuted found.new)) }
 {
@@ -110,7 +110,7 @@ fn refute_each<R: Rank>(
         limit,
     };
     for rows in conjunctions {
-        if refute_behind(rows.items(), trees, &way, label, hand, found)? {
+        if refute_behind(rows.items(), trees, &way, label, stack, found)? {
             return Ok(true);
         }
     }
@@ -124,63 +124,66 @@ fn refute_above<R: Rank>(
     trees: &[Tree<R>],
     way: &Way<R>,
     label: u32,
-    hand: &mut Hand,
+    stack: &mut ConstraintStack,
     found: &mut Option<Finding>,
 ) -> Result<bool, AllocError>
     requires { IfSome way.now.sets (λ s. s.0 < 16) }
-    ensures same { OnOk result (IsSame hand.old hand.new) }
-    ensures searched { IfOk result (λ refuted. WhereAsked hand.old (λ asks.
+    ensures same { OnOk result (IsSame stack.old stack.new) }
+    ensures searched { IfOk result (λ refuted. WhereAsked stack.old (λ asks.
         IsSearched R.Rank.own (systems_behind way.now.edge way.now.sets way.now.limit (trees_in (map plan_of trees.now) label)
         ((asks ++ above_end value.now.affine value.now.lo) ++ below_end value.now.affine value.now.hi)) refuted found.new)) }
 {
-    let mark = hand.mark();
+    let checkpoint = stack.checkpoint();
     let formed = above(value);
-    if !add_end(formed, hand)? {
+    if !add_end(formed, stack)? {
         return Ok(false);
     }
-    let refuted = refute_below(value, trees, way, label, hand, found)?;
-    hand.back(mark);
+    let refuted = refute_below(value, trees, way, label, stack, found)?;
+    stack.restore(checkpoint);
     Ok(refuted)
 }
 
-/// The same, with the row of the lower end in hand.
+/// The same, with the row of the lower end in stack.
 fn refute_below<R: Rank>(
     value: &Linear,
     trees: &[Tree<R>],
     way: &Way<R>,
     label: u32,
-    hand: &mut Hand,
+    stack: &mut ConstraintStack,
     found: &mut Option<Finding>,
 ) -> Result<bool, AllocError>
     requires { IfSome way.now.sets (λ s. s.0 < 16) }
-    ensures same { OnOk result (IsSame hand.old hand.new) }
-    ensures searched { IfOk result (λ refuted. WhereAsked hand.old (λ asks.
+    ensures same { OnOk result (IsSame stack.old stack.new) }
+    ensures searched { IfOk result (λ refuted. WhereAsked stack.old (λ asks.
         IsSearched R.Rank.own (systems_behind way.now.edge way.now.sets way.now.limit (trees_in (map plan_of trees.now) label)
         (asks ++ below_end value.now.affine value.now.hi)) refuted found.new)) }
 {
-    let mark = hand.mark();
+    let checkpoint = stack.checkpoint();
     let formed = below(value);
-    if !add_end(formed, hand)? {
+    if !add_end(formed, stack)? {
         return Ok(false);
     }
-    let refuted = refute_at(trees, way, label, hand, found)?;
-    hand.back(mark);
+    let refuted = refute_at(trees, way, label, stack, found)?;
+    stack.restore(checkpoint);
     Ok(refuted)
 }
 
-/// Adds the row of an end, where there is one. False where no store meets the rows in hand with it.
-fn add_end(formed: Option<Result<RowKind, Wide>>, hand: &mut Hand) -> Result<bool, AllocError>
-    ensures same { IfOk result (λ added. added ≡ false → IsSame hand.old hand.new) }
-    ensures longer { IfOk result (λ added. IsLonger hand.old hand.new) }
-    ensures held { IfOk result (λ added. added ≡ true → (asks ends : List Formed) → AreFormed ends formed → Holds hand.old (all_asked asks)
-        → Holds hand.new (all_asked (asks ++ ends))) }
+/// Adds the row of an end, where there is one. False where no store meets the rows on the stack with it.
+fn add_end(
+    formed: Option<Result<RowKind, Wide>>,
+    stack: &mut ConstraintStack,
+) -> Result<bool, AllocError>
+    ensures same { IfOk result (λ added. added ≡ false → IsSame stack.old stack.new) }
+    ensures longer { IfOk result (λ added. IsLonger stack.old stack.new) }
+    ensures held { IfOk result (λ added. added ≡ true → (asks ends : List Formed) → AreFormed ends formed → Holds stack.old (all_asked asks)
+        → Holds stack.new (all_asked (asks ++ ends))) }
     ensures nowhere { IfOk result (λ added. added ≡ false → (asks ends : List Formed) → AreFormed ends formed
-        → Holds hand.old (all_asked asks) → IsMetNowhere (all_asked (asks ++ ends))) }
+        → Holds stack.old (all_asked asks) → IsMetNowhere (all_asked (asks ++ ends))) }
 {
     match formed {
         None => Ok(true),
         Some(formed) => {
-            let added = hand.add(formed)?;
+            let added = stack.add(formed)?;
             Ok(added)
         }
     }
@@ -222,26 +225,26 @@ fn below_function(function: &Affine, hi: i128) -> Result<RowKind, Wide>
     Ok(Row::of(distance))
 }
 
-/// Looks for a reason against the systems of the transition's arcs, behind the rows in hand: a leaf of a target that is undefined, or
+/// Looks for a reason against the systems of the transition's arcs, behind the rows on the stack: a leaf of a target that is undefined, or
 /// whose rank isn't less. False where no store meets any of them. The error is want of memory.
 pub fn refute_arcs<R: Rank>(
     transition: &Transition,
     trees: &[Tree<R>],
     limit: Option<R>,
-    hand: &mut Hand,
+    stack: &mut ConstraintStack,
     found: &mut Option<Finding>,
 ) -> Result<bool, AllocError>
-    ensures same { OnOk result (IsSame hand.old hand.new) }
-    ensures searched { IfOk result (λ refuted. WhereAsked hand.old (λ asks.
+    ensures same { OnOk result (IsSame stack.old stack.new) }
+    ensures searched { IfOk result (λ refuted. WhereAsked stack.old (λ asks.
         IsSearched R.Rank.own (over_each (trees_in (map plan_of trees.now)) limit (arcs_of transition.now) asks)
         refuted found.new)) }
 {
     match transition {
         Transition::Dead => Ok(false),
-        Transition::End => refute_assigned(None, trees, limit, 0, hand, found),
-        Transition::Pass { to } => refute_assigned(None, trees, limit, *to, hand, found),
+        Transition::End => refute_assigned(None, trees, limit, 0, stack, found),
+        Transition::Pass { to } => refute_assigned(None, trees, limit, *to, stack, found),
         Transition::Assign { place, value, to } => {
-            refute_put(*place, value, trees, limit, *to, hand, found)
+            refute_put(*place, value, trees, limit, *to, stack, found)
         }
         Transition::Choose {
             place,
@@ -254,14 +257,14 @@ pub fn refute_arcs<R: Rank>(
                 sets: Some((place.number, Affine::var(CHOSEN_PLACE))),
                 limit,
             };
-            let refuted = refute_above(range, trees, &way, *to, hand, found)?;
+            let refuted = refute_above(range, trees, &way, *to, stack, found)?;
             Ok(refuted)
         }
         Transition::Test { .. } => {
-            if refute_outcome(transition, true, trees, limit, hand, found)? {
+            if refute_outcome(transition, true, trees, limit, stack, found)? {
                 return Ok(true);
             }
-            let refuted = refute_outcome(transition, false, trees, limit, hand, found)?;
+            let refuted = refute_outcome(transition, false, trees, limit, stack, found)?;
             Ok(refuted)
         }
     }
@@ -273,11 +276,11 @@ pub fn refute_outcome<R: Rank>(
     outcome: bool,
     trees: &[Tree<R>],
     limit: Option<R>,
-    hand: &mut Hand,
+    stack: &mut ConstraintStack,
     found: &mut Option<Finding>,
 ) -> Result<bool, AllocError>
-    ensures same { OnOk result (IsSame hand.old hand.new) }
-    ensures searched { IfOk result (λ refuted. WhereAsked hand.old (λ asks.
+    ensures same { OnOk result (IsSame stack.old stack.new) }
+    ensures searched { IfOk result (λ refuted. WhereAsked stack.old (λ asks.
         IsSearched R.Rank.own (over_each (trees_in (map plan_of trees.now)) limit (outcome_arcs transition.now outcome) asks)
         refuted found.new)) }
 {
@@ -292,10 +295,10 @@ pub fn refute_outcome<R: Rank>(
         return Ok(false);
     };
     if outcome {
-        let refuted = refute_each(holds, trees, limit, 0, *yes, hand, found)?;
+        let refuted = refute_each(holds, trees, limit, 0, *yes, stack, found)?;
         return Ok(refuted);
     }
-    let refuted = refute_each(fails, trees, limit, 1, *no, hand, found)?;
+    let refuted = refute_each(fails, trees, limit, 1, *no, stack, found)?;
     Ok(refuted)
 }
 
@@ -305,11 +308,11 @@ pub fn refute_value<R: Rank>(
     value: &Affine,
     trees: &[Tree<R>],
     limit: Option<R>,
-    hand: &mut Hand,
+    stack: &mut ConstraintStack,
     found: &mut Option<Finding>,
 ) -> Result<bool, AllocError>
-    ensures same { OnOk result (IsSame hand.old hand.new) }
-    ensures searched { IfOk result (λ refuted. WhereAsked hand.old (λ asks.
+    ensures same { OnOk result (IsSame stack.old stack.new) }
+    ensures searched { IfOk result (λ refuted. WhereAsked stack.old (λ asks.
         IsSearched R.Rank.own (over_each (trees_in (map plan_of trees.now)) limit (value_arcs transition.now value.now) asks)
         refuted found.new)) }
 {
@@ -319,11 +322,11 @@ pub fn refute_value<R: Rank>(
             value: _,
             to,
         } => {
-            let refuted = refute_put(*place, value, trees, limit, *to, hand, found)?;
+            let refuted = refute_put(*place, value, trees, limit, *to, stack, found)?;
             Ok(refuted)
         }
         Transition::Choose { place, to, .. } => {
-            let refuted = refute_put(*place, value, trees, limit, *to, hand, found)?;
+            let refuted = refute_put(*place, value, trees, limit, *to, stack, found)?;
             Ok(refuted)
         }
         Transition::End | Transition::Dead | Transition::Pass { .. } | Transition::Test { .. } =>
@@ -338,16 +341,16 @@ fn refute_put<R: Rank>(
     trees: &[Tree<R>],
     limit: Option<R>,
     label: u32,
-    hand: &mut Hand,
+    stack: &mut ConstraintStack,
     found: &mut Option<Finding>,
 ) -> Result<bool, AllocError>
-    ensures same { OnOk result (IsSame hand.old hand.new) }
-    ensures searched { IfOk result (λ refuted. WhereAsked hand.old (λ asks.
+    ensures same { OnOk result (IsSame stack.old stack.new) }
+    ensures searched { IfOk result (λ refuted. WhereAsked stack.old (λ asks.
         IsSearched R.Rank.own (over_each (trees_in (map plan_of trees.now)) limit (putting place.number label value.now ∷ []) asks)
         refuted found.new)) }
 {
     let sets = Some((place.number, *value));
-    let refuted = refute_assigned(sets, trees, limit, label, hand, found)?;
+    let refuted = refute_assigned(sets, trees, limit, label, stack, found)?;
     Ok(refuted)
 }
 
@@ -357,12 +360,12 @@ fn refute_assigned<R: Rank>(
     trees: &[Tree<R>],
     limit: Option<R>,
     label: u32,
-    hand: &mut Hand,
+    stack: &mut ConstraintStack,
     found: &mut Option<Finding>,
 ) -> Result<bool, AllocError>
     requires { IfSome sets (λ s. s.0 < 16) }
-    ensures same { OnOk result (IsSame hand.old hand.new) }
-    ensures searched { IfOk result (λ refuted. WhereAsked hand.old (λ asks.
+    ensures same { OnOk result (IsSame stack.old stack.new) }
+    ensures searched { IfOk result (λ refuted. WhereAsked stack.old (λ asks.
         IsSearched R.Rank.own (over_each (trees_in (map plan_of trees.now)) limit
         (record { edge = 0; target = label; asks = []; sets = sets } ∷ []) asks) refuted found.new)) }
 {
@@ -371,6 +374,6 @@ fn refute_assigned<R: Rank>(
         sets,
         limit,
     };
-    let refuted = refute_at(trees, &way, label, hand, found)?;
+    let refuted = refute_at(trees, &way, label, stack, found)?;
     Ok(refuted)
 }

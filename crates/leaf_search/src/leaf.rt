@@ -2,22 +2,22 @@
 ghost use Rattle.std.specs.Prelude.{◌∷◌, ◌++◌, [], IfOk, OnOk, map};
 ghost use Rattle.linear_cons.specs.Functions.{complement_of};
 ghost use Rattle.decision_tree.specs.Plans.{leaf, plan_of};
-ghost use Rattle.rows_in_hand.specs.Forming.{Formed, given};
+ghost use Rattle.constraint_stack.specs.Forming.{Formed, given};
 ghost use Rattle.tree_support.specs.Setting.{trees_in};
 ghost use Rattle.tree_support.specs.Systems.{of_atom, of_both, of_end, of_keep, of_leaf, of_now, of_rank, of_side, of_why, unedged, undefined_at};
-ghost use Rattle.rows_in_hand.specs.Claims.{unnatural};
-ghost use Rattle.rows_in_hand.specs.Hands.{Forms, IsTried, all_asked, asked};
-ghost use Rattle.rows_in_hand.specs.Searches.{IsClaimFormed, IsSame, IsSearched, WhereAsked};
+ghost use Rattle.constraint_stack.specs.Claims.{unnatural};
+ghost use Rattle.constraint_stack.specs.Stacks.{Forms, IsTried, all_asked, asked};
+ghost use Rattle.constraint_stack.specs.Searches.{IsClaimFormed, IsSame, IsSearched, WhereAsked};
 ghost use Rattle.leaf_search.specs.Operands.{families_of};
 ghost use Rattle.leaf_search.specs.Leaves.{WhereStood};
 
 use crate::follow::refute_at;
 use crate::part::Part;
 use crate::walk::Way;
+use constraint_stack::{ConstraintStack, Finding, try_claim};
 use control_flow::{Choice, Transition};
 use decision_tree::{Alternatives, Family, Rank, Tree, Why};
 use linear_cons::{Affine, Row, RowKind, Wide};
-use rows_in_hand::{Finding, Hand, try_claim};
 use std::alloc::AllocError;
 
 /// The edge number of a system that has no edge.
@@ -36,25 +36,25 @@ pub struct Stand<'a, R: Rank> {
 }
 
 impl<'a, R: Rank> Stand<'a, R> {
-    /// Looks for a reason against the systems of a defined leaf, behind the rows of its region in hand. False where no store meets any of
+    /// Looks for a reason against the systems of a defined leaf, behind the rows of its region in stack. False where no store meets any of
     /// them. The error is want of memory.
     #[inline(never)]
     pub fn refute_leaf(
         &self,
         why: &Why,
         rank: &R,
-        hand: &mut Hand,
+        stack: &mut ConstraintStack,
         found: &mut Option<Finding>,
     ) -> Result<bool, AllocError>
-        ensures same { OnOk result (IsSame hand.old hand.new) }
-        ensures searched { IfOk result (λ refuted. WhereStood self.now (λ at. WhereAsked hand.old (λ asks.
+        ensures same { OnOk result (IsSame stack.old stack.new) }
+        ensures searched { IfOk result (λ refuted. WhereStood self.now (λ at. WhereAsked stack.old (λ asks.
             IsSearched R.Rank.own (of_leaf at (leaf why.now rank.now) (trees_in (map plan_of self.now.family.now)) self.now.label asks)
             refuted found.new))) }
     {
-        if self.refute_bound(rank, hand, found)? {
+        if self.refute_bound(rank, stack, found)? {
             return Ok(true);
         }
-        let refuted = self.refute_why(why, rank, hand, found)?;
+        let refuted = self.refute_why(why, rank, stack, found)?;
         Ok(refuted)
     }
 
@@ -62,15 +62,15 @@ impl<'a, R: Rank> Stand<'a, R> {
     fn refute_bound(
         &self,
         rank: &R,
-        hand: &mut Hand,
+        stack: &mut ConstraintStack,
         found: &mut Option<Finding>,
     ) -> Result<bool, AllocError>
-        ensures same { OnOk result (IsSame hand.old hand.new) }
-        ensures searched { IfOk result (λ refuted. WhereStood self.now (λ at. WhereAsked hand.old (λ asks.
+        ensures same { OnOk result (IsSame stack.old stack.new) }
+        ensures searched { IfOk result (λ refuted. WhereStood self.now (λ at. WhereAsked stack.old (λ asks.
             IsSearched R.Rank.own (of_rank at at.formula rank.now asks) refuted found.new))) }
     {
         if self.part.has_bound() {
-            let refuted = refute_rank(rank, hand, found)?;
+            let refuted = refute_rank(rank, stack, found)?;
             return Ok(refuted);
         }
         Ok(false)
@@ -81,101 +81,113 @@ impl<'a, R: Rank> Stand<'a, R> {
         &self,
         why: &Why,
         rank: &R,
-        hand: &mut Hand,
+        stack: &mut ConstraintStack,
         found: &mut Option<Finding>,
     ) -> Result<bool, AllocError>
-        ensures same { OnOk result (IsSame hand.old hand.new) }
-        ensures searched { IfOk result (λ refuted. WhereStood self.now (λ at. WhereAsked hand.old (λ asks.
+        ensures same { OnOk result (IsSame stack.old stack.new) }
+        ensures searched { IfOk result (λ refuted. WhereStood self.now (λ at. WhereAsked stack.old (λ asks.
             IsSearched R.Rank.own (of_why at why.now (trees_in (map plan_of self.now.family.now)) rank.now self.now.label asks)
             refuted found.new))) }
     {
         match why {
             Why::End => {
-                let refuted = self.refute_end(hand, found)?;
+                let refuted = self.refute_end(stack, found)?;
                 Ok(refuted)
             }
             Why::Atom => {
-                let refuted = self.refute_atom(hand, found)?;
+                let refuted = self.refute_atom(stack, found)?;
                 Ok(refuted)
             }
             Why::Both => {
-                let refuted = self.refute_both(hand, found)?;
+                let refuted = self.refute_both(stack, found)?;
                 Ok(refuted)
             }
             Why::Left => {
-                let refuted = self.refute_side(0, hand, found)?;
+                let refuted = self.refute_side(0, stack, found)?;
                 Ok(refuted)
             }
             Why::Right => {
-                let refuted = self.refute_side(1, hand, found)?;
+                let refuted = self.refute_side(1, stack, found)?;
                 Ok(refuted)
             }
             Why::Now => {
-                let refuted = self.refute_now(hand, found)?;
+                let refuted = self.refute_now(stack, found)?;
                 Ok(refuted)
             }
             Why::Dead => {
-                let refuted = refute_plain(hand, found)?;
+                let refuted = refute_plain(stack, found)?;
                 Ok(refuted)
             }
             Why::Step(pick) => {
-                if self.refute_kept(hand, found)? {
+                if self.refute_kept(stack, found)? {
                     return Ok(true);
                 }
-                let refuted = self.refute_pick(pick, rank, hand, found)?;
+                let refuted = self.refute_pick(pick, rank, stack, found)?;
                 Ok(refuted)
             }
         }
     }
 
     /// The end stands at label 0, where the part may say that it is there.
-    fn refute_end(&self, hand: &mut Hand, found: &mut Option<Finding>) -> Result<bool, AllocError>
-        ensures same { OnOk result (IsSame hand.old hand.new) }
-        ensures searched { IfOk result (λ refuted. WhereStood self.now (λ at. WhereAsked hand.old (λ asks.
+    fn refute_end(
+        &self,
+        stack: &mut ConstraintStack,
+        found: &mut Option<Finding>,
+    ) -> Result<bool, AllocError>
+        ensures same { OnOk result (IsSame stack.old stack.new) }
+        ensures searched { IfOk result (λ refuted. WhereStood self.now (λ at. WhereAsked stack.old (λ asks.
             IsSearched R.Rank.own (of_end at at.formula self.now.label asks) refuted found.new))) }
     {
         if self.label != 0 {
-            let refuted = refute_plain(hand, found)?;
+            let refuted = refute_plain(stack, found)?;
             return Ok(refuted);
         }
         if self.part.may_end() {
             return Ok(false);
         }
-        let refuted = refute_plain(hand, found)?;
+        let refuted = refute_plain(stack, found)?;
         Ok(refuted)
     }
 
     /// An atom holds at the label, or where the complement of its row is met nowhere.
-    fn refute_atom(&self, hand: &mut Hand, found: &mut Option<Finding>) -> Result<bool, AllocError>
-        ensures same { OnOk result (IsSame hand.old hand.new) }
-        ensures searched { IfOk result (λ refuted. WhereStood self.now (λ at. WhereAsked hand.old (λ asks.
+    fn refute_atom(
+        &self,
+        stack: &mut ConstraintStack,
+        found: &mut Option<Finding>,
+    ) -> Result<bool, AllocError>
+        ensures same { OnOk result (IsSame stack.old stack.new) }
+        ensures searched { IfOk result (λ refuted. WhereStood self.now (λ at. WhereAsked stack.old (λ asks.
             IsSearched R.Rank.own (of_atom at at.formula self.now.label asks) refuted found.new))) }
     {
         if let Some(function) = self.part.function() {
-            let refuted = refute_with(complement(&function), hand, found)?;
+            let refuted = refute_with(complement(&function), stack, found)?;
             return Ok(refuted);
         }
         if self.part.holds_at(self.label) {
             return Ok(false);
         }
-        let refuted = refute_plain(hand, found)?;
+        let refuted = refute_plain(stack, found)?;
         Ok(refuted)
     }
 
     /// Both sides of a conjunction are defined.
-    fn refute_both(&self, hand: &mut Hand, found: &mut Option<Finding>) -> Result<bool, AllocError>
-        ensures same { OnOk result (IsSame hand.old hand.new) }
-        ensures searched { IfOk result (λ refuted. WhereStood self.now (λ at. WhereAsked hand.old (λ asks.
+    fn refute_both(
+        &self,
+        stack: &mut ConstraintStack,
+        found: &mut Option<Finding>,
+    ) -> Result<bool, AllocError>
+        ensures same { OnOk result (IsSame stack.old stack.new) }
+        ensures searched { IfOk result (λ refuted. WhereStood self.now (λ at. WhereAsked stack.old (λ asks.
             IsSearched R.Rank.own (of_both at at.formula self.now.label asks) refuted found.new))) }
     {
         if !self.part.is_both() {
-            let refuted = refute_plain(hand, found)?;
+            let refuted = refute_plain(stack, found)?;
             return Ok(refuted);
         }
-        if refute_part(self.parts, 0, self.label, hand, found)? {
+        if refute_part(self.parts, 0, self.label, stack, found)? {
             return Ok(true);
         }
-        let refuted = refute_part(self.parts, 1, self.label, hand, found)?;
+        let refuted = refute_part(self.parts, 1, self.label, stack, found)?;
         Ok(refuted)
     }
 
@@ -183,47 +195,55 @@ impl<'a, R: Rank> Stand<'a, R> {
     fn refute_side(
         &self,
         side: usize,
-        hand: &mut Hand,
+        stack: &mut ConstraintStack,
         found: &mut Option<Finding>,
     ) -> Result<bool, AllocError>
-        ensures same { OnOk result (IsSame hand.old hand.new) }
-        ensures searched { IfOk result (λ refuted. WhereStood self.now (λ at. WhereAsked hand.old (λ asks.
+        ensures same { OnOk result (IsSame stack.old stack.new) }
+        ensures searched { IfOk result (λ refuted. WhereStood self.now (λ at. WhereAsked stack.old (λ asks.
             IsSearched R.Rank.own (of_side at at.formula side self.now.label asks) refuted found.new))) }
     {
         if !self.part.is_either() {
-            let refuted = refute_plain(hand, found)?;
+            let refuted = refute_plain(stack, found)?;
             return Ok(refuted);
         }
-        let refuted = refute_part(self.parts, side, self.label, hand, found)?;
+        let refuted = refute_part(self.parts, side, self.label, stack, found)?;
         Ok(refuted)
     }
 
     /// The goal of an until is met now, and at label 0 the operand of a next holds.
-    fn refute_now(&self, hand: &mut Hand, found: &mut Option<Finding>) -> Result<bool, AllocError>
-        ensures same { OnOk result (IsSame hand.old hand.new) }
-        ensures searched { IfOk result (λ refuted. WhereStood self.now (λ at. WhereAsked hand.old (λ asks.
+    fn refute_now(
+        &self,
+        stack: &mut ConstraintStack,
+        found: &mut Option<Finding>,
+    ) -> Result<bool, AllocError>
+        ensures same { OnOk result (IsSame stack.old stack.new) }
+        ensures searched { IfOk result (λ refuted. WhereStood self.now (λ at. WhereAsked stack.old (λ asks.
             IsSearched R.Rank.own (of_now at at.formula self.now.label asks) refuted found.new))) }
     {
         match self.part.met_now(self.label) {
             Some(number) => {
-                let refuted = refute_part(self.parts, number, self.label, hand, found)?;
+                let refuted = refute_part(self.parts, number, self.label, stack, found)?;
                 Ok(refuted)
             }
             None => {
-                let refuted = refute_plain(hand, found)?;
+                let refuted = refute_plain(stack, found)?;
                 Ok(refuted)
             }
         }
     }
 
     /// What an until is to keep holds before a step.
-    fn refute_kept(&self, hand: &mut Hand, found: &mut Option<Finding>) -> Result<bool, AllocError>
-        ensures same { OnOk result (IsSame hand.old hand.new) }
-        ensures searched { IfOk result (λ refuted. WhereStood self.now (λ at. WhereAsked hand.old (λ asks.
+    fn refute_kept(
+        &self,
+        stack: &mut ConstraintStack,
+        found: &mut Option<Finding>,
+    ) -> Result<bool, AllocError>
+        ensures same { OnOk result (IsSame stack.old stack.new) }
+        ensures searched { IfOk result (λ refuted. WhereStood self.now (λ at. WhereAsked stack.old (λ asks.
             IsSearched R.Rank.own (of_keep at at.formula self.now.label asks) refuted found.new))) }
     {
         if self.part.keeps() {
-            let refuted = refute_part(self.parts, 0, self.label, hand, found)?;
+            let refuted = refute_part(self.parts, 0, self.label, stack, found)?;
             return Ok(refuted);
         }
         Ok(false)
@@ -231,30 +251,33 @@ impl<'a, R: Rank> Stand<'a, R> {
 }
 
 /// Looks for a reason against the one system of a why that stands elsewhere.
-pub(crate) fn refute_plain(hand: &mut Hand, found: &mut Option<Finding>) -> Result<bool, AllocError>
-    ensures same { OnOk result (IsSame hand.old hand.new) }
-    ensures tried { IfOk result (λ refuted. WhereAsked hand.old (λ asks. IsTried (all_asked asks) 2 refuted found.new)) }
+pub(crate) fn refute_plain(
+    stack: &mut ConstraintStack,
+    found: &mut Option<Finding>,
+) -> Result<bool, AllocError>
+    ensures same { OnOk result (IsSame stack.old stack.new) }
+    ensures tried { IfOk result (λ refuted. WhereAsked stack.old (λ asks. IsTried (all_asked asks) 2 refuted found.new)) }
 {
-    let refuted = hand.settle(UNEDGED, found)?;
+    let refuted = stack.check(UNEDGED, found)?;
     Ok(refuted)
 }
 
-/// Looks for a reason against the system of the rows in hand and one more.
+/// Looks for a reason against the system of the rows on the stack and one more.
 pub(crate) fn refute_with(
     formed: Result<RowKind, Wide>,
-    hand: &mut Hand,
+    stack: &mut ConstraintStack,
     found: &mut Option<Finding>,
 ) -> Result<bool, AllocError>
-    ensures same { OnOk result (IsSame hand.old hand.new) }
-    ensures tried { IfOk result (λ refuted. WhereAsked hand.old (λ asks. (a : Formed) → Forms (asked a) formed
+    ensures same { OnOk result (IsSame stack.old stack.new) }
+    ensures tried { IfOk result (λ refuted. WhereAsked stack.old (λ asks. (a : Formed) → Forms (asked a) formed
         → IsTried (all_asked (asks ++ a ∷ [])) 2 refuted found.new)) }
 {
-    let mark = hand.mark();
-    if !hand.add(formed)? {
+    let checkpoint = stack.checkpoint();
+    if !stack.add(formed)? {
         return Ok(false);
     }
-    let refuted = hand.settle(UNEDGED, found)?;
-    hand.back(mark);
+    let refuted = stack.check(UNEDGED, found)?;
+    stack.restore(checkpoint);
     Ok(refuted)
 }
 
@@ -269,15 +292,15 @@ fn complement(function: &Affine) -> Result<RowKind, Wide>
 /// Looks for a reason against the system that says that a leaf's rank is no natural.
 fn refute_rank<R: Rank>(
     rank: &R,
-    hand: &mut Hand,
+    stack: &mut ConstraintStack,
     found: &mut Option<Finding>,
 ) -> Result<bool, AllocError>
-    ensures same { OnOk result (IsSame hand.old hand.new) }
-    ensures searched { IfOk result (λ refuted. WhereAsked hand.old (λ asks.
+    ensures same { OnOk result (IsSame stack.old stack.new) }
+    ensures searched { IfOk result (λ refuted. WhereAsked stack.old (λ asks.
         IsSearched R.Rank.own (record { edge = unedged; asks = asks; claim = unnatural rank.now } ∷ []) refuted found.new)) }
 {
     let formed = negative(rank);
-    let refuted = try_claim(&formed, UNEDGED, hand, found)?;
+    let refuted = try_claim(&formed, UNEDGED, stack, found)?;
     Ok(refuted)
 }
 
@@ -294,11 +317,11 @@ fn refute_part<R: Rank>(
     parts: &[Family<R>],
     number: usize,
     label: u32,
-    hand: &mut Hand,
+    stack: &mut ConstraintStack,
     found: &mut Option<Finding>,
 ) -> Result<bool, AllocError>
-    ensures same { OnOk result (IsSame hand.old hand.new) }
-    ensures searched { IfOk result (λ refuted. WhereAsked hand.old (λ asks.
+    ensures same { OnOk result (IsSame stack.old stack.new) }
+    ensures searched { IfOk result (λ refuted. WhereAsked stack.old (λ asks.
         IsSearched R.Rank.own (undefined_at (families_of parts.now number label) asks) refuted found.new)) }
 {
     match parts.get(number) {
@@ -308,11 +331,11 @@ fn refute_part<R: Rank>(
                 sets: None,
                 limit: None,
             };
-            let refuted = refute_at(family.trees.items(), &way, label, hand, found)?;
+            let refuted = refute_at(family.trees.items(), &way, label, stack, found)?;
             Ok(refuted)
         }
         None => {
-            let refuted = refute_plain(hand, found)?;
+            let refuted = refute_plain(stack, found)?;
             Ok(refuted)
         }
     }

@@ -1,7 +1,7 @@
 //! The search for a reason against one leaf of a family, for every formula, by the reason for which the leaf stands.
 //!
 //! A step is searched along the arcs of its label, over the leaves of the tree to which each arc leads. It stands on `control_flow` for what is
-//! done at a label, on `tree_support`, whose definitions say which systems a leaf has, and on the rows in hand. The front door: `Stand`, what
+//! done at a label, on `tree_support`, whose definitions say which systems a leaf has, and on the rows on the stack. The front door: `Stand`, what
 //! the leaves of a label are held against; `Part`, what of a formula is needed for it; and along arcs `refute_arcs`, `refute_outcome` and
 //! `refute_value`, `refute_at` and `Way` for one tree, and `add_rows`.
 #![tactic(auto)]

@@ -3,21 +3,21 @@ ghost use Rattle.std.specs.Prelude.{◌≡◌, List, pos, IfOk, OnOk, map};
 ghost use Rattle.linear_cons.specs.Functions.{constant_of};
 ghost use Rattle.decision_tree.specs.Plans.{plan_of};
 ghost use Rattle.tree_support.specs.Arcs.{Arc};
-ghost use Rattle.rows_in_hand.specs.Forming.{Formed, given, minus};
+ghost use Rattle.constraint_stack.specs.Forming.{Formed, given, minus};
 ghost use Rattle.tree_support.specs.Setting.{trees_in};
 ghost use Rattle.tree_support.specs.Systems.{of_arcs, of_outcome, of_pick, of_value};
-ghost use Rattle.rows_in_hand.specs.Hands.{Forms, asked};
-ghost use Rattle.rows_in_hand.specs.Searches.{IsSame, IsSearched, WhereAsked};
+ghost use Rattle.constraint_stack.specs.Stacks.{Forms, asked};
+ghost use Rattle.constraint_stack.specs.Searches.{IsSame, IsSearched, WhereAsked};
 ghost use Rattle.leaf_search.specs.Operands.{families_of};
 ghost use Rattle.leaf_search.specs.Leaves.{IsPastTried, WhereStood, above_ends, below_ends, over_targets, where_some};
 
 use crate::follow::{refute_arcs, refute_outcome, refute_value};
 use crate::leaf::{Stand, refute_plain, refute_with};
 use crate::part::Part;
+use constraint_stack::{ConstraintStack, Finding};
 use control_flow::Choice;
 use decision_tree::{Pick, Rank, Tree};
 use linear_cons::{Affine, Row, RowKind, Wide};
-use rows_in_hand::{Finding, Hand};
 use std::alloc::AllocError;
 
 /// The trees to which a step leads, one for each label, and the rank that those of their leaves are to be less than, where there is one.
@@ -66,29 +66,29 @@ impl<'a, R: Rank> Stand<'a, R> {
         &self,
         pick: &Pick,
         rank: &R,
-        hand: &mut Hand,
+        stack: &mut ConstraintStack,
         found: &mut Option<Finding>,
     ) -> Result<bool, AllocError>
-        ensures same { OnOk result (IsSame hand.old hand.new) }
-        ensures searched { IfOk result (λ refuted. WhereStood self.now (λ at. WhereAsked hand.old (λ asks.
+        ensures same { OnOk result (IsSame stack.old stack.new) }
+        ensures searched { IfOk result (λ refuted. WhereStood self.now (λ at. WhereAsked stack.old (λ asks.
             IsSearched R.Rank.own (of_pick at pick.now (trees_in (map plan_of self.now.family.now)) rank.now self.now.label asks)
             refuted found.new))) }
     {
         match pick {
             Pick::All => {
-                let refuted = self.refute_arcs(rank, hand, found)?;
+                let refuted = self.refute_arcs(rank, stack, found)?;
                 Ok(refuted)
             }
             Pick::Yes => {
-                let refuted = self.refute_outcome(true, rank, hand, found)?;
+                let refuted = self.refute_outcome(true, rank, stack, found)?;
                 Ok(refuted)
             }
             Pick::No => {
-                let refuted = self.refute_outcome(false, rank, hand, found)?;
+                let refuted = self.refute_outcome(false, rank, stack, found)?;
                 Ok(refuted)
             }
             Pick::Value(value) => {
-                let refuted = self.refute_value(value, rank, hand, found)?;
+                let refuted = self.refute_value(value, rank, stack, found)?;
                 Ok(refuted)
             }
         }
@@ -98,21 +98,21 @@ impl<'a, R: Rank> Stand<'a, R> {
     fn refute_arcs(
         &self,
         rank: &R,
-        hand: &mut Hand,
+        stack: &mut ConstraintStack,
         found: &mut Option<Finding>,
     ) -> Result<bool, AllocError>
-        ensures same { OnOk result (IsSame hand.old hand.new) }
-        ensures searched { IfOk result (λ refuted. WhereStood self.now (λ at. WhereAsked hand.old (λ asks.
+        ensures same { OnOk result (IsSame stack.old stack.new) }
+        ensures searched { IfOk result (λ refuted. WhereStood self.now (λ at. WhereAsked stack.old (λ asks.
             IsSearched R.Rank.own (of_arcs at at.formula (trees_in (map plan_of self.now.family.now)) rank.now (at.flow.arcs self.now.label) asks)
             refuted found.new))) }
     {
         match self.targets(rank) {
             Some(to) => {
-                let refuted = refute_arcs(self.transition, to.trees, to.limit, hand, found)?;
+                let refuted = refute_arcs(self.transition, to.trees, to.limit, stack, found)?;
                 Ok(refuted)
             }
             None => {
-                let refuted = refute_plain(hand, found)?;
+                let refuted = refute_plain(stack, found)?;
                 Ok(refuted)
             }
         }
@@ -123,26 +123,26 @@ impl<'a, R: Rank> Stand<'a, R> {
         &self,
         outcome: bool,
         rank: &R,
-        hand: &mut Hand,
+        stack: &mut ConstraintStack,
         found: &mut Option<Finding>,
     ) -> Result<bool, AllocError>
-        ensures same { OnOk result (IsSame hand.old hand.new) }
-        ensures searched { IfOk result (λ refuted. WhereStood self.now (λ at. WhereAsked hand.old (λ asks.
+        ensures same { OnOk result (IsSame stack.old stack.new) }
+        ensures searched { IfOk result (λ refuted. WhereStood self.now (λ at. WhereAsked stack.old (λ asks.
             IsSearched R.Rank.own (where_some at
             (of_outcome at (at.flow.choice self.now.label) outcome (trees_in (map plan_of self.now.family.now)) rank.now self.now.label asks) asks)
             refuted found.new))) }
     {
         if !self.part.is_existential() {
-            let refuted = refute_plain(hand, found)?;
+            let refuted = refute_plain(stack, found)?;
             return Ok(refuted);
         }
         match self.choice {
             Choice::Branch => {
-                let refuted = self.refute_branch(outcome, rank, hand, found)?;
+                let refuted = self.refute_branch(outcome, rank, stack, found)?;
                 Ok(refuted)
             }
             _ => {
-                let refuted = refute_plain(hand, found)?;
+                let refuted = refute_plain(stack, found)?;
                 Ok(refuted)
             }
         }
@@ -153,11 +153,11 @@ impl<'a, R: Rank> Stand<'a, R> {
         &self,
         outcome: bool,
         rank: &R,
-        hand: &mut Hand,
+        stack: &mut ConstraintStack,
         found: &mut Option<Finding>,
     ) -> Result<bool, AllocError>
-        ensures same { OnOk result (IsSame hand.old hand.new) }
-        ensures searched { IfOk result (λ refuted. WhereStood self.now (λ at. WhereAsked hand.old (λ asks.
+        ensures same { OnOk result (IsSame stack.old stack.new) }
+        ensures searched { IfOk result (λ refuted. WhereStood self.now (λ at. WhereAsked stack.old (λ asks.
             IsSearched R.Rank.own (of_arcs at at.formula (trees_in (map plan_of self.now.family.now)) rank.now
             (at.flow.arcs_of self.now.label outcome) asks) refuted found.new))) }
     {
@@ -168,13 +168,13 @@ impl<'a, R: Rank> Stand<'a, R> {
                     outcome,
                     to.trees,
                     to.limit,
-                    hand,
+                    stack,
                     found,
                 )?;
                 Ok(refuted)
             }
             None => {
-                let refuted = refute_plain(hand, found)?;
+                let refuted = refute_plain(stack, found)?;
                 Ok(refuted)
             }
         }
@@ -185,32 +185,32 @@ impl<'a, R: Rank> Stand<'a, R> {
         &self,
         value: &Affine,
         rank: &R,
-        hand: &mut Hand,
+        stack: &mut ConstraintStack,
         found: &mut Option<Finding>,
     ) -> Result<bool, AllocError>
-        ensures same { OnOk result (IsSame hand.old hand.new) }
-        ensures searched { IfOk result (λ refuted. WhereStood self.now (λ at. WhereAsked hand.old (λ asks.
+        ensures same { OnOk result (IsSame stack.old stack.new) }
+        ensures searched { IfOk result (λ refuted. WhereStood self.now (λ at. WhereAsked stack.old (λ asks.
             IsSearched R.Rank.own (where_some at
             (of_value at (at.flow.choice self.now.label) value.now (trees_in (map plan_of self.now.family.now)) rank.now self.now.label asks) asks)
             refuted found.new))) }
     {
         if !self.part.is_existential() {
-            let refuted = refute_plain(hand, found)?;
+            let refuted = refute_plain(stack, found)?;
             return Ok(refuted);
         }
         match self.choice {
             Choice::Range { lo, hi } => {
-                if refute_below(lo, value, hand, found)? {
+                if refute_below(lo, value, stack, found)? {
                     return Ok(true);
                 }
-                if refute_above(hi, value, hand, found)? {
+                if refute_above(hi, value, stack, found)? {
                     return Ok(true);
                 }
-                let refuted = self.refute_put(value, rank, hand, found)?;
+                let refuted = self.refute_put(value, rank, stack, found)?;
                 Ok(refuted)
             }
             _ => {
-                let refuted = refute_plain(hand, found)?;
+                let refuted = refute_plain(stack, found)?;
                 Ok(refuted)
             }
         }
@@ -221,11 +221,11 @@ impl<'a, R: Rank> Stand<'a, R> {
         &self,
         value: &Affine,
         rank: &R,
-        hand: &mut Hand,
+        stack: &mut ConstraintStack,
         found: &mut Option<Finding>,
     ) -> Result<bool, AllocError>
-        ensures same { OnOk result (IsSame hand.old hand.new) }
-        ensures searched { IfOk result (λ refuted. WhereStood self.now (λ at. WhereAsked hand.old (λ asks.
+        ensures same { OnOk result (IsSame stack.old stack.new) }
+        ensures searched { IfOk result (λ refuted. WhereStood self.now (λ at. WhereAsked stack.old (λ asks.
             IsSearched R.Rank.own (of_arcs at at.formula (trees_in (map plan_of self.now.family.now)) rank.now
             (at.flow.arcs_with self.now.label value.now) asks) refuted found.new))) }
     {
@@ -236,13 +236,13 @@ impl<'a, R: Rank> Stand<'a, R> {
                     value,
                     to.trees,
                     to.limit,
-                    hand,
+                    stack,
                     found,
                 )?;
                 Ok(refuted)
             }
             None => {
-                let refuted = refute_plain(hand, found)?;
+                let refuted = refute_plain(stack, found)?;
                 Ok(refuted)
             }
         }
@@ -253,18 +253,18 @@ impl<'a, R: Rank> Stand<'a, R> {
 fn refute_below(
     lo: Option<i64>,
     value: &Affine,
-    hand: &mut Hand,
+    stack: &mut ConstraintStack,
     found: &mut Option<Finding>,
 ) -> Result<bool, AllocError>
-    ensures same { OnOk result (IsSame hand.old hand.new) }
-    ensures tried { IfOk result (λ refuted. WhereAsked hand.old (λ asks.
+    ensures same { OnOk result (IsSame stack.old stack.new) }
+    ensures tried { IfOk result (λ refuted. WhereAsked stack.old (λ asks.
         IsPastTried (below_ends lo value.now) asks refuted found.new)) }
 {
     let Some(lo) = lo else {
         return Ok(false);
     };
     let below = past(&Affine::constant(i128::from(lo)), value);
-    let refuted = refute_with(below, hand, found)?;
+    let refuted = refute_with(below, stack, found)?;
     Ok(refuted)
 }
 
@@ -272,18 +272,18 @@ fn refute_below(
 fn refute_above(
     hi: Option<i64>,
     value: &Affine,
-    hand: &mut Hand,
+    stack: &mut ConstraintStack,
     found: &mut Option<Finding>,
 ) -> Result<bool, AllocError>
-    ensures same { OnOk result (IsSame hand.old hand.new) }
-    ensures tried { IfOk result (λ refuted. WhereAsked hand.old (λ asks.
+    ensures same { OnOk result (IsSame stack.old stack.new) }
+    ensures tried { IfOk result (λ refuted. WhereAsked stack.old (λ asks.
         IsPastTried (above_ends hi value.now) asks refuted found.new)) }
 {
     let Some(hi) = hi else {
         return Ok(false);
     };
     let above = past(value, &Affine::constant(i128::from(hi)));
-    let refuted = refute_with(above, hand, found)?;
+    let refuted = refute_with(above, stack, found)?;
     Ok(refuted)
 }
 

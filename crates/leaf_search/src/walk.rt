@@ -3,15 +3,15 @@ ghost use Rattle.std.specs.Prelude.{◌≡◌, ◌++◌, ◌∷◌, ◌<◌, [],
 ghost use Rattle.linear_cons.specs.Functions.{complement_of};
 ghost use Rattle.decision_tree.specs.Plans.{leaf, plan_of};
 ghost use Rattle.decision_tree.specs.declared.reason.Why.{Why};
-ghost use Rattle.rows_in_hand.specs.Claims.{HasNoStore, exceeding};
+ghost use Rattle.constraint_stack.specs.Claims.{HasNoStore, exceeding};
 ghost use Rattle.tree_support.specs.Systems.{moved_by};
-ghost use Rattle.rows_in_hand.specs.Hands.{Forms, IsMetNowhere, all_asked, asked};
-ghost use Rattle.rows_in_hand.specs.Searches.{Holds, IsClaimFormed, IsLonger, IsSame, IsSearched, WhereAsked};
+ghost use Rattle.constraint_stack.specs.Stacks.{Forms, IsMetNowhere, all_asked, asked};
+ghost use Rattle.constraint_stack.specs.Searches.{Holds, IsClaimFormed, IsLonger, IsSame, IsSearched, WhereAsked};
 ghost use Rattle.leaf_search.specs.Walks.{Excludes, IsKept, WhereAmong, ending, side_of, systems_behind};
 
+use constraint_stack::{ConstraintStack, Finding, try_claim};
 use decision_tree::{Alternatives, Rank, Tree};
 use linear_cons::{Affine, Row, RowKind, Wide};
-use rows_in_hand::{Finding, Hand, try_claim};
 use std::alloc::AllocError;
 
 /// How the leaves of a tree are looked at: over an edge, which may set a place to the value of a function, and with the rank that
@@ -24,23 +24,23 @@ pub struct Way<R: Rank> {
 }
 
 impl<R: Rank> Way<R> {
-    /// Looks for a reason against the systems of the tree's leaves, behind the rows in hand. Where ranks may be any, it first looks whether
-    /// the rows in hand leave any of them, for which no row is added.
+    /// Looks for a reason against the systems of the tree's leaves, behind the rows on the stack. Where ranks may be any, it first looks whether
+    /// the rows on the stack leave any of them, for which no row is added.
     pub(crate) fn refute_tree(
         &self,
         tree: &Tree<R>,
-        hand: &mut Hand,
+        stack: &mut ConstraintStack,
         found: &mut Option<Finding>,
     ) -> Result<bool, AllocError>
         requires { IfSome self.now.sets (λ s. s.0 < 16) }
-        ensures same { OnOk result (IsSame hand.old hand.new) }
-        ensures searched { IfOk result (λ refuted. WhereAsked hand.old (λ asks.
+        ensures same { OnOk result (IsSame stack.old stack.new) }
+        ensures searched { IfOk result (λ refuted. WhereAsked stack.old (λ asks.
             IsSearched R.Rank.own (systems_behind self.now.edge self.now.sets self.now.limit (plan_of tree.now) asks) refuted found.new)) }
     {
-        if self.limit.is_none() && self.is_clear(tree, hand) {
+        if self.limit.is_none() && self.is_clear(tree, stack) {
             return Ok(false);
         }
-        let refuted = self.refute(tree, hand, found)?;
+        let refuted = self.refute(tree, stack, found)?;
         Ok(refuted)
     }
 
@@ -50,25 +50,25 @@ impl<R: Rank> Way<R> {
     fn refute(
         &self,
         tree: &Tree<R>,
-        hand: &mut Hand,
+        stack: &mut ConstraintStack,
         found: &mut Option<Finding>,
     ) -> Result<bool, AllocError>
         requires { IfSome self.now.sets (λ s. s.0 < 16) }
-        ensures same { OnOk result (IsSame hand.old hand.new) }
-        ensures searched { IfOk result (λ refuted. WhereAsked hand.old (λ asks.
+        ensures same { OnOk result (IsSame stack.old stack.new) }
+        ensures searched { IfOk result (λ refuted. WhereAsked stack.old (λ asks.
             IsSearched R.Rank.own (systems_behind self.now.edge self.now.sets self.now.limit (plan_of tree.now) asks) refuted found.new)) }
     {
         match tree {
             Tree::Node { row, yes, no } => {
-                if self.refute_behind(row, true, yes, hand, found)? {
+                if self.refute_behind(row, true, yes, stack, found)? {
                     return Ok(true);
                 }
-                let refuted = self.refute_behind(row, false, no, hand, found)?;
+                let refuted = self.refute_behind(row, false, no, stack, found)?;
                 Ok(refuted)
             }
-            Tree::Leaf { why: _, rank } => self.refute_less(rank, hand, found),
+            Tree::Leaf { why: _, rank } => self.refute_less(rank, stack, found),
             Tree::Bottom | Tree::Top(_) => {
-                let refuted = hand.settle(self.edge, found)?;
+                let refuted = stack.check(self.edge, found)?;
                 Ok(refuted)
             }
         }
@@ -81,70 +81,80 @@ impl<R: Rank> Way<R> {
         row: &Row,
         holds: bool,
         side: &Tree<R>,
-        hand: &mut Hand,
+        stack: &mut ConstraintStack,
         found: &mut Option<Finding>,
     ) -> Result<bool, AllocError>
         requires { IfSome self.now.sets (λ s. s.0 < 16) }
-        ensures same { OnOk result (IsSame hand.old hand.new) }
-        ensures searched { IfOk result (λ refuted. WhereAsked hand.old (λ asks.
+        ensures same { OnOk result (IsSame stack.old stack.new) }
+        ensures searched { IfOk result (λ refuted. WhereAsked stack.old (λ asks.
             IsSearched R.Rank.own (systems_behind self.now.edge self.now.sets self.now.limit (plan_of side.now)
             (asks ++ moved_by self.now.sets (side_of row.now.affine holds) ∷ [])) refuted found.new)) }
     {
-        let mark = hand.mark();
-        if !self.enter(row, holds, hand)? {
+        let checkpoint = stack.checkpoint();
+        if !self.enter(row, holds, stack)? {
             return Ok(false);
         }
-        let refuted = self.refute(side, hand, found)?;
-        hand.back(mark);
+        let refuted = self.refute(side, stack, found)?;
+        stack.restore(checkpoint);
         Ok(refuted)
     }
 
-    /// Adds the row of a side, moved back. False where no store meets the rows in hand with it. The error is want of memory.
+    /// Adds the row of a side, moved back. False where no store meets the rows on the stack with it. The error is want of memory.
     #[inline(never)]
-    pub fn enter(&self, row: &Row, holds: bool, hand: &mut Hand) -> Result<bool, AllocError>
+    pub fn enter(
+        &self,
+        row: &Row,
+        holds: bool,
+        stack: &mut ConstraintStack,
+    ) -> Result<bool, AllocError>
         requires { IfSome self.now.sets (λ s. s.0 < 16) }
-        ensures same { IfOk result (λ entered. entered ≡ false → IsSame hand.old hand.new) }
-        ensures longer { IfOk result (λ entered. IsLonger hand.old hand.new) }
-        ensures held { IfOk result (λ entered. entered ≡ true → WhereAsked hand.old (λ asks.
-            Holds hand.new (all_asked (asks ++ moved_by self.now.sets (side_of row.now.affine holds) ∷ [])))) }
-        ensures nowhere { IfOk result (λ entered. entered ≡ false → WhereAsked hand.old (λ asks.
+        ensures same { IfOk result (λ entered. entered ≡ false → IsSame stack.old stack.new) }
+        ensures longer { IfOk result (λ entered. IsLonger stack.old stack.new) }
+        ensures held { IfOk result (λ entered. entered ≡ true → WhereAsked stack.old (λ asks.
+            Holds stack.new (all_asked (asks ++ moved_by self.now.sets (side_of row.now.affine holds) ∷ [])))) }
+        ensures nowhere { IfOk result (λ entered. entered ≡ false → WhereAsked stack.old (λ asks.
             IsMetNowhere (all_asked (asks ++ moved_by self.now.sets (side_of row.now.affine holds) ∷ [])))) }
     {
         if self.keeps(row) {
-            let added = self.enter_kept(row, holds, hand)?;
+            let added = self.enter_kept(row, holds, stack)?;
             return Ok(added);
         }
         let formed = self.moved_side(row, holds);
-        let added = hand.add(formed)?;
+        let added = stack.add(formed)?;
         Ok(added)
     }
 
-    /// The same of a row that is moved back to itself. Its complement isn't formed where a row in hand tells the row.
-    fn enter_kept(&self, row: &Row, holds: bool, hand: &mut Hand) -> Result<bool, AllocError>
+    /// The same of a row that is moved back to itself. Its complement isn't formed where a row on the stack tells the row.
+    fn enter_kept(
+        &self,
+        row: &Row,
+        holds: bool,
+        stack: &mut ConstraintStack,
+    ) -> Result<bool, AllocError>
         requires place { IfSome self.now.sets (λ s. s.0 < 16) }
         requires kept { IsKept self.now.sets row.now.affine }
         requires places { length row.now.affine.coef ≡ 16 }
-        ensures same { IfOk result (λ entered. entered ≡ false → IsSame hand.old hand.new) }
-        ensures longer { IfOk result (λ entered. IsLonger hand.old hand.new) }
-        ensures held { IfOk result (λ entered. entered ≡ true → WhereAsked hand.old (λ asks.
-            Holds hand.new (all_asked (asks ++ moved_by self.now.sets (side_of row.now.affine holds) ∷ [])))) }
-        ensures nowhere { IfOk result (λ entered. entered ≡ false → WhereAsked hand.old (λ asks.
+        ensures same { IfOk result (λ entered. entered ≡ false → IsSame stack.old stack.new) }
+        ensures longer { IfOk result (λ entered. IsLonger stack.old stack.new) }
+        ensures held { IfOk result (λ entered. entered ≡ true → WhereAsked stack.old (λ asks.
+            Holds stack.new (all_asked (asks ++ moved_by self.now.sets (side_of row.now.affine holds) ∷ [])))) }
+        ensures nowhere { IfOk result (λ entered. entered ≡ false → WhereAsked stack.old (λ asks.
             IsMetNowhere (all_asked (asks ++ moved_by self.now.sets (side_of row.now.affine holds) ∷ [])))) }
     {
         if holds {
-            let added = hand.add_row(row)?;
+            let added = stack.add_row(row)?;
             return Ok(added);
         }
-        if hand.tells(row) {
+        if stack.tells(row) {
             return Ok(false);
         }
         match row.not() {
             Ok(complement) => {
-                let added = hand.add_row(&complement)?;
+                let added = stack.add_row(&complement)?;
                 Ok(added)
             }
             Err(wide) => {
-                let added = hand.add(Err(wide))?;
+                let added = stack.add(Err(wide))?;
                 Ok(added)
             }
         }
@@ -163,37 +173,37 @@ impl<R: Rank> Way<R> {
         }
     }
 
-    /// Whether it is seen, without a row added to those in hand, that no store meets a system of the tree's leaves behind them: each leaf is
-    /// defined, or the rows in hand settle a row before it against it. It speaks of leaves whose rank may be any.
-    pub(crate) fn is_clear(&self, tree: &Tree<R>, hand: &Hand) -> bool
+    /// Whether it is seen, without a row added to those on the stack, that no store meets a system of the tree's leaves behind them: each leaf is
+    /// defined, or the rows on the stack settle a row before it against it. It speaks of leaves whose rank may be any.
+    pub(crate) fn is_clear(&self, tree: &Tree<R>, stack: &ConstraintStack) -> bool
         requires { IfSome self.now.sets (λ s. s.0 < 16) }
-        ensures { result ≡ true → WhereAmong hand.now.rows (λ asks.
+        ensures { result ≡ true → WhereAmong stack.now.rows (λ asks.
             All (HasNoStore R.Rank.own) (systems_behind self.now.edge self.now.sets None (plan_of tree.now) asks)) }
     {
         match tree {
-            Tree::Node { row, yes, no } => match self.settled(row, hand) {
-                Some(true) => self.is_clear(yes, hand),
-                Some(false) => self.is_clear(no, hand),
-                None => self.is_clear(yes, hand) && self.is_clear(no, hand),
+            Tree::Node { row, yes, no } => match self.settled(row, stack) {
+                Some(true) => self.is_clear(yes, stack),
+                Some(false) => self.is_clear(no, stack),
+                None => self.is_clear(yes, stack) && self.is_clear(no, stack),
             },
             Tree::Leaf { .. } => true,
             Tree::Bottom | Tree::Top(_) => false,
         }
     }
 
-    /// The side of a row, moved back, to which all stores go that meet the rows in hand, where these settle it.
+    /// The side of a row, moved back, to which all stores go that meet the rows on the stack, where these settle it.
     #[inline(never)]
-    fn settled(&self, row: &Row, hand: &Hand) -> Option<bool>
+    fn settled(&self, row: &Row, stack: &ConstraintStack) -> Option<bool>
         requires { IfSome self.now.sets (λ s. s.0 < 16) }
-        ensures { IfSome result (λ holds. Excludes hand.now.rows (moved_by self.now.sets (side_of row.now.affine (not holds)))) }
+        ensures { IfSome result (λ holds. Excludes stack.now.rows (moved_by self.now.sets (side_of row.now.affine (not holds)))) }
     {
         if self.keeps(row) {
-            return hand.settles(row);
+            return stack.settles(row);
         }
         match self.moved(row) {
             Ok(RowKind::Always) => Some(true),
             Ok(RowKind::Never) => Some(false),
-            Ok(RowKind::Row(moved)) => hand.settles(&moved),
+            Ok(RowKind::Row(moved)) => stack.settles(&moved),
             Err(_) => None,
         }
     }
@@ -238,19 +248,19 @@ impl<R: Rank> Way<R> {
     fn refute_less(
         &self,
         rank: &R,
-        hand: &mut Hand,
+        stack: &mut ConstraintStack,
         found: &mut Option<Finding>,
     ) -> Result<bool, AllocError>
         requires { IfSome self.now.sets (λ s. s.0 < 16) }
-        ensures same { OnOk result (IsSame hand.old hand.new) }
-        ensures searched { IfOk result (λ refuted. (why : Why) → WhereAsked hand.old (λ asks.
+        ensures same { OnOk result (IsSame stack.old stack.new) }
+        ensures searched { IfOk result (λ refuted. (why : Why) → WhereAsked stack.old (λ asks.
             IsSearched R.Rank.own (ending self.now.edge self.now.sets self.now.limit (leaf why rank.now) asks) refuted found.new)) }
     {
         match &self.limit {
             None => Ok(false),
             Some(limit) => {
                 let formed = self.excess(rank, limit);
-                let refuted = try_claim(&formed, self.edge, hand, found)?;
+                let refuted = try_claim(&formed, self.edge, stack, found)?;
                 Ok(refuted)
             }
         }

@@ -10,7 +10,7 @@
 //! many rows the last state has.
 //!
 //! `trees JOB ROWS TIMES` works on trees. `copy`, `walk`, `trim`, `either` and `prune` work on a line of ROWS rows: `walk` goes over it
-//! with its rows in hand, `trim ROWS TIMES LENGTH` trims it by a path of LENGTH rows, `either` joins it with itself, and `prune` holds it
+//! with its rows on the stack, `trim ROWS TIMES LENGTH` trims it by a path of LENGTH rows, `either` joins it with itself, and `prune` holds it
 //! against all stores. `descend-boxes` and `descend-octagons` prune by all stores a line whose nodes lie on the yes sides. `later` joins
 //! two trees of ROWS rows each that share no row, and `grown` copies the tree that `later` makes. `full` joins two that make too large a
 //! tree, the first with nodes on the yes sides of its line. `widen` widens a line of rising ranks by the line of ranks 0, which bears each

@@ -9,14 +9,14 @@ use Rattle.decision_tree.specs.Plans.{Plan, leaves_of, top}
 use Rattle.tree_support.specs.declared.dropped.Dropped.{Dropped}
 use Rattle.tree_support.specs.Elimination.{Eliminates, cause_of, without_dropped}
 use Rattle.tree_support.specs.Arcs.{Arc, rows_given}
-use Rattle.rows_in_hand.specs.Forming.{Formed, given}
+use Rattle.constraint_stack.specs.Forming.{Formed, given}
 use Rattle.tree_support.specs.Setting.{Setting, Trees, trees_in}
-use Rattle.rows_in_hand.specs.Claims.{HasNoStore, System}
+use Rattle.constraint_stack.specs.Claims.{HasNoStore, System}
 use Rattle.tree_support.specs.Systems.{of_leaf, region, systems}
 use Rattle.tree_support.proofs.Dropping.{changes, listed, same_counts, same_paths, unchanged}
 use Rattle.tree_support.proofs.Lists.{all_first, all_none}
 use Rattle.tree_support.proofs.Readers.{IsSameAhead, leaf_same}
-use Rattle.rows_in_hand.specs.Searches.{Finds}
+use Rattle.constraint_stack.specs.Searches.{Finds}
 use Rattle.tree_check.specs.declared.survey.Refuted.{Refuted}
 use Rattle.tree_check.specs.declared.survey.Span.{Span}
 use Rattle.tree_check.specs.Rounds.{Advances, IsSupportedAt, LeadsElsewhere, dropped_by, without_refuted}

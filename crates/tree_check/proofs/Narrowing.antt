@@ -1,4 +1,4 @@
--- Where a drop makes nothing new that a store meets: beyond the path of the dropped leaf, moved back, whichever of its rows are in hand and in
+-- Where a drop makes nothing new that a store meets: beyond the path of the dropped leaf, moved back, whichever of its rows are on the stack and in
 -- whichever order.
 use Rattle.std.proofs.Common.{◌≡◌, ◌≢◌, ◌⊎◌, inl, inr, ℕ, zero, suc, ◌+◌, ◌-◌, ◌<◌, ℤ, Bool, true, false, nat_lt, if◌then◌else◌, List, [], ◌∷◌, ◌++◌, map, get_or, All, Contains, Option, None, Some, refl, sym, ap, subst, arith}
 use Rattle.std.proofs.lemmas.Bool.{le-ltb, lt-ltb}
@@ -20,15 +20,15 @@ use Rattle.decision_tree.specs.Paths.{leaf_numbered, path_of}
 use Rattle.decision_tree.specs.Plans.{Plan, branch, leaf, leaves_of}
 use Rattle.tree_support.specs.declared.dropped.Dropped.{Dropped}
 use Rattle.tree_support.specs.Arcs.{Arc, choosing, passing, putting, rows_given, testing, arcs_of, outcome_arcs}
-use Rattle.rows_in_hand.specs.Forming.{Formed, exact, given}
+use Rattle.constraint_stack.specs.Forming.{Formed, exact, given}
 use Rattle.tree_support.specs.Setting.{Setting, Trees}
-use Rattle.rows_in_hand.specs.Claims.{HasNoStore, choices}
+use Rattle.constraint_stack.specs.Claims.{HasNoStore, choices}
 use Rattle.tree_support.specs.Systems.{is_existential, moved_by, region, systems}
 use Rattle.tree_support.proofs.Lists.{all_first, all_left, all_none, all_one, contains_first, contains_later}
-use Rattle.rows_in_hand.specs.declared.hand.Hand.{Hand}
-use Rattle.rows_in_hand.specs.Hands.{IsMetNowhere, all_asked, asked, kind_of}
-use Rattle.rows_in_hand.specs.Searches.{Holds, IsSame}
-use Rattle.rows_in_hand.proofs.Choosing.{held_same}
+use Rattle.constraint_stack.specs.declared.stack.ConstraintStack.{ConstraintStack}
+use Rattle.constraint_stack.specs.Stacks.{IsMetNowhere, all_asked, asked, kind_of}
+use Rattle.constraint_stack.specs.Searches.{Holds, IsSame}
+use Rattle.constraint_stack.proofs.Choosing.{held_same}
 use Rattle.control_flow.specs.declared.transition.Transition.{Transition}
 use Rattle.control_flow.specs.declared.transition.Transition.TheVariants.{Assign, Choose, Dead, End, Pass, Test}
 use Rattle.leaf_search.specs.Arcs.{IsTransitionAt}
@@ -106,7 +106,7 @@ module _ {R : Type 0} (ranks : Ranks R) where
       (all_left (λ kind. MeetsKind store kind) (map (λ a. row_kind_of (exact a)) all)
       (get_or (choices ranks (renewed asks path arc).claim) k choice) met)))))
 
-  -- no store meets what a drop made new at the leaf that a narrowed survey doesn't look at, where the rows of the dropped leaf's path are in hand
+  -- no store meets what a drop made new at the leaf that a narrowed survey doesn't look at, where the rows of the dropped leaf's path are on the stack
   pub beyond_renewed : (at : Setting R) (family : Trees R) (d : Dropped) (label place : ℕ) (within : List Formed)
       → ((end : Plan R) (arc : Arc) → Contains (arcs_followed at end label) arc
       → All (λ a. Contains (map (moved_by arc.sets) (path_of (family d.label) d.leaf)) a) within)
@@ -206,23 +206,23 @@ module _ {R : Type 0} (at : Setting R) (label : ℕ) (transition : Transition) (
   followed_sets (leaf why rank) arc member = why_sets why rank arc member
   followed_sets other arc member = no_arc arc member
 
-  -- what is in hand of the path moved back over what the label sets
-  pub path_held : (hand : Hand) (path : List Affine) → HoldsAmong hand (map (moved_by (sets_of transition)) path) → HoldsPath at label hand path
-  path_held hand path held = (
+  -- what is on the stack of the path moved back over what the label sets
+  pub path_held : (stack : ConstraintStack) (path : List Affine) → HoldsAmong stack (map (moved_by (sets_of transition)) path) → HoldsPath at label stack path
+  path_held stack path held = (
     held.0,
     held.1,
     λ end arc inside. subst (λ s. All (λ a. Contains (map (moved_by s) path) a) held.0) (sym (followed_sets end arc inside)) held.2,
   )
 
-pub path_empty : {R : Type 0} (at : Setting R) (label : ℕ) (hand : Hand) (path : List Affine) → Holds hand [] → HoldsPath at label hand path
-path_empty at label hand path empty = ([], empty, λ end arc inside. all_none (λ a. Contains (map (moved_by arc.sets) path) a))
+pub path_empty : {R : Type 0} (at : Setting R) (label : ℕ) (stack : ConstraintStack) (path : List Affine) → Holds stack [] → HoldsPath at label stack path
+path_empty at label stack path empty = ([], empty, λ end arc inside. all_none (λ a. Contains (map (moved_by arc.sets) path) a))
 
 -- ---- the rows of a path, the last one first
 
-among_none : (hand : Hand) (asks : List Formed) → Holds hand [] → HoldsAmong hand asks
-among_none hand asks empty = ([], empty, all_none (λ a. Contains asks a))
+among_none : (stack : ConstraintStack) (asks : List Formed) → Holds stack [] → HoldsAmong stack asks
+among_none stack asks empty = ([], empty, all_none (λ a. Contains asks a))
 
-among_more : (mid new : Hand) (a : Formed) (path : List Formed) (entered : Bool) → (entered ≡ false → IsSame mid new)
+among_more : (mid new : ConstraintStack) (a : Formed) (path : List Formed) (entered : Bool) → (entered ≡ false → IsSame mid new)
     → (entered ≡ true → (asks : List Formed) → Holds mid (all_asked asks) → Holds new (all_asked (asks ++ a ∷ [])))
     → HoldsAmong mid path → HoldsAmong new (a ∷ path)
 among_more mid new a path true same held among = (
@@ -238,13 +238,13 @@ among_more mid new a path false same held among = (
   All-weaker (λ b. Contains path b) (λ b. Contains (a ∷ path) b) (λ b inside. contains_later a b path inside) among.0 among.2,
 )
 
--- of the rows of a path that was looked for: where there is none nothing is in hand
-pub found_among : (hand new : Hand) (asks : List Formed) (found : Bool) → Holds hand [] → (found ≡ false → IsSame hand new)
-    → (found ≡ true → Holds hand [] → HoldsAmong new asks) → HoldsAmong new asks
-found_among hand new asks true empty same held = held refl empty
-found_among hand new asks false empty same held = among_none new asks (held_same [] hand new (same refl) empty)
+-- of the rows of a path that was looked for: where there is none nothing is on the stack
+pub found_among : (stack new : ConstraintStack) (asks : List Formed) (found : Bool) → Holds stack [] → (found ≡ false → IsSame stack new)
+    → (found ≡ true → Holds stack [] → HoldsAmong new asks) → HoldsAmong new asks
+found_among stack new asks true empty same held = held refl empty
+found_among stack new asks false empty same held = among_none new asks (held_same [] stack new (same refl) empty)
 
-module _ {R : Type 0} (sets : Option (ℕ × Affine)) (row : Row) (this that : Plan R) (mid new : Hand) (entered : Bool) (same : entered ≡ false → IsSame mid new) where
+module _ {R : Type 0} (sets : Option (ℕ × Affine)) (row : Row) (this that : Plan R) (mid new : ConstraintStack) (entered : Bool) (same : entered ≡ false → IsSame mid new) where
   pub among_first : (left : ℕ) → left < leaves_of this
       → (entered ≡ true → (asks : List Formed) → Holds mid (all_asked asks) → Holds new (all_asked (asks ++ moved_by sets (side_of row.affine true) ∷ [])))
       → HoldsAmong mid (map (moved_by sets) (path_of this left)) → HoldsAmong new (map (moved_by sets) (path_of (branch row this that) left))

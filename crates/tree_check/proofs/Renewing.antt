@@ -21,9 +21,9 @@ use Rattle.ctl_formula.specs.Formulas.{Ctl, until, weak}
 use Rattle.tree_support.specs.declared.dropped.Dropped.{Dropped}
 use Rattle.tree_support.specs.Elimination.{IsElsewhere, cause_of, without_dropped}
 use Rattle.tree_support.specs.Arcs.{Arc, rows_given}
-use Rattle.rows_in_hand.specs.Forming.{Formed, given}
+use Rattle.constraint_stack.specs.Forming.{Formed, given}
 use Rattle.tree_support.specs.Setting.{Setting, Trees}
-use Rattle.rows_in_hand.specs.Claims.{System, nothing}
+use Rattle.constraint_stack.specs.Claims.{System, nothing}
 use Rattle.tree_support.specs.Systems.{above_range, at_leaves, below_range, if_undefined, is_existential, moved_by, of_arcs, of_keep, of_leaf, of_outcome, of_pick, of_rank, of_value, of_why, plain, region, systems, unedged, unless_less}
 use Rattle.decision_tree.proofs.Replacing.{here, paths_kept}
 use Rattle.tree_support.proofs.Dropping.{changes, unchanged}

@@ -14,16 +14,16 @@ use Rattle.decision_tree.specs.Paths.{leaf_numbered, path_of, with_leaf}
 use Rattle.decision_tree.specs.Plans.{Plan, bottom, branch, is_defined, leaf, leaves_of, plan_of, top}
 use Rattle.tree_support.specs.declared.dropped.Dropped.{Dropped}
 use Rattle.tree_support.specs.Elimination.{Eliminates, cause_of, without_dropped}
-use Rattle.rows_in_hand.specs.Forming.{Formed}
+use Rattle.constraint_stack.specs.Forming.{Formed}
 use Rattle.tree_support.specs.Setting.{Setting, Trees, trees_in}
-use Rattle.rows_in_hand.specs.Claims.{HasNoStore, System}
+use Rattle.constraint_stack.specs.Claims.{HasNoStore, System}
 use Rattle.tree_support.specs.Systems.{of_leaf, region, systems}
 use Rattle.tree_support.proofs.Dropping.{changes, same_counts}
 use Rattle.tree_check.specs.Checking.{WasCutShort}
 use Rattle.tree_check.specs.declared.survey.Refuted.{Refuted}
 use Rattle.tree_check.specs.declared.survey.Span.{Span}
 use Rattle.tree_check.specs.Rounds.{Advances, IsSupportedAt, defined_in, defined_of, dropped_by, without_refuted}
-use Rattle.rows_in_hand.specs.Searches.{Finds}
+use Rattle.constraint_stack.specs.Searches.{Finds}
 use Rattle.tree_check.proofs.Surveying.{not_beyond}
 use Rattle.tree_check.specs.Surveys.{IsAside, IsFirst, IsFound, IsReviewed}
 

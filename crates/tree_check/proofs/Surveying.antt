@@ -16,13 +16,13 @@ use Rattle.decision_tree.specs.Paths.{leaf_numbered, path_of}
 use Rattle.decision_tree.specs.Plans.{Plan, branch, leaf, leaves_of, plan_of}
 use Rattle.decision_tree.specs.declared.tree.Tree.{Tree}
 use Rattle.tree_support.specs.Arcs.{rows_given}
-use Rattle.rows_in_hand.specs.Forming.{Formed, given}
+use Rattle.constraint_stack.specs.Forming.{Formed, given}
 use Rattle.tree_support.specs.Setting.{Setting, Trees, trees_in}
-use Rattle.rows_in_hand.specs.Claims.{HasNoStore, System}
+use Rattle.constraint_stack.specs.Claims.{HasNoStore, System}
 use Rattle.tree_support.specs.Systems.{of_leaf, systems}
-use Rattle.rows_in_hand.specs.declared.finding.Finding.{Finding}
-use Rattle.rows_in_hand.specs.Hands.{Held, IsMetNowhere, all_asked, asked, kind_of}
-use Rattle.rows_in_hand.specs.Searches.{Finds}
+use Rattle.constraint_stack.specs.declared.finding.Finding.{Finding}
+use Rattle.constraint_stack.specs.Stacks.{Held, IsMetNowhere, all_asked, asked, kind_of}
+use Rattle.constraint_stack.specs.Searches.{Finds}
 use Rattle.tree_check.specs.declared.survey.Refuted.{Refuted}
 use Rattle.tree_check.specs.declared.survey.Span.{Span}
 use Rattle.tree_check.specs.Surveys.{AreApart, IsAside, IsFound, IsFoundWithin, IsReviewed, IsBeyond, IsSurveyed, LooksOn, systems_within}
@@ -297,7 +297,7 @@ module _ {R : Type 0} (ranks : Ranks R) where
           clear_is alive span within place (surveyed.others looks place low (omega (arith, from)) (subst (λ n. All (IsAside n) surveyed.more) from_none these));
     }
 
--- nothing is in hand for nothing
+-- nothing is on the stack for nothing
 pub held_empty : (rows : List Row) (wide : Option Wide) → rows ≡ [] → wide ≡ None → Held [] rows wide
 held_empty rows wide empty none =
     rw (empty, none) (record {

@@ -12,9 +12,9 @@ use Rattle.decision_tree.specs.Plans.{Plan, leaves_of}
 use Rattle.tree_support.specs.declared.dropped.Dropped.{Dropped}
 use Rattle.tree_support.specs.Elimination.{Eliminates, IsElsewhere, cause_of, without_dropped}
 use Rattle.tree_support.specs.Arcs.{Arc, rows_given}
-use Rattle.rows_in_hand.specs.Forming.{Formed, given}
+use Rattle.constraint_stack.specs.Forming.{Formed, given}
 use Rattle.tree_support.specs.Setting.{Setting, Trees, trees_in}
-use Rattle.rows_in_hand.specs.Claims.{HasNoStore, System}
+use Rattle.constraint_stack.specs.Claims.{HasNoStore, System}
 use Rattle.tree_support.specs.Systems.{region, systems}
 use Rattle.tree_support.proofs.Dropping.{same_count, unchanged}
 use Rattle.tree_support.proofs.Lists.{all_none}

@@ -17,7 +17,7 @@ use Rattle.control_flow.specs.Transitions.{AreTold}
 use Rattle.control_flow.specs.declared.transition.Transition.{Transition}
 use Rattle.control_flow.specs.declared.transition.Transition.TheVariants.{Dead}
 use Rattle.tree_support.specs.Setting.{Setting, Trees, setting_of, trees_in}
-use Rattle.rows_in_hand.specs.Claims.{HasNoStore}
+use Rattle.constraint_stack.specs.Claims.{HasNoStore}
 use Rattle.tree_support.specs.Systems.{systems}
 use Rattle.control_flow.specs.Told.{told_by}
 use Rattle.tree_check.specs.Checking.{families_of}

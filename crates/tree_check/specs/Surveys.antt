@@ -4,12 +4,12 @@ use Rattle.linear_cons.specs.declared.affine.Affine.{Affine}
 use Rattle.decision_tree.specs.declared.rank.Rank.{Ghosts as Ranks}
 use Rattle.decision_tree.specs.Paths.{leaf_numbered, path_of}
 use Rattle.decision_tree.specs.Plans.{Plan, leaves_of}
-use Rattle.rows_in_hand.specs.Forming.{Formed, given}
+use Rattle.constraint_stack.specs.Forming.{Formed, given}
 use Rattle.tree_support.specs.Setting.{Setting, Trees}
-use Rattle.rows_in_hand.specs.Claims.{HasNoStore, System}
+use Rattle.constraint_stack.specs.Claims.{HasNoStore, System}
 use Rattle.tree_support.specs.Systems.{of_leaf, systems}
-use Rattle.rows_in_hand.specs.Hands.{IsMetNowhere, all_asked}
-use Rattle.rows_in_hand.specs.Searches.{Finds}
+use Rattle.constraint_stack.specs.Stacks.{IsMetNowhere, all_asked}
+use Rattle.constraint_stack.specs.Searches.{Finds}
 use Rattle.tree_check.specs.declared.survey.Refuted.{Refuted}
 use Rattle.tree_check.specs.declared.survey.Span.{Span}
 

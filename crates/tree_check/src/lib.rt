@@ -11,5 +11,5 @@ mod rounds;
 mod survey;
 
 pub use checking::{check, check_over};
-pub use rows_in_hand::Reason;
+pub use constraint_stack::Reason;
 pub use tree_support::Dropped;

@@ -3,14 +3,14 @@ ghost use Rattle.std.specs.Prelude.{◌≡◌, ◌+◌, ◌<◌, [], true, false
 ghost use Rattle.decision_tree.specs.Paths.{path_of};
 ghost use Rattle.decision_tree.specs.Plans.{leaves_of, plan_of};
 ghost use Rattle.tree_support.specs.Systems.{moved_by};
-ghost use Rattle.rows_in_hand.specs.Searches.{Holds, IsSame};
+ghost use Rattle.constraint_stack.specs.Searches.{Holds, IsSame};
 ghost use Rattle.tree_check.specs.Narrowing.{HoldsAmong, sets_of};
 
+use constraint_stack::ConstraintStack;
 use control_flow::Transition;
 use decision_tree::{Rank, Tree};
 use leaf_search::Way;
 use linear_cons::Affine;
-use rows_in_hand::Hand;
 use std::alloc::AllocError;
 
 /// The place that is no variable's, where a value is kept while it is chosen.
@@ -30,29 +30,29 @@ pub(crate) fn sets(transition: &Transition) -> Option<(u8, Affine)>
 }
 
 /// Adds the rows of the path to the leaf that `left` others come before, the last one first, and counts `left` down by each leaf that it
-/// passes. True where the leaf is one of the tree. A row that is opposed to one in hand is left out.
+/// passes. True where the leaf is one of the tree. A row that is opposed to one on the stack is left out.
 #[cycle(path)]
 pub(crate) fn add_path<R: Rank>(
     tree: &Tree<R>,
     way: &Way<R>,
     left: &mut u64,
-    hand: &mut Hand,
+    stack: &mut ConstraintStack,
 ) -> Result<bool, AllocError>
     requires { IfSome way.now.sets (λ s. s.0 < 16) }
     ensures count { IfOk result (λ found. found ≡ false → left.old ≡ left.new + leaves_of (plan_of tree.now)) }
     ensures inside { IfOk result (λ found. found ≡ true → left.old < leaves_of (plan_of tree.now)) }
-    ensures same { IfOk result (λ found. found ≡ false → IsSame hand.old hand.new) }
-    ensures among { IfOk result (λ found. found ≡ true → Holds hand.old []
-        → HoldsAmong hand.new (map (moved_by way.now.sets) (path_of (plan_of tree.now) left.old))) }
+    ensures same { IfOk result (λ found. found ≡ false → IsSame stack.old stack.new) }
+    ensures among { IfOk result (λ found. found ≡ true → Holds stack.old []
+        → HoldsAmong stack.new (map (moved_by way.now.sets) (path_of (plan_of tree.now) left.old))) }
 {
     match tree {
         Tree::Node { row, yes, no } => {
-            if add_path(yes, way, left, hand)? {
-                let _ = way.enter(row, true, hand)?;
+            if add_path(yes, way, left, stack)? {
+                let _ = way.enter(row, true, stack)?;
                 return Ok(true);
             }
-            if add_path(no, way, left, hand)? {
-                let _ = way.enter(row, false, hand)?;
+            if add_path(no, way, left, stack)? {
+                let _ = way.enter(row, false, stack)?;
                 return Ok(true);
             }
             Ok(false)

@@ -9,7 +9,7 @@ ghost use Rattle.tree_support.specs.declared.dropped.Dropped.{Dropped};
 ghost use Rattle.tree_support.specs.Elimination.{cause_of};
 ghost use Rattle.tree_support.specs.Setting.{trees_in};
 ghost use Rattle.tree_support.specs.Support.{IsSupported};
-ghost use Rattle.rows_in_hand.specs.Searches.{WhereAsked};
+ghost use Rattle.constraint_stack.specs.Searches.{WhereAsked};
 ghost use Rattle.tree_check.specs.Narrowing.{HoldsPath, PicksNoValue, speaks_of_some};
 ghost use Rattle.tree_check.specs.Rounds.{Advances, AreElsewhere, IsReady, IsSupportedAt, LeadsElsewhere, dropped_by, is_dead, setting_on, target_of, without_refuted};
 ghost use Rattle.tree_check.specs.Surveys.{AreApart, IsFirst, IsFound, IsReviewed};
@@ -17,6 +17,7 @@ ghost use Rattle.tree_check.specs.Telling.{AreCleared, AreTold, IsTold};
 
 use crate::narrow::{add_path, sets};
 use crate::survey::{Refuted, Span, Survey};
+use constraint_stack::{ConstraintStack, Reason};
 use control_flow::{Choice, Edge, Graph, Transition};
 use ctl_formula::Formula;
 use decision_tree::{Cause, Family, Rank, Tree};
@@ -24,7 +25,6 @@ use forward_inv::Inv;
 use leaf_search::{Part, Stand, UNEDGED, Way};
 use linear_cons::Row;
 use num_domain::NumDomain;
-use rows_in_hand::{Hand, Reason};
 use std::alloc::{AllocError, Global};
 use tree_support::Dropped;
 
@@ -283,19 +283,24 @@ impl<'a, D: NumDomain, R: Rank> Premises<'a, D, R> {
 
     /// The rows of the dropped leaf's path, moved back over what is done at the label. Without rows where a leaf of the label may put a
     /// value of its own.
-    fn path_to(&self, label: u32, dropped: &Dropped, trees: &[Tree<R>]) -> Result<Hand, AllocError>
+    fn path_to(
+        &self,
+        label: u32,
+        dropped: &Dropped,
+        trees: &[Tree<R>],
+    ) -> Result<ConstraintStack, AllocError>
         requires label { label < length (all_labels (statements self.now.graph.now.body)) }
         requires ready { IsReady D.NumDomain.own self.now }
         requires alive { (setting_on D.NumDomain.own self.now).dead label ≡ false }
-        ensures { IfOk result (λ hand. HoldsPath (setting_on D.NumDomain.own self.now) label hand
+        ensures { IfOk result (λ stack. HoldsPath (setting_on D.NumDomain.own self.now) label stack
             (path_of (trees_in (map plan_of trees.now) dropped.now.label) dropped.now.leaf)) }
     {
-        let mut hand = Hand::new(self.alloc);
+        let mut stack = ConstraintStack::new(self.alloc);
         if self.picks_values(label) {
-            return Ok(hand);
+            return Ok(stack);
         }
         let Some(tree) = trees.get(dropped.label as usize) else {
-            return Ok(hand);
+            return Ok(stack);
         };
         let way = Way {
             edge: UNEDGED,
@@ -303,8 +308,8 @@ impl<'a, D: NumDomain, R: Rank> Premises<'a, D, R> {
             limit: None,
         };
         let mut left = dropped.leaf;
-        let _ = add_path(tree, &way, &mut left, &mut hand)?;
-        Ok(hand)
+        let _ = add_path(tree, &way, &mut left, &mut stack)?;
+        Ok(stack)
     }
 
     /// Whether a leaf of the label may put a value of its own: some successor is spoken of, and a value may be chosen.
@@ -422,7 +427,7 @@ impl<'a, D: NumDomain, R: Rank> Premises<'a, D, R> {
         ensures supported { IfOk result (λ whole. (whole ≡ true) ⊎ (drops.new.items ≡ drops.old.items)
             → IsSupportedAt R.Rank.own (setting_on D.NumDomain.own self.now) (trees_in (map plan_of trees.new)) label) }
     {
-        let nothing = Hand::new(self.alloc);
+        let nothing = ConstraintStack::new(self.alloc);
         let span = Span {
             first: 0,
             collects: true,
@@ -474,7 +479,7 @@ impl<'a, D: NumDomain, R: Rank> Premises<'a, D, R> {
         ensures { IfOk result (λ refuted.
             IsFirst R.Rank.own (setting_on D.NumDomain.own self.now) (trees_in (map plan_of trees.now)) label first refuted) }
     {
-        let nothing = Hand::new(self.alloc);
+        let nothing = ConstraintStack::new(self.alloc);
         let span = Span {
             first,
             collects: false,
@@ -492,7 +497,7 @@ impl<'a, D: NumDomain, R: Rank> Premises<'a, D, R> {
         &self,
         label: u32,
         span: Span,
-        narrow: Hand,
+        narrow: ConstraintStack,
         rows: &[Row],
         trees: &[Tree<R>],
     ) -> Result<Vec<Refuted>, AllocError>

@@ -1,18 +1,18 @@
 //! The leaves of a label's tree, one after the other.
 ghost use Rattle.std.specs.Prelude.{◌≡◌, List, ◌+◌, ◌-◌, ◌^◌, ◌<◌, ◌≤◌, ◌++◌, ◌∷◌, [], true, false, IfOk, OnOk, map};
 ghost use Rattle.decision_tree.specs.Plans.{leaf, leaves_of, plan_of};
-ghost use Rattle.rows_in_hand.specs.Forming.{Formed, given};
+ghost use Rattle.constraint_stack.specs.Forming.{Formed, given};
 ghost use Rattle.tree_support.specs.Setting.{trees_in};
-ghost use Rattle.rows_in_hand.specs.Hands.{IsMetNowhere, all_asked};
+ghost use Rattle.constraint_stack.specs.Stacks.{IsMetNowhere, all_asked};
 ghost use Rattle.leaf_search.specs.Leaves.{WhereStood};
-ghost use Rattle.rows_in_hand.specs.Searches.{Holds, IsLonger, IsSame, WhereAsked};
+ghost use Rattle.constraint_stack.specs.Searches.{Holds, IsLonger, IsSame, WhereAsked};
 ghost use Rattle.tree_check.specs.Surveys.{IsReviewed, IsSurveyed, LooksOn};
 ghost use Rattle.leaf_search.specs.Walks.{side_of};
 
+use constraint_stack::{ConstraintStack, Finding};
 use decision_tree::{Rank, Tree, Why};
 use leaf_search::{Stand, UNEDGED, Way, add_rows};
 use linear_cons::Row;
-use rows_in_hand::{Finding, Hand};
 use std::alloc::{AllocError, Global};
 
 /// A leaf, by its number at its label, and the reason against it.
@@ -23,7 +23,7 @@ pub(crate) struct Refuted {
 }
 
 /// Which leaves a survey looks at: those from a number on, all of them or up to the first with a reason against it, and where it is
-/// narrowed only those whose paths and the rows in a second hand may be met together.
+/// narrowed only those whose paths and the rows on a second stack may be met together.
 #[derive(Clone, Copy)]
 pub(crate) struct Span {
     pub(crate) first: u64,
@@ -31,13 +31,13 @@ pub(crate) struct Span {
     pub(crate) narrows: bool,
 }
 
-/// How far a survey came: how many leaves it passed, the rows in hand before the next, those in the second hand where it is narrowed, and the
+/// How far a survey came: how many leaves it passed, the rows on the stack before the next, those in the second stack where it is narrowed, and the
 /// leaves with a reason against them. One thing, so that a call of the walk takes little of the stack.
 #[derive(Drop)]
 struct Progress {
     passed: u64,
-    hand: Hand,
-    narrow: Hand,
+    stack: ConstraintStack,
+    narrow: ConstraintStack,
     refuted: Vec<Refuted>,
 }
 
@@ -54,7 +54,7 @@ impl<'a, R: Rank> Survey<'a, R> {
         &self,
         alloc: Global,
         rows: &[Row],
-        narrow: Hand,
+        narrow: ConstraintStack,
     ) -> Result<Vec<Refuted>, AllocError>
         requires few { leaves_of (trees_in (map plan_of self.now.stand.family.now) self.now.stand.label) < 2 ^ 64 - 1 }
         ensures { IfOk result (λ refuted. WhereStood self.now.stand (λ at. at.dead self.now.stand.label ≡ false
@@ -65,13 +65,13 @@ impl<'a, R: Rank> Survey<'a, R> {
         let Some(tree) = self.stand.family.get(self.stand.label as usize) else {
             return Ok(refuted);
         };
-        let mut hand = Hand::new(alloc);
-        if !add_rows(rows, &mut hand)? {
+        let mut stack = ConstraintStack::new(alloc);
+        if !add_rows(rows, &mut stack)? {
             return Ok(refuted);
         }
         let mut progress = Progress {
             passed: 0,
-            hand,
+            stack,
             narrow,
             refuted,
         };
@@ -79,16 +79,16 @@ impl<'a, R: Rank> Survey<'a, R> {
         Ok(progress.refuted)
     }
 
-    /// Lists the leaves of the tree with a reason against them, behind the rows in hand, and counts the leaves that it passes.
+    /// Lists the leaves of the tree with a reason against them, behind the rows on the stack, and counts the leaves that it passes.
     #[cycle(survey)]
     #[inline(always)]
     fn refute(&self, tree: &Tree<R>, progress: &mut Progress) -> Result<(), AllocError>
         requires few { progress.old.passed + leaves_of (plan_of tree.now) < 2 ^ 64 - 1 }
-        ensures same { OnOk result (IsSame progress.old.hand progress.new.hand) }
+        ensures same { OnOk result (IsSame progress.old.stack progress.new.stack) }
         ensures narrow { OnOk result (IsSame progress.old.narrow progress.new.narrow) }
         ensures passed { OnOk result (progress.new.passed ≡ progress.old.passed + leaves_of (plan_of tree.now)) }
         ensures surveyed { OnOk result (WhereStood self.now.stand (λ at.
-            WhereAsked progress.old.hand (λ asks. WhereAsked progress.old.narrow (λ within.
+            WhereAsked progress.old.stack (λ asks. WhereAsked progress.old.narrow (λ within.
             IsSurveyed R.Rank.own at (trees_in (map plan_of self.now.stand.family.now)) self.now.stand.label self.now.span
             (plan_of tree.now) asks within progress.old.passed progress.old.refuted.items progress.new.refuted.items)))) }
     {
@@ -100,7 +100,13 @@ impl<'a, R: Rank> Survey<'a, R> {
             }
             Tree::Leaf { why, rank } => {
                 let number = progress.passed;
-                self.refute_leaf(why, rank, number, &mut progress.hand, &mut progress.refuted)?;
+                self.refute_leaf(
+                    why,
+                    rank,
+                    number,
+                    &mut progress.stack,
+                    &mut progress.refuted,
+                )?;
                 progress.passed += 1;
                 Ok(())
             }
@@ -118,11 +124,11 @@ impl<'a, R: Rank> Survey<'a, R> {
         why: &Why,
         rank: &R,
         number: u64,
-        hand: &mut Hand,
+        stack: &mut ConstraintStack,
         refuted: &mut Vec<Refuted>,
     ) -> Result<(), AllocError>
-        ensures same { OnOk result (IsSame hand.old hand.new) }
-        ensures surveyed { OnOk result (WhereStood self.now.stand (λ at. WhereAsked hand.old (λ asks. (within : List Formed)
+        ensures same { OnOk result (IsSame stack.old stack.new) }
+        ensures surveyed { OnOk result (WhereStood self.now.stand (λ at. WhereAsked stack.old (λ asks. (within : List Formed)
             → IsSurveyed R.Rank.own at (trees_in (map plan_of self.now.stand.family.now)) self.now.stand.label self.now.span
             (leaf why.now rank.now) asks within number refuted.old.items refuted.new.items))) }
     {
@@ -133,7 +139,7 @@ impl<'a, R: Rank> Survey<'a, R> {
             return Ok(());
         }
         let mut found = None;
-        if !self.stand.refute_leaf(why, rank, hand, &mut found)? {
+        if !self.stand.refute_leaf(why, rank, stack, &mut found)? {
             return Ok(());
         }
         let Some(finding) = found else {
@@ -181,11 +187,11 @@ impl<'a, R: Rank> Survey<'a, R> {
         progress: &mut Progress,
     ) -> Result<(), AllocError>
         requires few { progress.old.passed + leaves_of (plan_of side.now) < 2 ^ 64 - 1 }
-        ensures same { OnOk result (IsSame progress.old.hand progress.new.hand) }
+        ensures same { OnOk result (IsSame progress.old.stack progress.new.stack) }
         ensures narrow { OnOk result (IsSame progress.old.narrow progress.new.narrow) }
         ensures passed { OnOk result (progress.new.passed ≡ progress.old.passed + leaves_of (plan_of side.now)) }
         ensures surveyed { OnOk result (WhereStood self.now.stand (λ at.
-            WhereAsked progress.old.hand (λ asks. WhereAsked progress.old.narrow (λ within.
+            WhereAsked progress.old.stack (λ asks. WhereAsked progress.old.narrow (λ within.
             IsSurveyed R.Rank.own at (trees_in (map plan_of self.now.stand.family.now)) self.now.stand.label self.now.span (plan_of side.now)
             (asks ++ given (side_of row.now.affine holds) ∷ []) (within ++ given (side_of row.now.affine holds) ∷ [])
             progress.old.passed progress.old.refuted.items progress.new.refuted.items)))) }
@@ -194,17 +200,17 @@ impl<'a, R: Rank> Survey<'a, R> {
             progress.passed += side.leaves();
             return Ok(());
         }
-        let mark = progress.hand.mark();
-        if !self.enter(row, holds, &mut progress.hand)? {
+        let checkpoint = progress.stack.checkpoint();
+        if !self.enter(row, holds, &mut progress.stack)? {
             progress.passed += side.leaves();
             return Ok(());
         }
         self.refute_within(row, holds, side, progress)?;
-        progress.hand.back(mark);
+        progress.stack.restore(checkpoint);
         Ok(())
     }
 
-    /// The same with the row in hand, and where the survey is narrowed behind it in the second hand too.
+    /// The same with the row on the stack, and where the survey is narrowed behind it in the second stack too.
     #[cycle(survey)]
     fn refute_within(
         &self,
@@ -214,11 +220,11 @@ impl<'a, R: Rank> Survey<'a, R> {
         progress: &mut Progress,
     ) -> Result<(), AllocError>
         requires few { progress.old.passed + leaves_of (plan_of side.now) < 2 ^ 64 - 1 }
-        ensures same { OnOk result (IsSame progress.old.hand progress.new.hand) }
+        ensures same { OnOk result (IsSame progress.old.stack progress.new.stack) }
         ensures narrow { OnOk result (IsSame progress.old.narrow progress.new.narrow) }
         ensures passed { OnOk result (progress.new.passed ≡ progress.old.passed + leaves_of (plan_of side.now)) }
         ensures surveyed { OnOk result (WhereStood self.now.stand (λ at.
-            WhereAsked progress.old.hand (λ asks. WhereAsked progress.old.narrow (λ within.
+            WhereAsked progress.old.stack (λ asks. WhereAsked progress.old.narrow (λ within.
             IsSurveyed R.Rank.own at (trees_in (map plan_of self.now.stand.family.now)) self.now.stand.label self.now.span (plan_of side.now)
             asks (within ++ given (side_of row.now.affine holds) ∷ [])
             progress.old.passed progress.old.refuted.items progress.new.refuted.items)))) }
@@ -227,24 +233,24 @@ impl<'a, R: Rank> Survey<'a, R> {
             self.refute(side, progress)?;
             return Ok(());
         }
-        let mark = progress.narrow.mark();
+        let checkpoint = progress.narrow.checkpoint();
         if !self.enter(row, holds, &mut progress.narrow)? {
             progress.passed += side.leaves();
             return Ok(());
         }
         self.refute(side, progress)?;
-        progress.narrow.back(mark);
+        progress.narrow.restore(checkpoint);
         Ok(())
     }
 
     /// Adds the row of a side.
     #[inline(never)]
-    fn enter(&self, row: &Row, holds: bool, hand: &mut Hand) -> Result<bool, AllocError>
-        ensures same { IfOk result (λ entered. entered ≡ false → IsSame hand.old hand.new) }
-        ensures longer { IfOk result (λ entered. IsLonger hand.old hand.new) }
-        ensures held { IfOk result (λ entered. entered ≡ true → WhereAsked hand.old (λ asks.
-            Holds hand.new (all_asked (asks ++ given (side_of row.now.affine holds) ∷ [])))) }
-        ensures nowhere { IfOk result (λ entered. entered ≡ false → WhereAsked hand.old (λ asks.
+    fn enter(&self, row: &Row, holds: bool, stack: &mut ConstraintStack) -> Result<bool, AllocError>
+        ensures same { IfOk result (λ entered. entered ≡ false → IsSame stack.old stack.new) }
+        ensures longer { IfOk result (λ entered. IsLonger stack.old stack.new) }
+        ensures held { IfOk result (λ entered. entered ≡ true → WhereAsked stack.old (λ asks.
+            Holds stack.new (all_asked (asks ++ given (side_of row.now.affine holds) ∷ [])))) }
+        ensures nowhere { IfOk result (λ entered. entered ≡ false → WhereAsked stack.old (λ asks.
             IsMetNowhere (all_asked (asks ++ given (side_of row.now.affine holds) ∷ [])))) }
     {
         let way: Way<R> = Way {
@@ -252,7 +258,7 @@ impl<'a, R: Rank> Survey<'a, R> {
             sets: None,
             limit: None,
         };
-        let entered = way.enter(row, holds, hand)?;
+        let entered = way.enter(row, holds, stack)?;
         Ok(entered)
     }
 }

@@ -20,7 +20,7 @@ use Rattle.ctl_formula.proofs.Ends.{af_exit_ends}
 use Rattle.linear_cons.proofs.Places.{number_at_places}
 use Rattle.tree_support.specs.Certificates.{IsCertificate, IsShown, SparesPlace, affine_ranks, operands_from}
 use Rattle.tree_support.specs.Setting.{Trees, setting_of}
-use Rattle.rows_in_hand.specs.Claims.{HasNoStore, System, exceeding, unnatural}
+use Rattle.constraint_stack.specs.Claims.{HasNoStore, System, exceeding, unnatural}
 use Rattle.tree_support.specs.Support.{IsSupported}
 use Rattle.tree_support.specs.Systems.{unedged}
 use Rattle.control_flow.specs.Told.{IsTrueOfReached, Told, no_bounds}

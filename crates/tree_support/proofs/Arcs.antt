@@ -31,7 +31,7 @@ use Rattle.control_flow.proofs.Taken.{each_successor}
 use Rattle.control_flow.specs.States.{IsReachedState, followed}
 use Rattle.control_flow.proofs.Reached.{Follows, reached_label, reached_places}
 use Rattle.tree_support.specs.Arcs.{Arc, above_end, arcs_by, assigning, below_end, flow_of, passing, rows_given, testing}
-use Rattle.rows_in_hand.specs.Forming.{exact, given}
+use Rattle.constraint_stack.specs.Forming.{exact, given}
 use Rattle.control_flow.specs.Told.{IsTrueOfReached, Told}
 use Rattle.tree_support.proofs.Lists.{all_none, all_one, contains_first, contains_later}
 use Rattle.tree_support.proofs.Moving.{LeadsOver, SetsVariable, StoreMeets, Taken, store_after}

@@ -11,7 +11,7 @@ use Rattle.decision_tree.proofs.Replacing.{elsewhere, here, leaves_kept, paths_k
 use Rattle.tree_support.specs.declared.dropped.Dropped.{Dropped}
 use Rattle.tree_support.specs.Elimination.{Eliminates, IsDrop, IsElsewhere, cause_of, without_dropped}
 use Rattle.tree_support.specs.Setting.{Setting, Trees}
-use Rattle.rows_in_hand.specs.Claims.{System}
+use Rattle.constraint_stack.specs.Claims.{System}
 use Rattle.tree_support.specs.Systems.{of_leaf, region, systems}
 use Rattle.tree_support.proofs.Lists.{all_first, all_none}
 

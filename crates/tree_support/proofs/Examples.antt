@@ -9,9 +9,9 @@ use Rattle.decision_tree.specs.Plans.{Plan, bottom, branch, leaf}
 use Rattle.control_flow.specs.declared.edge.Choice.TheVariants.{None as NoChoice}
 use Rattle.ctl_formula.specs.Formulas.{af_exit}
 use Rattle.tree_support.specs.Arcs.{Arc, passing}
-use Rattle.rows_in_hand.specs.Forming.{Formed, given, put}
+use Rattle.constraint_stack.specs.Forming.{Formed, given, put}
 use Rattle.tree_support.specs.Setting.{Setting, Trees}
-use Rattle.rows_in_hand.specs.Claims.{Claim, System, exceeding, nothing, unnatural}
+use Rattle.constraint_stack.specs.Claims.{Claim, System, exceeding, nothing, unnatural}
 use Rattle.tree_support.specs.Systems.{systems}
 
 -- the rows that the test and its negation spread to, the function that is assigned, what the invariant says at label 1, the row at the root

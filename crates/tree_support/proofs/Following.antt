@@ -28,9 +28,9 @@ use Rattle.ctl_formula.proofs.Classical.{Property, classically}
 use Rattle.control_flow.specs.States.{IsReachedState}
 use Rattle.tree_support.specs.Certificates.{SparesPlace, affine_ranks}
 use Rattle.tree_support.specs.Arcs.{Arc, Flow, flow_of}
-use Rattle.rows_in_hand.specs.Forming.{Formed, exact, given, minus}
+use Rattle.constraint_stack.specs.Forming.{Formed, exact, given, minus}
 use Rattle.tree_support.specs.Setting.{Setting, Trees, setting_of}
-use Rattle.rows_in_hand.specs.Claims.{HasNoStore, moved_rank, System}
+use Rattle.constraint_stack.specs.Claims.{HasNoStore, moved_rank, System}
 use Rattle.tree_support.specs.Systems.{above_range, at_leaves, below_range, if_undefined, is_existential, moved_by, of_arcs, of_outcome, of_pick, of_value, plain, unedged, unless_less}
 use Rattle.control_flow.specs.Told.{Told}
 use Rattle.tree_support.proofs.Leaves.{defined_there, less, less_there, not_plain, stands}

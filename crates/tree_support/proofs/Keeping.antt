@@ -20,13 +20,13 @@ use Rattle.control_flow.specs.declared.edge.Choice.{Choice}
 use Rattle.control_flow.specs.declared.edge.Choice.TheVariants.{Branch, Range}
 use Rattle.ctl_formula.specs.Formulas.{Ctl, until, weak}
 use Rattle.tree_support.specs.declared.dropped.Dropped.{Dropped}
-use Rattle.rows_in_hand.specs.declared.reason.Reason.TheVariants.{Point}
+use Rattle.constraint_stack.specs.declared.reason.Reason.TheVariants.{Point}
 use Rattle.tree_support.specs.Elimination.{EachOfSet, Eliminates, IsByPoint, IsByStore, IsDrop, IsElsewhere, KeepsSet, cause_of, restricted, within, without_dropped}
-use Rattle.rows_in_hand.specs.Reasons.{Justifies}
+use Rattle.constraint_stack.specs.Reasons.{Justifies}
 use Rattle.tree_support.specs.Arcs.{Arc, rows_given}
-use Rattle.rows_in_hand.specs.Forming.{Formed, exact, given}
+use Rattle.constraint_stack.specs.Forming.{Formed, exact, given}
 use Rattle.tree_support.specs.Setting.{Setting, Trees}
-use Rattle.rows_in_hand.specs.Claims.{HasNoPoint, HasNoStore, choices, kinds_of, Claim, System, exceeding, nothing}
+use Rattle.constraint_stack.specs.Claims.{HasNoPoint, HasNoStore, choices, kinds_of, Claim, System, exceeding, nothing}
 use Rattle.tree_support.specs.Support.{IsFirm, IsSupported}
 use Rattle.tree_support.specs.Systems.{above_range, at_leaves, below_range, if_undefined, is_existential, moved_by, of_arcs, of_keep, of_leaf, of_outcome, of_pick, of_rank, of_value, of_why, systems, unless_less}
 use Rattle.tree_support.proofs.Dropping.{changes, same_count, unchanged}

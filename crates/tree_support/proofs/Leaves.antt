@@ -16,8 +16,8 @@ use Rattle.decision_tree.specs.AffineRanks.{excess_of}
 use Rattle.decision_tree.specs.Evaluation.{eval}
 use Rattle.decision_tree.specs.Plans.{Plan, bottom, top, leaf, branch}
 use Rattle.tree_support.specs.Certificates.{affine_ranks}
-use Rattle.rows_in_hand.specs.Forming.{Formed, exact}
-use Rattle.rows_in_hand.specs.Claims.{HasNoStore, choices, kinds_of, moved_rank, System, exceeding, nothing, unnatural}
+use Rattle.constraint_stack.specs.Forming.{Formed, exact}
+use Rattle.constraint_stack.specs.Claims.{HasNoStore, choices, kinds_of, moved_rank, System, exceeding, nothing, unnatural}
 use Rattle.tree_support.specs.Systems.{at_leaves, if_undefined, plain, unless_less}
 use Rattle.tree_support.proofs.Lists.{all_first, all_left, all_none, all_one, all_right, contains_first}
 use Rattle.tree_support.proofs.Moving.{StoreMeets}

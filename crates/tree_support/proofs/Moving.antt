@@ -14,7 +14,7 @@ use Rattle.control_flow.specs.Edges.{configuration}
 use Rattle.control_flow.specs.Labels.{rest}
 use Rattle.control_flow.specs.States.{IsReachedState}
 use Rattle.tree_support.specs.Arcs.{Arc, flow_of}
-use Rattle.rows_in_hand.specs.Forming.{Formed, exact}
+use Rattle.constraint_stack.specs.Forming.{Formed, exact}
 use Rattle.control_flow.specs.Told.{Told}
 
 -- the store meets what is asked

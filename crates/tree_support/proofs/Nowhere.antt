@@ -17,9 +17,9 @@ use Rattle.decision_tree.specs.declared.reason.Why.TheVariants.{End, Atom, Both,
 use Rattle.decision_tree.specs.Plans.{Plan, bottom, top, leaf, branch}
 use Rattle.ctl_formula.specs.Formulas.{Ctl, truth, exit, not_exit, always, least, both, either, next, until, weak}
 use Rattle.tree_support.specs.Arcs.{Arc}
-use Rattle.rows_in_hand.specs.Forming.{Formed, exact, given}
+use Rattle.constraint_stack.specs.Forming.{Formed, exact, given}
 use Rattle.tree_support.specs.Setting.{Setting, Trees}
-use Rattle.rows_in_hand.specs.Claims.{HasNoStore, choices, System, exceeding, nothing, unnatural}
+use Rattle.constraint_stack.specs.Claims.{HasNoStore, choices, System, exceeding, nothing, unnatural}
 use Rattle.tree_support.specs.Systems.{above_range, at_leaves, below_range, if_undefined, is_existential, moved_by, of_arcs, of_atom, of_both, of_end, of_keep, of_leaf, of_now, of_outcome, of_pick, of_rank, of_side, of_value, of_why, plain, undefined_at, unedged, unless_less}
 use Rattle.tree_support.proofs.Lists.{all_left, all_none, all_one}
 

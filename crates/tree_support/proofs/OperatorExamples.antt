@@ -11,9 +11,9 @@ use Rattle.decision_tree.specs.declared.reason.Pick.TheVariants.{All as Every, Y
 use Rattle.decision_tree.specs.declared.reason.Why.TheVariants.{End, Atom, Both, Left, Right, Now, Dead, Step}
 use Rattle.decision_tree.specs.Plans.{Plan, bottom, branch, leaf}
 use Rattle.tree_support.specs.Arcs.{Arc, passing}
-use Rattle.rows_in_hand.specs.Forming.{Formed, given, minus, put}
+use Rattle.constraint_stack.specs.Forming.{Formed, given, minus, put}
 use Rattle.tree_support.specs.Setting.{Setting, Trees}
-use Rattle.rows_in_hand.specs.Claims.{Claim, System, exceeding, nothing, unnatural}
+use Rattle.constraint_stack.specs.Claims.{Claim, System, exceeding, nothing, unnatural}
 use Rattle.tree_support.specs.Systems.{systems}
 
 -- the function that an arc of label 2 puts, one that a leaf picks, the row at the root of a part's trees, and ranks

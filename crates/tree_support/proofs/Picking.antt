@@ -22,7 +22,7 @@ use Rattle.control_flow.specs.States.{IsReachedState, followed}
 use Rattle.control_flow.proofs.Reached.{Follows, reached_label, reached_places}
 use Rattle.control_flow.proofs.Unstuck.{some_successor}
 use Rattle.tree_support.specs.Arcs.{Arc, arcs_of_outcome, arcs_putting, testing}
-use Rattle.rows_in_hand.specs.Forming.{exact}
+use Rattle.constraint_stack.specs.Forming.{exact}
 use Rattle.control_flow.specs.Told.{IsTrueOfReached, Told}
 use Rattle.tree_support.proofs.Arcs.{busy, lies, over_arcs, put_back, same_store, tested}
 use Rattle.tree_support.proofs.Lists.{all_none, contains_first}

@@ -12,9 +12,9 @@ use Rattle.decision_tree.specs.declared.reason.Why.TheVariants.{Step}
 use Rattle.decision_tree.specs.Plans.{Plan, bottom, top, leaf, branch}
 use Rattle.ctl_formula.specs.Formulas.{Ctl, until, weak}
 use Rattle.tree_support.specs.Arcs.{Arc}
-use Rattle.rows_in_hand.specs.Forming.{Formed}
+use Rattle.constraint_stack.specs.Forming.{Formed}
 use Rattle.tree_support.specs.Setting.{Setting, Trees}
-use Rattle.rows_in_hand.specs.Claims.{System}
+use Rattle.constraint_stack.specs.Claims.{System}
 use Rattle.tree_support.specs.Systems.{above_range, at_leaves, below_range, if_undefined, is_existential, moved_by, of_arcs, of_keep, of_leaf, of_outcome, of_pick, of_rank, of_value, of_why, plain, unedged, unless_less}
 use Rattle.tree_support.proofs.Lists.{contains_first, contains_later}
 

@@ -18,9 +18,9 @@ use Rattle.ctl_formula.specs.Formulas.{Ctl}
 use Rattle.control_flow.specs.States.{IsReachedState}
 use Rattle.tree_support.specs.Certificates.{SparesPlace, affine_ranks}
 use Rattle.tree_support.specs.Arcs.{rows_given}
-use Rattle.rows_in_hand.specs.Forming.{Formed, exact, given}
+use Rattle.constraint_stack.specs.Forming.{Formed, exact, given}
 use Rattle.tree_support.specs.Setting.{Setting, Trees, setting_of}
-use Rattle.rows_in_hand.specs.Claims.{HasNoStore, System}
+use Rattle.constraint_stack.specs.Claims.{HasNoStore, System}
 use Rattle.tree_support.specs.Support.{IsSupported}
 use Rattle.tree_support.specs.Systems.{if_undefined, of_leaf, of_rank, of_why, undefined_at, unedged}
 use Rattle.control_flow.specs.Told.{Told}

@@ -25,10 +25,10 @@ use Rattle.ctl_formula.proofs.Classical.{classically}
 use Rattle.control_flow.specs.States.{IsReachedState, entered}
 use Rattle.tree_support.specs.Certificates.{IsShown, SmallerAreShown, affine_ranks, operands_from}
 use Rattle.tree_support.specs.Arcs.{Arc, flow_of}
-use Rattle.rows_in_hand.specs.Forming.{Formed, given}
+use Rattle.constraint_stack.specs.Forming.{Formed, given}
 use Rattle.tree_support.specs.Setting.{Setting, Trees, setting_of}
 use Rattle.tree_support.specs.Soundness.{IsSound, IsSoundWithin}
-use Rattle.rows_in_hand.specs.Claims.{HasNoStore}
+use Rattle.constraint_stack.specs.Claims.{HasNoStore}
 use Rattle.tree_support.specs.Support.{IsSupported}
 use Rattle.tree_support.specs.Systems.{is_existential, of_arcs, of_outcome, of_pick, of_value, of_why, plain, undefined_at, unedged}
 use Rattle.control_flow.specs.Told.{IsTrueOfReached, Told}

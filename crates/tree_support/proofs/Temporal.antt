@@ -18,9 +18,9 @@ use Rattle.ctl_formula.proofs.Classical.{Property, classically, until_met}
 use Rattle.control_flow.specs.States.{IsReachedState}
 use Rattle.tree_support.specs.Certificates.{SparesPlace, affine_ranks}
 use Rattle.tree_support.specs.Arcs.{Arc}
-use Rattle.rows_in_hand.specs.Forming.{Formed}
+use Rattle.constraint_stack.specs.Forming.{Formed}
 use Rattle.tree_support.specs.Setting.{Setting, Trees, setting_of}
-use Rattle.rows_in_hand.specs.Claims.{HasNoStore, unnatural}
+use Rattle.constraint_stack.specs.Claims.{HasNoStore, unnatural}
 use Rattle.tree_support.specs.Support.{IsSupported}
 use Rattle.tree_support.specs.Systems.{of_end, of_pick, of_rank, of_why, plain, undefined_at, unedged}
 use Rattle.control_flow.specs.Told.{Told}

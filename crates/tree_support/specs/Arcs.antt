@@ -14,7 +14,7 @@ use Rattle.control_flow.specs.Labels.{Action, ends, assigns, passes, tests, acti
 use Rattle.control_flow.specs.Told.{chosen_place}
 use Rattle.control_flow.specs.declared.transition.Transition.{Transition}
 use Rattle.control_flow.specs.declared.transition.Transition.TheVariants.{Assign, Choose, Dead, End, Pass, Test}
-use Rattle.rows_in_hand.specs.Forming.{Formed, given, plus, minus}
+use Rattle.constraint_stack.specs.Forming.{Formed, given, plus, minus}
 
 -- an edge with one of its conjunctions: its number among the edges of its label, the label that it leads to, what it asks of a store, and
 -- the place that it sets to the value of a function, if it sets one

@@ -6,11 +6,11 @@ use Rattle.decision_tree.specs.declared.reason.Cause.TheVariants as cause
 use Rattle.decision_tree.specs.Plans.{Plan, bottom, top, leaf, branch, leaves_of}
 use Rattle.decision_tree.specs.Paths.{leaf_numbered, with_leaf}
 use Rattle.tree_support.specs.declared.dropped.Dropped.{Dropped}
-use Rattle.rows_in_hand.specs.declared.reason.Reason.{Reason}
-use Rattle.rows_in_hand.specs.declared.reason.Reason.TheVariants.{Point, Wide as TooWide, Rows}
+use Rattle.constraint_stack.specs.declared.reason.Reason.{Reason}
+use Rattle.constraint_stack.specs.declared.reason.Reason.TheVariants.{Point, Wide as TooWide, Rows}
 use Rattle.tree_support.specs.Setting.{Setting, Trees}
-use Rattle.rows_in_hand.specs.Claims.{System}
-use Rattle.rows_in_hand.specs.Reasons.{Justifies}
+use Rattle.constraint_stack.specs.Claims.{System}
+use Rattle.constraint_stack.specs.Reasons.{Justifies}
 use Rattle.tree_support.specs.Systems.{systems}
 
 -- the cause that a leaf given up for a reason has

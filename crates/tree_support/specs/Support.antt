@@ -3,7 +3,7 @@ use Rattle.std.specs.Prelude.{ℕ, ◌<◌, All}
 use Rattle.decision_tree.specs.declared.rank.Rank.{Ghosts as Ranks}
 use Rattle.decision_tree.specs.Plans.{leaves_of}
 use Rattle.tree_support.specs.Setting.{Setting, Trees}
-use Rattle.rows_in_hand.specs.Claims.{HasNoPoint, HasNoStore}
+use Rattle.constraint_stack.specs.Claims.{HasNoPoint, HasNoStore}
 use Rattle.tree_support.specs.Systems.{systems}
 
 module _ {R : Type 0} (ranks : Ranks R) where

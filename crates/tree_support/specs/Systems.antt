@@ -14,8 +14,8 @@ use Rattle.control_flow.specs.declared.edge.Choice.{Choice}
 use Rattle.control_flow.specs.declared.edge.Choice.TheVariants.{None as NoChoice, Branch, Range}
 use Rattle.ctl_formula.specs.Formulas.{Ctl, truth, falsity, exit, not_exit, always, never, least, negation, both, either, next, until, weak}
 use Rattle.tree_support.specs.Arcs.{Arc, rows_given}
-use Rattle.rows_in_hand.specs.Forming.{Formed, given, put, minus}
-use Rattle.rows_in_hand.specs.Claims.{nothing, unnatural, exceeding, System}
+use Rattle.constraint_stack.specs.Forming.{Formed, given, put, minus}
+use Rattle.constraint_stack.specs.Claims.{nothing, unnatural, exceeding, System}
 use Rattle.tree_support.specs.Setting.{Setting, Trees}
 
 -- the edge number of a system that has no edge

@@ -1,6 +1,6 @@
 //! Leaves that are given up.
 
-use rows_in_hand::Reason;
+use constraint_stack::Reason;
 
 /// A leaf that was given up: its label, its number at the label, the number of the edge of the system that refuted it (0 or 1, and 2 for
 /// a system without an edge), and the reason.

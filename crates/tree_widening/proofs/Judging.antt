@@ -1,4 +1,4 @@
--- Why what is found of the rows in hand stands of the rows on the way, and what it says of a leaf's claim.
+-- Why what is found of the rows on the stack stands of the rows on the way, and what it says of a leaf's claim.
 use Rattle.std.proofs.Common.{Bool, true, ◌≡◌, ◌<◌, List, [], ◌∷◌, ◌++◌, length, suc, Some, false, subst, inl, inr, arith, ⊎_elim}
 use Rattle.std.proofs.lemmas.List.Elements.{All-append, All-cons}
 use Rattle.linear_cons.specs.Rows.{Meets, MeetsAll, MeetsKind, row_kind_of}

@@ -1,4 +1,4 @@
-//! What a walk over a tree has in hand.
+//! What a walk over a tree has on its stack.
 ghost use Rattle.std.specs.Prelude.{◌≡◌, List, [], ◌∷◌, ◌++◌, IfOk, OnErr, OnOk};
 ghost use Rattle.linear_cons.specs.Exact.{IsOutside};
 ghost use Rattle.linear_cons.specs.Functions.{NumbersFit, complement_of};

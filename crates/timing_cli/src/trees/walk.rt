@@ -1,4 +1,4 @@
-//! A walk over a tree with its rows in hand.
+//! A walk over a tree with its rows on the stack.
 use crate::fault::Fault;
 use decision_tree::{AffineRank, Trail, Tree};
 

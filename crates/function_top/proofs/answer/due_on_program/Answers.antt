@@ -1,6 +1,6 @@
 use Rattle.std.proofs.Common.{rules, ap, inr, arith}
 use Rattle.ctl_rounds.proofs.Asking.{unasked}
-use Rattle.function_top.specs.Due.{flow_numbered}
+use Rattle.function_top.specs.Output.{flow_numbered}
 use Rattle.function_top.proofs.answer.due_on_program.Goals as goal
 
 pub returns-in_ok-no_program-in-Err-Labels-clause-due : goal.returns-in_ok-no_program-in-Err-Labels-clause-due

@@ -1,6 +1,6 @@
 use Rattle.std.proofs.Common.{rules, ℕ, ◌<◌, List, length, arith}
 use Rattle.ctl_rounds.proofs.Asking.{unasked}
-use Rattle.function_top.specs.Due.{IsDueOn}
+use Rattle.function_top.specs.Output.{IsDueOn}
 use Rattle.command_words.specs.Order.{task_of}
 use Rattle.function_top.proofs.top.answer.Goals as goal
 

@@ -3,7 +3,7 @@ use Rattle.std.proofs.lemmas.List.{length-map}
 use Rattle.ctl_rounds.proofs.Asking.{unasked}
 use Rattle.ctl_rounds.specs.Asked.{RoseBy}
 use Rattle.command_words.specs.Order.{task_of}
-use Rattle.function_top.specs.Due.{IsDueOn}
+use Rattle.function_top.specs.Output.{IsDueOn}
 use Rattle.function_top.proofs.Headline.{keeps_itself, known_texts}
 use Rattle.function_top.proofs.Reading.{once, refused, served, shown}
 use Rattle.function_top.proofs.Running.{numbers_rose, run_demo, run_out, run_refused, run_settled, run_unread}

@@ -2,8 +2,8 @@ use Rattle.std.proofs.Common.{map}
 use Rattle.tree_support.specs.Arcs.{testing}
 use Rattle.decision_tree.specs.Plans.{plan_of}
 use Rattle.tree_support.specs.Setting.{trees_in}
-use Rattle.rows_in_hand.specs.Hands.{all_asked}
-use Rattle.rows_in_hand.proofs.Choosing.{held_same}
+use Rattle.constraint_stack.specs.Stacks.{all_asked}
+use Rattle.constraint_stack.proofs.Choosing.{held_same}
 use Rattle.leaf_search.proofs.Following.{chosen_searched, test_found, test_searched}
 use Rattle.leaf_search.proofs.follow.refute_arcs.Goals as goal
 
@@ -30,6 +30,6 @@ pub returns-in_ok-refuted-in-Test-clause-searched :
     goal.returns-in_ok-refuted-in-Test-clause-searched
 returns-in_ok-refuted-in-Test-clause-searched g c asks held =
     let none = rw (c.if-branch.false, c.in-Test.is) at c.in_ok-refute_outcome-in-Test.ensures.searched asks held in
-    let again = held_same (all_asked asks) c.args.hand.now c.refute_outcome.new.hand (c.in_ok-refute_outcome-in-Test.ensures.same) held in
+    let again = held_same (all_asked asks) c.args.stack.now c.refute_outcome.new.stack (c.in_ok-refute_outcome-in-Test.ensures.same) held in
     let searched = rw c.in-Test.is at c.in_ok-refuted-in-Test.ensures.searched asks again in
     rw c.in-Test.is (test_searched g.R.Rank (trees_in (map plan_of c.args.trees.now)) c.args.limit (testing 0 c.in-Test.yes c.in-Test.holds.items) (testing 1 c.in-Test.no c.in-Test.fails.items) asks c.in_ok-refuted-in-Test.refuted c.refute_outcome-in-Test.new.found none searched)

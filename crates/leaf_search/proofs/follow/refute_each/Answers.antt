@@ -1,14 +1,14 @@
 use Rattle.std.proofs.Common.{◌+◌, true, false, arith, map, ◌∙◌}
 use Rattle.decision_tree.specs.Plans.{plan_of}
 use Rattle.tree_support.specs.Setting.{trees_in}
-use Rattle.rows_in_hand.specs.Hands.{all_asked}
-use Rattle.rows_in_hand.proofs.Choosing.{held_same}
+use Rattle.constraint_stack.specs.Stacks.{all_asked}
+use Rattle.constraint_stack.proofs.Choosing.{held_same}
 use Rattle.leaf_search.proofs.Following.{arcs_end, arcs_found, arcs_searched}
 use Rattle.leaf_search.proofs.follow.refute_each.Goals as goal
 
 pub returns-then-branch-clause-searched : goal.returns-then-branch-clause-searched
 returns-then-branch-clause-searched g c asks held =
-    let again = held_same (all_asked asks) c.args.hand.now c.loop-rows.hand c.loop-rows.invariant.0 held in
+    let again = held_same (all_asked asks) c.args.stack.now c.loop-rows.stack c.loop-rows.invariant.0 held in
     let searched = c.in_ok-refute_behind.ensures.searched asks again in
     arcs_found g.R.Rank (trees_in (map plan_of c.args.trees.now)) c.args.limit c.args.edge c.args.label c.args.conjunctions.now (c.loop-rows.rows-index + 1) asks c.refute_behind.new.found
     (arcs_searched g.R.Rank (trees_in (map plan_of c.args.trees.now)) c.args.limit c.args.edge c.args.label c.args.conjunctions.now c.loop-rows.rows-index c.rows-item.result asks true c.loop-rows.found c.refute_behind.new.found (omega arith) c.rows-item.is (c.loop-rows.invariant.1 asks held) (rw (c.items.ensures, c.if-branch.true) at searched))
@@ -18,7 +18,7 @@ loop-rows-preserved g c =
     let same = c.in_ok-refute_behind.ensures.same in (
       (same.0 ∙ c.loop-rows.invariant.0.0, same.1 ∙ c.loop-rows.invariant.0.1),
       λ asks held.
-          let again = held_same (all_asked asks) c.args.hand.now c.loop-rows.hand c.loop-rows.invariant.0 held in
+          let again = held_same (all_asked asks) c.args.stack.now c.loop-rows.stack c.loop-rows.invariant.0 held in
           let searched = c.in_ok-refute_behind.ensures.searched asks again in
           arcs_searched g.R.Rank (trees_in (map plan_of c.args.trees.now)) c.args.limit c.args.edge c.args.label c.args.conjunctions.now c.loop-rows.rows-index c.rows-item.result asks false c.loop-rows.found c.refute_behind.new.found (omega arith) c.rows-item.is (c.loop-rows.invariant.1 asks held) (rw (c.items.ensures, c.if-branch.false) at searched),
     )

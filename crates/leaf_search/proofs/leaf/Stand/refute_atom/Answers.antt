@@ -1,6 +1,6 @@
 use Rattle.std.proofs.Common.{sym, ◌∙◌}
 use Rattle.linear_cons.specs.Functions.{complement_of}
-use Rattle.rows_in_hand.specs.Forming.{given}
+use Rattle.constraint_stack.specs.Forming.{given}
 use Rattle.leaf_search.proofs.Leaving.{atom_fails, atom_tried}
 use Rattle.leaf_search.proofs.leaf.Stand.refute_atom.Goals as goal
 

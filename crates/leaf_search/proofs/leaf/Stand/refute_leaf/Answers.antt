@@ -2,8 +2,8 @@ use Rattle.std.proofs.Common.{map}
 use Rattle.decision_tree.specs.Plans.{plan_of}
 use Rattle.tree_support.specs.Setting.{trees_in}
 use Rattle.tree_support.specs.Systems.{of_rank, of_why}
-use Rattle.rows_in_hand.specs.Hands.{all_asked}
-use Rattle.rows_in_hand.proofs.Choosing.{held_same}
+use Rattle.constraint_stack.specs.Stacks.{all_asked}
+use Rattle.constraint_stack.proofs.Choosing.{held_same}
 use Rattle.leaf_search.proofs.Walking.{searched_first, searched_then}
 use Rattle.leaf_search.proofs.leaf.Stand.refute_leaf.Goals as goal
 
@@ -16,7 +16,7 @@ returns-then-branch-clause-searched g c at is_at asks held =
 pub returns-clause-searched : goal.returns-clause-searched
 returns-clause-searched g c at is_at asks held =
     let none = rw c.if-branch.false at c.in_ok-refute_bound.ensures.searched at is_at asks held in
-    let again = held_same (all_asked asks) c.args.hand.now c.refute_bound.new.hand (c.in_ok-refute_bound.ensures.same) held in
+    let again = held_same (all_asked asks) c.args.stack.now c.refute_bound.new.stack (c.in_ok-refute_bound.ensures.same) held in
     searched_then g.R.Rank (of_rank at at.formula c.args.rank.now asks)
     (of_why at c.args.why.now (trees_in (map plan_of c.args.self.now.family.now)) c.args.rank.now c.args.self.now.label asks) c.in_ok-refuted.refuted c.refute_bound.new.found
     c.refute_why.new.found none (c.in_ok-refuted.ensures.searched at is_at asks again)

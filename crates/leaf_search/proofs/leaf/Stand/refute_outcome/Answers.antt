@@ -2,7 +2,7 @@ use Rattle.std.proofs.Common.{map, subst, sym, ◌∙◌}
 use Rattle.decision_tree.specs.Plans.{plan_of}
 use Rattle.tree_support.specs.Setting.{trees_in}
 use Rattle.tree_support.specs.Systems.{of_outcome}
-use Rattle.rows_in_hand.specs.Searches.{IsSearched}
+use Rattle.constraint_stack.specs.Searches.{IsSearched}
 use Rattle.leaf_search.proofs.Leaving.{no_outcome, some_fails, some_searched}
 use Rattle.leaf_search.proofs.Walking.{plain_searched}
 use Rattle.leaf_search.proofs.leaf.Stand.refute_outcome.Goals as goal

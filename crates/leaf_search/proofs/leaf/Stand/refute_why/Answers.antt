@@ -2,8 +2,8 @@ use Rattle.std.proofs.Common.{map}
 use Rattle.decision_tree.specs.Plans.{plan_of}
 use Rattle.tree_support.specs.Setting.{trees_in}
 use Rattle.tree_support.specs.Systems.{of_keep, of_pick}
-use Rattle.rows_in_hand.specs.Hands.{all_asked}
-use Rattle.rows_in_hand.proofs.Choosing.{held_same}
+use Rattle.constraint_stack.specs.Stacks.{all_asked}
+use Rattle.constraint_stack.proofs.Choosing.{held_same}
 use Rattle.leaf_search.proofs.Walking.{plain_searched, searched_first, searched_then}
 use Rattle.leaf_search.proofs.leaf.Stand.refute_why.Goals as goal
 
@@ -21,7 +21,7 @@ returns-in_ok-refuted-in-Dead-clause-searched g c at is_at asks held =
 pub returns-in_ok-refuted-in-Step-clause-searched : goal.returns-in_ok-refuted-in-Step-clause-searched
 returns-in_ok-refuted-in-Step-clause-searched g c at is_at asks held =
     let none = rw c.if-branch.false at c.in_ok-refute_kept-in-Step.ensures.searched at is_at asks held in
-    let again = held_same (all_asked asks) c.args.hand.now c.refute_kept.new.hand (c.in_ok-refute_kept-in-Step.ensures.same) held in
+    let again = held_same (all_asked asks) c.args.stack.now c.refute_kept.new.stack (c.in_ok-refute_kept-in-Step.ensures.same) held in
     rw c.in-Step.is
     (searched_then g.R.Rank (of_keep at at.formula c.args.self.now.label asks)
     (of_pick at c.in-Step.pick (trees_in (map plan_of c.args.self.now.family.now)) c.args.rank.now c.args.self.now.label asks) c.in_ok-refuted-in-Step.refuted c.refute_kept.new.found

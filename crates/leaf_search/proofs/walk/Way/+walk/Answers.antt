@@ -1,9 +1,9 @@
 use Rattle.std.proofs.Common.{⊎_elim, ◌++◌, ◌∷◌, []}
 use Rattle.decision_tree.specs.Plans.{plan_of}
 use Rattle.tree_support.specs.Systems.{moved_by}
-use Rattle.rows_in_hand.specs.Hands.{all_asked}
+use Rattle.constraint_stack.specs.Stacks.{all_asked}
 use Rattle.leaf_search.specs.Walks.{side_of}
-use Rattle.rows_in_hand.proofs.Choosing.{held_same}
+use Rattle.constraint_stack.proofs.Choosing.{held_same}
 use Rattle.leaf_search.proofs.Walking.{bottom_searched, nowhere_behind, searched_first, searched_then, top_searched}
 use Rattle.leaf_search.proofs.walk.Way.+walk.Goals as goal
 
@@ -16,7 +16,7 @@ pub refute-returns-in_ok-refuted-in-Node-clause-searched :
     goal.refute-returns-in_ok-refuted-in-Node-clause-searched
 refute-returns-in_ok-refuted-in-Node-clause-searched g t c asks held =
     let none = rw (c.if-branch.false, c.deref.ensures) at c.in_ok-refute_behind-in-Node.ensures.searched asks held in
-    let again = held_same (all_asked asks) c.args.hand.now c.refute_behind.new.hand (c.in_ok-refute_behind-in-Node.ensures.same) held in
+    let again = held_same (all_asked asks) c.args.stack.now c.refute_behind.new.stack (c.in_ok-refute_behind-in-Node.ensures.same) held in
     let rest = rw c.deref-in-Node.ensures at c.in_ok-refuted-in-Node.ensures.searched asks again in
     rw c.in-Node.is (searched_then g.R.Rank _ _ c.in_ok-refuted-in-Node.refuted c.refute_behind.new.found _ none rest)
 
@@ -25,8 +25,8 @@ pub refute-returns-in_ok-refuted-in-Bottom-clause-searched :
 refute-returns-in_ok-refuted-in-Bottom-clause-searched g t c asks held =
     let tried = c.in_ok-refuted-in-Bottom.ensures (all_asked asks) held in
     ⊎_elim
-    (λ is. rw is (bottom_searched g.R.Rank c.args.self.now.edge c.args.self.now.sets c.args.self.now.limit asks c.in_ok-refuted-in-Bottom.refuted c.settle.new.found tried))
-    (λ is. rw is.1 (top_searched g.R.Rank is.0 c.args.self.now.edge c.args.self.now.sets c.args.self.now.limit asks c.in_ok-refuted-in-Bottom.refuted c.settle.new.found tried))
+    (λ is. rw is (bottom_searched g.R.Rank c.args.self.now.edge c.args.self.now.sets c.args.self.now.limit asks c.in_ok-refuted-in-Bottom.refuted c.check.new.found tried))
+    (λ is. rw is.1 (top_searched g.R.Rank is.0 c.args.self.now.edge c.args.self.now.sets c.args.self.now.limit asks c.in_ok-refuted-in-Bottom.refuted c.check.new.found tried))
     c.in-Bottom.is
 
 pub refute_behind-returns-then-not-branch-clause-searched :

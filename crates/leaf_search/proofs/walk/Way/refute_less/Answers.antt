@@ -1,5 +1,5 @@
-use Rattle.rows_in_hand.specs.Claims.{exceeding}
-use Rattle.rows_in_hand.specs.Hands.{all_asked}
+use Rattle.constraint_stack.specs.Claims.{exceeding}
+use Rattle.constraint_stack.specs.Stacks.{all_asked}
 use Rattle.leaf_search.proofs.Walking.{claim_searched}
 use Rattle.leaf_search.proofs.walk.Way.refute_less.Goals as goal
 

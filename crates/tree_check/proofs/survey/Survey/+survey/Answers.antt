@@ -1,12 +1,12 @@
 use Rattle.std.proofs.Common.{map, refl, ⊎_elim, ◌++◌, ◌∷◌, []}
 use Rattle.decision_tree.specs.Plans.{bottom, plan_of, top}
-use Rattle.rows_in_hand.specs.Forming.{given}
+use Rattle.constraint_stack.specs.Forming.{given}
 use Rattle.tree_support.specs.Setting.{trees_in}
-use Rattle.rows_in_hand.specs.Claims.{HasNoStore}
+use Rattle.constraint_stack.specs.Claims.{HasNoStore}
 use Rattle.tree_support.proofs.Lists.{all_none}
-use Rattle.rows_in_hand.specs.Hands.{all_asked}
+use Rattle.constraint_stack.specs.Stacks.{all_asked}
 use Rattle.leaf_search.specs.Walks.{side_of}
-use Rattle.rows_in_hand.proofs.Choosing.{held_same}
+use Rattle.constraint_stack.proofs.Choosing.{held_same}
 use Rattle.tree_check.proofs.Surveying.{surveyed_before, surveyed_beyond, surveyed_both, surveyed_nowhere, surveyed_undefined, surveyed_wholly}
 use Rattle.tree_check.proofs.survey.Survey.+survey.Goals as goal
 
@@ -14,7 +14,7 @@ pub refute-returns-in_ok-refute_behind-in-Node-2-clause-surveyed :
     goal.refute-returns-in_ok-refute_behind-in-Node-2-clause-surveyed
 refute-returns-in_ok-refute_behind-in-Node-2-clause-surveyed g t c at is_at asks held within narrowed =
     let near = rw c.deref.ensures at c.in_ok-refute_behind-in-Node.ensures.surveyed at is_at asks held within narrowed in
-    let again = held_same (all_asked asks) c.args.progress.now.hand c.refute_behind.new.progress.hand c.in_ok-refute_behind-in-Node.ensures.same held in
+    let again = held_same (all_asked asks) c.args.progress.now.stack c.refute_behind.new.progress.stack c.in_ok-refute_behind-in-Node.ensures.same held in
     let still = held_same (all_asked within) c.args.progress.now.narrow c.refute_behind.new.progress.narrow c.in_ok-refute_behind-in-Node.ensures.narrow narrowed in
     let far = rw c.deref-in-Node.ensures at c.in_ok-refute_behind-in-Node-2.ensures.surveyed at is_at asks again within still in
     let count = rw c.deref.ensures at c.in_ok-refute_behind-in-Node.ensures.passed in

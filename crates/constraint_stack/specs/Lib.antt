@@ -1,0 +1,5 @@
+pub mod Forming
+pub mod Claims
+pub mod Reasons
+pub mod Stacks
+pub mod Searches
