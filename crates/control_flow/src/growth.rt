@@ -27,6 +27,26 @@ impl Graph {
             Err(_) => u128::MAX,
         }
     }
+
+    /// How many times as large the label's assignment makes the numbers of a row, which is 1 more than the sum of the sizes of the numbers of its
+    /// function, and 1 where there is none, or the type's last value where that is less. The program is plain.
+    pub fn factor(&self, label: u32) -> u128
+        requires plain { IsPlain (statements self.now.body) }
+        requires within { label < length (all_labels (statements self.now.body)) }
+        ensures { ActionFits (action_at (statements self.now.body) label) → result ≡ held (factor (action_at (statements self.now.body) label)) }
+    {
+        match self.action(label) {
+            Action::Assign {
+                place: _,
+                value,
+                ..
+            } => match affine_of(value) {
+                Ok(function) => total_size(&function).saturating_add(1),
+                Err(_) => 1,
+            },
+            _ => 1,
+        }
+    }
 }
 
 // The same where all numbers of what the program assigns or compares fit.
@@ -36,31 +56,12 @@ fn growth_of(graph: &Graph, tests: u32) -> u128
 {
     let mut product = 1u128;
     for label in 0..graph.labels() {
-        product = product.saturating_mul(power(factor(graph, label), tests));
+        product = product.saturating_mul(power(graph.factor(label), tests));
     }
     graph
         .greatest_of_tests()
         .saturating_add(1)
         .saturating_mul(product)
-}
-
-// How many times as large the label's assignment makes the numbers of a row, and 1 where there is none.
-fn factor(graph: &Graph, label: u32) -> u128
-    requires plain { IsPlain (statements graph.now.body) }
-    requires within { label < length (all_labels (statements graph.now.body)) }
-    ensures { ActionFits (action_at (statements graph.now.body) label) → result ≡ held (factor (action_at (statements graph.now.body) label)) }
-{
-    match graph.action(label) {
-        Action::Assign {
-            place: _,
-            value,
-            ..
-        } => match affine_of(value) {
-            Ok(function) => total_size(&function).saturating_add(1),
-            Err(_) => 1,
-        },
-        _ => 1,
-    }
 }
 
 // The power of the base with one more than the exponent.

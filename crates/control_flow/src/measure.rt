@@ -116,8 +116,8 @@ fn greatest_of_rows(rows: &[Row]) -> u128
     }
 }
 
-// The greatest size of a number of the function.
-fn greatest_size(function: &Affine) -> u128
+/// The greatest size of a number of the function.
+pub fn greatest_size(function: &Affine) -> u128
     ensures { result ≡ greatest_size function.now }
 {
     let mut most = 0u128;

@@ -13,9 +13,7 @@ use step_meaning::Expr;
 
 impl Graph {
     /// The most nodes of a tree of the level for so many tests, or the type's last value where that is less: 1 at label 0 and at a loop's
-    /// test at level 0; 1 more than behind it for a step; for a whole `?` four times the product of the two sizes behind it, and for
-    /// another test twice the sum of both and 1, times the most leaves that its rows make. The test of a loop takes those of the level
-    /// before.
+    /// test at level 0, and elsewhere what `size_before` tells. The test of a loop takes those of the level before.
     pub fn weight(&self, tests: u32) -> u128
         ensures { IsWeight (statements self.now.body) tests result }
     {
@@ -60,6 +58,27 @@ impl Graph {
             most = most.max(sizes[label as usize]);
         }
         most
+    }
+
+    /// The size of a tree of a level before the label's step by those at the labels that follow, each as long as the type holds it, and else its last
+    /// value: 1 more than behind it for a step; for a whole `?` four times the product of the two sizes behind it, and for another test twice the sum
+    /// of both and 1, times the most leaves that its rows make.
+    pub fn size_before(&self, label: u32, behind: &[u128]) -> u128
+        requires within { label < length (all_labels (statements self.now.body)) }
+        requires count { length (all_labels (statements self.now.body)) ≤ length behind.now }
+        ensures { (sizes : ℕ → ℕ) → AtNext (action_at (statements self.now.body) label) (HoldsAt sizes behind.now)
+            → result ≡ held (size_before sizes (action_at (statements self.now.body) label)) }
+    {
+        match self.action(label) {
+            Action::End => 1,
+            Action::Assign { next, .. } => behind[next as usize].saturating_add(1),
+            Action::Pass { next } => behind[next as usize].saturating_add(1),
+            Action::Test { test, yes, no, .. } => {
+                let first = behind[yes as usize];
+                let second = behind[no as usize];
+                size_of_test(test, self.leaves(label), first, second)
+            }
+        }
     }
 }
 
@@ -111,7 +130,7 @@ fn fill_head(graph: &Graph, label: u32, last: &[u128], sizes: &mut [u128])
     ensures count { length sizes.new ≡ length sizes.old }
 {
     if graph.is_head(label) {
-        sizes[label as usize] = size(graph, label, last);
+        sizes[label as usize] = graph.size_before(label, last);
     }
 }
 
@@ -139,26 +158,7 @@ fn fill_one(graph: &Graph, label: u32, sizes: &mut [u128])
     ensures count { length sizes.new ≡ length sizes.old }
 {
     if !graph.is_head(label) {
-        sizes[label as usize] = size(graph, label, sizes);
-    }
-}
-
-// The size at the label by those behind it.
-fn size(graph: &Graph, label: u32, behind: &[u128]) -> u128
-    requires within { label < length (all_labels (statements graph.now.body)) }
-    requires count { length (all_labels (statements graph.now.body)) ≤ length behind.now }
-    ensures { (sizes : ℕ → ℕ) → AtNext (action_at (statements graph.now.body) label) (HoldsAt sizes behind.now)
-        → result ≡ held (size_before sizes (action_at (statements graph.now.body) label)) }
-{
-    match graph.action(label) {
-        Action::End => 1,
-        Action::Assign { next, .. } => behind[next as usize].saturating_add(1),
-        Action::Pass { next } => behind[next as usize].saturating_add(1),
-        Action::Test { test, yes, no, .. } => {
-            let first = behind[yes as usize];
-            let second = behind[no as usize];
-            size_of_test(test, graph.leaves(label), first, second)
-        }
+        sizes[label as usize] = graph.size_before(label, sizes);
     }
 }
 

@@ -6,7 +6,6 @@
 #![tactic(auto)]
 
 pub mod laws;
-mod leaves;
 mod numbers;
 mod sizes;
 

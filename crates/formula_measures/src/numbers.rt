@@ -1,22 +1,18 @@
 //! How large the numbers in the rows of a formula's trees may be.
 
-ghost use Rattle.std.specs.Prelude.{◌≡◌, ◌-◌, ◌^◌, ◌<◌, length};
+ghost use Rattle.std.specs.Prelude.{◌≡◌, ◌-◌, ◌^◌, length};
 ghost use Rattle.step_meaning.specs.Plain.{IsPlain};
 ghost use Rattle.step_meaning.specs.Syntax.{statements};
-ghost use Rattle.control_flow.specs.Fitting.{ActionFits, IsFitting};
-ghost use Rattle.control_flow.specs.Growth.{factor, factor_at, greatest_size, product_below};
-ghost use Rattle.control_flow.specs.Labels.{action_at, all_labels};
+ghost use Rattle.control_flow.specs.Fitting.{IsFitting};
+ghost use Rattle.control_flow.specs.Growth.{factor_at, product_below};
+ghost use Rattle.control_flow.specs.Labels.{all_labels};
 ghost use Rattle.control_flow.specs.Sizing.{held};
 ghost use Rattle.ctl_formula.specs.Mirror.{ctl};
 ghost use Rattle.formula_measures.specs.Measures.{atom_size, ctl_growth};
 
-use control_flow::{Action, Graph, affine_of};
+use control_flow::{Graph, greatest_size};
 use ctl_formula::Formula;
-use linear_cons::{Affine, RowKind};
-use step_meaning::total_size;
-
-/// The places of a function.
-const PLACES: usize = 16;
+use linear_cons::RowKind;
 
 /// The size that no number in a row of the formula's trees passes, or the type's last value where that is less, and where a number of what the
 /// program assigns or compares doesn't fit `i128`: 1 more than the greatest number in a row of a test or an atom, times, for each assignment, 1 more
@@ -41,28 +37,9 @@ fn product(graph: &Graph) -> u128
 {
     let mut product = 1u128;
     for label in 0..graph.labels() {
-        product = product.saturating_mul(factor(graph, label));
+        product = product.saturating_mul(graph.factor(label));
     }
     product
-}
-
-// How many times as large the label's assignment makes the numbers of a row, and 1 where there is none.
-fn factor(graph: &Graph, label: u32) -> u128
-    requires plain { IsPlain (statements graph.now.body) }
-    requires within { label < length (all_labels (statements graph.now.body)) }
-    ensures { ActionFits (action_at (statements graph.now.body) label) → result ≡ held (factor (action_at (statements graph.now.body) label)) }
-{
-    match graph.action(label) {
-        Action::Assign {
-            place: _,
-            value,
-            ..
-        } => match affine_of(value) {
-            Ok(function) => total_size(&function).saturating_add(1),
-            Err(_) => 1,
-        },
-        _ => 1,
-    }
 }
 
 // The greatest size of a number in an atom.
@@ -82,15 +59,4 @@ fn atom_size(formula: &Formula) -> u128
             atom_size(keep).max(atom_size(goal))
         }
     }
-}
-
-// The greatest size of a number of the function.
-fn greatest_size(function: &Affine) -> u128
-    ensures { result ≡ greatest_size function.now }
-{
-    let mut most = 0u128;
-    for place in 0..PLACES {
-        most = most.max(function.coef[place].unsigned_abs());
-    }
-    most.max(function.constant.unsigned_abs())
 }

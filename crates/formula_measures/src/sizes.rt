@@ -2,20 +2,18 @@
 
 ghost use Rattle.std.specs.Prelude.{◌≡◌, ◌<◌, ◌*◌, ℕ, suc, max, IfOk, length};
 ghost use Rattle.step_meaning.specs.Counts.{HasNoLoop};
-ghost use Rattle.step_meaning.specs.Syntax.{expression, statements};
-ghost use Rattle.control_flow.specs.Actions.{AtAll, AtBehind, AtNext};
-ghost use Rattle.control_flow.specs.Labels.{action_at, all_labels};
-ghost use Rattle.control_flow.specs.Measures.{greatest_below, leaves_of_test, size_before, size_of_test};
-ghost use Rattle.control_flow.specs.Sizing.{AreLeaves, HoldsAt, held, held_at};
+ghost use Rattle.step_meaning.specs.Syntax.{statements};
+ghost use Rattle.control_flow.specs.Actions.{AtAll, AtBehind};
+ghost use Rattle.control_flow.specs.Labels.{all_labels};
+ghost use Rattle.control_flow.specs.Measures.{greatest_below};
+ghost use Rattle.control_flow.specs.Sizing.{HoldsAt, held, held_at};
 ghost use Rattle.ctl_formula.specs.Mirror.{ctl};
 ghost use Rattle.formula_measures.specs.Measures.{greatest_part, next_size, part_size, until_size};
 ghost use Rattle.formula_measures.specs.Sizing.{AreSizesOf};
 
-use crate::leaves::leaves_of;
-use control_flow::{Action, Graph};
+use control_flow::Graph;
 use ctl_formula::Formula;
 use std::alloc::{AllocError, Global};
-use step_meaning::Expr;
 
 /// The sizes of a part at the labels, and the greatest of them and of those of its own parts: each as long as the type holds it, and else as its last
 /// value.
@@ -36,8 +34,7 @@ pub fn part_size(
     ensures { HasNoLoop (statements graph.now.body) → IfOk result (λ size. size
         ≡ held (part_size (statements graph.now.body) (ctl formula.now) label)) }
 {
-    let leaves = leaves_of(alloc, graph)?;
-    let sizes = sizes_of(alloc, graph, &leaves, formula)?;
+    let sizes = sizes_of(alloc, graph, formula)?;
     Ok(sizes.at[label as usize])
 }
 
@@ -47,19 +44,12 @@ pub fn greatest_size(alloc: Global, graph: &Graph, formula: &Formula) -> Result<
     ensures { HasNoLoop (statements graph.now.body) → IfOk result (λ size. size
         ≡ held (greatest_part (statements graph.now.body) (ctl formula.now))) }
 {
-    let leaves = leaves_of(alloc, graph)?;
-    let sizes = sizes_of(alloc, graph, &leaves, formula)?;
+    let sizes = sizes_of(alloc, graph, formula)?;
     Ok(sizes.greatest)
 }
 
 // The sizes of the formula and the greatest of its parts.
-fn sizes_of(
-    alloc: Global,
-    graph: &Graph,
-    leaves: &[u128],
-    formula: &Formula,
-) -> Result<Sizes, AllocError>
-    requires { AreLeaves (statements graph.now.body) leaves.now }
+fn sizes_of(alloc: Global, graph: &Graph, formula: &Formula) -> Result<Sizes, AllocError>
     ensures { IfOk result (λ sizes. AreSizesOf (statements graph.now.body) (ctl formula.now) sizes) }
 {
     match formula {
@@ -72,25 +62,25 @@ fn sizes_of(
             Ok(with_greatest(at, 0))
         }
         Formula::Not(part) => {
-            let part = sizes_of(alloc, graph, leaves, part)?;
+            let part = sizes_of(alloc, graph, part)?;
             let at = everywhere(alloc, graph, 0)?;
             Ok(with_greatest(at, part.greatest))
         }
         Formula::Next { all: _, part } => {
-            let part = sizes_of(alloc, graph, leaves, part)?;
-            let at = next_sizes(alloc, graph, leaves, &part.at)?;
+            let part = sizes_of(alloc, graph, part)?;
+            let at = next_sizes(alloc, graph, &part.at)?;
             Ok(with_greatest(at, part.greatest))
         }
         Formula::And(left, right) | Formula::Or(left, right) => {
-            let left = sizes_of(alloc, graph, leaves, left)?;
-            let right = sizes_of(alloc, graph, leaves, right)?;
+            let left = sizes_of(alloc, graph, left)?;
+            let right = sizes_of(alloc, graph, right)?;
             let at = products(alloc, graph, &left.at, &right.at)?;
             Ok(with_greatest(at, left.greatest.max(right.greatest)))
         }
         Formula::Until { all: _, keep, goal } | Formula::Weak { all: _, keep, goal } => {
-            let keep = sizes_of(alloc, graph, leaves, keep)?;
-            let goal = sizes_of(alloc, graph, leaves, goal)?;
-            let at = until_sizes(alloc, graph, leaves, &keep.at, &goal.at)?;
+            let keep = sizes_of(alloc, graph, keep)?;
+            let goal = sizes_of(alloc, graph, goal)?;
+            let at = until_sizes(alloc, graph, &keep.at, &goal.at)?;
             Ok(with_greatest(at, keep.greatest.max(goal.greatest)))
         }
     }
@@ -149,13 +139,7 @@ fn products(
 }
 
 // Those of a next by those of its part.
-fn next_sizes(
-    alloc: Global,
-    graph: &Graph,
-    leaves: &[u128],
-    part: &[u128],
-) -> Result<Vec<u128>, AllocError>
-    requires leaves { AreLeaves (statements graph.now.body) leaves.now }
+fn next_sizes(alloc: Global, graph: &Graph, part: &[u128]) -> Result<Vec<u128>, AllocError>
     requires part { length part.now ≡ length (all_labels (statements graph.now.body)) }
     ensures count { IfOk result (λ sizes. length sizes.items ≡ length (all_labels (statements graph.now.body))) }
     ensures each { (f : ℕ → ℕ) → AtAll (statements graph.now.body) (HoldsAt f part.now)
@@ -164,7 +148,7 @@ fn next_sizes(
     let mut sizes = Vec::with_capacity(alloc, graph.labels() as usize)?;
     sizes.push(part[0])?;
     for label in 1..graph.labels() {
-        sizes.push(size_before(graph, leaves, label, part))?;
+        sizes.push(graph.size_before(label, part))?;
     }
     Ok(sizes)
 }
@@ -173,11 +157,9 @@ fn next_sizes(
 fn until_sizes(
     alloc: Global,
     graph: &Graph,
-    leaves: &[u128],
     keep: &[u128],
     goal: &[u128],
 ) -> Result<Vec<u128>, AllocError>
-    requires leaves { AreLeaves (statements graph.now.body) leaves.now }
     requires keep { length keep.now ≡ length (all_labels (statements graph.now.body)) }
     requires goal { length goal.now ≡ length (all_labels (statements graph.now.body)) }
     ensures count { IfOk result (λ sizes. length sizes.items ≡ length (all_labels (statements graph.now.body))) }
@@ -187,13 +169,12 @@ fn until_sizes(
         (HoldsAt (until_size (statements graph.now.body) k g (length (all_labels (statements graph.now.body)))) sizes.items)) }
 {
     let mut sizes = products(alloc, graph, keep, goal)?;
-    fill(graph, leaves, keep, goal, &mut sizes);
+    fill(graph, keep, goal, &mut sizes);
     Ok(sizes)
 }
 
 // Puts them in from the last label on, where that of label 0 is there.
-fn fill(graph: &Graph, leaves: &[u128], keep: &[u128], goal: &[u128], sizes: &mut [u128])
-    requires leaves { AreLeaves (statements graph.now.body) leaves.now }
+fn fill(graph: &Graph, keep: &[u128], goal: &[u128], sizes: &mut [u128])
     requires keep { length keep.now ≡ length (all_labels (statements graph.now.body)) }
     requires goal { length goal.now ≡ length (all_labels (statements graph.now.body)) }
     requires count { length sizes.old ≡ length (all_labels (statements graph.now.body)) }
@@ -204,20 +185,12 @@ fn fill(graph: &Graph, leaves: &[u128], keep: &[u128], goal: &[u128], sizes: &mu
         (HoldsAt (until_size (statements graph.now.body) k g (length (all_labels (statements graph.now.body)))) sizes.new) }
 {
     for label in (1..graph.labels()).rev() {
-        fill_one(graph, leaves, keep, goal, label, sizes);
+        fill_one(graph, keep, goal, label, sizes);
     }
 }
 
 // Puts in that of a label.
-fn fill_one(
-    graph: &Graph,
-    leaves: &[u128],
-    keep: &[u128],
-    goal: &[u128],
-    label: u32,
-    sizes: &mut [u128],
-)
-    requires leaves { AreLeaves (statements graph.now.body) leaves.now }
+fn fill_one(graph: &Graph, keep: &[u128], goal: &[u128], label: u32, sizes: &mut [u128])
     requires keep { length keep.now ≡ length (all_labels (statements graph.now.body)) }
     requires goal { length goal.now ≡ length (all_labels (statements graph.now.body)) }
     requires count { length sizes.old ≡ length (all_labels (statements graph.now.body)) }
@@ -231,45 +204,9 @@ fn fill_one(
         → AtBehind (statements graph.now.body) label
         (HoldsAt (until_size (statements graph.now.body) k g (length (all_labels (statements graph.now.body)))) sizes.new) }
 {
-    let before = size_before(graph, leaves, label, sizes);
+    let before = graph.size_before(label, sizes);
     sizes[label as usize] = keep[label as usize]
         .saturating_mul(goal[label as usize])
         .saturating_mul(before)
         .saturating_mul(16);
-}
-
-// The size before the label's step, by those at the labels that follow.
-fn size_before(graph: &Graph, leaves: &[u128], label: u32, behind: &[u128]) -> u128
-    requires leaves { AreLeaves (statements graph.now.body) leaves.now }
-    requires within { label < length (all_labels (statements graph.now.body)) }
-    requires count { length behind.now ≡ length (all_labels (statements graph.now.body)) }
-    ensures { (sizes : ℕ → ℕ) → AtNext (action_at (statements graph.now.body) label) (HoldsAt sizes behind.now)
-        → result ≡ held (size_before sizes (action_at (statements graph.now.body) label)) }
-{
-    match graph.action(label) {
-        Action::End => 1,
-        Action::Assign { next, .. } => behind[next as usize].saturating_add(1),
-        Action::Pass { next } => behind[next as usize].saturating_add(1),
-        Action::Test { test, yes, no, .. } => size_of_test(
-            test,
-            leaves[label as usize],
-            behind[yes as usize],
-            behind[no as usize],
-        ),
-    }
-}
-
-// The size at a test with so many leaves of its rows, between trees of these sizes.
-fn size_of_test(test: &Expr, leaves: u128, first: u128, second: u128) -> u128
-    ensures { (a b : ℕ) → leaves ≡ held (leaves_of_test (expression test.now)) → first ≡ held a → second ≡ held b
-        → result ≡ held (size_of_test (expression test.now) a b) }
-{
-    match test {
-        Expr::Free => first.saturating_mul(second).saturating_mul(4),
-        _ => first
-            .saturating_add(second)
-            .saturating_add(1)
-            .saturating_mul(leaves)
-            .saturating_mul(2),
-    }
 }

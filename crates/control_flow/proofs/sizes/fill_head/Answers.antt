@@ -13,6 +13,6 @@ returns-then-is_head-clause-exact c each level are last first =
     let head : is_head_by (action_at body c.args.label) ≡ true = sym c.is_head.ensures ∙ c.if-is_head.true in
     let within = c.requires.within in
     let count = c.requires.count in
-    put_first 0 (λ l n. n ≡ held (each (suc level) l)) body c.args.sizes.now c.args.label c.size.result (omega (arith, within, count)) first
-    (c.size.ensures (each level) (all_next body (HoldsAt (each level) c.args.last.now) c.args.label within last)
+    put_first 0 (λ l n. n ≡ held (each (suc level) l)) body c.args.sizes.now c.args.label c.size_before.result (omega (arith, within, count)) first
+    (c.size_before.ensures (each level) (all_next body (HoldsAt (each level) c.args.last.now) c.args.label within last)
     ∙ ap held (head_is each body are level c.args.label within head))

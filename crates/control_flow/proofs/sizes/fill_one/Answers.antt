@@ -13,6 +13,6 @@ returns-then-not-is_head-clause-exact c each level are behind =
     let plain : is_head_by (action_at body c.args.label) ≡ false = sym c.is_head.ensures ∙ c.if-not-is_head.true in
     let within = c.requires.within in
     let count = c.requires.count in
-    put_behind 0 (λ l n. n ≡ held (each level l)) body c.args.sizes.now c.args.label c.size.result (omega (arith, within, count)) behind
-    (c.size.ensures (each level) (behind_next body (HoldsAt (each level) c.args.sizes.now) c.args.label within plain behind)
+    put_behind 0 (λ l n. n ≡ held (each level l)) body c.args.sizes.now c.args.label c.size_before.result (omega (arith, within, count)) behind
+    (c.size_before.ensures (each level) (behind_next body (HoldsAt (each level) c.args.sizes.now) c.args.label within plain behind)
     ∙ ap held (plain_is each body are level c.args.label within plain))
