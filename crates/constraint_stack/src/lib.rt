@@ -1,4 +1,6 @@
-//! The rows of a system on a search, as a stack of constraints with checkpoints, and what they give: no store that meets them, or a reason against the leaf that the system is of.
+//! The rows of a system in a search, as a stack of constraints with checkpoints, and what they give: no store that meets them, or a reason against
+//! the leaf that the system is of.
+//!
 //! `specs/` has systems, what forms their rows, and when a reason holds against one.
 //!
 //! A search adds what a system asks for as far as it could be formed, goes on behind it, and takes it back. The rows stand in the trail of

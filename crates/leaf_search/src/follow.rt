@@ -143,7 +143,7 @@ fn refute_above<R: Rank>(
     Ok(refuted)
 }
 
-/// The same, with the row of the lower end in stack.
+/// The same, with the row of the lower end on the stack.
 fn refute_below<R: Rank>(
     value: &Linear,
     trees: &[Tree<R>],

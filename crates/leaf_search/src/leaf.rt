@@ -36,7 +36,7 @@ pub struct Stand<'a, R: Rank> {
 }
 
 impl<'a, R: Rank> Stand<'a, R> {
-    /// Looks for a reason against the systems of a defined leaf, behind the rows of its region in stack. False where no store meets any of
+    /// Looks for a reason against the systems of a defined leaf, behind the rows of its region on the stack. False where no store meets any of
     /// them. The error is want of memory.
     #[inline(never)]
     pub fn refute_leaf(
