@@ -1,5 +1,5 @@
--- No byte of a line is the newline byte, and a line ends as a claim does.
-use Rattle.std.proofs.Common.{◌≡◌, ◌≢◌, ℕ, zero, suc, ◌<◌, Bool, true, false, eqb, inl, inr, ⊎_elim, ℤ, pos, negsuc, List, [], ◌∷◌, ◌++◌, length, get_or, Option, None, Some, All, sym, refl, ◌∙◌, arith, append_assoc, unsigned_abs, codes}
+-- No byte of a line is the newline byte, none of its condition and none of its claim the colon, and a line ends as a claim does.
+use Rattle.std.proofs.Common.{◌≡◌, ◌≢◌, ℕ, zero, suc, ◌<◌, Bool, true, false, not, ◌||◌, eqb, inl, inr, ⊎_elim, ℤ, pos, negsuc, List, [], ◌∷◌, ◌++◌, length, get_or, Option, None, Some, All, sym, refl, ◌∙◌, arith, append_assoc, unsigned_abs, codes}
 use Rattle.std.specs.Prelude.{⊤}
 use Rattle.std.specs.Ordering.{int_eq}
 use Rattle.std.proofs.lemmas.Bool.Decides.{nat_tests}
@@ -17,16 +17,20 @@ use Rattle.line_text.proofs.Sums.{AllProper}
 use Rattle.line_text.proofs.Terms.{AreDistinct, distinct_names, terms_proper}
 use Rattle.line_text.proofs.Words.{numeral_is_word}
 
--- no byte is the newline byte
-abbrev IsClean : List ℕ → Type 0
+-- neither the newline byte nor the colon, code 58
+abbrev is_plain : ℕ → Bool
+is_plain byte = not (eqb byte 10 || eqb byte 58)
+
+-- no byte is one of them
+abbrev pub IsClean : List ℕ → Type 0
 IsClean [] = ⊤
-IsClean (byte ∷ bytes) = (eqb byte 10 ≡ false) × IsClean bytes
+IsClean (byte ∷ bytes) = (is_plain byte ≡ true) × IsClean bytes
 
 clean_append : (xs ys : List ℕ) → IsClean xs → IsClean ys → IsClean (xs ++ ys)
 clean_append [] ys p q = q
 clean_append (b ∷ xs) ys p q = (p.0, clean_append xs ys p.1 q)
 
-byte_clean : (byte : ℕ) → is_stop byte ≡ false → eqb byte 10 ≡ false
+byte_clean : (byte : ℕ) → is_stop byte ≡ false → is_plain byte ≡ true
 byte_clean byte h = grind (arith, nat_tests)
 
 word_clean : (xs : List ℕ) → IsWord xs → IsClean xs
@@ -87,7 +91,7 @@ steps_clean : (one : Bool) → IsClean (steps_word one)
 steps_clean true = (refl, (refl, (refl, (refl, (refl, tt)))))
 steps_clean false = (refl, (refl, (refl, (refl, (refl, (refl, tt))))))
 
-claim_clean : (names : List (List ℕ)) (claim : Claim) → AreDistinct names → IsClean (claim_text names claim)
+pub claim_clean : (names : List (List ℕ)) (claim : Claim) → AreDistinct names → IsClean (claim_text names claim)
 claim_clean names (Exactly number) are =
     clean_append (codes "exactly ") _ (refl, (refl, (refl, (refl, (refl, (refl, (refl, (refl, tt))))))))
     (clean_append (number_text number) _ (clean_append (front_sign number) _ (front_clean number) (numeral_clean (unsigned_abs number)))
@@ -98,7 +102,24 @@ claim_clean names (Within bound) are =
 claim_clean names Holds are = (refl, (refl, (refl, (refl, (refl, tt)))))
 claim_clean names Unknown are = (refl, (refl, (refl, (refl, (refl, (refl, (refl, tt)))))))
 
-each_clean : (xs : List ℕ) → IsClean xs → (k d : ℕ) → k < length xs → get_or xs k d ≢ 10
+-- ---- a line has the colon behind its condition, but no newline byte
+
+abbrev IsOneLine : List ℕ → Type 0
+IsOneLine [] = ⊤
+IsOneLine (byte ∷ bytes) = (eqb byte 10 ≡ false) × IsOneLine bytes
+
+no_newline : (byte : ℕ) → is_plain byte ≡ true → eqb byte 10 ≡ false
+no_newline byte plain = grind (arith, nat_tests)
+
+own_line : (xs : List ℕ) → IsClean xs → IsOneLine xs
+own_line [] is = tt
+own_line (b ∷ xs) is = (no_newline b is.0, own_line xs is.1)
+
+line_behind : (xs ys : List ℕ) → IsClean xs → IsOneLine ys → IsOneLine (xs ++ ys)
+line_behind [] ys is more = more
+line_behind (b ∷ xs) ys is more = (no_newline b is.0, line_behind xs ys is.1 more)
+
+each_clean : (xs : List ℕ) → IsOneLine xs → (k d : ℕ) → k < length xs → get_or xs k d ≢ 10
 each_clean [] is k d low = absurd (omega arith)
 each_clean (b ∷ xs) is zero d low = λ e. let t = is.0 in grind (arith, nat_tests)
 each_clean (b ∷ xs) is (suc k) d low = each_clean xs is.1 k d (omega arith)
@@ -108,8 +129,8 @@ pub line_clean :
     → All (λ byte. byte ≢ 10) line
 line_clean names line condition claim are spells =
     let distinct = distinct_names names are in
-    rw spells.text (each_clean _ (clean_append (condition_text names condition) (codes ": " ++ claim_text names claim)
-    (condition_clean names condition distinct) (refl, (refl, claim_clean names claim distinct))))
+    rw spells.text (each_clean _ (line_behind (condition_text names condition) (codes ": " ++ claim_text names claim)
+    (condition_clean names condition distinct) (refl, (refl, own_line (claim_text names claim) (claim_clean names claim distinct)))))
 
 -- behind any text, ` step` or ` steps`
 step_ends : (one : Bool) (front line : List ℕ) → line ≡ front ++ steps_word one → EndsAsLine line

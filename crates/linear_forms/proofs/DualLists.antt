@@ -180,7 +180,7 @@ module _ {A : Type 0} (P : A → Type 0) where
   some_right [] ys h = h
   some_right (x ∷ xs) ys h = inr (some_right xs ys h)
 
-  each_both : (xs ys : List A) → EachOf P xs → EachOf P ys → EachOf P (xs ++ ys)
+  pub each_both : (xs ys : List A) → EachOf P xs → EachOf P ys → EachOf P (xs ++ ys)
   each_both [] ys h k = k
   each_both (x ∷ xs) ys h k = (h.0, each_both xs ys h.1 k)
 
@@ -230,7 +230,7 @@ module _ (P : List Row → Type 0) where
   each_with_each Q rows [] f h = tt
   each_with_each Q rows (other ∷ ys) f h = (f other h.0, each_with_each Q rows ys f h.1)
 
-  each_pair : (Q R : List Row → Type 0) → ((rows other : List Row) → Q rows → R other → P (rows ++ other)) → (xs ys : List (List Row)) → EachOf Q xs → EachOf R ys → EachOf P (pairs xs ys)
+  pub each_pair : (Q R : List Row → Type 0) → ((rows other : List Row) → Q rows → R other → P (rows ++ other)) → (xs ys : List (List Row)) → EachOf Q xs → EachOf R ys → EachOf P (pairs xs ys)
   each_pair Q R f [] ys h k = tt
   each_pair Q R f (rows ∷ xs) ys h k =
       each_both P (map (λ other. rows ++ other) ys) (pairs xs ys) (each_with_each R rows ys (λ other r. f rows other h.0 r) k) (each_pair Q R f xs ys h.1 k)

@@ -12,3 +12,4 @@ pub mod SpreadCovering
 pub mod SpreadExactness
 pub mod DualLists
 pub mod Dual
+pub mod SpreadEach

@@ -15,7 +15,8 @@ use Rattle.linear_cons.proofs.Forms.{affine_same}
 use Rattle.linear_cons.proofs.Places.{length-at_places, number_at_places}
 use Rattle.linear_cons.proofs.Telling.{both_told, opposed_told, tells-Decides}
 use Rattle.linear_forms.specs.Duality.{EachOf}
-use Rattle.unroll.proofs.SpreadRows.{IsLong, each_both}
+use Rattle.linear_forms.proofs.DualLists.{each_both}
+use Rattle.unroll.proofs.SpreadRows.{IsLong}
 
 -- one of the rows tells the function
 abbrev pub SomeTells : List Row → Affine → Type 0
