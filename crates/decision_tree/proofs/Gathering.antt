@@ -24,7 +24,7 @@ use Rattle.decision_tree.specs.Trails.{AreTightestOf, HaveLed, IsEntered, IsLeft
 use Rattle.decision_tree.specs.declared.trail.Change.TheVariants.{Added, Tightened}
 use Rattle.decision_tree.specs.declared.trail.Step.{Step}
 
-part_Decides : (held row : Row) → Decides (same_part held row) (held.affine.coef ≡ row.affine.coef)
+pub part_Decides : (held row : Row) → Decides (same_part held row) (held.affine.coef ≡ row.affine.coef)
 part_Decides held row = slice_eq-Decides Decides-int_eq held.affine.coef row.affine.coef _ refl
 
 -- ---- one row more
@@ -129,7 +129,7 @@ place_found (held ∷ rest) row (suc i) d low none same =
     cons_cond true = refl
     cons_cond false = refl
 
-item_any : (rows : List Row) (i : ℕ) (d e : Row) → i < length rows → get_or rows i d ≡ get_or rows i e
+pub item_any : (rows : List Row) (i : ℕ) (d e : Row) → i < length rows → get_or rows i d ≡ get_or rows i e
 item_any [] i d e low = absurd (omega arith)
 item_any (row ∷ rest) zero d e low = refl
 item_any (row ∷ rest) (suc i) d e low = item_any rest i d e (omega arith)

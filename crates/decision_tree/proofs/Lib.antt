@@ -7,3 +7,4 @@ pub mod Replacing
 mod Gathering
 mod LexicographicPairs
 pub mod Lending
+mod Marking

@@ -11,3 +11,4 @@ pub mod Seeking
 pub mod Laws
 pub mod Trails
 pub mod Lending
+pub mod Marks

@@ -10,6 +10,7 @@
 mod affine_rank;
 mod family;
 mod family_list;
+mod held;
 pub mod laws;
 mod path;
 mod rank;

@@ -5,10 +5,11 @@ ghost use Rattle.linear_cons.specs.Functions.{NumbersFit, complement_of};
 ghost use Rattle.linear_cons.specs.Settling.{settles};
 ghost use Rattle.linear_cons.specs.declared.exact.Wide.{Wide};
 ghost use Rattle.linear_cons.specs.declared.row.Row.{Row};
-ghost use Rattle.decision_tree.specs.Trails.{IsEntered, IsLeft, IsPlaceOf, IsTightening, undone};
+ghost use Rattle.decision_tree.specs.Trails.{IsEntered, IsLeft, IsTightening, undone};
 
+use crate::held::HeldRows;
 use crate::path::PathFault;
-use linear_cons::{Row, settles};
+use linear_cons::Row;
 use std::alloc::{AllocError, Global};
 use std::marker::Model;
 
@@ -17,11 +18,11 @@ use std::marker::Model;
 ///
 /// A walk goes `down` with a node's row to its yes side, `turn`s to its no side, and goes `up` from it.
 /// Of rows with the same coefficients the trail holds the one with the least constant, and each step
-/// knows how to put back what it changed. So a look-up takes a scan of the linear parts on the way, and
-/// no step takes memory but for the lists' growth.
+/// knows how to put back what it changed. So a look-up takes a scan of eight bytes for each linear part on
+/// the way, and no step takes memory but for the lists' growth.
 #[derive(Drop)]
 pub struct Trail {
-    held: Vec<Row>,
+    held: HeldRows,
     steps: Vec<Step>,
 }
 
@@ -52,7 +53,7 @@ impl Model for Trail {
 
     ghost view = { λ inside. way_of inside.steps.items };
 
-    ghost invariant = { λ inside. HaveLed (reverse inside.steps.items) inside.held.items };
+    ghost invariant = { λ inside. HaveLed (reverse inside.steps.items) inside.held };
 }
 
 impl Trail {
@@ -65,7 +66,7 @@ impl Trail {
         ensures { result ≡ [] }
     {
         Trail {
-            held: Vec::new(alloc),
+            held: HeldRows::new(alloc),
             steps: Vec::new(alloc),
         }
     }
@@ -122,7 +123,7 @@ impl Trail {
     pub fn rows(&self) -> &[Row]
         ensures { AreTightestOf self.now result.now }
     {
-        &self.held
+        self.held.rows()
     }
 
     /// Whether the rows of the way settle one more by their linear parts: it holds behind a row with the
@@ -131,15 +132,15 @@ impl Trail {
     pub fn settles(&self, row: &Row) -> Option<bool>
         ensures { result ≡ settles self.now row.now }
     {
-        settles(&self.held, row)
+        self.held.settles(row)
     }
 }
 
 /// Adds a step with the row.
-fn enter(held: &mut Vec<Row>, steps: &mut Vec<Step>, row: &Row) -> Result<(), AllocError>
-    ensures entered { OnOk result (IsEntered held.old.items held.new.items steps.old.items steps.new.items row.now) }
+fn enter(held: &mut HeldRows, steps: &mut Vec<Step>, row: &Row) -> Result<(), AllocError>
+    ensures entered { OnOk result (IsEntered held.old held.new steps.old.items steps.new.items row.now) }
     ensures places { OnOk result (length row.now.affine.coef ≡ 16) }
-    ensures stays { OnErr result ((held.new.items ≡ held.old.items) × (steps.new.items ≡ steps.old.items)) }
+    ensures stays { OnErr result ((held.new ≡ held.old) × (steps.new.items ≡ steps.old.items)) }
 {
     has_sixteen_places(row);
     let change = tighten(held, row)?;
@@ -152,8 +153,8 @@ fn enter(held: &mut Vec<Row>, steps: &mut Vec<Step>, row: &Row) -> Result<(), Al
 }
 
 /// Takes the last step back, where there is one.
-fn leave(held: &mut Vec<Row>, steps: &mut Vec<Step>)
-    ensures { IsLeft held.old.items held.new.items steps.old.items steps.new.items }
+fn leave(held: &mut HeldRows, steps: &mut Vec<Step>)
+    ensures { IsLeft held.old held.new steps.old.items steps.new.items }
 {
     if let Some(step) = steps.pop() {
         undo(held, step.change);
@@ -161,49 +162,35 @@ fn leave(held: &mut Vec<Row>, steps: &mut Vec<Step>)
 }
 
 /// Makes the row one of the tightest where none of them tells it, and answers what that did.
-fn tighten(held: &mut Vec<Row>, row: &Row) -> Result<Change, AllocError>
-    ensures tightened { IfOk result (λ change. IsTightening held.old.items row.now change held.new.items) }
-    ensures stays { OnErr result (held.new.items ≡ held.old.items) }
+fn tighten(held: &mut HeldRows, row: &Row) -> Result<Change, AllocError>
+    ensures tightened { IfOk result (λ change. IsTightening held.old row.now change held.new) }
+    ensures stays { OnErr result (held.new ≡ held.old) }
 {
-    let Some(place) = place_of(held, row) else {
-        held.push(*row)?;
+    let Some(place) = held.place_of(row) else {
+        held.push(row)?;
         return Ok(Change::Added);
     };
-    let looser = held[place];
+    let looser = held.rows()[place];
     if looser.affine.constant <= row.affine.constant {
         return Ok(Change::Kept);
     }
-    held[place] = *row;
+    held.set(place, row);
     Ok(Change::Tightened { place, looser })
 }
 
 /// Puts the rows back as they were before the change.
-fn undo(held: &mut Vec<Row>, change: Change)
-    ensures { held.new.items ≡ undone change held.old.items }
+fn undo(held: &mut HeldRows, change: Change)
+    ensures { held.new ≡ undone change held.old }
 {
     match change {
         Change::Added => {
-            let _ = held.pop();
+            held.pop();
         }
         Change::Kept => {}
         Change::Tightened { place, looser } => {
-            if let Some(row) = held.get_mut(place) {
-                *row = looser;
-            }
+            held.set(place, &looser);
         }
     }
-}
-
-/// Where the row with the same coefficients stands, if there is one.
-fn place_of(rows: &[Row], row: &Row) -> Option<usize>
-    ensures { IsPlaceOf rows.now row.now result }
-{
-    for place in 0..rows.len() {
-        if rows[place].affine.coef == row.affine.coef {
-            return Some(place);
-        }
-    }
-    None
 }
 
 /// A row of the type has sixteen coefficients. It has no effect.

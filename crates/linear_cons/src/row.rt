@@ -74,7 +74,7 @@ impl Row {
     }
 
     /// True exactly where the two are opposed, as the test that this row tells the other's complement.
-    pub(crate) fn refutes(&self, other: &Row) -> bool
+    pub fn refutes(&self, other: &Row) -> bool
         ensures { result ≡ tells self.now.affine (complement_of other.now.affine) }
     {
         self.opposed(other)

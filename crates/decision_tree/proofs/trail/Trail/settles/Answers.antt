@@ -4,5 +4,5 @@ use Rattle.decision_tree.proofs.trail.Trail.settles.Goals as goal
 
 pub returns : goal.returns
 returns c =
-    let tightest = led_tightest c.self.inside.steps.items c.self.inside.held.items c.self.invariant in
-    rw (← c.self.view_is) (rw c.deref.ensures.value at c.settles.ensures ∙ settles_same _ _ c.args.row.now tightest.settling)
+    let tightest = led_tightest c.self.inside.steps.items c.self.inside.held c.self.invariant in
+    rw (← c.self.view_is) (c.settles.ensures ∙ settles_same _ _ c.args.row.now tightest.settling)

@@ -14,23 +14,23 @@ returns-in_err-complement-clause-wide c w is front row ends fits =
 
 pub invariant_of-self : goal.invariant_of-self
 invariant_of-self c =
-    let left = led_left c.self.inside.held.items _ c.self.inside.steps.items _ c.leave.ensures c.self.invariant in
+    let left = led_left c.self.inside.held _ c.self.inside.steps.items _ c.leave.ensures c.self.invariant in
     rw (c.in_err-enter.ensures.stays.0, c.in_err-enter.ensures.stays.1) left
 
 pub returns-in_err-enter-clause-shortened : goal.returns-in_err-enter-clause-shortened
 returns-in_err-enter-clause-shortened c e is front row ends =
     ap way_of c.in_err-enter.ensures.stays.1
-    ∙ way_left c.self.inside.held.items _ c.self.inside.steps.items _ c.leave.ensures front row (c.self.view_is ∙ ends)
+    ∙ way_left c.self.inside.held _ c.self.inside.steps.items _ c.leave.ensures front row (c.self.view_is ∙ ends)
 
 pub invariant_of-self-2 : goal.invariant_of-self-2
 invariant_of-self-2 c =
-    let left = led_left c.self.inside.held.items _ c.self.inside.steps.items _ c.leave.ensures c.self.invariant in
+    let left = led_left c.self.inside.held _ c.self.inside.steps.items _ c.leave.ensures c.self.invariant in
     led_entered _ _ _ _ c.in_ok-complement.complement c.in_ok-enter.ensures.places c.in_ok-enter.ensures.entered left
 
 pub returns-clause-turned : goal.returns-clause-turned
 returns-clause-turned c front row ends =
     let split = last_split c.self.inside.steps.items c.in-Some.step.now (rw c.deref.ensures.value at c.in-Some.ensures.value) in
-    way_turned c.self.inside.held.items _ _ c.self.inside.steps.items _ _ split.0 c.in-Some.step.now c.in_ok-complement.complement split.1 c.leave.ensures c.in_ok-enter.ensures.entered c.in_ok-complement.ensures.complement front row (c.self.view_is ∙ ends)
+    way_turned c.self.inside.held _ _ c.self.inside.steps.items _ _ split.0 c.in-Some.step.now c.in_ok-complement.complement split.1 c.leave.ensures c.in_ok-enter.ensures.entered c.in_ok-complement.ensures.complement front row (c.self.view_is ∙ ends)
 
 pub returns-clause-fits : goal.returns-clause-fits
 returns-clause-fits c front row ends =
