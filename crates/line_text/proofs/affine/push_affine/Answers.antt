@@ -1,3 +1,4 @@
+use Rattle.std.proofs.lemmas.Grind.{common_steps}
 use Rattle.std.proofs.Common.{◌≡◌, ℕ, ◌≤◌, ◌++◌, List, pos, length, vec_items, Some, None, slice_get, option_map, sym, ap, ◌∙◌, arith, rules, SFits}
 use Rattle.std.specs.Int.{w128}
 use Rattle.std.proofs.lemmas.Int.{to_z-of_z}
@@ -50,3 +51,6 @@ returns-clause-text c =
 
 pub returns-clause-kept : goal.returns-clause-kept
 returns-clause-kept c = kept_after c.loop-number.invariant.kept c.push_constant.ensures.kept
+
+pub returns-in_err-begun-clause-kept : goal.returns-in_err-begun-clause-kept
+returns-in_err-begun-clause-kept c = grind (arith, common_steps)

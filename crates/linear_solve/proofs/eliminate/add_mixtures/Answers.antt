@@ -1,3 +1,4 @@
+use Rattle.std.proofs.lemmas.Grind.{common_steps}
 use Rattle.std.proofs.Common.{◌≤ℤ◌, pos, arith, rules, subst, inr, ap, length, length-append, ◌∙◌, ◌∷◌, []}
 use Rattle.std.proofs.lemmas.Int.{ints}
 use Rattle.linear_cons.specs.Functions.{coefficient}
@@ -69,3 +70,9 @@ loop-upper-preserved c =
             short = let s = i.short in omega (arith, s, u);
           })
     ]
+
+pub returns-clause-mixtures : goal.returns-clause-mixtures
+returns-clause-mixtures c = grind (arith, common_steps)
+
+pub returns-clause-short : goal.returns-clause-short
+returns-clause-short c = grind (arith, common_steps)

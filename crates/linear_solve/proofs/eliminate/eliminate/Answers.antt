@@ -1,3 +1,4 @@
+use Rattle.std.proofs.lemmas.Grind.{common_steps}
 use Rattle.std.proofs.Common.{◌≤◌, ◌<◌, ◌<ℤ◌, Bool, pos, arith, rules, length, ap, Ok}
 use Rattle.std.proofs.lemmas.Int.{ints}
 use Rattle.linear_cons.specs.Functions.{coefficient}
@@ -74,3 +75,6 @@ pub returns-in_err-few-clause-distinct : goal.returns-in_err-few-clause-distinct
 returns-in_err-few-clause-distinct c =
     if_err_is _ _ (λ (stop : Stop). IfStopRows stop (λ _. AreMany (IsMade c.args.rows.now c.args.place))) c.from_residual-in_err-few.ensures.1
     (stop_rows_map _ _ _ (many_made _ _ _ c.loop-lower.invariant.grows) c.in_err-few.ensures.distinct)
+
+pub returns-in_err-few-clause-counted : goal.returns-in_err-few-clause-counted
+returns-in_err-few-clause-counted c = grind (arith, common_steps)

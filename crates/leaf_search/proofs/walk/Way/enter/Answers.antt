@@ -1,4 +1,5 @@
-use Rattle.std.proofs.Common.{sym, subst}
+use Rattle.std.proofs.lemmas.Grind.{common_steps}
+use Rattle.std.proofs.Common.{sym, subst, arith}
 use Rattle.constraint_stack.specs.Stacks.{Held, IsMetNowhere, all_asked, asked}
 use Rattle.tree_support.specs.Systems.{moved_by}
 use Rattle.leaf_search.specs.Walks.{side_of}
@@ -17,3 +18,6 @@ returns-clause-nowhere g c is asks held =
     let a = moved_by c.args.self.now.sets (side_of c.args.row.now.affine c.args.holds) in
     subst IsMetNowhere (sym (asked_more asks a))
     (nowhere_added (all_asked asks) c.args.stack.now.rows c.args.stack.now.wide (asked a) c.moved_side-formed.result c.add.new.self.rows c.add.new.self.wide held c.moved_side-formed.ensures (rw is at c.in_ok-added-2.ensures))
+
+pub returns-clause-longer : goal.returns-clause-longer
+returns-clause-longer g c = grind (arith, common_steps)

@@ -1,4 +1,5 @@
-use Rattle.std.proofs.Common.{[], ◌∷◌, Ok, Err, refl}
+use Rattle.std.proofs.lemmas.Grind.{common_steps}
+use Rattle.std.proofs.Common.{[], ◌∷◌, Ok, Err, refl, arith}
 use Rattle.std.proofs.lemmas.Bool.{false≢true}
 use Rattle.linear_cons.specs.declared.row.RowKind.TheVariants.{Row as Kept}
 use Rattle.linear_cons.specs.Functions.{complement_of}
@@ -35,3 +36,15 @@ pub returns-in_ok-added-in-Err-clause-held : goal.returns-in_ok-added-in-Err-cla
 returns-in_ok-added-in-Err-clause-held g c is asks held =
     let forms = unformed_complement c.args.self.now.sets c.args.row.now.affine c.in-Err.wide c.in-Err.ensures.wide (λ fits. false≢true (c.in-Err.ensures.fits.1 fits)) in
     rw c.if-holds.false (end_held asks (moved_by c.args.self.now.sets (complement_of c.args.row.now.affine) ∷ []) (Err c.in-Err.wide) c.args.stack.now.rows c.add.new.self.rows c.args.stack.now.wide c.add.new.self.wide forms held (rw is at c.in_ok-added-in-Err.ensures))
+
+pub returns-then-holds-clause-longer : goal.returns-then-holds-clause-longer
+returns-then-holds-clause-longer g c = grind (arith, common_steps)
+
+pub returns-then-tells-clause-longer : goal.returns-then-tells-clause-longer
+returns-then-tells-clause-longer g c = grind (arith, common_steps)
+
+pub returns-in_ok-added-in-Ok-clause-longer : goal.returns-in_ok-added-in-Ok-clause-longer
+returns-in_ok-added-in-Ok-clause-longer g c = grind (arith, common_steps)
+
+pub returns-in_ok-added-in-Err-clause-longer : goal.returns-in_ok-added-in-Err-clause-longer
+returns-in_ok-added-in-Err-clause-longer g c = grind (arith, common_steps)

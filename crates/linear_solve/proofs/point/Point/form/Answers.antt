@@ -1,3 +1,4 @@
+use Rattle.std.proofs.lemmas.Grind.{common_steps}
 use Rattle.std.proofs.Common.{◌≡◌, ◌+◌, refl, sym, arith, rules, ◌*ℤ◌, ◌+ℤ◌, subst, ℤ, OkIff}
 use Rattle.std.proofs.lemmas.Int.{to_z-of_z}
 use Rattle.linear_cons.specs.Functions.{coefficient}
@@ -52,3 +53,6 @@ returns-clause-exact c =
     (λ (parts : FormFits c.args.a.now c.args.self.now.num c.args.self.now.den). parts.whole)
     refl
     whole
+
+pub returns-in_err-sum-clause-wide : goal.returns-in_err-sum-clause-wide
+returns-in_err-sum-clause-wide c = grind (arith, common_steps)

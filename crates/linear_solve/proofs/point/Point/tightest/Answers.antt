@@ -1,3 +1,4 @@
+use Rattle.std.proofs.lemmas.Grind.{common_steps}
 use Rattle.std.proofs.Common.{◌≡◌, ◌≤ℤ◌, pos, arith, rules, Option, MatchOption, subst, sym, take, ◌+◌}
 use Rattle.std.proofs.lemmas.Int.{ints, to_z-of_z}
 use Rattle.linear_cons.specs.Functions.{coefficient}
@@ -36,3 +37,15 @@ loop-row-preserved c =
           let low : c.in_ok-slope.slope ≤ℤ pos 0 = omega (arith, ints) in
           subst Holds (sym w.best-is) (tightest_same c.args.rows.now c.loop-row.row-index c.args.place c.args.side c.args.self.now.num c.args.self.now.den c.row-item.result c.loop-row.best (omega arith) c.row-item.is (λ more. absurd (omega (arith, ints))) c.loop-row.invariant)
     ]
+
+pub returns-in_err-form-clause-best : goal.returns-in_err-form-clause-best
+returns-in_err-form-clause-best c = grind (arith, common_steps)
+
+pub returns-in_err-form-clause-unfit : goal.returns-in_err-form-clause-unfit
+returns-in_err-form-clause-unfit c = grind (arith, common_steps)
+
+pub returns-in_err-form-clause-wide : goal.returns-in_err-form-clause-wide
+returns-in_err-form-clause-wide c = grind (arith, common_steps)
+
+pub returns-clause-best : goal.returns-clause-best
+returns-clause-best c = grind (arith, common_steps)

@@ -1,4 +1,5 @@
-use Rattle.std.proofs.Common.{◌≡◌, ◌∙◌, ap, length, subst, sym}
+use Rattle.std.proofs.lemmas.Grind.{common_steps}
+use Rattle.std.proofs.Common.{◌≡◌, ◌∙◌, ap, length, subst, sym, arith}
 use Rattle.octagon_dom.specs.Cells.{IsBelow, bound}
 use Rattle.octagon_dom.specs.Closure.{ArePassed, IsClosed}
 use Rattle.octagon_dom.proofs.Writing.{written_back}
@@ -31,3 +32,6 @@ returns-then-not-self-clause-passes c wide =
     let back = written_back _ c.close-whole.new.cells _ c.close-whole.ensures.long len in
     subst (ArePassed c.args.self.now.cells.items 32) (sym back)
     (subst (λ items. ArePassed items 32 c.close-whole.new.cells) c.as_mut_slice.ensures.value c.close-whole.ensures.passes)
+
+pub invariant_of-self : goal.invariant_of-self
+invariant_of-self c = grind (arith, common_steps)
