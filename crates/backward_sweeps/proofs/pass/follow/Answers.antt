@@ -1,3 +1,4 @@
+use Rattle.std.proofs.lemmas.Grind.{common_steps}
 use Rattle.std.proofs.Common.{◌≡◌, suc, ◌-◌, ◌&&◌, subst, sym, ◌∙◌, arith}
 use Rattle.backward_transfer.specs.AffineShapes.{plans}
 use Rattle.backward_sweeps.specs.Remaking.{AreRemadeFrom, parts_of}
@@ -25,3 +26,6 @@ loop-label-preserved-else-branch c =
           (c.in_ok-all.ensures.remade c.loop-label.all
           (subst (λ n. AreRemadeFrom n c.loop-label.all (parts_of c.args.operands.now) c.args.transitions.now (plans c.loop-label.trees)) same c.loop-label.invariant.2))),
     )
+
+pub remake-requires-clause-open : goal.remake-requires-clause-open
+remake-requires-clause-open c = grind (arith, common_steps)

@@ -1,4 +1,5 @@
-use Rattle.std.proofs.Common.{◌≡◌, false, length, sym, ap, subst, ◌∙◌, []}
+use Rattle.std.proofs.lemmas.Grind.{common_steps}
+use Rattle.std.proofs.Common.{◌≡◌, false, length, sym, ap, subst, ◌∙◌, [], arith}
 use Rattle.decision_tree.specs.declared.affine_rank.AffineRank.{AffineRank}
 use Rattle.decision_tree.specs.declared.tree.Tree.{Tree}
 use Rattle.std.proofs.Common.{List}
@@ -35,3 +36,12 @@ returns-clause-given g c =
     subst (λ t. AreEndsGiven parts transitions t) (sym (swept_on g c))
     (ends_given parts transitions [] (plans c.in_ok-trees.trees.items) (plans c.run.new.trees) c.in_ok-trees.ensures.given
     (subst (λ (list : List (Tree AffineRank)). AreKept is_idle transitions (plans list) (plans c.run.new.trees)) c.deref_mut-2.ensures.value c.in_ok-run.ensures.ends))
+
+pub returns-then-not-has_head-clause-labels : goal.returns-then-not-has_head-clause-labels
+returns-then-not-has_head-clause-labels g c = grind (arith, common_steps)
+
+pub returns-then-not-has_head-clause-given : goal.returns-then-not-has_head-clause-given
+returns-then-not-has_head-clause-given g c = grind (arith, common_steps)
+
+pub returns-clause-labels : goal.returns-clause-labels
+returns-clause-labels g c = grind (arith, common_steps)

@@ -1,3 +1,4 @@
+use Rattle.std.proofs.lemmas.Grind.{common_steps}
 use Rattle.std.proofs.Common.{◌≡◌, true, take, ap, ◌∙◌, arith}
 use Rattle.std.proofs.lemmas.Result.{on_ok_weaker}
 use Rattle.concrete_syntax.specs.Mirror.{expression as expression_of, declaration as declaration_of, start as start_of, optional, optional_simple as optional_simple_of, statement as statement_of, statement_kind, otherwise as otherwise_of, items as items_of}
@@ -127,3 +128,15 @@ do_loop-returns-clause-gone t c =
     (λ added. both_gone old c.body.new.self c.test.new.self (statement_walked true old.scope (statement_of c.args.part.now))
     (λ s. staying s (expression_faults s condition)) c.in_ok-body.ensures.gone c.in_ok-test.ensures.found)
     c.add.ensures.meaning
+
+pub conditional-returns-clause-added : goal.conditional-returns-clause-added
+conditional-returns-clause-added t c = grind (arith, common_steps)
+
+pub do_loop-returns-clause-added : goal.do_loop-returns-clause-added
+do_loop-returns-clause-added t c = grind (arith, common_steps)
+
+pub for_loop-returns-in_err-test-clause-gone : goal.for_loop-returns-in_err-test-clause-gone
+for_loop-returns-in_err-test-clause-gone t c = grind (arith, common_steps)
+
+pub for_loop-returns-clause-added : goal.for_loop-returns-clause-added
+for_loop-returns-clause-added t c = grind (arith, common_steps)
