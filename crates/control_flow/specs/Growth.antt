@@ -11,12 +11,12 @@ use Rattle.control_flow.specs.Labels.{Action, ends, assigns, passes, tests, acti
 use Rattle.control_flow.specs.Measures.{anywhere, greatest_below}
 
 -- the greatest size of a number of the function
-unfoldable pub greatest_size : Affine → ℕ
-greatest_size a = max (greatest_below (λ place. unsigned_abs (coefficient a place)) 16) (unsigned_abs a.constant)
+unfoldable pub greatest_number : Affine → ℕ
+greatest_number a = max (greatest_below (λ place. unsigned_abs (coefficient a place)) 16) (unsigned_abs a.constant)
 
 abbrev pub greatest_of_rows : List Row → ℕ
 greatest_of_rows [] = 0
-greatest_of_rows (row ∷ more) = max (greatest_size row.affine) (greatest_of_rows more)
+greatest_of_rows (row ∷ more) = max (greatest_number row.affine) (greatest_of_rows more)
 
 abbrev pub greatest_of_conjunctions : List (List Row) → ℕ
 greatest_of_conjunctions [] = 0

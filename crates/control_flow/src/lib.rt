@@ -28,6 +28,6 @@ pub use edge::{Choice, Edge, EdgeKind};
 pub use fault::FlowFault;
 pub use graph::Graph;
 pub use linear_forms::{affine_of, conjunctions, linearise, spread};
-pub use measure::{anywhere, greatest_size};
+pub use measure::{anywhere, greatest_number};
 pub use place::Place;
 pub use transition::Transition;

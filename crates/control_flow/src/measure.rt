@@ -2,7 +2,7 @@
 
 ghost use Rattle.std.specs.Prelude.{◌≡◌, IfOk};
 ghost use Rattle.step_meaning.specs.Syntax.{statements};
-ghost use Rattle.control_flow.specs.Growth.{greatest_of_conjunctions, greatest_of_rows, greatest_of_tests, greatest_size, row_size};
+ghost use Rattle.control_flow.specs.Growth.{greatest_of_conjunctions, greatest_of_rows, greatest_of_tests, greatest_number, row_size};
 ghost use Rattle.control_flow.specs.Measures.{anywhere, leaves_asking};
 ghost use Rattle.control_flow.specs.Sizing.{AreLeaves, held, leaves_at};
 ghost use Rattle.control_flow.specs.Actions.{IsPlaced};
@@ -112,13 +112,13 @@ fn greatest_of_rows(rows: &[Row]) -> u128
 {
     match rows.split_first() {
         None => 0,
-        Some((row, more)) => greatest_size(&row.affine).max(greatest_of_rows(more)),
+        Some((row, more)) => greatest_number(&row.affine).max(greatest_of_rows(more)),
     }
 }
 
 /// The greatest size of a number of the function.
-pub fn greatest_size(function: &Affine) -> u128
-    ensures { result ≡ greatest_size function.now }
+pub fn greatest_number(function: &Affine) -> u128
+    ensures { result ≡ greatest_number function.now }
 {
     let mut most = 0u128;
     for place in 0..PLACES {

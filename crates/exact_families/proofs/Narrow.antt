@@ -15,7 +15,7 @@ use Rattle.decision_tree.specs.declared.affine_rank.AffineRank.{AffineRank}
 use Rattle.decision_tree.specs.declared.reason.Pick.TheVariants.{All as Every, Yes, No, Value}
 use Rattle.decision_tree.specs.declared.reason.Why.{Why}
 use Rattle.decision_tree.specs.declared.reason.Why.TheVariants.{End, Atom, Both, Left, Right, Now, Dead, Step}
-use Rattle.control_flow.specs.Growth.{factor_at, greatest_of_tests, greatest_size, product_below}
+use Rattle.control_flow.specs.Growth.{factor_at, greatest_of_tests, greatest_number, product_below}
 use Rattle.control_flow.specs.Labels.{all_labels}
 use Rattle.control_flow.specs.Told.{Told}
 use Rattle.control_flow.specs.Transitions.{AreTold}
@@ -35,7 +35,7 @@ use Rattle.unroll.specs.Levels.{RowsAtMost}
 use Rattle.unroll.specs.Within.{EachIs, IsWithin, place_by}
 use Rattle.unroll.proofs.Growing.{below_some}
 use Rattle.unroll.proofs.Keeping.{each_more}
-use Rattle.unroll.proofs.WithinRows.{greatest_sizes, turned_fits}
+use Rattle.unroll.proofs.WithinRows.{greatest_numbers, turned_fits}
 use Rattle.exact_families.specs.Completeness.{EachPart, IsComplete, IsLoopless, two_parts}
 use Rattle.formula_measures.specs.Measures.{IsWithinMeasures, atom_size, ctl_growth, part_size}
 use Rattle.exact_families.specs.Narrowness.{HasNoMore, IsNarrowAndComplete, IsRankAt, IsRowAt, NoValue}
@@ -109,8 +109,8 @@ module _ (body : Statements) (vars : ℕ) (few : vars ≤ 15) (valid : IsBody va
   atom_fits : (a : Affine) → f ≡ least a → NumbersFit (complement_of a)
   atom_fits a is =
       let growth : ctl_growth body (least a) ≤ 2 ^ 100 = subst (λ f. ctl_growth body f ≤ 2 ^ 100) is within.growth in
-      let more : (1 + max (greatest_of_tests body) (greatest_size a)) * 1 ≤ ctl_growth body (least a) = mul-le-mul (le_refl (1 + max (greatest_of_tests body) (greatest_size a))) some_product in
-      sizes_fit (1 + greatest_size a) (complement_of a) (omega (arith, growth, more)) (sizes_complement (greatest_size a) a (greatest_sizes a))
+      let more : (1 + max (greatest_of_tests body) (greatest_number a)) * 1 ≤ ctl_growth body (least a) = mul-le-mul (le_refl (1 + max (greatest_of_tests body) (greatest_number a))) some_product in
+      sizes_fit (1 + greatest_number a) (complement_of a) (omega (arith, growth, more)) (sizes_complement (greatest_number a) a (greatest_numbers a))
 
   -- ---- the parts
 

@@ -14,7 +14,7 @@ use Rattle.decision_tree.specs.declared.reason.Pick.TheVariants.{All as Every}
 use Rattle.decision_tree.specs.declared.reason.Why.{Why}
 use Rattle.decision_tree.specs.declared.reason.Why.TheVariants.{Atom, Both, Dead as NeverReached, Left, Now, Right, Step}
 use Rattle.control_flow.specs.Fitting.{IsFitting}
-use Rattle.control_flow.specs.Growth.{factor_at, greatest_of_tests, greatest_size, product_below}
+use Rattle.control_flow.specs.Growth.{factor_at, greatest_of_tests, greatest_number, product_below}
 use Rattle.control_flow.specs.Labels.{action_at, all_labels}
 use Rattle.control_flow.specs.Measures.{size_before}
 use Rattle.control_flow.specs.Told.{Told}
@@ -41,7 +41,7 @@ use Rattle.unroll.proofs.CountedRanks.{Counts}
 use Rattle.unroll.proofs.Growing.{below_more}
 use Rattle.unroll.proofs.Keeping.{each_more}
 use Rattle.unroll.proofs.LevelSizes.{at_most_greatest}
-use Rattle.unroll.proofs.WithinRows.{greatest_sizes}
+use Rattle.unroll.proofs.WithinRows.{greatest_numbers}
 use Rattle.exact_families.specs.Completeness.{EachPart, two_parts}
 use Rattle.formula_measures.specs.Measures.{AreSizesWithin, IsSizeWithin, ctl_growth, next_size, part_size, until_size}
 use Rattle.exact_families.specs.Narrowness.{NoValue}
@@ -514,11 +514,11 @@ module _ (body : Statements) (vars : ℕ) (few : vars ≤ 15) (valid : IsBody va
   place_most zero low = le_refl n
   place_most (suc l) low = omega (arith, low)
 
-  atom_row : (a : Affine) → IsOver vars a → greatest_size a * product_below (factor_at body) n ≤ largest → (l : ℕ) → l < n → (row : Row) → row.affine ≡ a → R l row
+  atom_row : (a : Affine) → IsOver vars a → greatest_number a * product_below (factor_at body) n ≤ largest → (l : ℕ) → l < n → (row : Row) → row.affine ≡ a → R l row
   atom_row a over enough l low row is =
-      let more : greatest_size a * product_below (factor_at body) (place_by false n l) ≤ greatest_size a * product_below (factor_at body) n =
-      mul-le-mul (le_refl (greatest_size a)) (below_more body (place_by false n l) n (place_most l low)) in (
-        record { size = greatest_size a; sizes = subst (SizesAtMost (greatest_size a)) (sym is) (greatest_sizes a); small = omega (arith, more, enough) },
+      let more : greatest_number a * product_below (factor_at body) (place_by false n l) ≤ greatest_number a * product_below (factor_at body) n =
+      mul-le-mul (le_refl (greatest_number a)) (below_more body (place_by false n l) n (place_most l low)) in (
+        record { size = greatest_number a; sizes = subst (SizesAtMost (greatest_number a)) (sym is) (greatest_numbers a); small = omega (arith, more, enough) },
         subst (IsOver vars) (sym is) over,
       )
 
@@ -530,7 +530,7 @@ module _ (body : Statements) (vars : ℕ) (few : vars ≤ 15) (valid : IsBody va
   atoms_are always over growth = tt
   atoms_are never over growth = tt
   atoms_are (least a) over growth =
-      let more : greatest_size a * product_below (factor_at body) n ≤ (1 + max (greatest_of_tests body) (greatest_size a)) * product_below (factor_at body) n =
+      let more : greatest_number a * product_below (factor_at body) n ≤ (1 + max (greatest_of_tests body) (greatest_number a)) * product_below (factor_at body) n =
       mul-le-mul (omega arith) (le_refl (product_below (factor_at body) n)) in
       atom_row a over (omega (arith, more, growth))
   atoms_are (negation f) over growth = tt

@@ -2,7 +2,7 @@
 -- program and the formula alone.
 use Rattle.std.specs.Prelude.{ℕ, zero, suc, ◌+◌, ◌*◌, ◌^◌, ◌≤◌, max, length}
 use Rattle.step_meaning.specs.Syntax.{Statements}
-use Rattle.control_flow.specs.Growth.{factor_at, greatest_of_tests, greatest_size, product_below}
+use Rattle.control_flow.specs.Growth.{factor_at, greatest_of_tests, greatest_number, product_below}
 use Rattle.control_flow.specs.Labels.{action_at, all_labels}
 use Rattle.control_flow.specs.Measures.{greatest_below, size_before}
 use Rattle.ctl_formula.specs.Formulas.{Ctl, truth, falsity, exit, not_exit, always, never, least, negation, both, either, next, until, weak}
@@ -76,7 +76,7 @@ AreSizesWithin most body (least a) = IsSizeWithin most body (least a)
 
 -- the greatest size of a number in an atom
 abbrev pub atom_size : Ctl → ℕ
-atom_size (least a) = greatest_size a
+atom_size (least a) = greatest_number a
 atom_size (negation f) = atom_size f
 atom_size (both f g) = max (atom_size f) (atom_size g)
 atom_size (either f g) = max (atom_size f) (atom_size g)

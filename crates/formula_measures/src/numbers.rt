@@ -10,7 +10,7 @@ ghost use Rattle.control_flow.specs.Sizing.{held};
 ghost use Rattle.ctl_formula.specs.Mirror.{ctl};
 ghost use Rattle.formula_measures.specs.Measures.{atom_size, ctl_growth};
 
-use control_flow::{Graph, greatest_size};
+use control_flow::{Graph, greatest_number};
 use ctl_formula::Formula;
 use linear_cons::RowKind;
 
@@ -48,7 +48,7 @@ fn atom_size(formula: &Formula) -> u128
 {
     match formula {
         Formula::True | Formula::False | Formula::Exit | Formula::NotExit => 0,
-        Formula::Holds(RowKind::Row(row)) => greatest_size(&row.affine),
+        Formula::Holds(RowKind::Row(row)) => greatest_number(&row.affine),
         Formula::Holds(RowKind::Always | RowKind::Never) => 0,
         Formula::Not(part) => atom_size(part),
         Formula::Next { all: _, part } => atom_size(part),

@@ -13,7 +13,7 @@ use Rattle.linear_cons.specs.Sizes.{SizesAtMost, total_size}
 use Rattle.linear_forms.specs.Duality.{EachOf}
 use Rattle.step_meaning.specs.Syntax.{Statements}
 use Rattle.control_flow.specs.Labels.{action_at, all_labels}
-use Rattle.control_flow.specs.Growth.{greatest_of_conjunctions, greatest_of_rows, greatest_size, row_size, test_size}
+use Rattle.control_flow.specs.Growth.{greatest_of_conjunctions, greatest_of_rows, greatest_number, row_size, test_size}
 use Rattle.control_flow.specs.Measures.{greatest_below}
 use Rattle.unroll.specs.Within.{IsWithin}
 use Rattle.unroll.proofs.Keeping.{KindIs}
@@ -67,9 +67,9 @@ more_left m n = omega arith
 more_right : (m n : ℕ) → n ≤ max m n
 more_right m n = omega arith
 
-pub greatest_sizes : (a : Affine) → SizesAtMost (greatest_size a) a
-unfolding greatest_size
-greatest_sizes a = record {
+pub greatest_numbers : (a : Affine) → SizesAtMost (greatest_number a) a
+unfolding greatest_number
+greatest_numbers a = record {
   coefficients = λ i low. le_trans (at_most_greatest (λ place. unsigned_abs (coefficient a place)) 16 i low)
       (more_left (greatest_below (λ place. unsigned_abs (coefficient a place)) 16) (unsigned_abs a.constant));
   constants = more_right (greatest_below (λ place. unsigned_abs (coefficient a place)) 16) (unsigned_abs a.constant);
@@ -78,7 +78,7 @@ greatest_sizes a = record {
 rows_within : (k most size : ℕ) → size * k ≤ most → (rows : List Row) → greatest_of_rows rows ≤ size → EachOf (IsWithin k most) rows
 rows_within k most size small [] enough = tt
 rows_within k most size small (row ∷ rest) enough = (
-  record { size = size; sizes = sizes_grown (greatest_size row.affine) size row.affine (omega (arith, enough)) (greatest_sizes row.affine); small = small },
+  record { size = size; sizes = sizes_grown (greatest_number row.affine) size row.affine (omega (arith, enough)) (greatest_numbers row.affine); small = small },
   rows_within k most size small rest (omega (arith, enough)),
 )
 

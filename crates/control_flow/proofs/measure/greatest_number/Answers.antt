@@ -1,9 +1,9 @@
 use Rattle.std.proofs.Common.{◌≡◌, suc, ◌+◌, max, unsigned_abs, SFits, to_z-of_z, rules, ap, ◌∙◌, arith}
 use Rattle.std.specs.Int.{w128}
 use Rattle.linear_cons.specs.Functions.{coefficient}
-use Rattle.control_flow.specs.Growth.{greatest_size}
+use Rattle.control_flow.specs.Growth.{greatest_number}
 use Rattle.control_flow.specs.Measures.{greatest_below}
-use Rattle.control_flow.proofs.measure.greatest_size.Goals as goal
+use Rattle.control_flow.proofs.measure.greatest_number.Goals as goal
 
 pub loop-place-preserved : goal.loop-place-preserved
 loop-place-preserved c =
@@ -16,7 +16,7 @@ loop-place-preserved c =
     ∙ ap (λ t. max (greatest_below (λ i. unsigned_abs (coefficient a i)) place) t) size ∙ ap (greatest_below (λ i. unsigned_abs (coefficient a i))) one
 
 pub returns : goal.returns
-unfolding greatest_size
+unfolding greatest_number
 returns c =
     let a = c.args.function.now in
     let range : SFits w128 a.constant = search rules in
