@@ -1,4 +1,5 @@
 use Rattle.std.proofs.Common.{◌≡◌, ◌+◌, ◌-◌, ◌<◌, ◌^◌, [], ◌∷◌, ap, arith, length, length-append, subst, sym, ◌∙◌}
+use Rattle.std.proofs.lemmas.Grind.{common_steps}
 use Rattle.advice.proofs.Asked.{next_below, one_more}
 use Rattle.advice.proofs.consulting.consult.Goals as goal
 use Rattle.advice.proofs.consulting.consult.Goals.{in-Some, in_default}
@@ -28,3 +29,6 @@ loop-number-preserved g c =
         | in_default w ↦ rw w.hints-is (omega (arith, few))
       ],
     )
+
+pub loop-number-init : goal.loop-number-init
+loop-number-init g c = grind (arith, common_steps)

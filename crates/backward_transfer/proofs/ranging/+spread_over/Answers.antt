@@ -1,4 +1,5 @@
-use Rattle.std.proofs.Common.{rules}
+use Rattle.std.proofs.Common.{rules, arith}
+use Rattle.std.proofs.lemmas.Grind.{common_steps}
 use Rattle.decision_tree.specs.Plans.{plan_of}
 use Rattle.tree_unify.proofs.Building.{handed_on}
 use Rattle.backward_transfer.proofs.Parts.{no_stopped, yes_stopped}
@@ -15,3 +16,15 @@ returns g t c =
     let part = rw c.deref-in-Node-3.ensures at c.in-Err.ensures in
     rw c.in-Node.is
     (no_stopped g.R.PartialEq.eq g.R.Rank c.args.place c.args.range.now c.in-Node.row (plan_of c.in-Node.yes.value) (plan_of c.in-Node.no.value) (search rules) (search rules) part)
+
+pub returns-in-Bottom : goal.returns-in-Bottom
+returns-in-Bottom g c = grind (arith, common_steps)
+
+pub returns-in-Leaf : goal.returns-in-Leaf
+returns-in-Leaf g c = grind (arith, common_steps)
+
+pub holds_throughout-requires : goal.holds_throughout-requires
+holds_throughout-requires g c = grind (arith, common_steps)
+
+pub fails_throughout-requires : goal.fails_throughout-requires
+fails_throughout-requires g c = grind (arith, common_steps)

@@ -1,4 +1,5 @@
 use Rattle.std.proofs.Common.{◌≡◌, length, slice_set, IfSome, refl, sym, subst, ◌∙◌, arith}
+use Rattle.std.proofs.lemmas.Grind.{common_steps}
 use Rattle.std.proofs.lemmas.Option.{slice_get_read}
 use Rattle.step_meaning.specs.Syntax.{statements}
 use Rattle.linear_forms.specs.Spreading.{spread_of}
@@ -58,3 +59,9 @@ returns-clause-each g c row behind =
     (c.only_row.ensures row).1
     (c.outcome.ensures ∙ over_tests bounds action transition over test.0 test.1 c.in-Test.holds
     ∙ behind_spreads body c.args.label row edge test.0 c.in-Test.holds bounds behind only c.in-Test.is (sym test.1))
+
+pub offset_bounds-states-edge : goal.offset_bounds-states-edge
+offset_bounds-states-edge g c = grind (arith, common_steps)
+
+pub bounds-states-edge : goal.bounds-states-edge
+bounds-states-edge g c = grind (arith, common_steps)

@@ -1,4 +1,5 @@
-use Rattle.std.proofs.Common.{◌≡◌, ◌∙◌, ℕ, List, true, false, sym, subst, ap, Some}
+use Rattle.std.proofs.Common.{◌≡◌, ◌∙◌, ℕ, List, true, false, sym, subst, ap, Some, arith}
+use Rattle.std.proofs.lemmas.Grind.{common_steps}
 use Rattle.linear_cons.specs.Numbers.{number_at}
 use Rattle.input_text.specs.Input.{IsPairText, name_at}
 use Rattle.input_text.proofs.Unique.{same_input}
@@ -21,3 +22,6 @@ returns-then-not-are_pairs-clause-finds c = λ names input is.
 pub returns-clause-finds : goal.returns-clause-finds
 returns-clause-finds c = λ names input is.
     ap Some (same_input c.args.names.now names c.args.text.now input c.in_ok-input.input is c.in_ok-input.ensures.input c.in_ok-input.ensures.given)
+
+pub returns-clause-is : goal.returns-clause-is
+returns-clause-is c = grind (arith, common_steps)

@@ -11,3 +11,6 @@ returns-in_err-extend_from_slice-in-Bytes-clause-stops g c =
     let last = take c.in-Bytes.count c.read_at_most.new.piece in
     let most = c.in-Bytes.ensures.most c.in-Bytes.count refl in
     (text ++ last, grind (arith, common_steps), Consumes-trans _ _ _ text last c.loop-text.invariant.read c.in-Bytes.ensures.gives.2)
+
+pub returns-in-Failed-clause-ends : goal.returns-in-Failed-clause-ends
+returns-in-Failed-clause-ends g c = grind (arith, common_steps)

@@ -1,3 +1,5 @@
+use Rattle.std.proofs.Common.{arith}
+use Rattle.std.proofs.lemmas.Grind.{common_steps}
 use Rattle.outside.proofs.Written.{more_taken, front_taken}
 use Rattle.outside.proofs.writing.write_all.Goals as goal
 
@@ -7,3 +9,9 @@ loop-rest-preserved g c =
 
 pub returns-in-Failed-clause-front : goal.returns-in-Failed-clause-front
 returns-in-Failed-clause-front g c = front_taken _ c.loop-rest.invariant c.in-Failed.ensures.takes.0
+
+pub returns-in-Failed-clause-all : goal.returns-in-Failed-clause-all
+returns-in-Failed-clause-all g c = grind (arith, common_steps)
+
+pub returns-in-Failed-clause-stays : goal.returns-in-Failed-clause-stays
+returns-in-Failed-clause-stays g c = grind (arith, common_steps)

@@ -1,4 +1,5 @@
-use Rattle.std.proofs.Common.{◌≡◌, ap, ◌∙◌, inl, inr, SFits, to_z-of_z, rules}
+use Rattle.std.proofs.Common.{◌≡◌, ap, ◌∙◌, inl, inr, SFits, to_z-of_z, rules, arith}
+use Rattle.std.proofs.lemmas.Grind.{common_steps}
 use Rattle.std.specs.Int.{w128}
 use Rattle.linear_cons.specs.declared.affine.Affine.{Affine}
 use Rattle.linear_cons.specs.Functions.{difference_of, multiple_of, sum_of}
@@ -64,3 +65,9 @@ returns-in-Mul-2 t c =
     (answered_pair _ _ Mul (expression c.deref-in-Pair.result.now) (expression c.deref-in-Pair-2.result.now) left.0 right.0 (inr none)
     (ap (λ f. multiple_of f c.in-Some-Some.second.constant) left.1 ∙ ap (λ (f : Affine). multiple_of (form_of (expression c.deref-in-Pair.result.now)) f.constant) right.1 ∙ product_with_right (expression c.deref-in-Pair.result.now) (expression c.deref-in-Pair-2.result.now) none)
     (c.exact-in-Mul-2.ensures _ scaled))
+
+pub returns-in-Number : goal.returns-in-Number
+returns-in-Number c = grind (arith, common_steps)
+
+pub returns-in-Name : goal.returns-in-Name
+returns-in-Name c = grind (arith, common_steps)

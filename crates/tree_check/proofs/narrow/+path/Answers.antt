@@ -1,4 +1,5 @@
-use Rattle.std.proofs.Common.{[]}
+use Rattle.std.proofs.Common.{[], arith}
+use Rattle.std.proofs.lemmas.Grind.{common_steps}
 use Rattle.decision_tree.specs.Plans.{plan_of}
 use Rattle.constraint_stack.proofs.Choosing.{held_same}
 use Rattle.tree_check.proofs.Narrowing.{among_first, among_second}
@@ -20,3 +21,9 @@ returns-then-branch-2-clause-among g t c found empty =
     rw c.in-Node.is
     (among_second c.args.way.now.sets c.in-Node.row (plan_of c.in-Node.yes.value) (plan_of c.in-Node.no.value) c.add_path-in-Node.new.stack c.enter-then-branch-2.new.stack
     c.in_ok-enter-in-Node-2.field-0 c.in_ok-enter-in-Node-2.ensures.same c.args.left.now c.add_path.new.left count c.in_ok-enter-in-Node-2.ensures.held before)
+
+pub enter-requires : goal.enter-requires
+enter-requires g c = grind (arith, common_steps)
+
+pub enter-requires-then-branch-2 : goal.enter-requires-then-branch-2
+enter-requires-then-branch-2 g c = grind (arith, common_steps)

@@ -1,4 +1,5 @@
-use Rattle.std.proofs.Common.{◌∙◌, refl}
+use Rattle.std.proofs.Common.{◌∙◌, refl, arith}
+use Rattle.std.proofs.lemmas.Grind.{common_steps}
 use Rattle.linear_cons.specs.Rows.{complement}
 use Rattle.decision_tree.specs.Plans.{IsEnd, plan_of}
 use Rattle.tree_unify.proofs.Building.{handed_on, leaf_grafted, stopped_at, stopped_in}
@@ -44,3 +45,6 @@ returns-then-is_leaf g t c =
     let other = rw (c.in_ok-down_no-in-Node.ensures.down, c.deref-then-is_leaf.ensures) at c.in_ok-other-in-Node.ensures in
     let made = rw (c.deref-then-is_leaf-2.ensures, back) at c.graft_beside.ensures in
     rw c.in-Node.is (leaf_grafted g.R.PartialEq.eq g.met.R.Rank.equal_law g.R.Rank c.args.join (plan_of c.args.second.now) c.args.walk.now.trail c.in-Node.row (plan_of c.in-Node.yes.value) (plan_of c.in-Node.no.value) _ ends c.in_ok-down_no-in-Node.ensures.fits other made refl)
+
+pub graft_beside-requires : goal.graft_beside-requires
+graft_beside-requires g c = grind (arith, common_steps)

@@ -1,4 +1,5 @@
-use Rattle.std.proofs.Common.{length}
+use Rattle.std.proofs.Common.{length, arith}
+use Rattle.std.proofs.lemmas.Grind.{common_steps}
 use Rattle.ctl_rounds.specs.Knowing.{told_on}
 use Rattle.ctl_rounds.proofs.KnownShown.{end_shows, truth_shows}
 use Rattle.ctl_rounds.proofs.premises.Premises.itself.Goals as goal
@@ -37,3 +38,6 @@ pub returns-in_ok-known-in-Exit-clause-narrow : goal.returns-in_ok-known-in-Exit
 returns-in_ok-known-in-Exit-clause-narrow g c = rw c.in-Exit.is
     (λ loopless within own each. end_narrow (length c.args.self.now.graph.now.names) (statements c.args.self.now.graph.now.body) c.args.self.now.labels
     c.in_ok-known-in-Exit.known c.in_ok-known-in-Exit.ensures.trees)
+
+pub returns-in-False : goal.returns-in-False
+returns-in-False g c = grind (arith, common_steps)

@@ -1,4 +1,5 @@
 use Rattle.std.proofs.Common.{◌+◌, rules, arith}
+use Rattle.std.proofs.lemmas.Grind.{common_steps}
 use Rattle.ctl_rounds.proofs.Asking.{asked_again, can_be_asked, unasked}
 use Rattle.ctl_rounds.proofs.subject.Subject.advised.Goals as goal
 
@@ -48,3 +49,12 @@ loop-turns-preserved g c =
           c.loop-turns.advisers.items c.consult.new.advisers.items c.loop-turns.invariant.3 c.in_ok-hints.ensures.asked,
       c.in_ok-follow.ensures.exact c.loop-turns.invariant.4,
     )
+
+pub index-requires : goal.index-requires
+index-requires g c = grind (arith, common_steps)
+
+pub index-requires-2 : goal.index-requires-2
+index-requires-2 g c = grind (arith, common_steps)
+
+pub facts-requires : goal.facts-requires
+facts-requires g c = grind (arith, common_steps)

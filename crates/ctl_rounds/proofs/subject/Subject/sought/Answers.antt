@@ -1,4 +1,5 @@
 use Rattle.std.proofs.Common.{rules, arith}
+use Rattle.std.proofs.lemmas.Grind.{common_steps}
 use Rattle.ctl_rounds.proofs.Asking.{unasked}
 use Rattle.ctl_rounds.proofs.subject.Subject.sought.Goals as goal
 
@@ -13,3 +14,6 @@ returns-in_ok-begun-clause-asked g c = (
   unasked (λ adviser. (goal.Adviser-dyn g (adviser.vtable, adviser.value)).asked_of adviser.value) c.args.advisers.now.items,
   c.in_ok-begun.ensures.turns,
 )
+
+pub advised-requires : goal.advised-requires
+advised-requires g c = grind (arith, common_steps)

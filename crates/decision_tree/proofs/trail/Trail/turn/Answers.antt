@@ -1,4 +1,5 @@
-use Rattle.std.proofs.Common.{◌∙◌, ap, refl, subst, sym}
+use Rattle.std.proofs.Common.{◌∙◌, ap, refl, subst, sym, arith}
+use Rattle.std.proofs.lemmas.Grind.{common_steps}
 use Rattle.linear_cons.specs.Functions.{NumbersFit, complement_of}
 use Rattle.linear_cons.specs.declared.row.Row.{Row}
 use Rattle.decision_tree.specs.Trails.{way_of}
@@ -47,3 +48,6 @@ pub returns-clause-start : goal.returns-clause-start
 returns-clause-start c none =
     let split = last_split c.self.inside.steps.items c.in-Some.step.now (rw c.deref.ensures.value at c.in-Some.ensures.value) in
     absurd (way_goes c.self.inside.steps.items split.0 c.in-Some.step.now split.1 (c.self.view_is ∙ none))
+
+pub returns-in_default : goal.returns-in_default
+returns-in_default c = grind (arith, common_steps)

@@ -1,4 +1,5 @@
-use Rattle.std.proofs.Common.{rules, ◌≡◌, [], ◌∷◌, ◌++◌, refl}
+use Rattle.std.proofs.Common.{rules, ◌≡◌, [], ◌∷◌, ◌++◌, refl, arith}
+use Rattle.std.proofs.lemmas.Grind.{common_steps}
 use Rattle.linear_cons.specs.Functions.{NumbersFit, complement_of}
 use Rattle.decision_tree.specs.Plans.{plan_of}
 use Rattle.decision_tree.specs.declared.path.Side.TheVariants.{Yes, No}
@@ -34,3 +35,12 @@ pub returns-clause-fits : goal.returns-clause-fits
 returns-clause-fits g c =
     let none : c.loop-side.sides.items ≡ [] = search rules in
     (going_ends c.loop-side.rows.items _ c.loop-side.sides.items _ _ none c.loop-side.invariant).1
+
+pub loop-side-smaller-in-Yes : goal.loop-side-smaller-in-Yes
+loop-side-smaller-in-Yes g c = grind (arith, common_steps)
+
+pub loop-side-smaller-in-No : goal.loop-side-smaller-in-No
+loop-side-smaller-in-No g c = grind (arith, common_steps)
+
+pub loop-side-smaller : goal.loop-side-smaller
+loop-side-smaller g c = grind (arith, common_steps)

@@ -1,4 +1,5 @@
 use Rattle.std.proofs.Common.{◌≡◌, ℕ, length, arith, rules}
+use Rattle.std.proofs.lemmas.Grind.{common_steps}
 use Rattle.interval_dom.specs.Intervals.{IsHull}
 use Rattle.interval_dom.specs.declared.interval.Interval.{Interval}
 use Rattle.interval_dom.specs.Laws.BoxLaws.{interval_at}
@@ -38,3 +39,9 @@ returns-clause-least c =
     let also : length c.args.other.now.intervals ≡ 16 = search rules in
     let all : c.loop-place.place ≡ 16 = omega arith in
     hull_least c.args.self.now c.args.other.now c.loop-place.hull long also (cc) (cc) (rw all at c.loop-place.invariant)
+
+pub returns-then-has_none-clause-others : goal.returns-then-has_none-clause-others
+returns-then-has_none-clause-others c = grind (arith, common_steps)
+
+pub returns-then-has_none-clause-empty : goal.returns-then-has_none-clause-empty
+returns-then-has_none-clause-empty c = grind (arith, common_steps)

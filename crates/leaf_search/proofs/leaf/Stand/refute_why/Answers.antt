@@ -1,4 +1,5 @@
-use Rattle.std.proofs.Common.{map}
+use Rattle.std.proofs.Common.{map, arith}
+use Rattle.std.proofs.lemmas.Grind.{elements}
 use Rattle.decision_tree.specs.Plans.{plan_of}
 use Rattle.tree_support.specs.Setting.{trees_in}
 use Rattle.tree_support.specs.Systems.{of_keep, of_pick}
@@ -26,3 +27,6 @@ returns-in_ok-refuted-in-Step-clause-searched g c at is_at asks held =
     (searched_then g.R.Rank (of_keep at at.formula c.args.self.now.label asks)
     (of_pick at c.in-Step.pick (trees_in (map plan_of c.args.self.now.family.now)) c.args.rank.now c.args.self.now.label asks) c.in_ok-refuted-in-Step.refuted c.refute_kept.new.found
     c.refute_pick.new.found none (c.in_ok-refuted-in-Step.ensures.searched at is_at asks again))
+
+pub returns-in_ok-refuted-in-Left-clause-searched : goal.returns-in_ok-refuted-in-Left-clause-searched
+returns-in_ok-refuted-in-Left-clause-searched g c = grind (arith, elements)

@@ -1,4 +1,5 @@
-use Rattle.std.proofs.Common.{◌≡◌, ◌∙◌, ap, length, subst, sym}
+use Rattle.std.proofs.Common.{◌≡◌, ◌∙◌, ap, length, subst, sym, arith}
+use Rattle.std.proofs.lemmas.Grind.{common_steps}
 use Rattle.octagon_dom.specs.Cells.{IsBelow}
 use Rattle.octagon_dom.specs.Laws.Rows.{empty_none}
 use Rattle.octagon_dom.proofs.Members.{widened_newer, widened_own}
@@ -28,3 +29,9 @@ returns-clause-others c store is has =
     let before = subst (λ items. IsBelow items store) (sym c.deref.ensures.value) has in
     subst (λ items. IsBelow items store) (sym (written_back _ c.widen.new.cells _ c.widen.ensures.long len))
     (widened_newer _ _ _ c.widen.ensures store before)
+
+pub invariant_of-self : goal.invariant_of-self
+invariant_of-self c = grind (arith, common_steps)
+
+pub returns-clause-unmarks : goal.returns-clause-unmarks
+returns-clause-unmarks c = grind (arith, common_steps)

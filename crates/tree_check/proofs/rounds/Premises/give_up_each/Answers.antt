@@ -1,4 +1,5 @@
 use Rattle.std.proofs.Common.{◌<◌, arith, length, map}
+use Rattle.std.proofs.lemmas.Grind.{common_steps}
 use Rattle.decision_tree.specs.Plans.{plan_of}
 use Rattle.tree_support.specs.Setting.{trees_in}
 use Rattle.tree_check.specs.Rounds.{setting_on}
@@ -25,3 +26,6 @@ pub returns-clause-cleared : goal.returns-clause-cleared
 returns-clause-cleared g c told cleared =
     left_none g.R.Rank (setting_on g.D.NumDomain c.args.self.now) c.args.label (trees_in (map plan_of c.args.trees.now))
     (trees_in (map plan_of c.loop-refuted.trees)) c.args.found.now c.loop-refuted.refuted-index (omega arith) c.loop-refuted.invariant.1 told cleared
+
+pub bounds-found-refuted-index : goal.bounds-found-refuted-index
+bounds-found-refuted-index g c = grind (arith, common_steps)

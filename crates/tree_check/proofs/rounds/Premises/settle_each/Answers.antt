@@ -1,4 +1,5 @@
 use Rattle.std.proofs.Common.{◌-◌, arith, map}
+use Rattle.std.proofs.lemmas.Grind.{common_steps}
 use Rattle.decision_tree.specs.Plans.{plan_of}
 use Rattle.tree_check.specs.Rounds.{setting_on}
 use Rattle.tree_check.proofs.Settling.{advances_then, leaves_stay, supported_more}
@@ -27,3 +28,6 @@ pub returns-clause-supported : goal.returns-clause-supported
 returns-clause-supported g c same label =
     let start = c.loop-label-test.false in
     c.loop-label.invariant.1 same label (omega (arith, start))
+
+pub loop-label-smaller : goal.loop-label-smaller
+loop-label-smaller g c = grind (arith, common_steps)

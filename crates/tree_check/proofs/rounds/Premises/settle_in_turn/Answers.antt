@@ -1,4 +1,5 @@
 use Rattle.std.proofs.Common.{◌<◌, arith, map, subst, sym, ⊎_elim}
+use Rattle.std.proofs.lemmas.Grind.{common_steps}
 use Rattle.std.proofs.lemmas.Bool.{eqb-true}
 use Rattle.decision_tree.specs.Plans.{plan_of}
 use Rattle.tree_support.specs.Setting.{trees_in}
@@ -36,3 +37,6 @@ returns-clause-supported g c is =
     let reviewed = rw c.in_default.is at c.in_ok-refuted.ensures in
     supported_from_start g.R.Rank (setting_on g.D.NumDomain c.args.self.now) (trees_in (map plan_of c.loop-refuted.trees)) c.args.label c.loop-refuted.first
     (⊎_elim (λ start. eqb-true c.loop-refuted.first 0 start) (λ same. c.loop-refuted.invariant.1 same) is) reviewed
+
+pub returns-in_err-refuted : goal.returns-in_err-refuted
+returns-in_err-refuted g c = grind (arith, common_steps)

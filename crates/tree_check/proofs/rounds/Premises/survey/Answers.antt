@@ -1,4 +1,5 @@
 use Rattle.std.proofs.Common.{arith, inl, inr, map, rules, subst}
+use Rattle.std.proofs.lemmas.Grind.{common_steps}
 use Rattle.decision_tree.specs.Plans.{plan_of}
 use Rattle.tree_support.specs.Setting.{trees_in}
 use Rattle.tree_check.specs.Rounds.{setting_on}
@@ -29,3 +30,9 @@ returns-clause-told g c =
 
 pub returns-clause-supported : goal.returns-clause-supported
 returns-clause-supported g c same = c.in_ok-settle_label.ensures.supported (inr same)
+
+pub bounds-told-label : goal.bounds-told-label
+bounds-told-label g c = grind (arith, common_steps)
+
+pub bounds-told-label-2 : goal.bounds-told-label-2
+bounds-told-label-2 g c = grind (arith, common_steps)

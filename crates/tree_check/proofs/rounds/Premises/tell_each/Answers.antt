@@ -1,4 +1,5 @@
 use Rattle.std.proofs.Common.{ap, arith, length, map, ◌∙◌}
+use Rattle.std.proofs.lemmas.Grind.{common_steps}
 use Rattle.std.proofs.lemmas.List.{length-append}
 use Rattle.decision_tree.specs.Plans.{plan_of}
 use Rattle.tree_check.specs.Rounds.{setting_on}
@@ -38,3 +39,6 @@ pub returns-in_err-tell-clause-advances : goal.returns-in_err-tell-clause-advanc
 returns-in_err-tell-clause-advances g c =
     advances_then g.R.Rank (setting_on g.D.NumDomain c.args.self.now) (map plan_of c.args.trees.now) (map plan_of c.loop-number.trees) (map plan_of c.tell.new.trees) c.args.drops.now.items c.loop-number.drops.items c.tell.new.drops.items
     c.loop-number.invariant.0 c.tell.ensures.advances
+
+pub index-requires : goal.index-requires
+index-requires g c = grind (arith, common_steps)

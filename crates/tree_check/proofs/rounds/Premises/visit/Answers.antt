@@ -1,4 +1,5 @@
 use Rattle.std.proofs.Common.{arith, map, rules, subst}
+use Rattle.std.proofs.lemmas.Grind.{common_steps}
 use Rattle.decision_tree.specs.Plans.{plan_of}
 use Rattle.tree_support.specs.Setting.{trees_in}
 use Rattle.tree_check.specs.Rounds.{AreElsewhere, setting_on}
@@ -46,3 +47,12 @@ returns-clause-supported g c same =
     let all = c.in_ok-number.ensures.told.0 in
     told_of_all g.R.Rank (setting_on g.D.NumDomain c.args.self.now) (trees_in (map plan_of c.tell_each.new.trees)) c.tell_each.new.drops.items c.in_ok-number.number c.args.label
     (omega (arith, all)) c.in_ok-number.ensures.told.1
+
+pub bounds-told-label-then-leading-eq0 : goal.bounds-told-label-then-leading-eq0
+bounds-told-label-then-leading-eq0 g c = grind (arith, common_steps)
+
+pub bounds-trees-label : goal.bounds-trees-label
+bounds-trees-label g c = grind (arith, common_steps)
+
+pub survey-requires-then-leads : goal.survey-requires-then-leads
+survey-requires-then-leads g c = grind (arith, common_steps)

@@ -1,4 +1,5 @@
-use Rattle.std.proofs.Common.{map, refl, ⊎_elim, ◌++◌, ◌∷◌, []}
+use Rattle.std.proofs.Common.{map, refl, ⊎_elim, ◌++◌, ◌∷◌, [], arith}
+use Rattle.std.proofs.lemmas.Grind.{common_steps}
 use Rattle.decision_tree.specs.Plans.{bottom, plan_of, top}
 use Rattle.constraint_stack.specs.Forming.{given}
 use Rattle.tree_support.specs.Setting.{trees_in}
@@ -62,3 +63,6 @@ refute_within-returns-then-not-branch-clause-surveyed g t c at is_at asks held w
 pub refute_within-returns-clause-surveyed : goal.refute_within-returns-clause-surveyed
 refute_within-returns-clause-surveyed g t c at is_at asks held within narrowed =
     c.in_ok-refute-2.ensures.surveyed at is_at asks held (within ++ given (side_of c.args.row.now.affine c.args.holds) ∷ []) (c.in_ok-enter.ensures.held c.if-not-branch.false within narrowed)
+
+pub refute_within-overflow_add-progress : goal.refute_within-overflow_add-progress
+refute_within-overflow_add-progress g c = grind (arith, common_steps)

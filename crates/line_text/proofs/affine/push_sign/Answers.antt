@@ -1,0 +1,6 @@
+use Rattle.std.proofs.Common.{arith}
+use Rattle.std.proofs.lemmas.Grind.{elements}
+use Rattle.line_text.proofs.affine.push_sign.Goals as goal
+
+pub returns-clause-text : goal.returns-clause-text
+returns-clause-text c = grind (arith, elements)
