@@ -1,0 +1,66 @@
+"""What `terminates` does: reads its words, looks at the files, and writes what is known of each."""
+import json
+import sys
+
+import objects
+import show
+import words
+from command import Hindered, path
+from files import Progress, listed, look_at_all, table
+from questions import Question
+from texts import told
+
+def say(text, stream=None):
+    """Writes a line; what isn't UTF-8 in a file's name is shown as it can be."""
+    stream = stream or sys.stdout
+    stream.write(text.encode("utf-8", "replace").decode("utf-8") + "\n")
+    stream.flush()
+
+
+def say_changes(result, every):
+    """Tells what was changed of the text: each change, or how many there are."""
+    original = result.text
+    for change in reversed(result.changes):
+        original = original[:change.offset] + change.old + original[change.offset + len(change.old):]
+    lines = list(told(result.name, original, result.changes))
+    if every:
+        for line in lines:
+            say(line)
+    elif lines:
+        say(f"{result.name}: {len(lines)} {'place of the text was' if len(lines) == 1 else 'places of the text were'} changed (--show-text shows them)", sys.stderr)
+
+
+def say_result(result, read):
+    """Writes what is known of a file."""
+    if read.json:
+        say(json.dumps(objects.of_result(result, read.ctl), ensure_ascii=True))
+        return
+    say_changes(result, read.show_text)
+    if result.told:
+        say(result.told.text(result.name if result.fault.of == "program" else "formula"), sys.stderr)
+    elif result.trouble:
+        say(f"{result.name}: {result.trouble}", sys.stderr)
+    else:
+        say(show.text(result, read.ctl))
+
+
+def main(given):
+    """Ends with the command's status, with one of the companion's own, or with the greatest of several files."""
+    read = words.parse(given)
+    try:
+        program = path()
+    except Hindered as hindered:
+        say(f"terminates: {hindered}", sys.stderr)
+        return hindered.status
+    question = Question(words.handed_on(read), not read.ends_only, read.inputs, read.as_is)
+    named = listed(read.files, read.recursive)
+    progress, results = Progress(len(named)), []
+    for result in look_at_all(program, question, named, read.timeout, read.jobs):
+        results.append(result)
+        progress.clear()
+        say_result(result, read)
+        progress.step()
+    if len(results) > 1 and not read.json:
+        say("\n" + table(results, read.ctl))
+    return max(result.status for result in results)
+
