@@ -27,7 +27,9 @@ def say_changes(result, every):
         for line in lines:
             say(line)
     elif lines:
-        say(f"{result.name}: {len(lines)} {'place of the text was' if len(lines) == 1 else 'places of the text were'} changed (--show-text shows them)", sys.stderr)
+        left_out = sum(change.is_step for change in result.changes)
+        steps = f", of which {left_out} took a step that isn't counted now" if left_out else ""
+        say(f"{result.name}: {len(lines)} {'place of the text was' if len(lines) == 1 else 'places of the text were'} changed{steps} (--show-text shows them)", sys.stderr)
 
 
 def say_result(result, read):

@@ -74,7 +74,7 @@ def reduced(rows):
     others = [row.fixed(store) for row in equal]
     equal = values + [row for row in others if row.terms]
     same = [function for row in equal for function in (row, row.negated())]
-    left = [row.fixed(store) for row in rows]
+    left = [divided(shortened(equal, row)) for row in rows]
     left = list(dict.fromkeys(row for row in left if row.terms))
     for row in sorted(left, key=weight, reverse=True):
         rest = [other for other in left if other != row]
@@ -83,19 +83,29 @@ def reduced(rows):
     return equal, left
 
 
-def bound_under(rows, bound):
-    """The bound in as few terms as the equalities of the condition make of it: it has the same value wherever the rows are met."""
-    equal, _ = reduced(rows)
+def shortened(equal, function):
+    """The function in as few terms as the equalities make of it: it has the same value wherever they hold."""
     changed = True
     while changed:
         changed = False
         for row in equal:
             for name, number in row.terms:
                 if abs(number) == 1:
-                    other = bound.with_multiple(-number * bound.coefficients().get(name, 0), row)
-                    if len(other.terms) < len(bound.terms):
-                        bound, changed = other, True
-    return bound
+                    other = function.with_multiple(-number * function.coefficients().get(name, 0), row)
+                    if len(other.terms) < len(function.terms):
+                        function, changed = other, True
+    return function
+
+
+def divided(row):
+    """The row by the greatest common divisor of all its numbers."""
+    common = gcd(row.constant, *(number for _, number in row.terms))
+    return Affine(tuple((name, number // common) for name, number in row.terms), row.constant // common) if common else row
+
+
+def bound_under(rows, bound):
+    """The bound in as few terms as the equalities of the condition make of it."""
+    return shortened(reduced(rows)[0], bound)
 
 
 def constraints(rows):
@@ -129,7 +139,13 @@ def order(constraint):
 
 
 def sum_of(terms, constant=0):
-    return str(Affine(tuple(terms), constant))
+    """A sum, first what is added and then what is taken away, so that it begins with a sign only where it must."""
+    return str(Affine(tuple(sorted(terms, key=lambda term: term[1] < 0)), constant))
+
+
+def spelled_claim(claim):
+    """A claim as people write it."""
+    return str(replace(claim, bound=Affine(tuple(sorted(claim.bound.terms, key=lambda term: term[1] < 0)), claim.bound.constant))) if claim.bound is not None else str(claim)
 
 
 def spelled(constraint):
@@ -152,8 +168,7 @@ def spelled_equality(terms, number):
         sign = 1 if terms[0][1] > 0 else -1
         return f"{sum_of((name, sign * coefficient) for name, coefficient in terms)} == {sign * number}"
     name, coefficient = alone
-    rest = sorted(((other, -coefficient * more) for other, more in terms if other != name), key=lambda term: term[1] < 0)
-    return f"{name} == {sum_of(rest, coefficient * number)}"
+    return f"{name} == {sum_of(((other, -coefficient * more) for other, more in terms if other != name), coefficient * number)}"
 
 
 def spelled_row(terms, low):

@@ -1,5 +1,5 @@
 """A file's answer as lines for people."""
-from readable import joined, sorted_lines, spelled_condition
+from readable import joined, sorted_lines, spelled_claim, spelled_condition
 from rows import implies
 
 
@@ -45,7 +45,7 @@ def lines_of(result):
 
 
 def spelled_line(line):
-    return f"{spelled_condition(line.rows)}: {line.claim}"
+    return f"{spelled_condition(line.rows)}: {spelled_claim(line.claim)}"
 
 
 def text(result, asked):

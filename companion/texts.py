@@ -17,12 +17,13 @@ LEFT_OUT = ("include", "pragma", "line", "warning", "ident")
 
 @dataclass(frozen=True)
 class Change:
-    """What stands from an offset on, what is put there, as long, and why."""
+    """What stands from an offset on, what is put there, as long, and why; and whether it takes a step away, which then isn't counted."""
 
     offset: int
     old: str
     new: str
     why: str
+    is_step: bool = False
 
 
 def blank(old):
@@ -174,7 +175,7 @@ def front_choices(text):
                 first = part[1] if declares else part[0]
                 end = part[-1].end if declares else text.index(";", part[-1].end) + 1
                 old = text[first.offset:end]
-                found.append(Change(first.offset, old, blank(old), f"{name} is an input"))
+                found.append(Change(first.offset, old, blank(old), f"{name} is an input", is_step=True))
             elif len(part) > 1:
                 kept.update(token.text for token in part)
     return found

@@ -77,6 +77,9 @@ class Spelling(unittest.TestCase):
         ("-x + 3 >= 0", "x <= 3"),
         ("-x - y + 3 >= 0", "x + y <= 3"),
         ("x - y + 2 >= 0 and -x + y + 5 >= 0", "-2 <= x - y <= 5"),
+        ("-x + y - 1 >= 0 and x - y + 4 >= 0", "1 <= y - x <= 4"),
+        # 2*y >= x is y >= 0 where x is y
+        ("x - y >= 0 and -x + y >= 0 and -x + 2*y >= 0", "x == y and y >= 0"),
         ("2*x - 3 >= 0", "2*x >= 3"),
         # of y <= -1 and x + y >= 1 comes x >= 2
         ("-y - 1 >= 0 and x + y - 1 >= 0 and x - 1 >= 0", "y <= -1 and x + y >= 1"),

@@ -1,0 +1,18 @@
+/*
+ * Written in the form of the files of SV-COMP's termination category.
+ */
+typedef enum {false, true} bool;
+
+extern int __VERIFIER_nondet_int(void);
+
+int main()
+{
+    int x = __VERIFIER_nondet_int();
+    while (true) {
+        if (x <= 0) {
+            break;
+        }
+        x = x - 1;
+    }
+    return 0;
+}

@@ -1,0 +1,18 @@
+/*
+ * Written in the form of the files of SV-COMP's termination category.
+ */
+typedef enum {false, true} bool;
+
+extern int __VERIFIER_nondet_int(void);
+
+int main()
+{
+    int x, y;
+    x = __VERIFIER_nondet_int();
+    y = __VERIFIER_nondet_int();
+    while (x > 0) {
+        x = x + y;
+        y = y - 1;
+    }
+    return 0;
+}

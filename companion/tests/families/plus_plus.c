@@ -1,0 +1,17 @@
+/*
+ * Written in the form of the files of SV-COMP's termination category.
+ */
+typedef enum {false, true} bool;
+
+extern int __VERIFIER_nondet_int(void);
+
+int main()
+{
+    int x = __VERIFIER_nondet_int();
+    int z = __VERIFIER_nondet_int();
+    while (x < z) {
+        ++x;
+        --z;
+    }
+    return 0;
+}
