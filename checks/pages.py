@@ -6,6 +6,7 @@
 - Each word in backquotes that looks like a name of the code occurs in the code.
 - Each program under examples/ stands in docs/EXAMPLES.md with its report, as the files have them, and in the table on top of that page, and each one under
   examples/formulas/ with its formula too; README.md shows programs as the files have them.
+- docs/TERMINATES.md shows what the companion writes, where a built command is at hand; else the tests of the companion see to it. Its runs name files that are there.
 - Behind the dash of each claim in docs/PROOFS.md stand functions and clauses: each function is one of the code, and each clause stands at a function that the claim
   names before it, or is a field of a record in that function's contract. Where a claim names no function, the clause is one of the heading's crates.
 """
@@ -15,7 +16,11 @@ import sys
 from pathlib import Path
 
 TOP = Path(__file__).resolve().parent.parent
-PAGES = ["README.md"] + [f"docs/{name}.md" for name in ("ANALYSIS", "ARCHITECTURE", "DECISIONS", "DOMAINS", "EXAMPLES", "FORMULAS", "GLOSSARY", "LANGUAGE", "PROOFS", "RELATED", "REPORT", "WORKING")]
+sys.path.insert(0, str(TOP / "companion/tests"))
+
+import shown  # noqa: E402
+
+PAGES = ["README.md"] + [f"docs/{name}.md" for name in ("ANALYSIS", "ARCHITECTURE", "DECISIONS", "DOMAINS", "EXAMPLES", "FORMULAS", "GLOSSARY", "LANGUAGE", "PROOFS", "RELATED", "REPORT", "TERMINATES", "WORKING")]
 # Words of the toolchain and of the command line, which the code doesn't spell.
 ELSEWHERE = {"Answers", "Invariants", "IfErr", "IfOk", "IfSome", "MatchOption", "OnErr", "OnOk", "abbrev", "always", "certificate", "const", "continue", "enum",
              "extern", "function", "indexmap", "main", "noexec", "num_traits", "result", "start_io", "thiserror", "typedef", "unfoldable", "verdict"}
@@ -84,7 +89,7 @@ def wrong_rows():
 def code():
     """The text of all code, specifications and lists of the repository."""
     files = [path for kind in ("*.rt", "*.antt", "*.edit") for path in (TOP / "crates").rglob(kind) if "out" not in path.parts]
-    files += [path for folder in ("bench", "examples", "checks") for path in (TOP / folder).iterdir() if path.is_file()]
+    files += [path for folder in ("bench", "examples", "checks", "companion", "companion/tests") for path in (TOP / folder).iterdir() if path.is_file()]
     names = {path.stem for path in files} | set(crates())
     return names, "\n".join(path.read_text() for path in files)
 
@@ -147,6 +152,18 @@ def stale_examples():
             yield f"README.md doesn't show {name}.c with its report"
 
 
+def stale_runs():
+    """Runs of the companion that its page shows otherwise than they are, or on files that are not there."""
+    for match in shown.BLOCK.finditer(shown.PAGE.read_text()):
+        for call, text in shown.calls(match[1]):
+            for name in re.findall(r"(?:examples|companion)/[\w/]+\.c", call):
+                if not (TOP / name).exists() and f"{name}: it can't be read" not in text:
+                    yield f"docs/TERMINATES.md: there is no {name}"
+    command = shown.command()
+    if command:
+        yield from shown.wrong(command)
+
+
 def contracts():
     """For each function by its name the clauses at functions of that name, and the words of their contracts; for each crate the names of its functions."""
     clauses, words, owned = {}, {}, {}
@@ -200,7 +217,7 @@ def missing_clauses():
 
 
 def main():
-    faults = [*wrong_layers(), *wrong_rows(), *unknown_names(), *missing_examples(), *missing_formulas(), *stale_examples(), *missing_clauses()]
+    faults = [*wrong_layers(), *wrong_rows(), *unknown_names(), *missing_examples(), *missing_formulas(), *stale_examples(), *stale_runs(), *missing_clauses()]
     for fault in faults:
         print(fault)
     return 1 if faults else 0

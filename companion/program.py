@@ -3,6 +3,7 @@ import json
 import sys
 
 import objects
+import pictures
 import show
 import words
 from command import Hindered, path
@@ -44,6 +45,18 @@ def say_result(result, read):
         say(f"{result.name}: {result.trouble}", sys.stderr)
     else:
         say(show.text(result, read.ctl))
+        if read.picture:
+            say_picture(result, read)
+
+
+def say_picture(result, read):
+    """Draws the picture that is asked for, or tells why there is none."""
+    x, y, path_of_picture = read.picture
+    try:
+        say(pictures.draw(result, pictures.window_of(result.text, x, y, read.window, read.at), path_of_picture))
+    except Hindered as hindered:
+        result.status = hindered.status
+        say(f"{result.name}: {hindered}", sys.stderr)
 
 
 def main(given):
@@ -54,7 +67,10 @@ def main(given):
     except Hindered as hindered:
         say(f"terminates: {hindered}", sys.stderr)
         return hindered.status
-    question = Question(words.handed_on(read), not read.ends_only, read.inputs, read.as_is)
+    handed_on = words.handed_on(read)
+    if read.picture:
+        handed_on.pop("at", None)
+    question = Question(handed_on, not read.ends_only, read.inputs, read.as_is)
     named = listed(read.files, read.recursive)
     progress, results = Progress(len(named)), []
     for result in look_at_all(program, question, named, read.timeout, read.jobs):

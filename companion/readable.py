@@ -3,6 +3,7 @@
 Each rewriting keeps the whole stores that a condition has, and each is found by exact arithmetic. A row is left out where the others imply it over the rationals; lines are joined where one
 condition is met by exactly the whole stores that meet one of theirs.
 """
+import itertools
 from dataclasses import dataclass, replace
 from math import gcd
 
@@ -221,6 +222,23 @@ def joined(lines):
         conditions = [line.rows for line in lines if line.claim == claim]
         found += [Line(rows, claim) for rows in (joined_conditions(conditions) if len(conditions) <= MOST_JOINED else conditions)]
     return found
+
+
+def joined_values(lines):
+    """The lines with each of them taken into another whose bound has the same value wherever its own condition is met, where one condition says both."""
+    for line, other in itertools.permutations(lines if len(lines) <= MOST_JOINED else [], 2):
+        if line.claim.kind == other.claim.kind and line.claim.bound is not None and is_same_bound(line, other.claim.bound):
+            both = union(line.rows, other.rows)
+            if both is not None:
+                rest = [one for one in lines if one not in (line, other)]
+                return joined_values([*rest, Line(both, other.claim)])
+    return lines
+
+
+def is_same_bound(line, bound):
+    """Whether a bound has the value of the line's own wherever its condition is met."""
+    difference = bound.with_multiple(-1, line.claim.bound)
+    return implies(line.rows, difference) and implies(line.rows, difference.negated())
 
 
 def joined_conditions(conditions):

@@ -1,5 +1,5 @@
 """A file's answer as lines for people."""
-from readable import joined, sorted_lines, spelled_claim, spelled_condition
+from readable import joined, joined_values, sorted_lines, spelled_claim, spelled_condition
 from rows import implies
 
 
@@ -16,7 +16,7 @@ def merged(report):
         partner = next((other for other in exact if same_stores(line.rows, other.rows)), None)
         found.append(partner or line)
         exact = [other for other in exact if other is not partner]
-    return found, exact
+    return joined_values(found), exact
 
 
 def verdict(result, asked):

@@ -4,6 +4,7 @@ import re
 from dataclasses import dataclass
 
 VERSION = "1"
+MOST_WIDE = 200
 DOMAINS = ("boxes", "octagons", "polyhedra")
 CLAIMS_NOTHING = "It claims nothing of its own: it runs the proved command, reads its lines and shows them. What is a theorem is what the command writes (docs/PROOFS.md)."
 
@@ -63,6 +64,28 @@ class Once(argparse.Action):
         setattr(namespace, self.dest, True if self.nargs == 0 else value)
 
 
+def picture_file(text):
+    if text != "-" and not text.endswith((".svg", ".png")):
+        raise argparse.ArgumentTypeError(f"{text!r} is no name for a picture: it ends in .svg or .png, or is - for letters")
+    return text
+
+
+def end(text):
+    if not re.fullmatch("0|-?[1-9][0-9]{0,5}", text):
+        raise argparse.ArgumentTypeError(f"{text!r} is no number of at most six digits")
+    return int(text)
+
+
+class Picture(argparse.Action):
+    """Reads the words of a picture: two names and a file."""
+
+    def __call__(self, _parser, namespace, values, option_string=None):
+        try:
+            setattr(namespace, self.dest, (values[0], values[1], picture_file(values[2])))
+        except argparse.ArgumentTypeError as error:
+            raise argparse.ArgumentError(self, str(error)) from None
+
+
 def parser():
     """The parser of the command line."""
     found = argparse.ArgumentParser(
@@ -82,6 +105,8 @@ def parser():
     found.add_argument("--inputs", action="store_true", help="take the numbers that main chooses first as its inputs")
     found.add_argument("--as-is", action="store_true", help="hand each text on unchanged")
     found.add_argument("--show-text", action="store_true", help="show each change of a text")
+    found.add_argument("--picture", metavar=("X", "Y", "FILE"), nargs=3, action=Picture, help="draw the regions over two variables, into a .svg or .png file, or for - as letters; --at fixes others, which are 0 else")
+    found.add_argument("--window", metavar=("LOW", "HIGH"), nargs=2, type=end, default=(-10, 10), help="which numbers a picture shows (-10 10)")
     found.add_argument("--json", action="store_true", help="write an object for each file (docs/TERMINATES.md)")
     return found
 
@@ -97,4 +122,8 @@ def parse(words):
     read = found.parse_args(words)
     if read.inputs and read.as_is:
         found.error("--inputs changes a text, and --as-is hands it on unchanged: take one of them")
+    if read.picture and (len(read.files) > 1 or read.recursive or read.json):
+        found.error("--picture is of one file, and stands without --json")
+    if not 0 < read.window[1] - read.window[0] <= MOST_WIDE:
+        found.error(f"--window {read.window[0]} {read.window[1]}: the second number is greater than the first, by at most {MOST_WIDE}")
     return read

@@ -76,7 +76,7 @@ def wrong_section(lines):
             difference = readable.bound_under(line.rows, line.claim.bound).with_multiple(-1, line.claim.bound)
             if not (rational.implies(list(line.rows), difference) and rational.implies(list(line.rows), difference.negated())):
                 yield f"{line.claim}: another bound is shown"
-    shown = readable.joined(lines)
+    shown = readable.joined_values(readable.joined(lines))
     taken = 0
     for one in shown:
         parts = [line.rows for line in lines if inside(line, one)]

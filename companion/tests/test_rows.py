@@ -4,7 +4,7 @@ import random
 import unittest
 
 import rational
-from readable import bound_under, covers, joined, spelled_condition, union, without
+from readable import bound_under, covers, joined, joined_values, spelled_condition, union, without
 from report import Claim, Line, parse_condition, parse_report
 from rewritings import wrong_of
 from rows import Affine, NotInForm, implies, is_empty
@@ -114,6 +114,17 @@ class Joining(unittest.TestCase):
         one, other = Claim("within", Affine.parse("1")), Claim("within", Affine.parse("2"))
         lines = [Line(rows("-x >= 0"), one), Line(rows("x - 1 >= 0"), other), Line(rows("-x + 1 >= 0 and x - 1 >= 0"), other)]
         self.assertEqual([(spelled_condition(line.rows), str(line.claim)) for line in joined(lines)], [("x <= 0", "within 1 step"), ("x >= 1", "within 2 steps")])
+
+    def test_a_line_is_taken_into_one_whose_bound_has_its_value(self):
+        def shown(*texts):
+            return [(spelled_condition(line.rows), str(line.claim)) for line in joined_values(joined([Line.parse(text) for text in texts]))]
+
+        # 2*x is 2 where x is 1
+        self.assertEqual(shown("-x + 1 >= 0 and x - 1 >= 0: within 2 steps", "x - 2 >= 0: within 2*x steps"), [("x >= 1", "within 2*x steps")])
+        self.assertEqual(len(shown("-x + 1 >= 0 and x - 1 >= 0: within 3 steps", "x - 2 >= 0: within 2*x steps")), 2)
+        self.assertEqual(len(shown("-x + 1 >= 0 and x - 1 >= 0: exactly 2 steps", "x - 2 >= 0: within 2*x steps")), 2)
+        # 2*y is 2*x where they are the same
+        self.assertEqual(shown("x - y >= 0 and -x + y >= 0: within 2*y steps", "x - y - 1 >= 0: within 2*x steps"), [("x >= y", "within 2*x steps")])
 
     def test_three_make_one(self):
         lines = [Line(rows(text), Claim("holds")) for text in ("-x + 2 >= 0", "x - 4 >= 0", "-x + 3 >= 0 and x - 3 >= 0")]
