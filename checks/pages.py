@@ -6,7 +6,8 @@
 - Each word in backquotes that looks like a name of the code occurs in the code.
 - Each program under examples/ stands in docs/EXAMPLES.md with its report, as the files have them, and in the table on top of that page, and each one under
   examples/formulas/ with its formula too; README.md shows programs as the files have them.
-- docs/TERMINATES.md shows what the companion writes, where a built command is at hand; else the tests of the companion see to it. Its runs name files that are there.
+- README.md, docs/TERMINATES.md and the other pages with runs show what the command and its companion write, where a built command is at hand; else the tests of the companion see to it. Their runs name
+  files that are there.
 - Behind the dash of each claim in docs/PROOFS.md stand functions and clauses: each function is one of the code, and each clause stands at a function that the claim
   names before it, or is a field of a record in that function's contract. Where a claim names no function, the clause is one of the heading's crates.
 """
@@ -153,12 +154,11 @@ def stale_examples():
 
 
 def stale_runs():
-    """Runs of the companion that its page shows otherwise than they are, or on files that are not there."""
-    for match in shown.BLOCK.finditer(shown.PAGE.read_text()):
-        for call, text in shown.calls(match[1]):
-            for name in re.findall(r"(?:examples|companion)/[\w/]+\.c", call):
-                if not (TOP / name).exists() and f"{name}: it can't be read" not in text:
-                    yield f"docs/TERMINATES.md: there is no {name}"
+    """Runs that a page shows otherwise than they are, or on files that are not there."""
+    for page, call, text in shown.runs():
+        for name in re.findall(r"(?:examples|companion)/[\w/]+\.c", call):
+            if not (TOP / name).exists() and f"{name}: it can't be read" not in text:
+                yield f"{page.relative_to(TOP)}: there is no {name}"
     command = shown.command()
     if command:
         yield from shown.wrong(command)

@@ -1,6 +1,5 @@
 """A file's answer as an object of JSON. docs/TERMINATES.md has the schema."""
-from readable import spelled_condition
-from show import verdict
+from show import condition, verdict
 
 
 def of_function(function):
@@ -18,8 +17,8 @@ def of_claim(claim):
     return found
 
 
-def of_line(line):
-    return {"condition": spelled_condition(line.rows), "rows": [of_function(row) for row in line.rows], "claim": of_claim(line.claim)}
+def of_line(line, result):
+    return {"condition": condition(result, line), "rows": [of_function(row) for row in line.rows], "claim": of_claim(line.claim)}
 
 
 def of_fault(result):
@@ -37,9 +36,9 @@ def of_result(result, asked):
         "says": verdict(result, asked) if report else None,
         "verdict": report.verdict if report else None,
         "header": report.header if report else None,
-        **{section: [of_line(line) for line in report.lines(section)] if report else [] for section in ("exact", "proved", "ranked", "fits", "unknown")},
-        "never": [of_line(line) for line in result.never],
-        "left": [of_line(line) for line in result.left],
+        **{section: [of_line(line, result) for line in report.lines(section)] if report else [] for section in ("exact", "proved", "ranked", "fits", "unknown")},
+        "never": [of_line(line, result) for line in result.never],
+        "left": [of_line(line, result) for line in result.left],
         "at": {"input": result.at, "claim": of_claim(result.claim)} if result.claim else None,
         "changes": [{"offset": change.offset, "old": change.old, "new": change.new, "why": change.why} for change in result.changes],
         "fault": of_fault(result) if result.fault else None,

@@ -4,7 +4,7 @@ from dataclasses import dataclass, field
 
 from command import NOT_UNDERSTOOD, Deadline, Hindered, ask
 from faults import tell
-from readable import without
+from readable import joined, without
 from report import Claim, Line, Report, parse_fault, parse_report
 from rows import NotInForm
 from texts import changed, changes_for
@@ -15,6 +15,8 @@ REFUSALS = {5: "the command couldn't read", 6: "the command couldn't write", 7: 
 
 # The second question where the first stays unknown. With a number chosen without bounds a configuration has infinitely many successors; there `!AF exit` says only that there
 # are runs of every length (docs/FORMULAS.md), and `AG !exit` that no run ends.
+# Past so many pairs of a line of the first answer and one of the second, the unknown lines stay as they are.
+MOST_TAKEN = 2000
 SOME_RUN, EVERY_RUN = "!AF exit", "AG !exit"
 
 
@@ -134,5 +136,6 @@ def read_second(result, program, question, deadline):
         result.claim = claim if second.status == 0 else result.claim
         return
     result.never = [Line(line.rows, claim) for line in parse_report(second.text).lines("proved")]
-    conditions = [line.rows for line in result.never]
-    result.left = [Line(rows, line.claim) for line in result.left for rows in without(line.rows, conditions)]
+    conditions = [line.rows for line in joined(result.never)]
+    if len(result.left) * len(conditions) <= MOST_TAKEN:
+        result.left = [Line(rows, line.claim) for line in result.left for rows in without(line.rows, conditions)]

@@ -3,6 +3,7 @@
 Each rewriting keeps the whole stores that a condition has, and each is found by exact arithmetic. A row is left out where the others imply it over the rationals; lines are joined where one
 condition is met by exactly the whole stores that meet one of theirs.
 """
+import functools
 import itertools
 from dataclasses import dataclass, replace
 from math import gcd
@@ -10,8 +11,8 @@ from math import gcd
 from report import Line
 from rows import Affine, implies, is_empty
 
-# Past so many lines of one claim none are joined: each pair is looked at.
-MOST_JOINED = 60
+# Past so many lines of one claim none are joined: each pair is looked at. Past so many in a report its rows are spelled as they are.
+MOST_JOINED, MOST_REWRITTEN = 60, 300
 
 
 @dataclass(frozen=True)
@@ -40,6 +41,8 @@ def opposite(row):
 
 def equalities(rows):
     """Of the rows those whose function is 0 at each rational point that meets them all, as few as say so, simple ones first."""
+    if not is_empty([], [row for row in rows if row.terms]):
+        return []
     found = []
     for row in sorted((row for row in rows if implies(rows, row.negated())), key=weight):
         both = [function for other in found for function in (other, other.negated())]
@@ -61,6 +64,7 @@ def known(equal):
     return store
 
 
+@functools.cache
 def reduced(rows):
     """The equalities of a condition and the rows that are left beside them, each of which the others don't imply.
 
@@ -106,12 +110,17 @@ def divided(row):
 
 def bound_under(rows, bound):
     """The bound in as few terms as the equalities of the condition make of it."""
-    return shortened(reduced(rows)[0], bound)
+    return shortened(reduced(tuple(rows))[0], bound)
 
 
 def constraints(rows):
     """The condition of the rows as constraints: the same rational points meet them."""
-    equal, left = reduced(rows)
+    return paired(*reduced(tuple(rows)))
+
+
+def paired(equal, left):
+    """The constraints of equalities and of other rows, of which two with opposite linear parts make one."""
+    left = list(left)
     found = [Constraint(Affine(row.terms, 0), -row.constant, -row.constant) for row in equal]
     while left:
         row = left.pop(0)
@@ -187,9 +196,15 @@ def spelled_row(terms, low):
     return f"{sum_of(less)} <= {sum_of(more, -low)}"
 
 
+@functools.cache
 def spelled_condition(rows):
     """The condition of the rows as people write it, `always` where each input meets it."""
-    return " and ".join(spelled(constraint) for constraint in constraints(rows)) or "always"
+    return " and ".join(map(spelled, constraints(rows))) or "always"
+
+
+def spelled_rows(rows):
+    """The same with each row as it stands, but for those that make an equation or an interval: no arithmetic is done."""
+    return " and ".join(map(spelled, paired([], rows))) or "always"
 
 
 def covers(rows, parts):
@@ -208,7 +223,13 @@ def covers(rows, parts):
 
 
 def union(one, other):
-    """A condition that exactly the whole stores of the two meet, or None where none is made of their rows."""
+    """A condition that exactly the whole stores of the two meet, or None where none is made of their rows.
+
+    It is looked for only where a row of the one and a row of the other are opposite, so that the two may be neighbours.
+    """
+    parts = {opposite(row) for row in other}
+    if not any(row.terms in parts for row in one):
+        return None
     hull = [row for row in one if implies(other, row)] + [row for row in other if implies(one, row)]
     hull = list(dict.fromkeys(hull))
     return tuple(hull) if covers(hull, [list(one), list(other)]) else None

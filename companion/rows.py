@@ -1,7 +1,6 @@
 """Rows of a report: affine functions that are at least 0, and what rows imply, by exact arithmetic over the rationals."""
 import re
 from dataclasses import dataclass
-from fractions import Fraction
 
 TERM = re.compile(r"(-?)(?:(\d+)\*)?([A-Za-z_]\w*)")
 
@@ -74,59 +73,57 @@ class Affine:
 class Tableau:
     """A simplex tableau over rows: each is a slack variable with a lower end, and the names are free (Dutertre and de Moura 2006).
 
-    Values are pairs, a number and how many times an arbitrarily small positive one is added: so a strict row has the lower end (c, 1).
+    Variables are numbered, the names first. All numbers are whole: a basic variable is its row's sum over the others, divided by the denominator that all rows share (Edmonds 1967). The variables that are
+    not basic are at their lower ends, a name at 0. Values are pairs, a number and how many times an arbitrarily small positive one is added: so a strict row's lower end is (c, 1).
     """
 
     def __init__(self, functions, strict):
         names = sorted({name for function in functions + strict for name, _ in function.terms})
-        self.values = {name: (Fraction(0), Fraction(0)) for name in names}
-        self.lower, self.basic = {}, {}
-        for number, function in enumerate(functions + strict):
-            slack = (number,)
-            self.lower[slack] = (Fraction(-function.constant), Fraction(int(number >= len(functions))))
-            self.basic[slack] = {name: Fraction(coefficient) for name, coefficient in function.terms}
-            self.values[slack] = (Fraction(0), Fraction(0))
-        self.order = {variable: place for place, variable in enumerate([*names, *self.lower])}
+        place = {name: number for number, name in enumerate(names)}
+        self.free = len(names)
+        self.ends = [(0, 0)] * self.free + [(-function.constant, int(number >= len(functions))) for number, function in enumerate(functions + strict)]
+        self.columns = list(range(self.free))
+        self.basic = list(range(self.free, len(self.ends)))
+        self.rows = [[0] * self.free for _ in self.basic]
+        for row, function in zip(self.rows, functions + strict):
+            for name, number in function.terms:
+                row[place[name]] = number
+        self.denominator = 1
 
-    def pivot(self, leaving, entering):
-        """Makes the entering variable basic in the leaving one's place."""
-        row = self.basic.pop(leaving)
-        factor = row.pop(entering)
-        solved = {variable: -number / factor for variable, number in row.items()}
-        solved[leaving] = 1 / factor
-        for other in self.basic.values():
-            if number := other.pop(entering, 0):
-                for variable, more in solved.items():
-                    total = other.get(variable, 0) + number * more
-                    if total:
-                        other[variable] = total
-                    else:
-                        other.pop(variable, None)
-        self.basic[entering] = solved
+    def pivot(self, at, column):
+        """Makes the variable of the column basic in the place of the row's."""
+        gone, factor, before = self.rows[at], self.rows[at][column], self.denominator
+        sign = 1 if factor > 0 else -1
+        for number, row in enumerate(self.rows):
+            if number != at:
+                part = row[column]
+                self.rows[number] = [sign * (factor * one - part * other) // before for one, other in zip(row, gone)]
+                self.rows[number][column] = sign * part
+        self.rows[at] = [-sign * number for number in gone]
+        self.rows[at][column] = sign * before
+        self.denominator = sign * factor
+        self.basic[at], self.columns[column] = self.columns[column], self.basic[at]
 
-    def move(self, leaving, entering):
-        """Brings the leaving variable to its lower end by a change of the entering one."""
-        factor = self.basic[leaving][entering]
-        change = tuple((end - now) / factor for end, now in zip(self.lower[leaving], self.values[leaving]))
-        for basic, row in self.basic.items():
-            if basic != leaving and entering in row:
-                self.values[basic] = tuple(now + row[entering] * more for now, more in zip(self.values[basic], change))
-        self.values[entering] = tuple(now + more for now, more in zip(self.values[entering], change))
-        self.values[leaving] = self.lower[leaving]
-        self.pivot(leaving, entering)
+    def is_below(self, at):
+        """Whether the row's variable is below its lower end."""
+        if self.basic[at] < self.free:
+            return False
+        low, more = self.ends[self.basic[at]]
+        values = [(number, self.ends[variable]) for number, variable in zip(self.rows[at], self.columns) if number]
+        whole = sum(number * end for number, (end, _) in values) - low * self.denominator
+        return whole < 0 or whole == 0 and sum(number * part for number, (_, part) in values) < more * self.denominator
 
     def is_met(self):
         """Whether some rational point meets all rows. It ends by Bland's rule: of the variables that may be taken the first is."""
         while True:
-            below = [variable for variable in self.basic if variable in self.lower and self.values[variable] < self.lower[variable]]
+            below = [at for at in range(len(self.rows)) if self.is_below(at)]
             if not below:
                 return True
-            leaving = min(below, key=self.order.get)
-            ways = [variable for variable, number in self.basic[leaving].items()
-                    if number > 0 or variable not in self.lower or self.values[variable] > self.lower[variable]]
+            at = min(below, key=self.basic.__getitem__)
+            ways = [column for column, number in enumerate(self.rows[at]) if number > 0 or number and self.columns[column] < self.free]
             if not ways:
                 return False
-            self.move(leaving, min(ways, key=self.order.get))
+            self.pivot(at, min(ways, key=self.columns.__getitem__))
 
 
 def is_empty(rows, strict=()):

@@ -1,10 +1,28 @@
 """A file's answer as lines for people."""
-from readable import joined, joined_values, sorted_lines, spelled_claim, spelled_condition
-from rows import implies
+import zlib
+
+from readable import MOST_REWRITTEN, joined, joined_values, sorted_lines, spelled_claim, spelled_condition, spelled_rows
+from rows import implies, meets
+
+
+class Scattered(dict):
+    """A store that has a number for each name, between -9 and 9."""
+
+    def __init__(self, seed):
+        super().__init__()
+        self.seed = seed
+
+    def get(self, name, _=None):
+        return zlib.crc32(f"{self.seed} {name}".encode()) % 19 - 9
+
+
+TRIED = [Scattered(seed) for seed in range(40)]
 
 
 def same_stores(one, other):
-    """Whether two conditions are met by the same rational points."""
+    """Whether two conditions are met by the same rational points. Those that some store tells apart are told so without more ado."""
+    if any(meets(one, store) != meets(other, store) for store in TRIED):
+        return False
     return all(implies(one, row) for row in other) and all(implies(other, row) for row in one)
 
 
@@ -37,15 +55,23 @@ def verdict(result, asked):
     return ", ".join(parts + (["unknown from the others"] if unknown else []))
 
 
+def is_long(result):
+    """Whether a report has so many lines that they are shown as they are."""
+    return sum(map(len, result.report.sections.values())) + len(result.never) > MOST_REWRITTEN
+
+
 def lines_of(result):
     """The lines to show, in groups: what is proved, what has a rank or fits, what never ends and what is left; and the exact lines of a part of these."""
+    if is_long(result):
+        groups = [result.report.lines(name) for name in ("proved", "ranked", "fits")]
+        return [line for group in [*groups, result.never, result.left] for line in group], result.report.lines("exact")
     proved, exact = merged(result.report)
     groups = [proved, joined(result.report.lines("ranked")), joined(result.report.lines("fits")), joined(result.never), joined(result.left)]
     return [line for group in groups for line in sorted_lines(group)], sorted_lines(exact)
 
 
-def spelled_line(line):
-    return f"{spelled_condition(line.rows)}: {spelled_claim(line.claim)}"
+def condition(result, line):
+    return spelled_rows(line.rows) if is_long(result) else spelled_condition(line.rows)
 
 
 def text(result, asked):
@@ -53,6 +79,8 @@ def text(result, asked):
     if result.claim:
         return f"{result.name}: from {result.at}: {result.claim}"
     lines, exact = lines_of(result)
-    shown = [f"{result.name}: {verdict(result, asked)}"] + [f"  {spelled_line(line)}" for line in lines] + [f"  of these, {spelled_line(line)}" for line in exact]
+    shown = [f"{result.name}: {verdict(result, asked)}"]
+    for prefix, group in (("  ", lines), ("  of these, ", exact)):
+        shown += [f"{prefix}{condition(result, line)}: {spelled_claim(line.claim)}" for line in group]
     return "\n".join(shown + [f"  {line}" for line in result.report.explained])
 

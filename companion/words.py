@@ -100,7 +100,7 @@ def parser():
             found.add_argument(f"--{option.name}", action=Once, metavar=option.value, type=option.check, help=option.help)
     found.add_argument("-r", "--recursive", action="store_true", help="take folders, and each .c file below them")
     found.add_argument("--jobs", metavar="N", type=count, help="how many files are looked at side by side (all processors)")
-    found.add_argument("--timeout", metavar="SECONDS", type=seconds, help="how long a file may take")
+    found.add_argument("--timeout", metavar="SECONDS", type=seconds, help="how long the command may take on a file")
     found.add_argument("--ends-only", action="store_true", help="leave out the second question, whether runs never end")
     found.add_argument("--inputs", action="store_true", help="take the numbers that main chooses first as its inputs")
     found.add_argument("--as-is", action="store_true", help="hand each text on unchanged")

@@ -1,17 +1,20 @@
-"""Sees that docs/TERMINATES.md shows what the companion writes: each run on the page is made again, in the folder of the repository.
+"""Sees that the pages show what the command and its companion write: each run on them is made again, in the folder of the repository.
 
     python3 companion/tests/shown.py [--write]
 
-ends with 1 and a line for each run that is shown otherwise; with `--write` it writes the runs anew. Times are compared as such.
+ends with 1 and a line for each run that is shown otherwise; with `--write` it writes the runs anew. Of times only the form is compared. Runs that build something are left out.
 """
 import os
 import re
+import shlex
 import subprocess
 import sys
 from pathlib import Path
 
 TOP = Path(__file__).resolve().parents[2]
 PAGE = TOP / "docs/TERMINATES.md"
+PAGES = [TOP / "README.md", *(TOP / "docs" / f"{name}.md" for name in ("FORMULAS", "LANGUAGE", "REPORT")), PAGE]
+BUILDS = ("rt ", "./install", "ln ")
 VARIABLE = "TERMINATES_COMMAND"
 BLOCK = re.compile(r"```\n(\$ .*?)```\n", re.DOTALL)
 
@@ -28,13 +31,14 @@ def command():
 
 
 def calls(block):
-    """The calls of a block, each with what it is shown to write."""
+    """The calls of a block, each with what it is shown to write; those that build something aren't among them."""
     parts = re.split(r"(?m)^\$ (.*)\n", block)
-    return list(zip(parts[1::2], parts[2::2]))
+    return [(call, text) for call, text in zip(parts[1::2], parts[2::2]) if not call.startswith(BUILDS)]
 
 
 def written(call, path):
-    """What a call writes, standard error with standard output, as on a terminal."""
+    """What a call writes, standard error with standard output, as on a terminal. The built command stands for `./function`, which would look whether it is up to date."""
+    call = re.sub(r"\./function(?= |$)", lambda _: shlex.quote(path), call)
     environment = {**os.environ, VARIABLE: path, "PYTHONUNBUFFERED": "1"}
     return subprocess.run(["bash", "-c", call], cwd=TOP, env=environment, stdout=subprocess.PIPE, stderr=subprocess.STDOUT, text=True, check=False).stdout
 
@@ -48,6 +52,8 @@ def anew(page, path):
     """The page with its runs made again."""
 
     def block(match):
+        if not calls(match[1]):
+            return match[0]
         shown = []
         for call, text in calls(match[1]):
             now = written(call, path)
@@ -58,20 +64,27 @@ def anew(page, path):
 
 
 def wrong(path):
-    """A line for each run that the page shows otherwise."""
-    for match in BLOCK.finditer(PAGE.read_text()):
-        for call, text in calls(match[1]):
-            if settled(written(call, path)) != settled(text):
-                yield f"docs/TERMINATES.md: {call} writes something else (companion/tests/shown.py --write)"
+    """A line for each run that a page shows otherwise."""
+    for page, call, text in runs():
+        if settled(written(call, path)) != settled(text):
+            yield f"{page.relative_to(TOP)}: {call} writes something else (companion/tests/shown.py --write)"
+
+
+def runs():
+    """The page, the call and the text of each run."""
+    for page in PAGES:
+        for match in BLOCK.finditer(page.read_text()):
+            yield from ((page, call, text) for call, text in calls(match[1]))
 
 
 def main(words):
     path = command()
     if path is None:
-        print("docs/TERMINATES.md: no built command is at hand")
+        print("no built command is at hand")
         return 1
     if words == ["--write"]:
-        PAGE.write_text(anew(PAGE.read_text(), path))
+        for page in PAGES:
+            page.write_text(anew(page.read_text(), path))
         return 0
     faults = list(wrong(path))
     print("\n".join(faults), end="\n" if faults else "")

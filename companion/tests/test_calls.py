@@ -58,6 +58,15 @@ class OneFile(InFolder):
         self.write("f.c", ENDS)
         self.assertEqual(self.run_here("f.c", "--delay=1", "--domain", "octagons")[1], "f.c: ends from all inputs\n  x <= 0: exactly 1 step\n  x >= 1: within 2*x + 1 steps\n")
 
+    def test_a_long_report_is_shown_row_by_row(self):
+        def told(count):
+            lines = "".join(f"-x + {number} >= 0 and x - {number} >= 0 and y - 1 >= 0 and y - 2 >= 0: within {number} steps\\n" for number in range(2, count + 2))
+            return self.run_here(command=self.stand_in(f"printf 'exact: not a plain program\\nproved:\\n{lines}unknown:\\nverdict: all inputs\\n'"), text=ENDS)[1].splitlines()
+
+        self.assertEqual(told(2), ["<stdin>: ends from all inputs", "  x == 2 and y >= 2: within 2 steps", "  x == 3 and y >= 2: within 3 steps"])
+        self.assertEqual(told(301)[:2], ["<stdin>: ends from all inputs", "  x == 2 and y >= 1 and y >= 2: within 2 steps"])
+        self.assertEqual(len(told(301)), 302)
+
     def test_one_input(self):
         self.write("f.c", STEPS)
         self.assertEqual(self.run_here("f.c", "--at", "x=10,y=-1"), (0, "f.c: from x=10,y=-1: within 21 steps\n", ""))

@@ -1,4 +1,4 @@
-"""docs/TERMINATES.md shows what the companion writes, and has each of its words and statuses."""
+"""The pages show what the command and the companion write, and docs/TERMINATES.md has each of its words and statuses."""
 import json
 import re
 import unittest
