@@ -7,13 +7,16 @@
 - Each program under examples/ stands in docs/EXAMPLES.md with its report, as the files have them, and in the table on top of that page, and each one under
   examples/formulas/ with its formula too; README.md shows programs as the files have them.
 - README.md, docs/TERMINATES.md and the other pages with runs show what the command and its companion write, where a built command is at hand; else the tests of the companion see to it. Their runs name
-  files that are there.
+  files that are there. The recipes of docs/REPORT.md are read by bash, and do there what the page says.
 - Behind the dash of each claim in docs/PROOFS.md stand functions and clauses: each function is one of the code, and each clause stands at a function that the claim
   names before it, or is a field of a record in that function's contract. Where a claim names no function, the clause is one of the heading's crates.
 """
 import functools
+import os
 import re
+import subprocess
 import sys
+import tempfile
 from pathlib import Path
 
 TOP = Path(__file__).resolve().parent.parent
@@ -164,6 +167,37 @@ def stale_runs():
         yield from shown.wrong(command)
 
 
+def run_recipe(recipe, program, command):
+    """The status of a recipe of docs/REPORT.md and what it writes, in a folder in which `program.c` and `src/given.c` are the program and `src/empty.c` ends."""
+    with tempfile.TemporaryDirectory() as name:
+        folder = Path(name)
+        for path, text in (("program.c", program), ("src/given.c", program), ("src/empty.c", "int main() { }")):
+            (folder / path).parent.mkdir(exist_ok=True)
+            (folder / path).write_text(text)
+        (folder / "bin").mkdir()
+        (folder / "bin/function").symlink_to(Path(command).resolve())
+        environment = {**os.environ, "PATH": f"{folder / 'bin'}:{os.environ['PATH']}"}
+        ended = subprocess.run(["bash", "-c", recipe], cwd=folder, env=environment, stdout=subprocess.PIPE, text=True, check=False)
+        return ended.returncode, ended.stdout
+
+
+def broken_recipes():
+    """Recipes of docs/REPORT.md that bash doesn't read, or that do something else than the page says."""
+    recipes = re.findall(r"```\n([^`]*\\function[^`]*)```\n", (TOP / "docs/REPORT.md").read_text())
+    ends, stays, none = "int main() { int x; while (x > 0) x = x - 1; }", "int main() { int x; while (x > 0) x = x + 1; }", "int main() { @ }"
+    due = [[(ends, 0, "ends from every input\n"), (stays, 0, "unknown:\nx - 1 >= 0: unknown\nverdict: some inputs\n"), (none, 0, "program: 1 at 13\n")],
+           [(ends, 0, ""), (stays, 1, "src/given.c: see src/given.c.report\n"), (none, 1, "src/given.c: see src/given.c.report\n")]]
+    if len(recipes) != len(due):
+        yield f"docs/REPORT.md has {len(recipes)} recipes, and {len(due)} are tried"
+    command = shown.command()
+    for recipe, cases in zip(recipes, due):
+        if subprocess.run(["bash", "-n", "-c", recipe], check=False).returncode:
+            yield f"docs/REPORT.md: bash doesn't read: {recipe.splitlines()[0]}"
+        for program, status, text in cases if command else []:
+            if run_recipe(recipe, program, command) != (status, text):
+                yield f"docs/REPORT.md: {recipe.splitlines()[0]} .. does something else on {program}"
+
+
 def contracts():
     """For each function by its name the clauses at functions of that name, and the words of their contracts; for each crate the names of its functions."""
     clauses, words, owned = {}, {}, {}
@@ -217,7 +251,7 @@ def missing_clauses():
 
 
 def main():
-    faults = [*wrong_layers(), *wrong_rows(), *unknown_names(), *missing_examples(), *missing_formulas(), *stale_examples(), *stale_runs(), *missing_clauses()]
+    faults = [*wrong_layers(), *wrong_rows(), *unknown_names(), *missing_examples(), *missing_formulas(), *stale_examples(), *stale_runs(), *broken_recipes(), *missing_clauses()]
     for fault in faults:
         print(fault)
     return 1 if faults else 0
