@@ -8,6 +8,8 @@ from program import main
 CLOSED, INTERRUPTED = 141, 130
 
 if __name__ == "__main__":
+    for stream in (sys.stdout, sys.stderr):
+        stream.reconfigure(errors="backslashreplace")
     try:
         sys.exit(main(sys.argv[1:]))
     except BrokenPipeError:

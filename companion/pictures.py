@@ -260,7 +260,7 @@ def draw(result, window, path):
         if path.endswith(".png"):
             png(found, window, title, path)
         else:
-            with open(path, "w", encoding="utf-8") as file:
+            with open(path, "w", encoding="utf-8", errors="backslashreplace") as file:
                 file.write(svg(found, window, title))
     except OSError as error:
         raise Hindered(NO_PICTURE, f"{path} can't be written: {error.strerror}") from None

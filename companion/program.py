@@ -12,9 +12,9 @@ from questions import Question
 from texts import told
 
 def say(text, stream=None):
-    """Writes a line; what isn't UTF-8 in a file's name is shown as it can be."""
+    """Writes a line at once, so that lines of both streams stand in their order."""
     stream = stream or sys.stdout
-    stream.write(text.encode("utf-8", "replace").decode("utf-8") + "\n")
+    stream.write(text + "\n")
     stream.flush()
 
 
@@ -41,12 +41,12 @@ def say_result(result, read):
     say_changes(result, read.show_text)
     if result.told:
         say(result.told.text(result.name if result.fault.of == "program" else "formula"), sys.stderr)
-    elif result.trouble:
-        say(f"{result.name}: {result.trouble}", sys.stderr)
-    else:
+    if result.report or result.claim:
         say(show.text(result, read.ctl))
         if read.picture:
             say_picture(result, read)
+    if result.trouble:
+        say(f"{result.name}: {result.trouble}", sys.stderr)
 
 
 def say_picture(result, read):
@@ -70,8 +70,10 @@ def main(given):
     handed_on = words.handed_on(read)
     if read.picture:
         handed_on.pop("at", None)
-    question = Question(handed_on, not read.ends_only, read.inputs, read.as_is)
+    question = Question(handed_on, not (read.ends_only or words.asks_otherwise(handed_on)), read.inputs, read.as_is)
     named = listed(read.files, read.recursive)
+    if any(name == "-" for name, _ in named) and sys.stdin.isatty():
+        say("terminates: it reads a program from the terminal, up to its end (Ctrl-D)", sys.stderr)
     progress, results = Progress(len(named)), []
     for result in look_at_all(program, question, named, read.timeout, read.jobs):
         results.append(result)

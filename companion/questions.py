@@ -24,8 +24,8 @@ SOME_RUN, EVERY_RUN = "!AF exit", "AG !exit"
 class Result:
     """What is known of one file.
 
-    `never` are lines of the second answer, and `left` what is unknown after both. With `--at` there is a claim in the place of a report. Where there is neither, `trouble` says why; of a fault
-    `told` has its words.
+    `never` are lines of the second answer, and `left` what is unknown after both. With `--at` there is a claim in the place of a report. Where there is neither, `trouble` says why, and of a fault
+    `told` has its words; where the second question alone got no answer there are both, a report or a claim and the trouble.
     """
 
     name: str
@@ -45,7 +45,7 @@ class Result:
 
 @dataclass(frozen=True)
 class Question:
-    """What is asked of each file: the words that are handed on by their names, and whether the second question is asked too."""
+    """What is asked of each file: the words that are handed on by their names, whether the second question is asked where the first leaves something unknown, and how the text is changed."""
 
     handed_on: dict
     both: bool = True
@@ -66,13 +66,18 @@ def answer(program, question, name, text, seconds=None):
         first = ask(program, question.words(), result.text, deadline)
         result.status = first.status
         read_first(result, question, first.text)
-        if question.both and "ctl" not in question.handed_on and is_open(result):
+        if question.both and is_open(result):
             read_second(result, program, question, deadline)
     except Hindered as hindered:
-        result.status, result.trouble = hindered.status, str(hindered)
+        result.status, result.trouble = hindered.status, second_or(result, str(hindered))
     except NotInForm as error:
-        result.status, result.trouble = NOT_UNDERSTOOD, f"the command's answer isn't understood: {error}"
+        result.status, result.trouble = NOT_UNDERSTOOD, second_or(result, f"the command's answer isn't understood: {error}")
     return result
+
+
+def second_or(result, why):
+    """Why there is no answer, and that it is the second one where the first is there."""
+    return f"whether runs never end: {why}" if result.report or result.claim else why
 
 
 def is_open(result):

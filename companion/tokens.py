@@ -73,7 +73,7 @@ def chooses_without_bounds(text):
             depth += 1
         elif token.text in (")", "]"):
             depth = depth - 1 if depth else None
-        elif token.text == ";" or token.text == "," and depth == 0:
+        elif token.text == ";":
             depth = None
         elif token.text in ("?", "__VERIFIER_nondet_int", "inf"):
             return True

@@ -11,12 +11,13 @@ CLAIMS_NOTHING = "It claims nothing of its own: it runs the proved command, read
 
 @dataclass(frozen=True)
 class HandedOn:
-    """An option of the command: its name, the word for its value or None where it is a flag, how a value is checked, and its help."""
+    """An option of the command: its name, the word for its value or None where it is a flag, how a value is checked, and its help; and whether it asks something else than if each run ends."""
 
     name: str
     value: str | None
     check: object
     help: str
+    asks: bool = False
 
 
 def domain(text):
@@ -32,7 +33,7 @@ def delay(text):
 
 
 HANDED_ON = (
-    HandedOn("ctl", "TEXT", str, "from which inputs does this formula of CTL hold? (docs/FORMULAS.md)"),
+    HandedOn("ctl", "TEXT", str, "from which inputs does this formula of CTL hold? (docs/FORMULAS.md)", asks=True),
     HandedOn("domain", "NAME", domain, f"what is kept of the stores: {', '.join(DOMAINS)}"),
     HandedOn("delay", "N", delay, "a digit from 0 to 8: how long the exact part is, and when bounds are guessed"),
     HandedOn("at", "INPUT", str, "what is claimed of one input, as x=1,y=-2"),
@@ -114,6 +115,11 @@ def parser():
 def handed_on(words):
     """The options for the command that were given, by their names."""
     return {option.name: value for option in HANDED_ON if (value := getattr(words, option.name)) is not None}
+
+
+def asks_otherwise(given):
+    """Whether one of the options that were given asks something else than if each run ends."""
+    return any(option.asks and option.name in given for option in HANDED_ON)
 
 
 def parse(words):

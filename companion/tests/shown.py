@@ -9,6 +9,7 @@ import re
 import shlex
 import subprocess
 import sys
+from concurrent.futures import ThreadPoolExecutor
 from pathlib import Path
 
 TOP = Path(__file__).resolve().parents[2]
@@ -65,8 +66,11 @@ def anew(page, path):
 
 def wrong(path):
     """A line for each run that a page shows otherwise."""
-    for page, call, text in runs():
-        if settled(written(call, path)) != settled(text):
+    listed = list(runs())
+    with ThreadPoolExecutor(os.cpu_count() or 1) as pool:
+        answers = list(pool.map(lambda run: written(run[1], path), listed))
+    for (page, call, text), answer in zip(listed, answers):
+        if settled(answer) != settled(text):
             yield f"{page.relative_to(TOP)}: {call} writes something else (companion/tests/shown.py --write)"
 
 

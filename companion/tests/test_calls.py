@@ -199,7 +199,7 @@ class SeveralFiles(InFolder):
     def test_the_second_question_has_what_is_left_of_the_time(self):
         report = "exact: not a plain program\\nproved:\\nunknown:\\nalways: unknown\\nverdict: some inputs\\n"
         slow = self.stand_in(f"case $1 in --ctl*) exec sleep 30 ;; esac; printf '{report}'; exit 1")
-        self.assertEqual(self.run_here("--timeout", "0.5", command=slow, text=STEPS)[0], 23)
+        self.assertEqual(self.run_here("--timeout", "0.5", command=slow, text=STEPS), (23, "<stdin>: unknown\n  always: unknown\n", "<stdin>: whether runs never end: no answer within 0.5 seconds\n"))
 
     def test_a_bar_shows_on_a_terminal_alone(self):
         self.write("a.c", ENDS)
@@ -213,6 +213,12 @@ class SeveralFiles(InFolder):
 
 
 class AsAProcess(InFolder):
+    def test_names_and_texts_that_the_terminal_cannot_show(self):
+        self.write("gr\u00f6\u00dfer.c", "int main() { \u00e9 }")
+        with mock.patch.dict(os.environ, {"PYTHONIOENCODING": "ascii"}):
+            self.assertEqual(spawned("gr\u00f6\u00dfer.c", folder=self.folder)[::2],
+                             (3, "gr\\xf6\\xdfer.c:1:14: no token of the language begins here: \\xe9\n  int main() { \\xe9 }\n               ^\n"))
+
     def test_the_script_runs(self):
         self.write("f.c", ENDS)
         self.assertEqual(spawned("f.c", folder=self.folder)[0], 0)
