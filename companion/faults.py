@@ -210,17 +210,18 @@ def missing_hint(place):
     line_here, _, _ = line_of(place.text, place.offset)
     line_before, _, _ = line_of(place.text, previous.offset)
     ends = previous.kind in ENDS or previous.text in (")", "]", "++", "--", "?")
-    if ends and (line_before < line_here or word == "}") and previous.text not in ("else", "do") and word not in ("{",):
+    if ends and (line_before < line_here or word == "}") and previous.text not in ("else", "do") and word != "{":
         return f"is a ; missing at the end of line {line_before}?"
+    opened = sum(token.text == "{" for token in place.before) - sum(token.text == "}" for token in place.before)
     if not word:
-        opened = sum(token.text == "{" for token in place.before) - sum(token.text == "}" for token in place.before)
         return f"{opened} {'{ is' if opened == 1 else '{ are'} open: is a }} missing?" if opened > 0 else None
-    if previous.text == "}" and not any(token.text == "{" for token in place.behind) and sum(token.text == "{" for token in place.before) == sum(token.text == "}" for token in place.before):
+    if previous.text == "}" and opened == 0:
         return "main ends here: is there a } too much?"
     return None
 
 
 def name_hint(place):
+    """Of a name outside its scope."""
     word = place.word()
     if word in ("INT_MAX", "INT_MIN", "UINT_MAX", "LONG_MAX", "NULL"):
         return "numbers have no bounds here: write the number that is meant"
@@ -232,6 +233,7 @@ def name_hint(place):
 
 
 def again_hint(place):
+    """Of a name that is declared again."""
     word = place.word()
     first = next(token for token in place.before if token.text == word)
     line, _, _ = line_of(place.text, first.offset)

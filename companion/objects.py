@@ -7,6 +7,7 @@ def of_function(function):
 
 
 def of_claim(claim):
+    """A claim by its kind, with what that kind has."""
     found = {"kind": claim.kind}
     if claim.bound is not None:
         found["steps"] = of_function(claim.bound)

@@ -206,6 +206,7 @@ def svg_label(region, place, canvas):
 
 
 def svg_axes(canvas):
+    """The frame, the numbers along it, and the names of the variables."""
     window, foot = canvas.window, EDGE + SIZE
     parts = [f'<rect x="{EDGE}" y="{EDGE}" width="{SIZE}" height="{SIZE}" fill="none" stroke="black"/>']
     for number in ticks(window):
@@ -218,6 +219,7 @@ def svg_axes(canvas):
 
 
 def svg_legend(seen, window):
+    """Each colour with its claim, and the numbers of the other variables."""
     left, parts = 2 * EDGE + SIZE - 16, []
     for number, (says, region) in enumerate({region.says: region for region in seen}.items()):
         top = EDGE + 22 * number

@@ -15,9 +15,9 @@ REFUSALS = {5: "the command couldn't read", 6: "the command couldn't write", 7: 
 
 # The second question where the first stays unknown. With a number chosen without bounds a configuration has infinitely many successors; there `!AF exit` says only that there
 # are runs of every length (docs/FORMULAS.md), and `AG !exit` that no run ends.
+SOME_RUN, EVERY_RUN = "!AF exit", "AG !exit"
 # Past so many pairs of a line of the first answer and one of the second, the unknown lines stay as they are.
 MOST_TAKEN = 2000
-SOME_RUN, EVERY_RUN = "!AF exit", "AG !exit"
 
 
 @dataclass

@@ -76,6 +76,7 @@ class Fault:
 
 
 def parse_condition(text):
+    """The rows of a condition. Raises NotInForm where it is none."""
     if text == "always":
         return ()
     parts = text.split(" and ")
