@@ -133,6 +133,8 @@ def byte_hint(place):
 def token_hint(place):
     """Of a token that no program goes on with."""
     word, last = place.word(), place.last()
+    if not place.before and re.match(r"\w+\s+(?!main\b)\w+\s*\(", place.rest()):
+        return "there are no functions but main: write what it does in the place of each call"
     if not place.before:
         return "a program is int main() { .. }" if not word else "a program begins with int main() {, and variables are declared inside it"
     if last in TYPES or word in TYPES:
@@ -199,8 +201,14 @@ def operator_hint(place):
         return "an assignment is a statement of its own; to compare write =="
     if word in ("++", "--") and (place.last(2) not in (";", "{", "}", ")", "else", "do")):
         return "++ and -- stand alone, as a statement: take them out of the expression"
-    if last in ("if", "while", "for") or last == "main":
+    if last in ("if", "while", "for", "main"):
         return f"a ( is missing behind {last}"
+    if word in ("and", "or", "not"):
+        return "write " + {"and": "&&", "or": "||", "not": "!"}[word]
+    if word == "==" and len(place.before) > 1 and place.last(2) in (";", "{", "}"):
+        return "to assign write ="
+    if word == "int" and last == "(":
+        return "there are no casts: take it out"
     return None
 
 
@@ -213,11 +221,23 @@ def missing_hint(place):
     if ends and (line_before < line_here or word == "}") and previous.text not in ("else", "do") and word != "{":
         return f"is a ; missing at the end of line {line_before}?"
     opened = sum(token.text == "{" for token in place.before) - sum(token.text == "}" for token in place.before)
+    if word in (";", "{", "}") and open_parentheses(place) > 0:
+        return "is a ) missing in front of this?"
     if not word:
         return f"{opened} {'{ is' if opened == 1 else '{ are'} open: is a }} missing?" if opened > 0 else None
     if previous.text == "}" and opened == 0:
         return "main ends here: is there a } too much?"
     return None
+
+
+def open_parentheses(place):
+    """How many parentheses of the statement at the place are open there."""
+    count = 0
+    for token in reversed(place.before):
+        if token.text in ("{", "}", ";"):
+            return count
+        count += (token.text == "(") - (token.text == ")")
+    return count
 
 
 def name_hint(place):
@@ -240,7 +260,10 @@ def again_hint(place):
     return f"its first declaration is in line {line}: take this one out, or give it another name; behind the first one's block int {word} = 0; declares the same variable again"
 
 
-def truth_hint(_):
+def truth_hint(place):
+    """Of a truth value in the place of a number."""
+    if re.match(r"[^;&|=]*?(<=?|>=?)[^;&|=]*?(<=?|>=?)", place.rest()) and place.last() == "(":
+        return "comparisons don't chain: for a < b < c write a < b && b < c"
     return "to keep a truth value write if (c) x = 1; else x = 0;"
 
 

@@ -58,6 +58,16 @@ class OneFile(InFolder):
         self.write("f.c", ENDS)
         self.assertEqual(self.run_here("f.c", "--delay=1", "--domain", "octagons")[1], "f.c: ends from all inputs\n  x <= 0: exactly 1 step\n  x >= 1: within 2*x + 1 steps\n")
 
+    def test_an_exact_line_stands_for_a_proved_one_only_where_their_conditions_mean_the_same(self):
+        def told(exact):
+            report = f"exact, 2 tests:\\n{exact}: exactly 3 steps\\nproved:\\nx - 2000 >= 0 and y - 1 >= 0: within 3 steps\\nunknown:\\nverdict: all inputs\\n"
+            return self.run_here(command=self.stand_in(f"printf '{report}'"), text=ENDS)[1].splitlines()[1:]
+
+        # y >= 1 and x >= 2000 give x + y >= 2001
+        self.assertEqual(told("x + y - 2001 >= 0 and x - 2000 >= 0 and y - 1 >= 0"), ["  x >= 2000 and y >= 1: exactly 3 steps"])
+        for exact, shown in (("x - 1000 >= 0 and y - 1 >= 0", "x >= 1000 and y >= 1"), ("x - 3000 >= 0 and y - 1 >= 0", "x >= 3000 and y >= 1")):
+            self.assertEqual(told(exact), ["  x >= 2000 and y >= 1: within 3 steps", f"  of these, {shown}: exactly 3 steps"])
+
     def test_a_long_report_is_shown_row_by_row(self):
         def told(count):
             lines = "".join(f"-x + {number} >= 0 and x - {number} >= 0 and y - 1 >= 0 and y - 2 >= 0: within {number} steps\\n" for number in range(2, count + 2))

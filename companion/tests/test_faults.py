@@ -39,6 +39,12 @@ class OfPrograms(InFolder):
         ("int x; x = x > 1;", 12, "a truth value stands where a number is needed", "x", "if (c) x = 1; else x = 0;"),
         ("int x; x = [3, 1];", 12, "this range is upside down, or an end has the wrong infinity", "[", "[least, greatest]"),
         ("break;", 1, "this stands in no body of a loop", "break", "take the break out"),
+        ("int x; while (0 < x < 5) ;", 15, "a truth value stands where a number is needed", "0", "a < b && b < c"),
+        ("int x; while (x > 0 and x < 3) ;", 21, "no program goes on like this", "and", "write &&"),
+        ("int x; x == 3;", 10, "no program goes on like this", "==", "to assign write ="),
+        ("int x; x = (int) 3;", 13, "no program goes on like this", "int", "there are no casts"),
+        ("int x; x = 2 * (x + 1;", 22, "no program goes on like this", ";", "is a ) missing"),
+        ("int x; if (x) then x = 1;", 20, "no program goes on like this", "x", None),
         ("int x; if x > 0 ;", 11, "no program goes on like this", "x", "a ( is missing behind if"),
     ]
 
@@ -52,9 +58,9 @@ class OfPrograms(InFolder):
         for line, column, says, word, hint in self.USUAL:
             with self.subTest(line):
                 status, err = self.refused(inside(line))
-                first, shown, mark, advice, *rest = err.splitlines()
-                self.assertEqual((status, first, shown, mark, rest), (3, f"f.c:2:{column}: {says}: {word}", f"  {line}", "  " + " " * (column - 1) + "^", []))
-                self.assertIn(hint, advice)
+                first, shown, mark, *advice = err.splitlines()
+                self.assertEqual((status, first, shown, mark, len(advice)), (3, f"f.c:2:{column}: {says}: {word}", f"  {line}", "  " + " " * (column - 1) + "^", int(hint is not None)))
+                self.assertIn(hint or "", "".join(advice))
 
     def test_a_missing_semicolon_is_told_where_it_belongs(self):
         self.assertEqual(self.refused("int main() {\n  int x;\n  x = x - 1\n  x = 2;\n}\n"),
@@ -62,7 +68,7 @@ class OfPrograms(InFolder):
 
     def test_what_stands_outside_main(self):
         for text, place, hint in [("int main(int argc, char **argv) { }", "f.c:1:10", "main has no parameters"), ("int x;\nint main() { }", "f.c:1:5", "variables are declared inside"),
-                                  ("int f(int x) { }", "f.c:1:5", "there are no functions but main"), ("void main() { }", "f.c:1:1", "begins with int main()"),
+                                  ("int f(int x) { }", "f.c:1:5", "there are no functions but main"), ("void f() { }\nint main() { }", "f.c:1:1", "there are no functions but main"), ("void main() { }", "f.c:1:1", "begins with int main()"),
                                   ("#include <stdio.h>\nint main() { }", "f.c:1:1", "take this line out"), ("#define N 3\nint main() { }", "f.c:1:1", "write what the name stands for"),
                                   ("\xef\xbb\xbfint main() { }".encode("latin-1"), "f.c:1:1", "byte order mark"), ("int main() { } }", "f.c:1:16", "a } too much")]:
             with self.subTest(text):
