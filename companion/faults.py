@@ -85,8 +85,8 @@ class Place:
         return self.text[self.offset:line_of(self.text, self.offset)[2]]
 
 
-def tell(fault, text):
-    """The fault of a text in words. The text's characters are bytes."""
+def tell(fault, text, names=()):
+    """The fault of a text in words. The text's characters are bytes; the names are those that a formula may use."""
     place = Place(text, fault.offset)
     number, start, end = line_of(text, fault.offset)
     says = (OF_PROGRAMS if fault.of == "program" else OF_FORMULAS).get(fault.number, f"fault {fault.number}")
@@ -96,14 +96,12 @@ def tell(fault, text):
         word = readable(place.rest())[:1]
     else:
         word = readable(place.word())
-    hint = hint_for(fault, place)
+    hint = formula_hint(fault, place, names) if fault.of == "formula" else hint_for(fault, place)
     return Told(number, len(readable(text[start:fault.offset])) + 1, says, word, readable(text[start:end].rstrip("\r")), hint)
 
 
 def hint_for(fault, place):
-    """What to write instead, for the usual causes, or None."""
-    if fault.of == "formula":
-        return formula_hint(fault, place)
+    """What to write instead in a program, for the usual causes, or None."""
     hints = {1: byte_hint, 4: token_hint, 5: name_hint, 6: again_hint, 7: truth_hint, 8: range_hint, 17: jump_hint}
     return hints[fault.number](place) if fault.number in hints else None
 
@@ -275,9 +273,11 @@ def jump_hint(place):
     return f"take the {place.word()} out, or end the program by return;"
 
 
-def formula_hint(fault, place):
-    """Of formulas."""
+def formula_hint(fault, place, names):
+    """The same of formulas."""
     word, last = place.word(), place.last()
+    if fault.number == 4 and not place.before and not word:
+        return "a formula is AF exit, AG x >= 0 or A[x > 0 U x == 0], for example"
     if fault.number == 1 and place.text[place.offset] == ":" or fault.number == 4 and word in ("{", "}"):
         return "parentheses are ( and ): AF (x == 1)"
     if fault.number == 4 and (last == "-" and word == ">" or last == "=" and word == ">"):
@@ -287,6 +287,8 @@ def formula_hint(fault, place):
         return f"a formula of CTL says of which runs: A{name} for all, E{name} for some"
     if fault.number == 4 and word == "=":
         return "to compare write =="
+    if fault.number == 5:
+        return f"the program's variables are {', '.join(names)}" if names else "the program has no variables"
     if fault.number == 16:
         return "of each product one factor has no variable"
     return None

@@ -91,7 +91,8 @@ def read_first(result, question, written):
     """Reads the answer to the first question."""
     if fault := parse_fault(written):
         result.fault = fault
-        result.told = tell(fault, result.text if fault.of == "program" else question.handed_on.get("ctl", "").encode().decode("latin-1"))
+        asked = question.handed_on.get("ctl", "").encode("utf-8", "surrogateescape").decode("latin-1")
+        result.told = tell(fault, result.text if fault.of == "program" else asked, declared(result.text))
     elif result.status == WORDS_REFUSED:
         result.trouble = refused_words(question, result.text)
     elif result.status in REFUSALS:

@@ -112,14 +112,14 @@ class OfPrograms(InFolder):
 class OfFormulas(InFolder):
     # The formula, the column, what is said, and a part of the hint.
     CASES = [
-        ("AF z == 1", 4, OF_FORMULAS[5] + ": z", None),
+        ("AF z == 1", 4, OF_FORMULAS[5] + ": z", "variables are x"),
         ("AF{exit: true}", 8, OF_FORMULAS[1] + ": :", "parentheses"),
         ("AG{x >= 0}", 3, OF_FORMULAS[4] + ": {", "parentheses"),
         ("F x == 0", 3, OF_FORMULAS[4] + ": x", "AF for all"),
         ("x >= 0 -> AF exit", 9, OF_FORMULAS[4] + ": >", "!(f) || g"),
         ("x = 3", 3, OF_FORMULAS[4] + ": =", "write =="),
         ("x * x > 3", 1, OF_FORMULAS[16] + ": x", "no variable"),
-        ("", 1, OF_FORMULAS[4] + ": the end of the text", None),
+        ("", 1, OF_FORMULAS[4] + ": the end of the text", "AG x >= 0"),
         ("x > 9223372036854775808", 5, OF_FORMULAS[2] + ": 9223372036854775808", None),
         ("!" * 65 + "exit", 65, OF_FORMULAS[10] + ": !", None),
         (" " * 4097, 4097, OF_FORMULAS[14], None),
