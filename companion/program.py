@@ -9,7 +9,7 @@ import words
 from command import Hindered, path
 from files import Progress, listed, look_at_all, table
 from questions import Question
-from texts import told
+from texts import chosen_first, told
 
 def say(text, stream=None):
     """Writes a line at once, so that lines of both streams stand in their order."""
@@ -28,7 +28,7 @@ def say_changes(result, every):
         for line in lines:
             say(line)
     elif lines:
-        left_out = sum(change.is_step for change in result.changes)
+        left_out = sum(change.of is not None for change in result.changes)
         steps = f", of which {left_out} took a step that isn't counted now" if left_out else ""
         say(f"{result.name}: {len(lines)} {'place of the text was' if len(lines) == 1 else 'places of the text were'} changed{steps} (--show-text shows them)", sys.stderr)
 
@@ -47,6 +47,8 @@ def say_result(result, read):
             say_picture(result, read)
     if result.trouble:
         say(f"{result.name}: {result.trouble}", sys.stderr)
+    elif result.left and not read.inputs and (chosen := chosen_first(result.text)):
+        say(f"{result.name}: main chooses {', '.join(chosen)} first, and no bound can speak of that; --inputs takes {'it as an input' if len(chosen) == 1 else 'them as inputs'}", sys.stderr)
 
 
 def say_picture(result, read):

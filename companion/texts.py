@@ -17,13 +17,13 @@ LEFT_OUT = ("include", "pragma", "line", "warning", "ident")
 
 @dataclass(frozen=True)
 class Change:
-    """What stands from an offset on, what is put there, as long, and why; and whether it takes a step away, which then isn't counted."""
+    """What stands from an offset on, what is put there, as long, and why. Of a choice that is taken away, with a step that then isn't counted, the variable."""
 
     offset: int
     old: str
     new: str
     why: str
-    is_step: bool = False
+    of: str | None = None
 
 
 def blank(old):
@@ -157,6 +157,11 @@ def parts(statement):
     return found
 
 
+def chosen_first(text):
+    """The variables whose numbers `main` chooses at its front, so that they could be inputs."""
+    return list(dict.fromkeys(change.of for change in front_choices(text)))
+
+
 def front_choices(text):
     """At the front of `main` assignments of a choice: without them the variable is an input, and the choice its number.
 
@@ -175,7 +180,7 @@ def front_choices(text):
                 first = part[1] if declares else part[0]
                 end = part[-1].end if declares else text.index(";", part[-1].end) + 1
                 old = text[first.offset:end]
-                found.append(Change(first.offset, old, blank(old), f"{name} is an input", is_step=True))
+                found.append(Change(first.offset, old, blank(old), f"{name} is an input", of=name))
             elif len(part) > 1:
                 kept.update(token.text for token in part)
     return found

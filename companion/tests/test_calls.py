@@ -41,7 +41,7 @@ class OneFile(InFolder):
     def test_runs_of_every_length_are_not_runs_for_ever(self):
         # each run ends, so `never ends` would be false, though there are runs of every length
         self.write("f.c", CHOSEN)
-        self.assertEqual(self.run_here("f.c"), (1, "f.c: unknown\n  always: unknown\n", ""))
+        self.assertEqual(self.run_here("f.c"), (1, "f.c: unknown\n  always: unknown\n", "f.c: main chooses x first, and no bound can speak of that; --inputs takes it as an input\n"))
 
     def test_the_second_question_can_be_left_out(self):
         self.write("f.c", FOR_EVER)

@@ -131,7 +131,9 @@ class Shown(InFolder):
 
     def test_without_the_word_the_bound_is_unknown(self):
         self.write("f.c", f"int main() {{\n  int x;\n  x = {CHOICE};\n  while (x > 0) x = x - 1;\n}}\n")
-        self.assertEqual(self.run_here("f.c"), (1, "f.c: unknown\n  always: unknown\n", ""))
+        self.assertEqual(self.run_here("f.c"), (1, "f.c: unknown\n  always: unknown\n", "f.c: main chooses x first, and no bound can speak of that; --inputs takes it as an input\n"))
+        self.write("f.c", f"int main() {{\n  int y, x = {CHOICE};\n  y = {CHOICE};\n  while (x > y) x = x - 1;\n}}\n")
+        self.assertEqual(self.run_here("f.c")[2], "f.c: main chooses x, y first, and no bound can speak of that; --inputs takes them as inputs\n")
 
     def test_as_is_changes_nothing(self):
         self.write("f.c", "#include <a.h>\nint main() { }\n")
