@@ -109,7 +109,7 @@ def cells(result, asked):
 
 def table(results, asked):
     """The table of several files, with a line that counts them."""
-    rows = [("file", "verdict", "holds" if asked else "ends", "never", "time"), *(cells(result, asked) for result in results)]
+    rows = [("file", "verdict", "claimed", "never", "time"), *(cells(result, asked) for result in results)]
     widths = [max(len(row[column]) for row in rows) for column in range(5)]
     lines = ["  ".join(cell.rjust(width) if column > 1 else cell.ljust(width) for column, (cell, width) in enumerate(zip(row, widths))).rstrip() for row in rows]
     whole = sum(result.status == 0 for result in results)

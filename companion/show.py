@@ -42,7 +42,7 @@ def verdict(result, asked):
     report, never = result.report, result.never
     yes = bool(report.lines("proved") or report.lines("ranked") or report.lines("fits"))
     unknown = bool(result.left)
-    holds = "holds" if asked else "ends"
+    holds = "fits" if "fits" in report.sections else "holds" if asked else "ends"
     if not never and not unknown:
         return f"{holds} from all inputs"
     if not yes and not never:
