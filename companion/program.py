@@ -11,6 +11,7 @@ from files import Progress, listed, look_at_all, table
 from questions import Question
 from texts import chosen_first, told
 
+
 def say(text, stream=None):
     """Writes a line at once, so that lines of both streams stand in their order."""
     stream = stream or sys.stdout
@@ -85,4 +86,3 @@ def main(given):
     if len(results) > 1 and not read.json:
         say("\n" + table(results, read.ctl))
     return max(result.status for result in results)
-

@@ -71,6 +71,7 @@ def lines_of(result):
 
 
 def condition(result, line):
+    """A line's condition as it is shown."""
     return spelled_rows(line.rows) if is_long(result) else spelled_condition(line.rows)
 
 
@@ -83,4 +84,3 @@ def text(result, asked):
     for prefix, group in (("  ", lines), ("  of these, ", exact)):
         shown += [f"{prefix}{condition(result, line)}: {spelled_claim(line.claim)}" for line in group]
     return "\n".join(shown + [f"  {line}" for line in result.report.explained])
-

@@ -62,5 +62,3 @@ def covers(rows, parts):
     if is_empty([as_row(row) for row in rows]):
         return True
     return bool(parts) and all(covers([*rows, row.complement()], parts[1:]) for row in parts[0])
-
-
