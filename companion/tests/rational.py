@@ -58,7 +58,12 @@ def implies(rows, function):
 
 
 def covers(rows, parts):
-    """Whether each whole store that meets the rows meets all rows of one of the parts: each choice of one complement a part has no rational point."""
-    if is_empty([as_row(row) for row in rows]):
+    """Whether each whole store that meets the rows meets all rows of one of the parts: each choice of one complement a part has no rational point.
+
+    A part without a point in common with the rows is of no use to them.
+    """
+    own = [as_row(row) for row in rows]
+    if is_empty(own):
         return True
-    return bool(parts) and all(covers([*rows, row.complement()], parts[1:]) for row in parts[0])
+    useful = [part for part in parts if not is_empty(own + [as_row(row) for row in part])]
+    return bool(useful) and all(covers([*rows, row.complement()], useful[1:]) for row in useful[0])
