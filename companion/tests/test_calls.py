@@ -210,14 +210,14 @@ class SeveralFiles(InFolder):
         for name in ("a", "b"):
             self.write(f"{name}.c", "// fast\n")
         self.write("aa.c", "// slow\n")
-        status, out, err = self.run_here("a.c", "aa.c", "b.c", "--timeout", "0.5", command=slow)
-        self.assertEqual((status, err), (23, "aa.c: no answer within 0.5 seconds\n"))
+        status, out, err = self.run_here("a.c", "aa.c", "b.c", "--timeout", "3", command=slow)
+        self.assertEqual((status, err), (23, "aa.c: no answer within 3 seconds\n"))
         self.assertIn("3 files: 2 whole, 0 in part or unknown, 1 without an answer", out)
 
     def test_the_second_question_has_what_is_left_of_the_time(self):
         report = "exact: not a plain program\\nproved:\\nunknown:\\nalways: unknown\\nverdict: some inputs\\n"
         slow = self.stand_in(f"case $1 in --ctl*) exec sleep 30 ;; esac; printf '{report}'; exit 1")
-        self.assertEqual(self.run_here("--timeout", "0.5", command=slow, text=STEPS), (23, "<stdin>: unknown\n  always: unknown\n", "<stdin>: whether runs never end: no answer within 0.5 seconds\n"))
+        self.assertEqual(self.run_here("--timeout", "3", command=slow, text=STEPS), (23, "<stdin>: unknown\n  always: unknown\n", "<stdin>: whether runs never end: no answer within 3 seconds\n"))
 
     def test_a_bar_shows_on_a_terminal_alone(self):
         self.write("a.c", ENDS)
