@@ -1,4 +1,4 @@
-/* x + y falls in each turn, but no row of the test does: a bound is found for few inputs. */
+/* x + y falls in each turn, but no row of the test does. */
 int main() {
   int x, y;
   while (x > 0 && y > 0) {

@@ -1,4 +1,4 @@
-/* The inner loop has nine turns each time, so the outer one has a bound, which is not found (after Urban, 2013). */
+/* The inner loop has nine turns each time, so the outer one has a bound (after Urban, 2013). */
 int main() {
   int x, y;
   while (x <= 10) {

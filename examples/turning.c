@@ -1,4 +1,4 @@
-/* x swings around 10/3 until it is below 0; a bound is found where one turn is enough (after Podelski and Rybalchenko, 2004). */
+/* x swings around 10/3 until it is below 0 (after Podelski and Rybalchenko, 2004). */
 int main() {
   int x;
   while (x >= 0)

@@ -13,12 +13,12 @@ DRAWN = [("steps", "x", "y", -10, 10), ("gcd", "x", "y", -10, 10), ("least_of_tw
 
 
 def of_steps(x, y):
-    """What is known of an input of steps.c: a turn changes x by y, and takes two steps; then the last test."""
+    """What is known of an input of steps.c: a turn changes x by y, and takes two steps; then the last test. Where y isn't below 0, x never falls."""
     if x <= 0:
         return "exactly 1 step"
     if x + y <= 0:
         return "exactly 3 steps"
-    return "within 2*x + 1 steps" if y < 0 else None
+    return "within 2*x + 1 steps" if y < 0 else "never ends (some run)"
 
 
 def of_zune(days, _):
@@ -101,7 +101,7 @@ class AsLetters(InFolder):
             number, *row = line.split()
             self.assertEqual(int(number), y)
             for x, letter in zip(range(-3, 5), row, strict=True):
-                self.assertEqual(legend[letter], of_steps(x, y) or "unknown", (x, y))
+                self.assertEqual(legend[letter], of_steps(x, y), (x, y))
         self.assertEqual(lines[8], "   x from -3 to 4")
 
     def test_other_variables_have_the_numbers_of_at_or_0(self):

@@ -1,4 +1,4 @@
-/* A way out is lost where the first pick always leads back. */
+/* The way out is taken at the first test: to pick the body as soon as it leads to a claim would never leave. */
 int main() {
   int x;
   while (?)

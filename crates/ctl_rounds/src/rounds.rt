@@ -23,8 +23,30 @@ use std::alloc::AllocError;
 const TURNS: u32 = 8;
 
 impl<'a, D: NumDomain> Subject<'a, D> {
-    /// What is found by proposals: a family, and for an `A[f U g]` those of turns of advice. The only error is want of memory.
+    /// What is found by proposals: a family; for an `A[f U g]` those of turns of advice; and, where there are advisers and more than one sweep comes
+    /// before widening, those of linear programs. The only error is want of memory.
     pub(crate) fn sought(&self, advisers: &mut Vec<Box<dyn Adviser>>) -> Result<Found, AllocError>
+        requires subject { IsSubject D.NumDomain.own self.now }
+        requires patient { All (λ adviser. asked_of adviser ≤ 2 ^ 32) advisers.old.items }
+        ensures found { IfOk result (λ found. AreFoundSoFar D.NumDomain.own self.now found.tops.items (option_map plan_of found.cover)) }
+        ensures some { IfOk result (λ found. 0 < length found.tops.items) }
+        ensures exact { IfOk result (λ found. BeginsExactly self.now found.tops.items) }
+        ensures turns { IsAdvised (ctl self.now.formula.now) → IfOk result (λ found.
+            IsWhole (claims_of (option_map plan_of found.cover)) ⊎ (found.turns ≡ 8)) }
+        ensures unadvised { (IsAdvised (ctl self.now.formula.now) → ⊥) → IfOk result (λ found. found.turns ≡ 0) }
+        ensures asked { (times : ℕ) × (times ≤ 8) × RoseBy (λ adviser. asked_of adviser) times advisers.old.items advisers.new.items
+            × IfOk result (λ found. found.turns ≡ times) }
+    {
+        let synthesises = !advisers.is_empty() && self.premises.delay > 1;
+        let mut found = self.hinted(advisers)?;
+        if synthesises && !found.is_whole() {
+            self.synthesise(&mut found)?;
+        }
+        Ok(found)
+    }
+
+    /// The same without linear programs.
+    fn hinted(&self, advisers: &mut Vec<Box<dyn Adviser>>) -> Result<Found, AllocError>
         requires subject { IsSubject D.NumDomain.own self.now }
         requires patient { All (λ adviser. asked_of adviser ≤ 2 ^ 32) advisers.old.items }
         ensures found { IfOk result (λ found. AreFoundSoFar D.NumDomain.own self.now found.tops.items (option_map plan_of found.cover)) }

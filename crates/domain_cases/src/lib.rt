@@ -1,9 +1,10 @@
-//! Calls on numbers, on systems of rows and on the numerical domains, as lines say them.
+//! Calls on numbers, on systems of rows, on linear programs and on the numerical domains, as lines say them.
 //!
 //! It is for programs that are told in lines what to do, and promises nothing but that each call returns. The front door: `answers`.
 #![tactic(auto)]
 
 mod domains;
+mod minima;
 mod numbers;
 mod systems;
 
@@ -21,6 +22,9 @@ pub fn answers(
         return Ok(true);
     }
     if systems::answers(alloc, name, words, answer)? {
+        return Ok(true);
+    }
+    if minima::answers(alloc, name, words, answer)? {
         return Ok(true);
     }
     domains::answers(alloc, name, words, answer)

@@ -1,19 +1,20 @@
-use Rattle.std.proofs.Common.{rules, arith}
-use Rattle.std.proofs.lemmas.Grind.{common_steps}
-use Rattle.ctl_rounds.proofs.Asking.{unasked}
+use Rattle.std.proofs.Common.{◌∙◌}
+use Rattle.ctl_rounds.proofs.subject.Subject.sought.Goals.{then-synthesises+then-not-is_whole+in_ok-synthesise, else-synthesises}
 use Rattle.ctl_rounds.proofs.subject.Subject.sought.Goals as goal
 
-pub returns-in_err-begun-clause-asked : goal.returns-in_err-begun-clause-asked
-returns-in_err-begun-clause-asked g c =
-    (0, omega (arith), unasked (λ adviser. (goal.Adviser-dyn g (adviser.vtable, adviser.value)).asked_of adviser.value) c.args.advisers.now.items, search rules)
+pub returns-clause-exact : goal.returns-clause-exact
+returns-clause-exact g c = elim c.if-synthesises.branch [
+  | then-synthesises+then-not-is_whole+in_ok-synthesise w ↦ rw w.found-is (w.in_ok-synthesise.ensures.exact c.in_ok-found.ensures.exact)
+  | else-synthesises w ↦ rw w.found-is c.in_ok-found.ensures.exact
+]
 
-pub returns-in_ok-begun-clause-asked : goal.returns-in_ok-begun-clause-asked
-returns-in_ok-begun-clause-asked g c = (
-  0,
-  omega (arith),
-  unasked (λ adviser. (goal.Adviser-dyn g (adviser.vtable, adviser.value)).asked_of adviser.value) c.args.advisers.now.items,
-  c.in_ok-begun.ensures.turns,
+pub returns-clause-asked : goal.returns-clause-asked
+returns-clause-asked g c = let asked = c.in_ok-found.ensures.asked in (
+  asked.0,
+  asked.1,
+  asked.2,
+  elim c.if-synthesises.branch [
+    | then-synthesises+then-not-is_whole+in_ok-synthesise w ↦ rw w.found-is (w.in_ok-synthesise.ensures.turns ∙ asked.3)
+    | else-synthesises w ↦ rw w.found-is asked.3
+  ],
 )
-
-pub advised-requires : goal.advised-requires
-advised-requires g c = grind (arith, common_steps)

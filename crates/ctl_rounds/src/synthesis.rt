@@ -1,0 +1,138 @@
+//! Families of ranks by linear programs.
+ghost use Rattle.std.specs.Prelude.{◌≡◌, ◌<◌, OnOk, length, option_map};
+ghost use Rattle.decision_tree.specs.Plans.{plan_of};
+ghost use Rattle.ctl_rounds.specs.Finding.{AreFoundSoFar, BeginsExactly, IsSubject, IsTop};
+
+use crate::covering::{extended, tree_at_entry};
+use crate::found::Found;
+use crate::subject::Subject;
+use ctl_formula::Formula;
+use decision_tree::{AffineRank, Family};
+use num_domain::NumDomain;
+use part_trees::Claims;
+use rank_synthesis::{Loops, Parting, Plan, Question, Search};
+use std::alloc::AllocError;
+
+impl<'a, D: NumDomain> Subject<'a, D> {
+    /// Adds what the check leaves of families that linear programs propose for an until or a weak until, as long as some input has no claim. The
+    /// only error is want of memory.
+    pub(crate) fn synthesise(&self, found: &mut Found) -> Result<(), AllocError>
+        requires subject { IsSubject D.NumDomain.own self.now }
+        requires found { AreFoundSoFar D.NumDomain.own self.now found.old.tops.items (option_map plan_of found.old.cover) }
+        ensures found { OnOk result (AreFoundSoFar D.NumDomain.own self.now found.new.tops.items (option_map plan_of found.new.cover)) }
+        ensures some { 0 < length found.old.tops.items → OnOk result (0 < length found.new.tops.items) }
+        ensures exact { BeginsExactly self.now found.old.tops.items → OnOk result (BeginsExactly self.now found.new.tops.items) }
+        ensures turns { found.new.turns ≡ found.old.turns }
+    {
+        let (Some(keep), Some(goal)) = (self.smaller.operands.first(), self.smaller.operands.get(1))
+        else {
+            return Ok(());
+        };
+        let (all, is_weak) = match self.formula {
+            Formula::Until { all, .. } => (*all, false),
+            Formula::Weak { all, .. } => (*all, true),
+            _ => return Ok(()),
+        };
+        let premises = self.premises;
+        let claims = Claims::of(premises.alloc, keep, goal)?;
+        let mut search = Search::new(premises.alloc);
+        for plan in Plan::tried(premises.alloc, premises.transitions, all)? {
+            let question = Question {
+                transitions: premises.transitions,
+                operands: &claims.operands(all),
+                is_weak,
+                plan,
+                variables: premises.graph.program().names.items().len() as u32,
+            };
+            self.answer(&mut search, &question, found)?;
+        }
+        Ok(())
+    }
+
+    /// Adds what the check leaves of the families that are proposed for the question, parting after parting, as long as some input has no claim.
+    fn answer(
+        &self,
+        search: &mut Search,
+        question: &Question<'_>,
+        found: &mut Found,
+    ) -> Result<(), AllocError>
+        requires subject { IsSubject D.NumDomain.own self.now }
+        requires transitions { question.now.transitions.now ≡ self.now.premises.now.transitions.now }
+        requires found { AreFoundSoFar D.NumDomain.own self.now found.old.tops.items (option_map plan_of found.old.cover) }
+        ensures found { OnOk result (AreFoundSoFar D.NumDomain.own self.now found.new.tops.items (option_map plan_of found.new.cover)) }
+        ensures some { 0 < length found.old.tops.items → OnOk result (0 < length found.new.tops.items) }
+        ensures exact { BeginsExactly self.now found.old.tops.items → OnOk result (BeginsExactly self.now found.new.tops.items) }
+        ensures turns { found.new.turns ≡ found.old.turns }
+    {
+        let mut loops = Loops::of(search, self.premises.inv, question)?;
+        for parting in Parting::ALL {
+            if !found.is_whole() {
+                self.propose(search, question, &mut loops, parting, found)?;
+            }
+        }
+        Ok(())
+    }
+
+    /// Adds what the check leaves of the family that is proposed for the question by the parting, if one is.
+    fn propose(
+        &self,
+        search: &mut Search,
+        question: &Question<'_>,
+        loops: &mut Loops,
+        parting: Parting,
+        found: &mut Found,
+    ) -> Result<(), AllocError>
+        requires subject { IsSubject D.NumDomain.own self.now }
+        requires transitions { question.now.transitions.now ≡ self.now.premises.now.transitions.now }
+        requires found { AreFoundSoFar D.NumDomain.own self.now found.old.tops.items (option_map plan_of found.old.cover) }
+        ensures found { OnOk result (AreFoundSoFar D.NumDomain.own self.now found.new.tops.items (option_map plan_of found.new.cover)) }
+        ensures some { 0 < length found.old.tops.items → OnOk result (0 < length found.new.tops.items) }
+        ensures exact { BeginsExactly self.now found.old.tops.items → OnOk result (BeginsExactly self.now found.new.tops.items) }
+        ensures turns { found.new.turns ≡ found.old.turns }
+    {
+        let Some(trees) = loops.proposed(search, question, parting)? else {
+            return Ok(());
+        };
+        let family = self.premises.left_of(self.formula, self.smaller, trees)?;
+        self.keep_if_it_adds(family, found)?;
+        Ok(())
+    }
+
+    /// Adds the family, if it says something of an input that has no claim yet.
+    fn keep_if_it_adds(
+        &self,
+        family: Family<AffineRank>,
+        found: &mut Found,
+    ) -> Result<(), AllocError>
+        requires subject { IsSubject D.NumDomain.own self.now }
+        requires family { IsTop D.NumDomain.own self.now family }
+        requires found { AreFoundSoFar D.NumDomain.own self.now found.old.tops.items (option_map plan_of found.old.cover) }
+        ensures found { OnOk result (AreFoundSoFar D.NumDomain.own self.now found.new.tops.items (option_map plan_of found.new.cover)) }
+        ensures some { 0 < length found.old.tops.items → OnOk result (0 < length found.new.tops.items) }
+        ensures exact { BeginsExactly self.now found.old.tops.items → OnOk result (BeginsExactly self.now found.new.tops.items) }
+        ensures turns { found.new.turns ≡ found.old.turns }
+    {
+        if self.adds(&family, found)? {
+            self.keep(family, found)?;
+        }
+        Ok(())
+    }
+
+    /// Whether the family says something of an input that has no claim yet.
+    fn adds(&self, family: &Family<AffineRank>, found: &Found) -> Result<bool, AllocError>
+        requires subject { IsSubject D.NumDomain.own self.now }
+        requires family { IsTop D.NumDomain.own self.now family.now }
+    {
+        let entry = tree_at_entry(self.premises.graph, family);
+        Ok(
+            match (
+                &found.cover,
+                extended(self.premises.alloc, &found.cover, entry)?,
+            ) {
+                (Some(cover), Some(next)) => next != *cover,
+                (None, Some(_)) => true,
+                (_, None) => false,
+            },
+        )
+    }
+}

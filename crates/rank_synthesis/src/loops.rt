@@ -1,0 +1,215 @@
+//! The loops of a program, with the moves between their heads.
+ghost use Rattle.std.specs.Prelude.{◌≡◌, ◌≤◌, length};
+
+use crate::moves::{Move, Target, unchanged};
+use crate::plan::Plan;
+use crate::search::Search;
+use crate::stop::unless_given_up;
+use backward_sweeps::{Operands, tree_at};
+use control_flow::{Choice, Transition};
+use decision_tree::{AffineRank, Tree};
+use forward_inv::Inv;
+use linear_cons::{Row, Rows};
+use num_domain::NumDomain;
+use std::alloc::{AllocError, Global};
+
+/// What is asked of a program.
+#[derive(Clone, Copy)]
+pub struct Question<'a> {
+    pub transitions: &'a [Transition],
+    pub operands: &'a Operands<'a>,
+    /// Whether it is a weak until, which holds as well where what is to be kept is kept for ever.
+    pub is_weak: bool,
+    /// The choices that are made, if the formula is about some run.
+    pub plan: Option<Plan>,
+    /// How many variables the program has.
+    pub variables: u32,
+}
+
+/// The head of a loop.
+#[derive(Drop)]
+pub(crate) struct Head {
+    pub(crate) label: u32,
+    /// Rows that its stores meet.
+    pub(crate) known: Vec<Row>,
+    /// The rows of its test where that holds, each once.
+    pub(crate) guards: Vec<Row>,
+    /// The rows of the goal's tree there.
+    pub(crate) goals: Vec<Row>,
+    pub(crate) moves: Vec<Move>,
+}
+
+/// The loops of a program that are reached, for a question.
+#[derive(Drop)]
+pub struct Loops {
+    pub(crate) heads: Vec<Head>,
+    pub(crate) variables: u32,
+    pub(crate) is_weak: bool,
+    /// The rows of each head in the partings that were tried.
+    pub(crate) tried: Vec<Vec<Vec<Row>>>,
+}
+
+impl Loops {
+    /// The loops of the program. The paths from a head are given up where there are too many or a number lies outside `i128`: then its stores
+    /// get no claim. The only error is want of memory.
+    pub fn of<D: NumDomain>(
+        search: &mut Search,
+        inv: &Inv<D>,
+        question: &Question<'_>,
+    ) -> Result<Loops, AllocError>
+        requires states { length inv.now ≡ length question.now.transitions.now }
+        requires few { length question.now.transitions.now ≤ 1024 }
+    {
+        let mut heads = Vec::new(search.alloc);
+        for label in 0..question.transitions.len() as u32 {
+            if let Some(
+                Transition::Test {
+                    is_head: true,
+                    holds,
+                    ..
+                },
+            ) = question.transitions.get(label as usize)
+            {
+                let known = inv.at(label).rows(search.alloc)?;
+                let head = question.head(search, label, known, holds)?;
+                heads.push(head)?;
+            }
+        }
+        Ok(Loops {
+            heads,
+            variables: question.variables,
+            is_weak: question.is_weak,
+            tried: Vec::new(search.alloc),
+        })
+    }
+
+    /// The index of the head at the label.
+    pub(crate) fn index(&self, label: u32) -> Option<usize> {
+        self.heads.iter().position(|head| head.label == label)
+    }
+
+    /// The head at the label.
+    pub(crate) fn head_at(&self, label: u32) -> Option<&Head> {
+        self.heads.iter().find(|head| head.label == label)
+    }
+
+    /// Whether the second head stands in the body of the loop of the first: from it a path leads to the first through heads of greater labels.
+    pub(crate) fn encloses(
+        &self,
+        alloc: Global,
+        outer: u32,
+        inner: u32,
+    ) -> Result<bool, AllocError> {
+        if inner <= outer {
+            return Ok(false);
+        }
+        let mut reached = Vec::new(alloc);
+        reached.push(inner)?;
+        for _ in 0..self.heads.len() {
+            let mut next = self.next_heads(alloc, &reached)?;
+            if next.contains(&outer) {
+                return Ok(true);
+            }
+            next.retain(|label| *label > outer);
+            if next.is_empty() {
+                return Ok(false);
+            }
+            reached.append(&mut next)?;
+        }
+        Ok(false)
+    }
+
+    /// The labels of the heads to which moves lead from these, without these.
+    fn next_heads(&self, alloc: Global, labels: &[u32]) -> Result<Vec<u32>, AllocError> {
+        let mut next = Vec::new(alloc);
+        for head in &self.heads {
+            if labels.contains(&head.label) {
+                for one in &head.moves {
+                    if let Target::Head(to) = one.to {
+                        if !labels.contains(&to) && !next.contains(&to) {
+                            next.push(to)?;
+                        }
+                    }
+                }
+            }
+        }
+        Ok(next)
+    }
+}
+
+impl<'a> Question<'a> {
+    /// The outcome that is picked of a test with this choice, if it is free.
+    pub(crate) fn picked_outcome(&self, choice: Choice) -> Option<bool> {
+        match (self.plan, choice) {
+            (Some(plan), Choice::Branch) => Some(plan.outcome),
+            _ => None,
+        }
+    }
+
+    /// The number that is picked of a range with this choice, if there is such an end.
+    pub(crate) fn picked_end(&self, choice: Choice) -> Option<i64> {
+        match (self.plan, choice) {
+            (Some(plan), Choice::Range { lo, hi }) => plan.end(lo, hi),
+            _ => None,
+        }
+    }
+
+    /// What is seen of the head at the label, whose stores meet the rows.
+    fn head(
+        &self,
+        search: &mut Search,
+        label: u32,
+        known: Vec<Row>,
+        holds: &[Rows],
+    ) -> Result<Head, AllocError> {
+        let mut guards = Vec::new(search.alloc);
+        for conjunction in holds {
+            for row in conjunction.items() {
+                if !guards.contains(row) {
+                    guards.push(*row)?;
+                }
+            }
+        }
+        let mut goals = Vec::new(search.alloc);
+        let none = Tree::Bottom;
+        add_rows(tree_at(self.operands.goal, label, &none), &mut goals)?;
+        let moves = match unless_given_up(self.moves(search, label, &known))? {
+            Some(moves) => moves,
+            None => self.no_moves(search.alloc)?,
+        };
+        Ok(Head {
+            label,
+            known,
+            guards,
+            goals,
+            moves,
+        })
+    }
+
+    /// What stands for the moves of a head whose paths were given up: it may lead to where nothing is claimed.
+    fn no_moves(&self, alloc: Global) -> Result<Vec<Move>, AllocError> {
+        let mut moves = Vec::with_capacity(alloc, 1)?;
+        moves.push(Move {
+            to: Target::Fault,
+            rows: Vec::new(alloc),
+            after: unchanged(alloc, self.variables)?,
+            steps: 0,
+        })?;
+        Ok(moves)
+    }
+}
+
+/// The most rows of a goal's tree that part the stores at a head.
+const MOST_GOAL_ROWS: usize = 64;
+
+/// Adds the rows of the tree, as far as there are not too many.
+fn add_rows(tree: &Tree<AffineRank>, rows: &mut Vec<Row>) -> Result<(), AllocError> {
+    if let Tree::Node { row, yes, no } = tree {
+        if rows.len() < MOST_GOAL_ROWS {
+            rows.push(*row)?;
+            add_rows(yes, rows)?;
+            add_rows(no, rows)?;
+        }
+    }
+    Ok(())
+}

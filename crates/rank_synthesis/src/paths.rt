@@ -1,0 +1,344 @@
+//! The paths from the head of a loop to the next.
+use crate::loops::Question;
+use crate::moves::{Move, Target, add, add_through, through, unchanged};
+use crate::search::Search;
+use crate::stop::Stop;
+use backward_sweeps::tree_at;
+use control_flow::Transition;
+use decision_tree::{AffineRank, Tree};
+use linear_cons::{Affine, Linear, PLACES, Row, Rows};
+use std::alloc::{AllocError, Global};
+
+/// The most paths from one head, and the most that are open at once.
+const MOST_PATHS: usize = 64;
+
+/// The most labels that the paths from one head pass.
+const MOST_LABELS: u32 = 65_536;
+
+/// The most nodes of a tree of the goal, or of what is to be kept, that is entered.
+const MOST_NODES: u64 = 256;
+
+/// Where a path is, and what it has made of the store.
+#[derive(Drop)]
+struct Stand {
+    at: u32,
+    after: Vec<Affine>,
+    steps: u32,
+    /// The next place for a number that is chosen.
+    free: u8,
+}
+
+/// A path so far, and where it is taken.
+#[derive(Drop)]
+struct Path {
+    rows: Vec<Row>,
+    stand: Stand,
+}
+
+/// The paths that are to be made longer, and the moves of those that have ended.
+#[derive(Drop)]
+struct Paths {
+    open: Vec<Path>,
+    moves: Vec<Move>,
+}
+
+/// Rows under which a tree has one leaf.
+#[derive(Drop)]
+struct Region {
+    rows: Vec<Row>,
+    is_claimed: bool,
+}
+
+impl Stand {
+    /// The same once more.
+    fn twin(&self, alloc: Global) -> Result<Stand, AllocError> {
+        Ok(Stand {
+            at: self.at,
+            after: self.after.to_vec(alloc)?,
+            steps: self.steps,
+            free: self.free,
+        })
+    }
+
+    /// The same, one step on at the label.
+    fn next(&self, alloc: Global, to: u32) -> Result<Stand, AllocError> {
+        let mut next = self.twin(alloc)?;
+        next.at = to;
+        next.steps = self.steps.saturating_add(1);
+        Ok(next)
+    }
+}
+
+impl Paths {
+    /// Ends the path.
+    fn end(&mut self, rows: Vec<Row>, stand: Stand, to: Target) -> Result<(), Stop> {
+        self.moves.push(Move {
+            to,
+            rows,
+            after: stand.after,
+            steps: stand.steps,
+        })?;
+        Ok(())
+    }
+
+    /// Leaves the path to be made longer.
+    fn go_on(&mut self, rows: Vec<Row>, stand: Stand) -> Result<(), Stop> {
+        self.open.push(Path { rows, stand })?;
+        Ok(())
+    }
+}
+
+impl<'a> Question<'a> {
+    /// The moves from the head, whose stores meet the rows.
+    pub(crate) fn moves(
+        &self,
+        search: &mut Search,
+        head: u32,
+        rows: &[Row],
+    ) -> Result<Vec<Move>, Stop> {
+        let alloc = search.alloc;
+        let mut paths = Paths {
+            open: Vec::new(alloc),
+            moves: Vec::new(alloc),
+        };
+        let stand = Stand {
+            at: head,
+            after: unchanged(alloc, self.variables)?,
+            steps: 0,
+            free: self.variables.min(16) as u8,
+        };
+        paths.go_on(rows.to_vec(alloc)?, stand)?;
+        for _ in 0..MOST_LABELS {
+            let Some(path) = paths.open.pop() else {
+                return Ok(paths.moves);
+            };
+            self.lengthen(search, path, &mut paths)?;
+            if paths.open.len() > MOST_PATHS || paths.moves.len() > MOST_PATHS {
+                return Err(Stop::GivenUp);
+            }
+        }
+        Err(Stop::GivenUp)
+    }
+
+    /// Whether the label is the head of a loop.
+    fn is_head(&self, label: u32) -> bool {
+        matches!(
+            self.transitions.get(label as usize),
+            Some(Transition::Test { is_head: true, .. })
+        )
+    }
+
+    /// Ends the path where it is at a head or the goal holds, and else makes it a step longer.
+    fn lengthen(&self, search: &mut Search, path: Path, paths: &mut Paths) -> Result<(), Stop> {
+        let Path { rows, stand } = path;
+        if stand.steps > 0 && self.is_head(stand.at) {
+            let to = Target::Head(stand.at);
+            return paths.end(rows, stand, to);
+        }
+        let none = Tree::Bottom;
+        let goal = tree_at(self.operands.goal, stand.at, &none);
+        for region in regions(search, goal, &stand.after, rows)? {
+            let twin = stand.twin(search.alloc)?;
+            if region.is_claimed {
+                paths.end(region.rows, twin, Target::Goal)?;
+            } else {
+                self.keep(search, region.rows, twin, paths)?;
+            }
+        }
+        Ok(())
+    }
+
+    /// Goes on where what is to be kept holds.
+    fn keep(
+        &self,
+        search: &mut Search,
+        rows: Vec<Row>,
+        stand: Stand,
+        paths: &mut Paths,
+    ) -> Result<(), Stop> {
+        let none = Tree::Bottom;
+        let keep = tree_at(self.operands.keep, stand.at, &none);
+        for region in regions(search, keep, &stand.after, rows)? {
+            let twin = stand.twin(search.alloc)?;
+            if region.is_claimed {
+                self.step(search, region.rows, twin, paths)?;
+            } else {
+                paths.end(region.rows, twin, Target::Fault)?;
+            }
+        }
+        Ok(())
+    }
+
+    /// Does what is done at the label.
+    fn step(
+        &self,
+        search: &mut Search,
+        rows: Vec<Row>,
+        stand: Stand,
+        paths: &mut Paths,
+    ) -> Result<(), Stop> {
+        let alloc = search.alloc;
+        let Some(transition) = self.transitions.get(stand.at as usize) else {
+            return Ok(());
+        };
+        match transition {
+            Transition::End => paths.end(rows, stand, self.at_end()),
+            Transition::Dead => Ok(()),
+            Transition::Pass { to } => {
+                let stand = stand.next(alloc, *to)?;
+                paths.go_on(rows, stand)
+            }
+            Transition::Assign { place, value, to } => {
+                let value = through(value, &stand.after)?;
+                let mut stand = stand.next(alloc, *to)?;
+                put(&mut stand.after, place.number, value);
+                paths.go_on(rows, stand)
+            }
+            Transition::Choose {
+                place,
+                range,
+                choice,
+                to,
+            } => {
+                let mut rows = rows;
+                let mut stand = stand.next(alloc, *to)?;
+                let chosen = match self.picked_end(*choice) {
+                    Some(end) => Affine::constant(i128::from(end)),
+                    None => choose(&mut rows, &mut stand, range)?,
+                };
+                put(&mut stand.after, place.number, chosen);
+                paths.go_on(rows, stand)
+            }
+            Transition::Test {
+                is_head: _,
+                choice,
+                holds,
+                fails,
+                yes,
+                no,
+            } => {
+                let picked = self.picked_outcome(*choice);
+                if picked != Some(false) {
+                    branch(search, &rows, &stand, holds, *yes, paths)?;
+                }
+                if picked != Some(true) {
+                    branch(search, &rows, &stand, fails, *no, paths)?;
+                }
+                Ok(())
+            }
+        }
+    }
+
+    /// What the end of the program is, where the goal doesn't hold and what is to be kept does.
+    fn at_end(&self) -> Target {
+        if self.is_weak {
+            Target::Goal
+        } else {
+            Target::Fault
+        }
+    }
+}
+
+/// Opens the paths behind an outcome of a test.
+fn branch(
+    search: &mut Search,
+    rows: &[Row],
+    stand: &Stand,
+    outcome: &[Rows],
+    to: u32,
+    paths: &mut Paths,
+) -> Result<(), Stop> {
+    for conjunction in outcome {
+        let mut more = rows.to_vec(search.alloc)?;
+        if add_through(&mut more, conjunction.items(), &stand.after)? {
+            if let Some(rows) = search.met(more)? {
+                let stand = stand.next(search.alloc, to)?;
+                paths.go_on(rows, stand)?;
+            }
+        }
+    }
+    Ok(())
+}
+
+/// The rows parted by the leaves of the tree, which is over the store behind.
+fn regions(
+    search: &mut Search,
+    tree: &Tree<AffineRank>,
+    after: &[Affine],
+    rows: Vec<Row>,
+) -> Result<Vec<Region>, Stop> {
+    if tree.size() > MOST_NODES {
+        return Err(Stop::GivenUp);
+    }
+    let mut found = Vec::new(search.alloc);
+    part(search, tree, after, rows, &mut found)?;
+    Ok(found)
+}
+
+/// Adds the regions of the tree.
+#[cycle(parted)]
+fn part(
+    search: &mut Search,
+    tree: &Tree<AffineRank>,
+    after: &[Affine],
+    rows: Vec<Row>,
+    found: &mut Vec<Region>,
+) -> Result<(), Stop> {
+    match tree {
+        Tree::Node { row, yes, no } => {
+            let other = row.not()?;
+            side(search, yes, row, after, &rows, found)?;
+            side(search, no, &other, after, &rows, found)
+        }
+        Tree::Leaf { .. } | Tree::Bottom | Tree::Top(_) => {
+            found.push(Region {
+                rows,
+                is_claimed: matches!(tree, Tree::Leaf { .. }),
+            })?;
+            Ok(())
+        }
+    }
+}
+
+/// Adds the regions of a side, under its row.
+#[cycle(parted)]
+fn side(
+    search: &mut Search,
+    tree: &Tree<AffineRank>,
+    row: &Row,
+    after: &[Affine],
+    rows: &[Row],
+    found: &mut Vec<Region>,
+) -> Result<(), Stop> {
+    let mut more = rows.to_vec(search.alloc)?;
+    if add(&mut more, &through(&row.affine, after)?)? {
+        if let Some(more) = search.met(more)? {
+            part(search, tree, after, more, found)?;
+        }
+    }
+    Ok(())
+}
+
+/// Gives the variable at the place the value.
+fn put(after: &mut [Affine], place: u8, value: Affine) {
+    if let Some(own) = after.get_mut(place as usize) {
+        *own = value;
+    }
+}
+
+/// A number of the range, at the next free place, with the rows that it meets.
+fn choose(rows: &mut Vec<Row>, stand: &mut Stand, range: &Linear) -> Result<Affine, Stop> {
+    if stand.free as usize >= PLACES {
+        return Err(Stop::GivenUp);
+    }
+    let chosen = Affine::var(stand.free);
+    let value = through(&range.affine, &stand.after)?;
+    if let Some(lo) = range.lo {
+        add(rows, &chosen.sub(&value.plus(lo)?)?)?;
+    }
+    if let Some(hi) = range.hi {
+        add(rows, &value.plus(hi)?.sub(&chosen)?)?;
+    }
+    stand.free = stand.free.saturating_add(1);
+    Ok(chosen)
+}

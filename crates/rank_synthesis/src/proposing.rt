@@ -1,0 +1,173 @@
+//! Families that are proposed.
+ghost use Rattle.std.specs.Prelude.{◌≡◌, ◌≤◌, IfOk, IfSome, length};
+ghost use Rattle.control_flow.specs.Transitions.{AreOnward};
+
+use crate::cells::{Cell, Found};
+use crate::closing::close;
+use crate::components::components;
+use crate::loops::{Loops, Question};
+use crate::parting::Parting;
+use crate::search::Search;
+use crate::stop::{Stop, unless_given_up};
+use backward_sweeps::{begun, given_up, taken_over, tree_at};
+use control_flow::Transition;
+use decision_tree::{AffineRank, Pick, Tree, TreeList, Why};
+use linear_cons::Row;
+use std::alloc::{AllocError, Global};
+use tree_unify::{TreeFault, both, either, trim};
+
+impl Loops {
+    /// The trees that are proposed for the question, one for each label: at the heads ranks of the cells of the parting, and elsewhere what
+    /// follows from these; a label whose tree can't be made claims nothing. None where there is no loop, the parting's rows are those of one that was tried, a number lies outside `i128`, or
+    /// no work is left to the search. The only error is want of memory.
+    pub fn proposed(
+        &mut self,
+        search: &mut Search,
+        question: &Question<'_>,
+        parting: Parting,
+    ) -> Result<Option<TreeList<AffineRank>>, AllocError>
+        requires few { length question.now.transitions.now ≤ 1024 }
+        requires onward { AreOnward question.now.transitions.now }
+        ensures { IfOk result (λ found. IfSome found (λ made. length made ≡ length question.now.transitions.now)) }
+    {
+        match unless_given_up(self.ranked(search, parting))?.flatten() {
+            Some(cells) => {
+                let trees = self.followed(search.alloc, question, &cells)?;
+                Ok(Some(trees))
+            }
+            None => Ok(None),
+        }
+    }
+
+    /// The cells of the parting with their ranks. None where the rows were tried.
+    fn ranked(&mut self, search: &mut Search, parting: Parting) -> Result<Option<Vec<Cell>>, Stop> {
+        if self.heads.is_empty() {
+            return Ok(None);
+        }
+        let mut rows = Vec::with_capacity(search.alloc, self.heads.len())?;
+        for head in &self.heads {
+            rows.push(self.rows(search.alloc, head, parting)?)?;
+        }
+        if self.tried.contains(&rows) {
+            return Ok(None);
+        }
+        let mut cells = self.cells(search, &rows)?;
+        self.tried.push(rows)?;
+        if self.is_weak {
+            close(&mut cells);
+        } else {
+            for component in components(search.alloc, &cells)? {
+                self.rank(search, &mut cells, &component)?;
+            }
+        }
+        Ok(Some(cells))
+    }
+
+    /// The trees that follow from the cells' ranks.
+    fn followed(
+        &self,
+        alloc: Global,
+        question: &Question<'_>,
+        cells: &[Cell],
+    ) -> Result<TreeList<AffineRank>, AllocError>
+        requires few { length question.now.transitions.now ≤ 1024 }
+        requires onward { AreOnward question.now.transitions.now }
+        ensures { IfOk result (λ made. length made ≡ length question.now.transitions.now) }
+    {
+        let heads = self.trees(alloc, question, cells)?;
+        let mut trees = begun(alloc, question.transitions, question.operands, &heads)?;
+        if question.is_weak {
+            keep_ends(alloc, question, &mut trees)?;
+        }
+        question.follow(alloc, &mut trees)?;
+        Ok(TreeList::of(trees))
+    }
+
+    /// The trees at the heads, and none elsewhere.
+    fn trees(
+        &self,
+        alloc: Global,
+        question: &Question<'_>,
+        cells: &[Cell],
+    ) -> Result<Vec<Tree<AffineRank>>, AllocError>
+        requires few { length question.now.transitions.now ≤ 1024 }
+    {
+        let mut heads = Vec::with_capacity(alloc, question.transitions.len())?;
+        for label in 0..question.transitions.len() as u32 {
+            let tree = match self.index(label) {
+                Some(index) => match at_head(alloc, question, cells, index, label) {
+                    Ok(tree) => tree,
+                    Err(fault) => given_up(fault)?,
+                },
+                None => Tree::Bottom,
+            };
+            heads.push(tree)?;
+        }
+        Ok(heads)
+    }
+}
+
+/// Lets what is to be kept be claimed at the end of the program, where the goal isn't.
+fn keep_ends(
+    alloc: Global,
+    question: &Question<'_>,
+    trees: &mut [Tree<AffineRank>],
+) -> Result<(), AllocError>
+    requires few { length question.now.transitions.now ≤ 1024 }
+    ensures { length trees.new ≡ length trees.old }
+{
+    let none = Tree::Bottom;
+    for label in 0..question.transitions.len() as u32 {
+        if let Some(Transition::End) = question.transitions.get(label as usize) {
+            let why = Some(Why::Step(Pick::All));
+            let keep = taken_over(alloc, tree_at(question.operands.keep, label, &none), why)?;
+            let made = match either(alloc, tree_at(question.operands.goal, label, &none), &keep) {
+                Ok(tree) => tree,
+                Err(fault) => given_up(fault)?,
+            };
+            if let Some(tree) = trees.get_mut(label as usize) {
+                *tree = made;
+            }
+        }
+    }
+    Ok(())
+}
+
+/// The tree at the head with the index: the ranks of its cells, where the goal doesn't hold and what is to be kept does.
+fn at_head(
+    alloc: Global,
+    question: &Question<'_>,
+    cells: &[Cell],
+    index: usize,
+    label: u32,
+) -> Result<Tree<AffineRank>, TreeFault> {
+    let mut tree = Tree::Bottom;
+    for cell in cells {
+        if cell.head == index {
+            if let Found::Rank(value) = cell.found {
+                let part = of_cell(alloc, &cell.rows, question.why(label), AffineRank { value })?;
+                let next = either(alloc, &tree, &part)?;
+                tree = next;
+            }
+        }
+    }
+    let none = Tree::Bottom;
+    let kept = both(alloc, tree_at(question.operands.keep, label, &none), &tree)?;
+    let made = either(alloc, tree_at(question.operands.goal, label, &none), &kept)?;
+    trim(alloc, &made, &[])
+}
+
+/// The rank where the rows are met.
+fn of_cell(
+    alloc: Global,
+    rows: &[Row],
+    why: Why,
+    rank: AffineRank,
+) -> Result<Tree<AffineRank>, AllocError> {
+    let mut tree = Tree::boxed_leaf(alloc, &why, &rank)?;
+    for row in rows.iter().rev() {
+        let none = Tree::boxed_bottom(alloc)?;
+        tree = Tree::boxed_branch(alloc, row, tree, none)?;
+    }
+    Ok(Box::into_inner(tree))
+}

@@ -1,0 +1,67 @@
+//! The work that is left to a search.
+use crate::stop::Stop;
+use linear_cons::Row;
+use linear_program::{Program, Solution, Term, minimised};
+use linear_solve::{Answer, decide_tightest, tightest};
+use std::alloc::Global;
+
+/// The most tests whether rows are met: some 250 for a head of a loop with one path, so enough for 30 such loops, and a second of work.
+const MOST_TESTS: u32 = 65_536;
+
+/// The most exchanges of all linear programs. Of the programs of the literature each takes less than a quarter of them.
+const MOST_EXCHANGES: u32 = 40_000;
+
+/// The most exchanges of one linear program, which bounds its time at about a second.
+const MOST_OF_ONE: u32 = 500;
+
+/// The most rows that are tested. More count as met.
+const MOST_ROWS: usize = 200;
+
+/// Where a search has its memory from, and what work is left to it.
+#[derive(Drop)]
+pub struct Search {
+    pub(crate) alloc: Global,
+    tests: u32,
+    exchanges: u32,
+}
+
+impl Search {
+    /// A search with all its work before it.
+    pub fn new(alloc: Global) -> Search {
+        Search {
+            alloc,
+            tests: MOST_TESTS,
+            exchanges: MOST_EXCHANGES,
+        }
+    }
+
+    /// The tightest of the rows, or none where they are seen to be met nowhere.
+    pub(crate) fn met(&mut self, rows: Vec<Row>) -> Result<Option<Vec<Row>>, Stop> {
+        if self.tests == 0 {
+            return Err(Stop::GivenUp);
+        }
+        self.tests = self.tests.saturating_sub(1);
+        let rows = tightest(rows);
+        if rows.len() > MOST_ROWS {
+            return Ok(Some(rows));
+        }
+        match decide_tightest(self.alloc, &rows)? {
+            Answer::Empty => Ok(None),
+            _ => Ok(Some(rows)),
+        }
+    }
+
+    /// A solution of the linear program with small costs.
+    pub(crate) fn solved(
+        &mut self,
+        program: &Program,
+        costs: &[Term],
+    ) -> Result<Option<Solution>, Stop> {
+        let given = self.exchanges.min(MOST_OF_ONE);
+        let mut left = given;
+        let found = minimised(self.alloc, program, costs, &mut left)?;
+        let done = given.saturating_sub(left);
+        self.exchanges = self.exchanges.saturating_sub(done);
+        Ok(found)
+    }
+}
