@@ -52,7 +52,8 @@ use std::alloc::{AllocError, Global};
 /// all; the cover of a program without loops is one leaf, the most steps of a path; and where the factors in front of the loop are small, the way of
 /// an input of small numbers through the cover is found within 128 bits. For any other formula or program a family is proposed, by
 /// sweeps that widen at the heads of loops after `max(delay, 1)` of them; and for an `A[f U g]`, as long as an input has no claim, the advisers
-/// propose more, in eight turns. Nothing is assumed of the advisers: a family is there because the check left it so.
+/// propose more, in eight turns. Of an until or a weak until, where there are advisers and the delay is 2 or more, linear programs propose further families.
+/// Nothing is assumed of who proposes: a family is there because the check left it so.
 ///
 /// In a plain program without loops each input from which the formula holds has a claim, where no leaf was given up and the first tree is small, and
 /// within the measures of the two; where the growth of these is at most 2^60 its way there is found within 128 bits, if its numbers are small.

@@ -4,7 +4,7 @@
 //! The families of the smaller parts come first, part by part from the inside: of the trees that are proposed for a part, over the families of
 //! its operands, each family is what the check leaves, and those of the truth and of `exit` are known by their shape. For `AF exit` a countdown
 //! program has a candidate (`count_down`); for any other formula or program a family of the whole is proposed (`part_trees`), and for an
-//! `A[f U g]` the advisers' hints propose more (`loop_facts`, `advice`), and then linear programs (`rank_synthesis`). Whoever proposes it, what is
+//! `A[f U g]` the advisers' hints propose more (`loop_facts`, `advice`). Linear programs propose more for any until or weak until (`rank_synthesis`). Whoever proposes it, what is
 //! answered is what the check leaves of it.
 //! The front door: `analyse`, which answers a `Certificate`, `cover`, the first claim of its families for each input, `Premises`, which answers
 //! the families of the smaller parts alone, and `laws`, which says why the cover is true.

@@ -5,13 +5,13 @@ use linear_program::{Program, Solution, Term, minimised};
 use linear_solve::{Answer, decide_tightest, tightest};
 use std::alloc::Global;
 
-/// The most tests whether rows are met: some 250 for a head of a loop with one path, so enough for 30 such loops, and a second of work.
+/// The most tests whether rows are met. Thirty loops in a row get their ranks within them.
 const MOST_TESTS: u32 = 65_536;
 
-/// The most exchanges of all linear programs. Of the programs of the literature each takes less than a quarter of them.
+/// The most exchanges of all linear programs.
 const MOST_EXCHANGES: u32 = 40_000;
 
-/// The most exchanges of one linear program, which bounds its time at about a second.
+/// The most exchanges of one linear program, so that one alone doesn't take long.
 const MOST_OF_ONE: u32 = 500;
 
 /// The most rows that are tested. More count as met.
