@@ -8,6 +8,7 @@
   examples/formulas/ with its formula too; README.md shows programs as the files have them.
 - README.md, docs/TERMINATES.md and the other pages with runs show what the command and its companion write, where a built command is at hand; else the tests of the companion see to it. Their runs name
   files that are there. The recipes of docs/REPORT.md are read by bash, and do there what the page says.
+- Each row of the table of promises in docs/PROOFS.md names functions of the code, each with clauses at it or fields of a record in its contract, and files of specs/.
 - Behind the dash of each claim in docs/PROOFS.md stand functions and clauses: each function is one of the code, and each clause stands at a function that the claim
   names before it, or is a field of a record in that function's contract. Where a claim names no function, the clause is one of the heading's crates.
 """
@@ -250,8 +251,28 @@ def missing_clauses():
                 yield f"docs/PROOFS.md: `{word}` is no function, and no clause where it is named: {text[:80]}.."
 
 
+def wrong_promises():
+    """What the table of promises names and the code hasn't at that place."""
+    clauses, words, owned = contracts()
+    records = fields()
+    table = (TOP / "docs/PROOFS.md").read_text().partition("| promise |")[2].partition("\n\n")[0]
+    for line in table.splitlines()[2:]:
+        promise, carried, files = (cell.strip() for cell in line.strip("|").split("|"))
+        for crate, function, named in re.findall(r"`(\w+)::(\w+)`((?:[:,] `\w+`)*)", carried):
+            at = clauses.get(function, set()).union(*(records.get(word, ()) for word in words.get(function, ())))
+            if function not in owned.get(crate, ()):
+                yield f"docs/PROOFS.md: `{crate}::{function}` is no function: {promise[:80]}.."
+            for clause in set(re.findall(r"`(\w+)`", named)) - at:
+                yield f"docs/PROOFS.md: `{clause}` is no clause of `{crate}::{function}`: {promise[:80]}.."
+        if not re.search(r"`\w+::\w+`", carried):
+            yield f"docs/PROOFS.md: no contract carries: {promise[:80]}.."
+        for file in re.findall(r"`([\w/]+)`", files):
+            if not (TOP / "crates" / f"{file}.antt").is_file():
+                yield f"docs/PROOFS.md: crates/{file}.antt isn't there: {promise[:80]}.."
+
+
 def main():
-    faults = [*wrong_layers(), *wrong_rows(), *unknown_names(), *missing_examples(), *missing_formulas(), *stale_examples(), *stale_runs(), *broken_recipes(), *missing_clauses()]
+    faults = [*wrong_layers(), *wrong_rows(), *unknown_names(), *missing_examples(), *missing_formulas(), *stale_examples(), *stale_runs(), *broken_recipes(), *wrong_promises(), *missing_clauses()]
     for fault in faults:
         print(fault)
     return 1 if faults else 0

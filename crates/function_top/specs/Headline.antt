@@ -27,8 +27,6 @@ Headline words call =
     (task : Task) (text before written : List ℕ) (subject : Subject) → Ask words (analysis task) → call.left ≡ Some text → IsSubject task text subject
     → call.taken ≡ Some before → call.taken_after ≡ Some (before ++ written) → IsTrueText subject written
 
--- What follows has no part in the headline.
-
 -- whatever a whole line of the text tells that is a claim alone is true of the input
 abbrev pub IsTrueAnswer : Subject → Store → List ℕ → Type 0
 IsTrueAnswer subject input text =

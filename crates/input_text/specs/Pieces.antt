@@ -10,6 +10,8 @@ abbrev pub pieces : ℕ → List ℕ → List (List ℕ)
 pieces byte [] = [] ∷ []
 pieces byte (x ∷ xs) = if x == byte then [] ∷ pieces byte xs else in_front x (pieces byte xs)
 
+-- What follows has no part in the headline.
+
 -- those of what is behind a comma, code 44, where there is one
 abbrev pub pieces_behind : Option (List ℕ) → List (List ℕ)
 pieces_behind None = []
