@@ -1,9 +1,10 @@
 -- What is due by the report that shows what was found.
-use Rattle.std.proofs.Common.{◌≡◌, ◌≢◌, ℕ, ◌+◌, ◌≤◌, ⊎_elim, List, [], ◌∷◌, ◌++◌, length, Option, None, Some, refl, sym, subst, ◌∙◌}
+use Rattle.std.proofs.Common.{◌≡◌, ◌≢◌, ℕ, ◌+◌, ◌<◌, ◌≤◌, ⊎_elim, List, [], ◌∷◌, ◌++◌, length, Option, None, Some, refl, sym, subst, ◌∙◌}
 use Rattle.step_meaning.specs.declared.program.Program.{Program as Parsed}
 use Rattle.step_meaning.specs.Outcome.{Store}
 use Rattle.step_meaning.specs.Syntax.{size_of, statements}
-use Rattle.source_parse.specs.Derives.{IsProgramText}
+use Rattle.source_parse.specs.Derives.{Derives, IsProgramText}
+use Rattle.control_flow.specs.Faults.{wide_offsets}
 use Rattle.ctl_formula.specs.Formulas.{Ctl, normal}
 use Rattle.normal_form.specs.Operators.{operators}
 use Rattle.ctl_rounds.specs.Asked.{IsAdvised}
@@ -17,7 +18,7 @@ use Rattle.function_top.specs.declared.found.Found.{Found}
 use Rattle.function_top.specs.declared.status.Status.{Status}
 use Rattle.function_top.specs.declared.status.Status.TheVariants.{AllInputs, SomeInputs, Words, Program, Formula, ReadFault, WriteFault, NoMemory}
 use Rattle.function_top.specs.Asking.{IsInputGiven, IsReadAs}
-use Rattle.function_top.specs.Output.{IsAnswerOn, IsCovering, IsDueOn, IsLacking, IsReportOn, IsVerdict}
+use Rattle.function_top.specs.Output.{HasGraph, IsAnswerOn, IsCovering, IsDueOn, IsLacking, IsReportOn, IsVerdict}
 use Rattle.function_top.specs.Explained.{explained, explanation}
 use Rattle.function_top.specs.Found.{IsFound}
 use Rattle.command_words.specs.Order.{Task}
@@ -26,17 +27,29 @@ use Rattle.function_top.specs.Shown.{Shows}
 use Rattle.function_top.specs.Subject.{IsFormulaAsked, subject_of}
 use Rattle.function_top.proofs.Certain.{whole_claims}
 
+-- a text that is a program within the limits has a graph
+pub graph_of : (text : List ℕ) (program : Parsed) → length text ≤ 65536 → Derives text program → size_of (statements program.body) < 1024
+    → wide_offsets program.body ≡ [] → HasGraph text program.names
+graph_of text program short derived labels conjunctions = record {
+  short = short;
+  program = program;
+  derived = derived;
+  names_are = refl;
+  labels = labels;
+  conjunctions = conjunctions;
+}
+
 module _ (task : Task) (text : List ℕ) (program : Parsed) (meant : Ctl) (found : Found) (report : Report) (advisers turns : ℕ) (bytes : List ℕ)
-    (short : length text ≤ 65536) (derived : IsProgramText text program.names (statements program.body))
+    (within : HasGraph text program.names) (derived : IsProgramText text program.names (statements program.body))
     (formula : IsFormulaAsked program.names task.formula meant) (limited : operators (normal meant) ≤ 256)
     (finds : IsFound task (subject_of program meant) found) (asked : turns ≡ found.turns) (shows : Shows found report)
     (explains : report.explain ≡ explained task.explain (explanation (1 + size_of (statements program.body)) found.families advisers turns))
     (printed : IsReportText program.names report bytes) where
   on : IsReportOn task text report advisers turns bytes
   on = record {
-    short = short;
     subject = subject_of program meant;
     is = record { program = derived; formula = formula };
+    within = within;
     limited = limited;
     found = found;
     finds = finds;
@@ -69,15 +82,15 @@ module _ (task : Task) (text : List ℕ) (program : Parsed) (meant : Ctl) (found
 -- what is due where one input is asked for
 module _ (task : Task) (text asked_text : List ℕ) (program : Parsed) (meant : Ctl) (found : Found) (advisers turns : ℕ) (bytes line : List ℕ)
     (input : Store) (claim : Claim)
-    (short : length text ≤ 65536) (derived : IsProgramText text program.names (statements program.body))
+    (within : HasGraph text program.names) (derived : IsProgramText text program.names (statements program.body))
     (formula : IsFormulaAsked program.names task.formula meant) (limited : operators (normal meant) ≤ 256)
     (finds : IsFound task (subject_of program meant) found) (asked : turns ≡ found.turns)
     (given : IsInputText program.names asked_text input) (tells : Tells program.names line claim) (is_line : bytes ≡ line ++ 10 ∷ []) where
   answer : (status : Status) → IsToldOf found input status claim → IsAnswerOn task text asked_text status turns bytes
   answer status told = record {
-    short = short;
     subject = subject_of program meant;
     is = record { program = derived; formula = formula };
+    within = within;
     limited = limited;
     input = input;
     input_is = given;

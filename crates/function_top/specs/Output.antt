@@ -35,12 +35,21 @@ use Rattle.function_top.specs.Refusals.{formula_text, program_text, usage_text}
 use Rattle.function_top.specs.Shown.{Shows}
 use Rattle.function_top.specs.Subject.{IsSubject, Subject}
 
--- The text, of at most 65,536 bytes, has a subject, and the normal form of its formula has at most 256 operators; by the task this was found of
--- it, asking each of so many advisers so many times; and the report that shows it, explained where that is asked for, is these bytes.
-pub record IsReportOn (task : Task) (text : List ℕ) (report : Report) (advisers turns : ℕ) (bytes : List ℕ) : Type 0 where
+-- the text, of at most 65,536 bytes, is a program with these names, of at most 1,024 labels, and no test of it spreads to more than 64 conjunctions
+pub record HasGraph (text : List ℕ) (names : List (List ℕ)) : Type 0 where
   pub short : length text ≤ 65536
+  pub program : Parsed
+  pub derived : Derives text program
+  pub names_are : program.names ≡ names
+  pub labels : size_of (statements program.body) < 1024
+  pub conjunctions : wide_offsets program.body ≡ []
+
+-- The text has a subject whose program is within the limits, and the normal form of its formula has at most 256 operators; by the task this was
+-- found of it, asking each of so many advisers so many times; and the report that shows it, explained where that is asked for, is these bytes.
+pub record IsReportOn (task : Task) (text : List ℕ) (report : Report) (advisers turns : ℕ) (bytes : List ℕ) : Type 0 where
   pub subject : Subject
   pub is : IsSubject task text subject
+  pub within : HasGraph text subject.names
   pub limited : operators (normal subject.formula) ≤ 256
   pub found : Found
   pub finds : IsFound task subject found
@@ -51,9 +60,9 @@ pub record IsReportOn (task : Task) (text : List ℕ) (report : Report) (adviser
 
 -- The same of a text with a subject where one input is asked for, by its text: what is told of the input by what was found, on one line.
 pub record IsAnswerOn (task : Task) (text asked : List ℕ) (status : Status) (turns : ℕ) (bytes : List ℕ) : Type 0 where
-  pub short : length text ≤ 65536
   pub subject : Subject
   pub is : IsSubject task text subject
+  pub within : HasGraph text subject.names
   pub limited : operators (normal subject.formula) ≤ 256
   pub input : Store
   pub input_is : IsInputText subject.names asked input
@@ -102,15 +111,6 @@ pub record IsPastLimits (text line : List ℕ) : Type 0 where
   pub fault_of : IsFlowFault fault program.body
   pub number_of : flow_numbered fault ≡ Some (number, offset)
   pub line_is : line ≡ program_text number offset
-
--- the text, of at most 65,536 bytes, is a program with these names, of at most 1,024 labels, and no test of it spreads to more than 64 conjunctions
-pub record HasGraph (text : List ℕ) (names : List (List ℕ)) : Type 0 where
-  pub short : length text ≤ 65536
-  pub program : Parsed
-  pub derived : Derives text program
-  pub names_are : program.names ≡ names
-  pub labels : size_of (statements program.body) < 1024
-  pub conjunctions : wide_offsets program.body ≡ []
 
 -- One input is asked for of the program that the text is; the program is within the limits, but the input's text is that of none over its names;
 -- and this is the usage line.

@@ -209,6 +209,8 @@ fn found_on(
 ) -> Result<Output, AllocError>
     requires input { IsReadAs graph.now.names (task_of query.now).input input.now }
     requires formula { IsNormalAsked graph.now.names (task_of query.now).formula (ctl formula.now) }
+    requires labels { size_of (statements graph.now.body) < 1024 }
+    requires conjunctions { wide_offsets graph.now.body ≡ [] }
     requires over { RowsAreOver (length graph.now.names) (ctl formula.now) }
     requires patient { All (λ adviser. asked_of adviser ≤ 2 ^ 32) advisers.old.items }
     ensures due { IfOk result (λ due. IsDueOnProgram (task_of query.now) graph.now due.status (length advisers.old.items) due.turns due.bytes.items) }
@@ -233,6 +235,8 @@ fn analysed<D: NumDomain>(
 ) -> Result<Output, AllocError>
     requires input { IsReadAs graph.now.names (task_of query.now).input input.now }
     requires formula { IsNormalAsked graph.now.names (task_of query.now).formula (ctl formula.now) }
+    requires labels { size_of (statements graph.now.body) < 1024 }
+    requires conjunctions { wide_offsets graph.now.body ≡ [] }
     requires over { RowsAreOver (length graph.now.names) (ctl formula.now) }
     requires patient { All (λ adviser. asked_of adviser ≤ 2 ^ 32) advisers.old.items }
     ensures due { IfOk result (λ due. IsDueOnProgram (task_of query.now) graph.now due.status (length advisers.old.items) due.turns due.bytes.items) }

@@ -1,4 +1,4 @@
-use Rattle.std.proofs.Common.{rules, refl, sym, subst, arith}
+use Rattle.std.proofs.Common.{rules, sym, subst, arith}
 use Rattle.step_meaning.specs.declared.program.Program.{Program}
 use Rattle.step_meaning.specs.Syntax.{statements}
 use Rattle.ctl_rounds.proofs.Asking.{unasked}
@@ -6,6 +6,7 @@ use Rattle.command_words.specs.Order.{task_of}
 use Rattle.line_text.specs.Names.{AreNames}
 use Rattle.function_top.specs.Asking.{IsInputGiven}
 use Rattle.function_top.proofs.Named.{program_names}
+use Rattle.function_top.proofs.Reported.{graph_of}
 use Rattle.function_top.proofs.answer.due_on_graph.Goals as goal
 
 pub returns-in_ok-no_input-in-None-clause-due : goal.returns-in_ok-no_input-in-None-clause-due
@@ -15,14 +16,7 @@ returns-in_ok-no_input-in-None-clause-due g c = λ text short derived stand.
     rw (c.in_ok-no_input-in-None.ensures.status) (
       record {
         names = program.names;
-        within = record {
-          short = short;
-          program = program;
-          derived = derived;
-          names_are = refl;
-          labels = c.requires.labels;
-          conjunctions = c.requires.conjunctions;
-        };
+        within = graph_of text program short derived c.requires.labels c.requires.conjunctions;
         refused = subst (λ (p : Program). ¬ IsInputGiven p.names (task_of c.args.query.now).input) c.program.ensures
             (c.in-None.ensures.none (subst (λ (p : Program). AreNames p.names) (sym c.program.ensures) names));
         line_is = c.in_ok-no_input-in-None.ensures.line;

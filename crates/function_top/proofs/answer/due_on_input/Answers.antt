@@ -1,11 +1,11 @@
-use Rattle.std.proofs.Common.{rules, ◌≡◌, ◌∙◌, refl, subst, sym, Some, arith}
+use Rattle.std.proofs.Common.{rules, ◌≡◌, ◌∙◌, subst, sym, Some, arith}
 use Rattle.step_meaning.specs.declared.program.Program.{Program}
 use Rattle.formula_parse.specs.Laws.{numbered}
 use Rattle.ctl_rounds.proofs.Asking.{unasked}
 use Rattle.function_top.specs.Asking.{IsFaultAsked}
 use Rattle.command_words.specs.Order.{task_of}
 use Rattle.function_top.proofs.Refusing.{asked_refused}
-use Rattle.function_top.proofs.Reported.{read_given}
+use Rattle.function_top.proofs.Reported.{graph_of, read_given}
 use Rattle.function_top.proofs.answer.due_on_input.Goals as goal
 
 pub returns-in_ok-no_formula-in-Some-clause-due : goal.returns-in_ok-no_formula-in-Some-clause-due
@@ -20,14 +20,7 @@ returns-in_ok-no_formula-in-Some-clause-due g c = λ text short derived stand.
     rw (c.in_ok-no_formula-in-Some.ensures.status) (
       record {
         names = program.names;
-        within = record {
-          short = short;
-          program = program;
-          derived = derived;
-          names_are = refl;
-          labels = c.requires.labels;
-          conjunctions = c.requires.conjunctions;
-        };
+        within = graph_of text program short derived c.requires.labels c.requires.conjunctions;
         given = read_given program.names (task_of c.args.query.now).input c.args.input.now c.requires.input;
         formula = refused.formula;
         asked = refused.asked_is;
