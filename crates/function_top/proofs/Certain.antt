@@ -1,9 +1,7 @@
--- What is certain to be told: of each input of a countdown program, and of one input of a program with small levels.
-use Rattle.std.proofs.Common.{◌≡◌, ℕ, ◌⊎◌, false, inl, inr, List, [], ◌∷◌, ◌++◌, length, All, Option, None, Some, refl, sym, ap, ◌∙◌, subst}
-use Rattle.std.specs.Io.KnownBytes.{Appends}
+-- What is certain to be claimed: of each input of a countdown program, and of one input of one with small factors.
+use Rattle.std.proofs.Common.{◌≡◌, ◌≢◌, ℕ, ◌⊎◌, false, inl, inr, List, [], ◌∷◌, ◌++◌, All, None, refl, sym, ap, ◌∙◌, subst}
 use Rattle.std.proofs.lemmas.List.Elements.{All-append, All-cons, All-head, All-nil, All-tail}
 use Rattle.step_meaning.specs.Countdown.{IsCountdown}
-use Rattle.step_meaning.specs.Outcome.{Store}
 use Rattle.ctl_formula.specs.Formulas.{af_exit, normal}
 use Rattle.exact_families.proofs.Making.{which_leaf}
 use Rattle.ctl_rounds.proofs.Exactly.{whole_defined}
@@ -15,27 +13,23 @@ use Rattle.decision_tree.specs.Evaluation.{eval}
 use Rattle.decision_tree.specs.Extent.{IsWhole}
 use Rattle.fitting_ways.specs.Factors.{HasSmallFactors}
 use Rattle.line_text.specs.declared.claim.Claim.{Claim}
-use Rattle.input_text.specs.Input.{IsInputText}
 use Rattle.report_text.specs.declared.line.Line.{Line}
 use Rattle.report_text.specs.declared.line.Top.{Top}
 use Rattle.report_text.specs.declared.line.Top.TheVariants.{Bound, Exact as Counted, Plain}
 use Rattle.report_text.specs.declared.report.Report.{Report}
 use Rattle.report_text.specs.Leaves.{AreLines, AreLinesOf, claim_of, claiming_nothing, is_unknown, leaves_below, none, skipped, stands}
 use Rattle.function_top.specs.declared.status.Status.{Status}
-use Rattle.function_top.specs.declared.status.Status.TheVariants.{AllInputs, SomeInputs, Words, Program, Formula, ReadFault, WriteFault, NoMemory}
+use Rattle.function_top.specs.declared.status.Status.TheVariants.{AllInputs, SomeInputs, Words, Program, Formula}
 use Rattle.function_top.specs.declared.found.Found.{Found}
-use Rattle.function_top.specs.Answer.{Answers, AnswersExactly, CoversCountdowns, WasDue}
-use Rattle.function_top.specs.Call.{Call}
-use Rattle.function_top.specs.Output.{IsLacking, IsReport}
-use Rattle.function_top.specs.Exact.{HasSmallLevels}
+use Rattle.function_top.specs.Output.{IsAnswerOn, IsDueOn, IsReport, IsReportOn, answered, no_formula, no_input, no_program, reported}
 use Rattle.function_top.specs.Found.{IsFound}
-use Rattle.function_top.specs.Meeting.{TellsExactly}
-use Rattle.command_words.specs.Order.{Ask, Task, analysis}
+use Rattle.function_top.specs.OneInput.{IsToldOf, LeadsTo}
+use Rattle.command_words.specs.Order.{Task}
 use Rattle.function_top.specs.Shown.{Shows}
 use Rattle.function_top.specs.Subject.{IsSubject, Subject}
 use Rattle.function_top.proofs.ToldExactly.{numbers_small}
 use Rattle.function_top.proofs.Written.{Bytes}
-use Rattle.function_top.proofs.Headline.{AskOnce, KnownTexts, due_exact, no_demo, read_subject, same_subject, same_task, written_is}
+use Rattle.function_top.proofs.Headline.{KnownTexts, none_some, same_subject}
 
 -- ---- countdown programs
 
@@ -75,71 +69,44 @@ covered task subject found report finds shows ends counts =
     shows.unknown ∙ whole_claims found.claims (plan_of found.cover) shows.lines shows.lines_of (finds.countdown ends counts)
 
 -- nothing is left unknown of a countdown program
-not_lacking : KnownTexts → (asked : Option Bytes) (task : Task) (text : Bytes) (subject : Subject) (advisers turns : ℕ) (bytes : Bytes)
-    → IsSubject task text subject → (asked ≡ None) ⊎ HasSmallFactors subject.body → normal subject.formula ≡ af_exit → IsCountdown subject.body
-    → ¬ IsLacking asked task text advisers turns bytes
-not_lacking known None task text subject advisers turns bytes h certain ends counts lacking =
-    let report = lacking.1 in
-    let own : subject ≡ report.subject = same_subject known task text subject report.subject h report.is in
-    lacking.2 (covered task report.subject report.found lacking.0 report.finds report.shows
-    (subst (λ (s : Subject). normal s.formula ≡ af_exit) own ends) (subst (λ (s : Subject). IsCountdown s.body) own counts))
-not_lacking known (Some asked) task text subject advisers turns bytes h (inl whole) ends counts lacking = cc
-not_lacking known (Some asked) task text subject advisers turns bytes h (inr little) ends counts lacking =
-    let own : subject ≡ lacking.subject = same_subject known task text subject lacking.subject h lacking.is in
-    let af = subst (λ (s : Subject). normal s.formula ≡ af_exit) own ends in
-    let countdown = subst (λ (s : Subject). IsCountdown s.body) own counts in
-    let found = lacking.finds in
-    let cover = plan_of lacking.found.cover in
-    let there = which_leaf (eval cover lacking.input) (whole_defined lacking.input cover (found.countdown af countdown)) in
-    let fits = found.ways af countdown (subst (λ (s : Subject). HasSmallFactors s.body) own little) lacking.input
-    (numbers_small lacking.subject.names asked lacking.input lacking.input_is)
-    in
-    lacking.told.1 there.1 (record { fits = fits; why = there.0; is = there.2 })
+module _ (known : KnownTexts) (task : Task) (text : Bytes) (subject : Subject) (is : IsSubject task text subject) (ends : normal subject.formula ≡ af_exit)
+    (counts : IsCountdown subject.body) where
+  no_unknown : (report : Report) (advisers turns : ℕ) (bytes : Bytes) → IsReportOn task text report advisers turns bytes → report.unknown ≡ []
+  no_unknown report advisers turns bytes on =
+      let own : subject ≡ on.subject = same_subject known task text subject on.subject is on.is in
+      covered task on.subject on.found report on.finds on.shows (subst (λ (s : Subject). normal s.formula ≡ af_exit) own ends)
+      (subst (λ (s : Subject). IsCountdown s.body) own counts)
 
-pub covers_countdowns : KnownTexts → (words : List Bytes) → AskOnce words → (status : Status) (call : Call) → Answers words status call
-    → CoversCountdowns words status call
-covers_countdowns known words once SomeInputs call h task told subject ask is program certain ends counts same =
-    let due = h.1 in
-    let certain_here = subst (λ (t : Task). (t.input ≡ None) ⊎ HasSmallFactors subject.body) (same_task words once task due.task ask due.asked) certain in
-    not_lacking known due.task.input due.task due.text subject (length call.asked) due.turns h.0
-    (read_subject words once call SomeInputs h.0 due task told subject ask is program) certain_here ends counts due.due
-covers_countdowns known words once AllInputs call h task told subject ask is program certain ends counts same = cc
-covers_countdowns known words once Words call h task told subject ask is program certain ends counts same = cc
-covers_countdowns known words once Program call h task told subject ask is program certain ends counts same = cc
-covers_countdowns known words once Formula call h task told subject ask is program certain ends counts same = cc
-covers_countdowns known words once ReadFault call h task told subject ask is program certain ends counts same = cc
-covers_countdowns known words once WriteFault call h task told subject ask is program certain ends counts same = cc
-covers_countdowns known words once NoMemory call h task told subject ask is program certain ends counts same = cc
+  -- nor of one input of one, where the factors are small
+  leads : HasSmallFactors subject.body → (asked : Bytes) (status : Status) (turns : ℕ) (bytes : Bytes) (on : IsAnswerOn task text asked status turns bytes)
+      → (rank : AffineRank) × LeadsTo (plan_of on.found.cover) on.input rank
+  leads little asked status turns bytes on =
+      let own : subject ≡ on.subject = same_subject known task text subject on.subject is on.is in
+      let af = subst (λ (s : Subject). normal s.formula ≡ af_exit) own ends in
+      let countdown = subst (λ (s : Subject). IsCountdown s.body) own counts in
+      let cover = plan_of on.found.cover in
+      let there = which_leaf (eval cover on.input) (whole_defined on.input cover (on.finds.countdown af countdown)) in
+      let fits = on.finds.ways af countdown (subst (λ (s : Subject). HasSmallFactors s.body) own little) on.input
+      (numbers_small on.subject.names asked on.input on.input_is)
+      in
+      (there.1, record { fits = fits; why = there.0; is = there.2 })
 
--- ---- one input of a program with small levels
+  told_claims : HasSmallFactors subject.body → (asked : Bytes) (status : Status) (turns : ℕ) (bytes : Bytes) (on : IsAnswerOn task text asked status turns bytes)
+      → IsToldOf on.found on.input status on.claim → status ≢ SomeInputs
+  told_claims little asked status turns bytes on (inl (all, claimed)) some = let clash : AllInputs ≡ SomeInputs = sym all ∙ some in cc
+  told_claims little asked status turns bytes on (inr (is_lacking, nowhere, lacks, unknown)) some =
+      let way = leads little asked status turns bytes on in lacks way.0 way.1
 
--- by what was due and written whole
-module _ (known : KnownTexts) (words : List Bytes) (once : AskOnce words) (call : Call) (status : Status) (bytes : Bytes) where
-  due_answer : (due : WasDue words call status bytes) → IsReport status → Appends call.taken call.taken_after bytes
-      → (task : Task) (text before written asked : List ℕ) (subject : Subject) (input : Store) → Ask words (analysis task) → call.left ≡ Some text
-      → IsSubject task text subject → task.formula ≡ None → task.input ≡ Some asked → IsInputText subject.names asked input
-      → HasSmallLevels subject.body task.delay → call.taken ≡ Some before → call.taken_after ≡ Some (before ++ written)
-      → TellsExactly subject task.delay input written
-  due_answer due report appends task text before written asked subject input ask is h unasked one given small taken taken' =
-      let same = same_task words once task due.task ask due.asked in
-      let own = read_subject words once call status bytes due task text subject ask is h in
-      subst (λ (t : Task). TellsExactly subject t.delay input written) (sym same)
-      (subst (TellsExactly subject due.task.delay input) (sym (written_is call.taken call.taken_after before written bytes taken taken' appends))
-      (due_exact known due.task due.text subject asked input (subst (λ (t : Task). t.input ≡ Some asked) same one) own given
-      (subst (λ (t : Task). t.formula ≡ None) same unasked) (subst (λ (t : Task). HasSmallLevels subject.body t.delay) same small) status
-      (length call.asked) due.turns bytes due.due report))
-
-pub answers_exactly : KnownTexts → (words : List Bytes) → AskOnce words → (status : Status) (call : Call) → Answers words status call
-    → AnswersExactly words status call
-answers_exactly known words once AllInputs call (bytes, inl due, appends) task text before written asked subject input ask is h unasked one given small report =
-    due_answer known words once call AllInputs bytes due report appends task text before written asked subject input ask is h unasked one given small
-answers_exactly known words once AllInputs call (bytes, inr shown, appends) task text before written asked subject input ask is h unasked one given small report =
-    absurd (no_demo words once task ask shown.number shown.asked)
-answers_exactly known words once SomeInputs call (bytes, due, appends) task text before written asked subject input ask is h unasked one given small report =
-    due_answer known words once call SomeInputs bytes due report appends task text before written asked subject input ask is h unasked one given small
-answers_exactly known words once Words call said task text before written asked subject input ask is h unasked one given small report = absurd report
-answers_exactly known words once Program call said task text before written asked subject input ask is h unasked one given small report = absurd report
-answers_exactly known words once Formula call said task text before written asked subject input ask is h unasked one given small report = absurd report
-answers_exactly known words once ReadFault call said task text before written asked subject input ask is h unasked one given small report = absurd report
-answers_exactly known words once WriteFault call said task text before written asked subject input ask is h unasked one given small report = absurd report
-answers_exactly known words once NoMemory call said task text before written asked subject input ask is h unasked one given small report = absurd report
+  pub due_covers : (task.input ≡ None) ⊎ HasSmallFactors subject.body → (status : Status) (advisers turns : ℕ) (bytes : Bytes)
+      → IsDueOn task text status advisers turns bytes → IsReport status → status ≢ SomeInputs
+  due_covers certain status advisers turns bytes (reported report whole on (inl (all, covers))) shown some =
+      let clash : AllInputs ≡ SomeInputs = sym all ∙ some in cc
+  due_covers certain status advisers turns bytes (reported report whole on (inr (is_lacking, lacks))) shown some =
+      lacks (no_unknown report advisers turns bytes on)
+  due_covers (inl whole) status advisers turns bytes (answered asked one on) shown some = none_some task one whole
+  due_covers (inr little) status advisers turns bytes (answered asked one on) shown some = told_claims little asked status turns bytes on on.told some
+  due_covers certain status advisers turns bytes (no_program other unasked refused) shown some =
+      let clash : Program ≡ SomeInputs = sym other ∙ some in cc
+  due_covers certain status advisers turns bytes (no_input other unasked refused) shown some = let clash : Words ≡ SomeInputs = sym other ∙ some in cc
+  due_covers certain status advisers turns bytes (no_formula other unasked refused) shown some =
+      let clash : Formula ≡ SomeInputs = sym other ∙ some in cc

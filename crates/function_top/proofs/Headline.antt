@@ -23,20 +23,23 @@ use Rattle.line_text.specs.Spells.{Spells}
 use Rattle.claim_line.specs.Tells.{Tells}
 use Rattle.input_text.specs.Input.{IsInputText}
 use Rattle.input_text.proofs.Unique.{same_input}
+use Rattle.report_text.specs.declared.line.Line.{Line}
 use Rattle.report_text.specs.declared.line.Top.TheVariants.{Exact as Counted}
 use Rattle.report_text.specs.declared.report.Report.{Report}
+use Rattle.function_top.specs.declared.found.Found.{Found}
 use Rattle.function_top.specs.declared.status.Status.{Status}
 use Rattle.function_top.specs.declared.status.Status.TheVariants.{AllInputs, SomeInputs, Words, Program, Formula, ReadFault, WriteFault, NoMemory}
 use Rattle.function_top.specs.Answer.{Answers, IsComplete, WasDue, Writes, after_failing}
 use Rattle.function_top.specs.Call.{Call}
 use Rattle.function_top.specs.Asking.{IsInputGiven}
-use Rattle.function_top.specs.Output.{IsAnswerOn, IsCovering, IsDueOn, IsFormulaRefused, IsInputRefused, IsLacking, IsLongFormula, IsNoFormula, IsReport, IsReportOn, IsWithinLimits}
+use Rattle.function_top.specs.Output.{IsAnswerOn, IsDueOn, IsFormulaRefused, IsInputRefused, IsLongFormula, IsNoFormula, IsNoProgram, IsPastLimits, IsReport, IsReportOn, IsTooLong, IsVerdict, IsWithinLimits, answered, no_formula, no_input, no_program, reported}
 use Rattle.function_top.specs.Form.{HasKnownLines}
 use Rattle.function_top.specs.Exact.{EndsExactly, HasSmallLevels, IsExact}
 use Rattle.function_top.specs.Found.{IsExactPart}
 use Rattle.function_top.specs.Meeting.{AreMetOnce, CountsExactly, TellsClaim, TellsExactly}
+use Rattle.function_top.specs.OneInput.{IsToldOf}
 use Rattle.command_words.specs.Order.{Accepted, Ask, Request, Task, analysis, demo}
-use Rattle.function_top.specs.Refusals.{usage_text}
+use Rattle.function_top.specs.Refusals.{formula_text, program_text, usage_text}
 use Rattle.function_top.specs.Subject.{IsFormulaAsked, IsSubject, Subject}
 use Rattle.function_top.specs.Text.{IsRead}
 use Rattle.function_top.specs.TrueLine.{IsTrueAt}
@@ -128,39 +131,45 @@ true_answer known task text subject asked status turns bytes h due =
     (one_good (SaysTrue own) due.line bytes (claims.newline due.line due.claim due.tells)
     (λ condition claim s. absurd (claims.apart due.line condition due.claim claim due.tells s)) due.is_line)
 
-true_covering : KnownTexts → (asked : Option Bytes) (task : Task) (text : Bytes) (subject : Subject) (advisers turns : ℕ) (bytes : Bytes)
-    → IsSubject task text subject → IsCovering asked task text advisers turns bytes → EachWhole (SaysTrue subject) bytes
-true_covering known None task text subject advisers turns bytes h due = true_report known task text subject due.0 advisers turns bytes h due.1
-true_covering known (Some asked) task text subject advisers turns bytes h due = true_answer known task text subject asked AllInputs turns bytes h due
+-- ---- the lines of what is refused
 
-true_lacking : KnownTexts → (asked : Option Bytes) (task : Task) (text : Bytes) (subject : Subject) (advisers turns : ℕ) (bytes : Bytes)
-    → IsSubject task text subject → IsLacking asked task text advisers turns bytes → EachWhole (SaysTrue subject) bytes
-true_lacking known None task text subject advisers turns bytes h due = true_report known task text subject due.0 advisers turns bytes h due.1
-true_lacking known (Some asked) task text subject advisers turns bytes h due = true_answer known task text subject asked SomeInputs turns bytes h due
+-- the usage line, or the line of a fault
+pub data IsRefusalText : Bytes → Type 0 where
+  usage : IsRefusalText usage_text
+  of_program : (number offset : ℕ) → IsRefusalText (program_text number offset)
+  of_formula : (number offset : ℕ) → IsRefusalText (formula_text number offset)
 
-true_refusal : KnownTexts → (subject : Subject) (names : List Bytes) (formula bytes : Bytes) → IsNoFormula names formula bytes ⊎ IsLongFormula names formula bytes
-    → EachWhole (SaysTrue subject) bytes
-true_refusal known subject names formula bytes (inl other) =
-    subst (EachWhole (SaysTrue subject)) (sym other.line_is) (fault_true subject known.ending (codes "formula") formula_lacks other.number other.offset)
-true_refusal known subject names formula bytes (inr long) =
-    subst (EachWhole (SaysTrue subject)) (sym long.line_is) (fault_true subject known.ending (codes "formula") formula_lacks 11 0)
+program_refusal : (text bytes : Bytes) → IsTooLong text bytes ⊎ IsNoProgram text bytes ⊎ IsPastLimits text bytes → IsRefusalText bytes
+program_refusal text bytes (inl long) = subst IsRefusalText (sym long.line_is) (of_program 14 65536)
+program_refusal text bytes (inr (inl other)) = subst IsRefusalText (sym other.line_is) (of_program other.number other.offset)
+program_refusal text bytes (inr (inr past)) = subst IsRefusalText (sym past.line_is) (of_program past.number past.offset)
 
-pub due_true : KnownTexts → (task : Task) (text : Bytes) (subject : Subject) (status : Status) (advisers turns : ℕ) (bytes : Bytes) → IsSubject task text subject
-    → IsDueOn task text status advisers turns bytes → EachWhole (SaysTrue subject) bytes
-due_true known task text subject AllInputs advisers turns bytes h due = true_covering known task.input task text subject advisers turns bytes h due
-due_true known task text subject SomeInputs advisers turns bytes h due = true_lacking known task.input task text subject advisers turns bytes h due
-due_true known task text subject Program advisers turns bytes h (inl long, asked) =
-    subst (EachWhole (SaysTrue subject)) (sym long.line_is) (fault_true subject known.ending (codes "program") program_lacks 14 65536)
-due_true known task text subject Program advisers turns bytes h (inr (inl other), asked) = absurd (other.none subject.names subject.body h.program)
-due_true known task text subject Program advisers turns bytes h (inr (inr past), asked) =
-    subst (EachWhole (SaysTrue subject)) (sym past.line_is) (fault_true subject known.ending (codes "program") program_lacks past.number past.offset)
-due_true known task text subject Formula advisers turns bytes h due =
-    true_refusal known subject due.0.names due.0.formula bytes due.0.refused
-due_true known task text subject Words advisers turns bytes h due =
-    subst (EachWhole (SaysTrue subject)) (sym due.0.line_is) (usage_true subject known.ending)
-due_true known task text subject ReadFault advisers turns bytes h due = absurd due
-due_true known task text subject WriteFault advisers turns bytes h due = absurd due
-due_true known task text subject NoMemory advisers turns bytes h due = absurd due
+input_refusal : (task : Task) (text bytes : Bytes) → IsInputRefused task text bytes → IsRefusalText bytes
+input_refusal task text bytes due = subst IsRefusalText (sym due.line_is) usage
+
+meant_refusal : (names : List Bytes) (formula bytes : Bytes) → IsNoFormula names formula bytes ⊎ IsLongFormula names formula bytes → IsRefusalText bytes
+meant_refusal names formula bytes (inl other) = subst IsRefusalText (sym other.line_is) (of_formula other.number other.offset)
+meant_refusal names formula bytes (inr long) = subst IsRefusalText (sym long.line_is) (of_formula 11 0)
+
+formula_refusal : (task : Task) (text bytes : Bytes) → IsFormulaRefused task text bytes → IsRefusalText bytes
+formula_refusal task text bytes due = meant_refusal due.names due.formula bytes due.refused
+
+true_refusal : KnownTexts → (subject : Subject) (bytes : Bytes) → IsRefusalText bytes → EachWhole (SaysTrue subject) bytes
+true_refusal known subject bytes usage = usage_true subject known.ending
+true_refusal known subject bytes (of_program number offset) = fault_true subject known.ending (codes "program") program_lacks number offset
+true_refusal known subject bytes (of_formula number offset) = fault_true subject known.ending (codes "formula") formula_lacks number offset
+
+pub due_true : KnownTexts → (task : Task) (text : Bytes) (subject : Subject) → IsSubject task text subject → (status : Status) (advisers turns : ℕ)
+    (bytes : Bytes) → IsDueOn task text status advisers turns bytes → EachWhole (SaysTrue subject) bytes
+due_true known task text subject h status advisers turns bytes (reported report whole on verdict) =
+    true_report known task text subject report advisers turns bytes h on
+due_true known task text subject h status advisers turns bytes (answered asked one on) = true_answer known task text subject asked status turns bytes h on
+due_true known task text subject h status advisers turns bytes (no_program is unasked refused) =
+    true_refusal known subject bytes (program_refusal text bytes refused)
+due_true known task text subject h status advisers turns bytes (no_input is unasked refused) =
+    true_refusal known subject bytes (input_refusal task text bytes refused)
+due_true known task text subject h status advisers turns bytes (no_formula is unasked refused) =
+    true_refusal known subject bytes (formula_refusal task text bytes refused)
 
 -- the text that was read is the one that was told
 pub told_read : (left : Option Bytes) (text told : Bytes) → IsRead left text → left ≡ Some told → told ≡ text
@@ -184,38 +193,25 @@ known_answer known task left text read asked status turns bytes due =
     (subst (λ t. IsProgramText t declared other) (told_read left text told read is) own)).0) due.line bytes due.claim
     (claims.newline due.line due.claim due.tells) due.tells due.is_line
 
-known_covering : KnownTexts → (asked : Option Bytes) (task : Task) (left : Option Bytes) (text : Bytes) → IsRead left text → (advisers turns : ℕ)
-    (bytes : Bytes) → IsCovering asked task text advisers turns bytes → HasKnownLines left bytes
-known_covering known None task left text read advisers turns bytes due = known_report known task left text read due.0 advisers turns bytes due.1
-known_covering known (Some asked) task left text read advisers turns bytes due = known_answer known task left text read asked AllInputs turns bytes due
-
-known_lacking : KnownTexts → (asked : Option Bytes) (task : Task) (left : Option Bytes) (text : Bytes) → IsRead left text → (advisers turns : ℕ)
-    (bytes : Bytes) → IsLacking asked task text advisers turns bytes → HasKnownLines left bytes
-known_lacking known None task left text read advisers turns bytes due = known_report known task left text read due.0 advisers turns bytes due.1
-known_lacking known (Some asked) task left text read advisers turns bytes due = known_answer known task left text read asked SomeInputs turns bytes due
-
-known_refusal : (left : Option Bytes) (names : List Bytes) (formula bytes : Bytes) → IsNoFormula names formula bytes ⊎ IsLongFormula names formula bytes
-    → HasKnownLines left bytes
-known_refusal left names formula bytes (inl other) = subst (HasKnownLines left) (sym other.line_is) (formula_known left other.number other.offset)
-known_refusal left names formula bytes (inr long) = subst (HasKnownLines left) (sym long.line_is) (formula_known left 11 0)
+known_refusal : (left : Option Bytes) (bytes : Bytes) → IsRefusalText bytes → HasKnownLines left bytes
+known_refusal left bytes usage = usage_known left
+known_refusal left bytes (of_program number offset) = program_known left number offset
+known_refusal left bytes (of_formula number offset) = formula_known left number offset
 
 pub due_known : KnownTexts → (task : Task) (left : Option Bytes) (text : Bytes) → IsRead left text → (status : Status) (advisers turns : ℕ) (bytes : Bytes)
     → IsDueOn task text status advisers turns bytes → HasKnownLines left bytes
-due_known known task left text read AllInputs advisers turns bytes due = known_covering known task.input task left text read advisers turns bytes due
-due_known known task left text read SomeInputs advisers turns bytes due = known_lacking known task.input task left text read advisers turns bytes due
-due_known known task left text read Program advisers turns bytes (inl long, asked) = subst (HasKnownLines left) (sym long.line_is) (program_known left 14 65536)
-due_known known task left text read Program advisers turns bytes (inr (inl other), asked) =
-    subst (HasKnownLines left) (sym other.line_is) (program_known left other.number other.offset)
-due_known known task left text read Program advisers turns bytes (inr (inr past), asked) =
-    subst (HasKnownLines left) (sym past.line_is) (program_known left past.number past.offset)
-due_known known task left text read Formula advisers turns bytes due = known_refusal left due.0.names due.0.formula bytes due.0.refused
-due_known known task left text read Words advisers turns bytes due = subst (HasKnownLines left) (sym due.0.line_is) (usage_known left)
-due_known known task left text read ReadFault advisers turns bytes due = absurd due
-due_known known task left text read WriteFault advisers turns bytes due = absurd due
-due_known known task left text read NoMemory advisers turns bytes due = absurd due
+due_known known task left text read status advisers turns bytes (reported report whole on verdict) =
+    known_report known task left text read report advisers turns bytes on
+due_known known task left text read status advisers turns bytes (answered asked one on) = known_answer known task left text read asked status turns bytes on
+due_known known task left text read status advisers turns bytes (no_program is unasked refused) =
+    known_refusal left bytes (program_refusal text bytes refused)
+due_known known task left text read status advisers turns bytes (no_input is unasked refused) =
+    known_refusal left bytes (input_refusal task text bytes refused)
+due_known known task left text read status advisers turns bytes (no_formula is unasked refused) =
+    known_refusal left bytes (formula_refusal task text bytes refused)
 
 -- the lines of a report that is due are met once
-met_report : KnownTexts → (task : Task) (text : Bytes) (subject : Subject) (report : Report) (advisers turns : ℕ) (bytes : Bytes) → IsSubject task text subject
+pub met_report : KnownTexts → (task : Task) (text : Bytes) (subject : Subject) (report : Report) (advisers turns : ℕ) (bytes : Bytes) → IsSubject task text subject
     → IsReportOn task text report advisers turns bytes → AreMetOnce subject.names bytes
 met_report known task text subject report advisers turns bytes h due =
     subst (λ (s : Subject). AreMetOnce s.names bytes) (same_subject known task text due.subject subject due.is h)
@@ -223,21 +219,8 @@ met_report known task text subject report advisers turns bytes h due =
     (known.lines due.subject.names (program_names known.spelled known.distinct text due.subject.names due.subject.body due.is.program))
     known.ending due.found report bytes due.shows due.printed)
 
-pub due_met : KnownTexts → (task : Task) (text : Bytes) (subject : Subject) (status : Status) (advisers turns : ℕ) (bytes : Bytes) → IsSubject task text subject
-    → task.input ≡ None → IsDueOn task text status advisers turns bytes → IsReport status → AreMetOnce subject.names bytes
-due_met known task text subject AllInputs advisers turns bytes h whole due is =
-    let report = subst (λ asked. IsCovering asked task text advisers turns bytes) whole due in met_report known task text subject report.0 advisers turns bytes h report.1
-due_met known task text subject SomeInputs advisers turns bytes h whole due is =
-    let report = subst (λ asked. IsLacking asked task text advisers turns bytes) whole due in met_report known task text subject report.0 advisers turns bytes h report.1
-due_met known task text subject Program advisers turns bytes h whole due is = absurd is
-due_met known task text subject Words advisers turns bytes h whole due is = absurd is
-due_met known task text subject Formula advisers turns bytes h whole due is = absurd is
-due_met known task text subject ReadFault advisers turns bytes h whole due is = absurd is
-due_met known task text subject WriteFault advisers turns bytes h whole due is = absurd is
-due_met known task text subject NoMemory advisers turns bytes h whole due is = absurd is
-
 -- its exact lines are met by the runs that they speak of
-counted_report : KnownTexts → (task : Task) (text : Bytes) (subject : Subject) (report : Report) (advisers turns : ℕ) (bytes : Bytes) → IsSubject task text subject
+pub counted_report : KnownTexts → (task : Task) (text : Bytes) (subject : Subject) (report : Report) (advisers turns : ℕ) (bytes : Bytes) → IsSubject task text subject
     → IsReportOn task text report advisers turns bytes → CountsExactly subject bytes
 counted_report known task text subject report advisers turns bytes h due =
     subst (λ (s : Subject). CountsExactly s bytes) (same_subject known task text due.subject subject due.is h)
@@ -245,18 +228,54 @@ counted_report known task text subject report advisers turns bytes h due =
     (known.lines due.subject.names (program_names known.spelled known.distinct text due.subject.names due.subject.body due.is.program))
     known.ending task due.found report bytes due.finds due.shows due.printed)
 
-pub due_counted : KnownTexts → (task : Task) (text : Bytes) (subject : Subject) (status : Status) (advisers turns : ℕ) (bytes : Bytes) → IsSubject task text subject
-    → task.input ≡ None → IsDueOn task text status advisers turns bytes → IsReport status → CountsExactly subject bytes
-due_counted known task text subject AllInputs advisers turns bytes h whole due is =
-    let report = subst (λ asked. IsCovering asked task text advisers turns bytes) whole due in counted_report known task text subject report.0 advisers turns bytes h report.1
-due_counted known task text subject SomeInputs advisers turns bytes h whole due is =
-    let report = subst (λ asked. IsLacking asked task text advisers turns bytes) whole due in counted_report known task text subject report.0 advisers turns bytes h report.1
-due_counted known task text subject Program advisers turns bytes h whole due is = absurd is
-due_counted known task text subject Words advisers turns bytes h whole due is = absurd is
-due_counted known task text subject Formula advisers turns bytes h whole due is = absurd is
-due_counted known task text subject ReadFault advisers turns bytes h whole due is = absurd is
-due_counted known task text subject WriteFault advisers turns bytes h whole due is = absurd is
-due_counted known task text subject NoMemory advisers turns bytes h whole due is = absurd is
+-- ---- what is due, by its status and by what is asked for
+
+-- one input is asked for, or none
+pub none_some : {asked : Bytes} (task : Task) → task.input ≡ Some asked → task.input ≡ None → ⊥
+none_some {asked} task one none = let clash : None ≡ Some asked = sym none ∙ one in cc
+
+-- what is told of an input is told of the one that is asked for
+pub own_answer : (task : Task) (text asked other : Bytes) (status : Status) (turns : ℕ) (bytes : Bytes) → task.input ≡ Some asked → task.input ≡ Some other
+    → IsAnswerOn task text other status turns bytes → IsAnswerOn task text asked status turns bytes
+own_answer task text asked other status turns bytes one own on =
+    subst (λ a. IsAnswerOn task text a status turns bytes) (same_Some other asked (sym own ∙ one)) on
+
+pub verdict_report : (status : Status) (unknown : List Line) → IsVerdict status unknown → IsReport status
+verdict_report status unknown (inl covers) = inl covers.0
+verdict_report status unknown (inr lacks) = inr lacks.0
+
+pub told_report : (found : Found) (input : Store) (status : Status) (claim : Claim) → IsToldOf found input status claim → IsReport status
+told_report found input status claim (inl claimed) = inl claimed.0
+told_report found input status claim (inr unclaimed) = inr unclaimed.0
+
+-- a refusal has another status
+refused_otherwise : (status other : Status) → other ≢ AllInputs → other ≢ SomeInputs → status ≡ other → IsReport status → ⊥
+refused_otherwise status other all some is (inl covers) = all (sym is ∙ covers)
+refused_otherwise status other all some is (inr lacks) = some (sym is ∙ lacks)
+
+-- a report that is due is a report
+pub due_report : (task : Task) (text : Bytes) (status : Status) (advisers turns : ℕ) (bytes : Bytes) → IsDueOn task text status advisers turns bytes
+    → IsReport status → task.input ≡ None → (report : Report) × IsReportOn task text report advisers turns bytes
+due_report task text status advisers turns bytes (reported report whole on verdict) is none = (report, on)
+due_report task text status advisers turns bytes (answered asked one on) is none = absurd (none_some task one none)
+due_report task text status advisers turns bytes (no_program other unasked refused) is none =
+    absurd (refused_otherwise status Program (λ e. cc) (λ e. cc) other is)
+due_report task text status advisers turns bytes (no_input other unasked refused) is none =
+    absurd (refused_otherwise status Words (λ e. cc) (λ e. cc) other is)
+due_report task text status advisers turns bytes (no_formula other unasked refused) is none =
+    absurd (refused_otherwise status Formula (λ e. cc) (λ e. cc) other is)
+
+-- what is due on one input is told of it
+pub due_answer : (task : Task) (text asked : Bytes) (status : Status) (advisers turns : ℕ) (bytes : Bytes)
+    → IsDueOn task text status advisers turns bytes → IsReport status → task.input ≡ Some asked → IsAnswerOn task text asked status turns bytes
+due_answer task text asked status advisers turns bytes (reported report whole on verdict) is one = absurd (none_some task one whole)
+due_answer task text asked status advisers turns bytes (answered other own on) is one = own_answer task text asked other status turns bytes one own on
+due_answer task text asked status advisers turns bytes (no_program other unasked refused) is one =
+    absurd (refused_otherwise status Program (λ e. cc) (λ e. cc) other is)
+due_answer task text asked status advisers turns bytes (no_input other unasked refused) is one =
+    absurd (refused_otherwise status Words (λ e. cc) (λ e. cc) other is)
+due_answer task text asked status advisers turns bytes (no_formula other unasked refused) is one =
+    absurd (refused_otherwise status Formula (λ e. cc) (λ e. cc) other is)
 
 -- ---- what is told of one input
 
@@ -278,7 +297,7 @@ told_answer known task text subject asked input status turns bytes h given due =
     due.is_line)
 
 -- the text of an answer tells the exact claim exactly where the runs are as it says
-exact_answer : KnownTexts → (task : Task) (text : Bytes) (subject : Subject) (asked : Bytes) (input : Store) (status : Status) (turns : ℕ) (bytes : Bytes)
+pub exact_answer : KnownTexts → (task : Task) (text : Bytes) (subject : Subject) (asked : Bytes) (input : Store) (status : Status) (turns : ℕ) (bytes : Bytes)
     → IsSubject task text subject → IsInputText subject.names asked input → task.formula ≡ None → HasSmallLevels subject.body task.delay
     → IsAnswerOn task text asked status turns bytes → TellsExactly subject task.delay input bytes
 exact_answer known task text subject asked input status turns bytes h given unasked small due n =
@@ -302,53 +321,25 @@ exact_answer known task text subject asked input status turns bytes h given unas
       (λ ends. alone.1 (told.1 ends)),
     ))
 
-pub due_exact : KnownTexts → (task : Task) (text : Bytes) (subject : Subject) (asked : Bytes) (input : Store) → task.input ≡ Some asked
-    → IsSubject task text subject → IsInputText subject.names asked input → task.formula ≡ None → HasSmallLevels subject.body task.delay
-    → (status : Status) (advisers turns : ℕ) (bytes : Bytes) → IsDueOn task text status advisers turns bytes → IsReport status
-    → TellsExactly subject task.delay input bytes
-due_exact known task text subject asked input one h given unasked small AllInputs advisers turns bytes due is =
-    exact_answer known task text subject asked input AllInputs turns bytes h given unasked small
-    (subst (λ i. IsCovering i task text advisers turns bytes) one due)
-due_exact known task text subject asked input one h given unasked small SomeInputs advisers turns bytes due is =
-    exact_answer known task text subject asked input SomeInputs turns bytes h given unasked small
-    (subst (λ i. IsLacking i task text advisers turns bytes) one due)
-due_exact known task text subject asked input one h given unasked small Program advisers turns bytes due is = absurd is
-due_exact known task text subject asked input one h given unasked small Words advisers turns bytes due is = absurd is
-due_exact known task text subject asked input one h given unasked small Formula advisers turns bytes due is = absurd is
-due_exact known task text subject asked input one h given unasked small ReadFault advisers turns bytes due is = absurd is
-due_exact known task text subject asked input one h given unasked small WriteFault advisers turns bytes due is = absurd is
-due_exact known task text subject asked input one h given unasked small NoMemory advisers turns bytes due is = absurd is
-
-told_refusal : KnownTexts → (subject : Subject) (input : Store) (names : List Bytes) (formula bytes : Bytes)
-    → IsNoFormula names formula bytes ⊎ IsLongFormula names formula bytes → EachWhole (TellsTrue subject input) bytes
-told_refusal known subject input names formula bytes (inl other) =
-    subst (EachWhole (TellsTrue subject input)) (sym other.line_is)
-    (fault_tells subject known.claim_ending input (codes "formula") formula_lacks other.number other.offset)
-told_refusal known subject input names formula bytes (inr long) =
-    subst (EachWhole (TellsTrue subject input)) (sym long.line_is) (fault_tells subject known.claim_ending input (codes "formula") formula_lacks 11 0)
+told_refusal : KnownTexts → (subject : Subject) (input : Store) (bytes : Bytes) → IsRefusalText bytes → EachWhole (TellsTrue subject input) bytes
+told_refusal known subject input bytes usage = usage_tells subject known.claim_ending input
+told_refusal known subject input bytes (of_program number offset) =
+    fault_tells subject known.claim_ending input (codes "program") program_lacks number offset
+told_refusal known subject input bytes (of_formula number offset) =
+    fault_tells subject known.claim_ending input (codes "formula") formula_lacks number offset
 
 pub due_told : KnownTexts → (task : Task) (text : Bytes) (subject : Subject) (asked : Bytes) (input : Store) → task.input ≡ Some asked
     → IsSubject task text subject → IsInputText subject.names asked input → (status : Status) (advisers turns : ℕ) (bytes : Bytes)
     → IsDueOn task text status advisers turns bytes → EachWhole (TellsTrue subject input) bytes
-due_told known task text subject asked input one h given AllInputs advisers turns bytes due =
-    told_answer known task text subject asked input AllInputs turns bytes h given (subst (λ i. IsCovering i task text advisers turns bytes) one due)
-due_told known task text subject asked input one h given SomeInputs advisers turns bytes due =
-    told_answer known task text subject asked input SomeInputs turns bytes h given (subst (λ i. IsLacking i task text advisers turns bytes) one due)
-due_told known task text subject asked input one h given Program advisers turns bytes (inl long, unasked) =
-    subst (EachWhole (TellsTrue subject input)) (sym long.line_is)
-    (fault_tells subject known.claim_ending input (codes "program") program_lacks 14 65536)
-due_told known task text subject asked input one h given Program advisers turns bytes (inr (inl other), unasked) =
-    absurd (other.none subject.names subject.body h.program)
-due_told known task text subject asked input one h given Program advisers turns bytes (inr (inr past), unasked) =
-    subst (EachWhole (TellsTrue subject input)) (sym past.line_is)
-    (fault_tells subject known.claim_ending input (codes "program") program_lacks past.number past.offset)
-due_told known task text subject asked input one h given Formula advisers turns bytes due =
-    told_refusal known subject input due.0.names due.0.formula bytes due.0.refused
-due_told known task text subject asked input one h given Words advisers turns bytes due =
-    subst (EachWhole (TellsTrue subject input)) (sym due.0.line_is) (usage_tells subject known.claim_ending input)
-due_told known task text subject asked input one h given ReadFault advisers turns bytes due = absurd due
-due_told known task text subject asked input one h given WriteFault advisers turns bytes due = absurd due
-due_told known task text subject asked input one h given NoMemory advisers turns bytes due = absurd due
+due_told known task text subject asked input one h given status advisers turns bytes (reported report whole on verdict) = absurd (none_some task one whole)
+due_told known task text subject asked input one h given status advisers turns bytes (answered other own on) =
+    told_answer known task text subject asked input status turns bytes h given (own_answer task text asked other status turns bytes one own on)
+due_told known task text subject asked input one h given status advisers turns bytes (no_program is unasked refused) =
+    told_refusal known subject input bytes (program_refusal text bytes refused)
+due_told known task text subject asked input one h given status advisers turns bytes (no_input is unasked refused) =
+    told_refusal known subject input bytes (input_refusal task text bytes refused)
+due_told known task text subject asked input one h given status advisers turns bytes (no_formula is unasked refused) =
+    told_refusal known subject input bytes (formula_refusal task text bytes refused)
 
 -- ---- what was written
 
@@ -429,23 +420,47 @@ module _ (words : List Bytes) (call : Call) (served : Serves words) (text bytes 
     rose = rose;
   }
 
-  pub settled_answers : (status result : Status) → IsDueOn served.0 text status (length call.asked) turns bytes
-      → Settles status result bytes call.taken call.taken_after call.write_faults call.write_faults_after → Answers words result call
-  settled_answers AllInputs result due (inl h) = rw h.0 (bytes, inl (was_due AllInputs due), h.1)
-  settled_answers AllInputs result due (inr h) = rw h.0 (bytes, inl (inl (was_due AllInputs due)), h.1, h.2)
-  settled_answers SomeInputs result due (inl h) = rw h.0 (bytes, was_due SomeInputs due, h.1)
-  settled_answers SomeInputs result due (inr h) = rw h.0 (bytes, inr (was_due SomeInputs due), h.1, h.2)
-  settled_answers Program result due (inl h) = rw h.0 (bytes, was_due Program due, inl h.1)
-  settled_answers Program result due (inr h) = rw h.0 (bytes, was_due Program due, inr (h.1, h.2))
-  settled_answers Words result due (inl h) =
-      rw h.0 (subst (λ b. ((¬ Accepted words) ⊎ WasDue words call Words b) × Writes call b) due.0.line_is (inr (was_due Words due), inl h.1))
-  settled_answers Words result due (inr h) =
-      rw h.0 (subst (λ b. ((¬ Accepted words) ⊎ WasDue words call Words b) × Writes call b) due.0.line_is (inr (was_due Words due), inr (h.1, h.2)))
-  settled_answers Formula result due (inl h) = rw h.0 (bytes, was_due Formula due, inl h.1)
-  settled_answers Formula result due (inr h) = rw h.0 (bytes, was_due Formula due, inr (h.1, h.2))
-  settled_answers ReadFault result due settled = absurd due
-  settled_answers WriteFault result due settled = absurd due
-  settled_answers NoMemory result due settled = absurd due
+  -- the writing of them with this status
+  abbrev Written : Status → Status → Type 0
+  Written status result = Settles status result bytes call.taken call.taken_after call.write_faults call.write_faults_after
+
+  report_answers : (status result : Status) → IsReport status → WasDue words call status bytes → Written status result → Answers words result call
+  report_answers status result (inl all) due (inl h) = rw (h.0 ∙ all) (bytes, inl (subst (λ s. WasDue words call s bytes) all due), h.1)
+  report_answers status result (inl all) due (inr h) =
+      rw (h.0 ∙ ap after_failing all) (bytes, inl (inl (subst (λ s. WasDue words call s bytes) all due)), h.1, h.2)
+  report_answers status result (inr some) due (inl h) = rw (h.0 ∙ some) (bytes, subst (λ s. WasDue words call s bytes) some due, h.1)
+  report_answers status result (inr some) due (inr h) =
+      rw (h.0 ∙ ap after_failing some) (bytes, inr (subst (λ s. WasDue words call s bytes) some due), h.1, h.2)
+
+  program_answers : (status result : Status) → status ≡ Program → WasDue words call status bytes → Written status result → Answers words result call
+  program_answers status result is due (inl h) = rw (h.0 ∙ is) (bytes, subst (λ s. WasDue words call s bytes) is due, inl h.1)
+  program_answers status result is due (inr h) = rw (h.0 ∙ ap after_failing is) (bytes, subst (λ s. WasDue words call s bytes) is due, inr (h.1, h.2))
+
+  words_answers : (status result : Status) → status ≡ Words → bytes ≡ usage_text → WasDue words call status bytes → Written status result
+      → Answers words result call
+  words_answers status result is line due (inl h) =
+      rw (h.0 ∙ is) (subst (λ b. ((¬ Accepted words) ⊎ WasDue words call Words b) × Writes call b) line
+      (inr (subst (λ s. WasDue words call s bytes) is due), inl h.1))
+  words_answers status result is line due (inr h) =
+      rw (h.0 ∙ ap after_failing is) (subst (λ b. ((¬ Accepted words) ⊎ WasDue words call Words b) × Writes call b) line
+      (inr (subst (λ s. WasDue words call s bytes) is due), inr (h.1, h.2)))
+
+  formula_answers : (status result : Status) → status ≡ Formula → WasDue words call status bytes → Written status result → Answers words result call
+  formula_answers status result is due (inl h) = rw (h.0 ∙ is) (bytes, subst (λ s. WasDue words call s bytes) is due, inl h.1)
+  formula_answers status result is due (inr h) = rw (h.0 ∙ ap after_failing is) (bytes, subst (λ s. WasDue words call s bytes) is due, inr (h.1, h.2))
+
+  pub settled_answers : (status result : Status) → IsDueOn served.0 text status (length call.asked) turns bytes → Written status result
+      → Answers words result call
+  settled_answers status result (reported report whole on verdict) settled =
+      report_answers status result (verdict_report status report.unknown verdict) (was_due status (reported report whole on verdict)) settled
+  settled_answers status result (answered asked one on) settled =
+      report_answers status result (told_report on.found on.input status on.claim on.told) (was_due status (answered asked one on)) settled
+  settled_answers status result (no_program is unasked refused) settled =
+      program_answers status result is (was_due status (no_program is unasked refused)) settled
+  settled_answers status result (no_input is unasked refused) settled =
+      words_answers status result is refused.line_is (was_due status (no_input is unasked refused)) settled
+  settled_answers status result (no_formula is unasked refused) settled =
+      formula_answers status result is (was_due status (no_formula is unasked refused)) settled
 
 -- words that are refused got the usage line
 pub refused_answers : (words : List Bytes) (call : Call) (result : Status) → ¬ Accepted words
@@ -462,14 +477,14 @@ read_subject words once call status bytes due task told subject ask is h =
     (subst (λ t. IsSubject task t subject) (told_read call.left due.text told due.read is) h)
 
 -- no other status is left for a text with a subject within the limits
-not_refused : (task : Task) (text : Bytes) (subject : Subject) (advisers turns : ℕ) (bytes : Bytes) → IsSubject task text subject → IsWithinLimits text
-    → IsDueOn task text Program advisers turns bytes → ⊥
-not_refused task text subject advisers turns bytes h limits (inl long, asked) =
+not_refused : (task : Task) (text : Bytes) (subject : Subject) (bytes : Bytes) → IsSubject task text subject → IsWithinLimits text
+    → IsTooLong text bytes ⊎ IsNoProgram text bytes ⊎ IsPastLimits text bytes → ⊥
+not_refused task text subject bytes h limits (inl long) =
     let fits = limits.short in
     let over = long.long in
     omega (arith, fits, over)
-not_refused task text subject advisers turns bytes h limits (inr (inl other), asked) = other.none subject.names subject.body h.program
-not_refused task text subject advisers turns bytes h limits (inr (inr past), asked) = limits.graph bytes past
+not_refused task text subject bytes h limits (inr (inl other)) = other.none subject.names subject.body h.program
+not_refused task text subject bytes h limits (inr (inr past)) = limits.graph bytes past
 
 -- nor is a formula within the limit refused
 meant_not_refused : KnownTexts → (names : List Bytes) (formula bytes : Bytes) (meant : Ctl) → IsFormulaOf formula names meant → operators (normal meant) ≤ 256
@@ -499,23 +514,44 @@ input_not_refused known task text subject bytes h given due =
     let names = (known.unique text subject.names program.names subject.body (statements program.body) h.program due.within.derived).0 ∙ due.within.names_are in
     due.refused (subst (λ ns. IsInputGiven ns task.input) names given)
 
-pub complete : KnownTexts → (words : List Bytes) → AskOnce words → (status : Status) (call : Call) → Answers words status call
-    → IsComplete words status call
-complete known words once AllInputs call h task text subject ask is program limits given limited reads writes = inl refl
-complete known words once SomeInputs call h task text subject ask is program limits given limited reads writes = inr (inl refl)
-complete known words once NoMemory call h task text subject ask is program limits given limited reads writes = inr (inr refl)
-complete known words once Words call (inl lacks, written) task text subject ask is program limits given limited reads writes =
-    absurd (lacks (analysis task, ask))
-complete known words once Words call (inr due, written) task text subject ask is program limits given limited reads writes =
-    let same = same_task words once task due.task ask due.asked in
-    absurd (input_not_refused known due.task due.text subject usage_text (read_subject words once call Words usage_text due task text subject ask is program)
-    (subst (λ (t : Task). IsInputGiven subject.names t.input) same given) due.due.0)
-complete known words once Program call h task text subject ask is program limits given limited reads writes =
-    absurd (not_refused h.1.task h.1.text subject (length call.asked) h.1.turns h.0
-    (read_subject words once call Program h.0 h.1 task text subject ask is program)
-    (subst IsWithinLimits (told_read call.left h.1.text text h.1.read is) limits) h.1.due)
-complete known words once Formula call h task text subject ask is program limits given limited reads writes =
-    absurd (formula_not_refused known h.1.task h.1.text subject h.0 (read_subject words once call Formula h.0 h.1 task text subject ask is program) limited
-    h.1.due.0)
-complete known words once ReadFault call h task text subject ask is program limits given limited reads writes = absurd (reads h.0)
-complete known words once WriteFault call h task text subject ask is program limits given limited reads writes = absurd (writes h.3)
+-- so what is due on it is a report, or what is told of the input
+shown_due : KnownTexts → (task : Task) (text : Bytes) (subject : Subject) → IsSubject task text subject → IsWithinLimits text
+    → IsInputGiven subject.names task.input → operators (normal subject.formula) ≤ 256 → (status : Status) (advisers turns : ℕ) (bytes : Bytes)
+    → IsDueOn task text status advisers turns bytes → IsReport status
+shown_due known task text subject h limits given limited status advisers turns bytes (reported report whole on verdict) =
+    verdict_report status report.unknown verdict
+shown_due known task text subject h limits given limited status advisers turns bytes (answered asked one on) =
+    told_report on.found on.input status on.claim on.told
+shown_due known task text subject h limits given limited status advisers turns bytes (no_program is unasked refused) =
+    absurd (not_refused task text subject bytes h limits refused)
+shown_due known task text subject h limits given limited status advisers turns bytes (no_input is unasked refused) =
+    absurd (input_not_refused known task text subject bytes h given refused)
+shown_due known task text subject h limits given limited status advisers turns bytes (no_formula is unasked refused) =
+    absurd (formula_not_refused known task text subject bytes h limited refused)
+
+module _ (known : KnownTexts) (words : List Bytes) (once : AskOnce words) (call : Call) where
+  shown_was : (status : Status) (bytes : Bytes) → WasDue words call status bytes → (task : Task) (text : Bytes) (subject : Subject)
+      → Ask words (analysis task) → call.left ≡ Some text → IsSubject task text subject → IsWithinLimits text → IsInputGiven subject.names task.input
+      → operators (normal subject.formula) ≤ 256 → (status ≡ AllInputs) ⊎ (status ≡ SomeInputs) ⊎ (status ≡ NoMemory)
+  shown_was status bytes due task text subject ask is h limits given limited =
+      let same = same_task words once task due.task ask due.asked in
+      elim (shown_due known due.task due.text subject (read_subject words once call status bytes due task text subject ask is h)
+      (subst IsWithinLimits (told_read call.left due.text text due.read is) limits) (subst (λ (t : Task). IsInputGiven subject.names t.input) same given) limited
+      status (length call.asked) due.turns bytes due.due) [
+        | inl all ↦ inl all
+        | inr some ↦ inr (inl some)
+      ]
+
+  pub complete : (status : Status) → Answers words status call → IsComplete words status call
+  complete AllInputs h task text subject ask is program limits given limited reads writes = inl refl
+  complete SomeInputs h task text subject ask is program limits given limited reads writes = inr (inl refl)
+  complete NoMemory h task text subject ask is program limits given limited reads writes = inr (inr refl)
+  complete Words (inl lacks, written) task text subject ask is program limits given limited reads writes = absurd (lacks (analysis task, ask))
+  complete Words (inr due, written) task text subject ask is program limits given limited reads writes =
+      shown_was Words usage_text due task text subject ask is program limits given limited
+  complete Program h task text subject ask is program limits given limited reads writes =
+      shown_was Program h.0 h.1 task text subject ask is program limits given limited
+  complete Formula h task text subject ask is program limits given limited reads writes =
+      shown_was Formula h.0 h.1 task text subject ask is program limits given limited
+  complete ReadFault h task text subject ask is program limits given limited reads writes = absurd (reads h.0)
+  complete WriteFault h task text subject ask is program limits given limited reads writes = absurd (writes h.3)

@@ -16,6 +16,7 @@ pub mod Headline
 pub mod Certain
 pub mod Satisfied
 pub mod Proving
+pub mod Saying
 pub mod Running
 pub mod Reading
 pub mod Reported

@@ -24,7 +24,6 @@ use Rattle.function_top.specs.declared.found.Exact.{Exact}
 use Rattle.function_top.specs.declared.found.Exact.TheVariants.{Made, Unasked, Unmade}
 use Rattle.function_top.specs.declared.found.Found.{Found}
 use Rattle.function_top.specs.declared.status.Status.{Status}
-use Rattle.function_top.specs.declared.status.Status.TheVariants.{AllInputs, SomeInputs, Words, Program, Formula, ReadFault, WriteFault, NoMemory}
 use Rattle.function_top.specs.Exact.{IsExact}
 use Rattle.function_top.specs.Found.{IsExactPart, IsFound, IsTrueTree}
 use Rattle.function_top.specs.OneInput.{IsTold, IsToldOf, LeadsExactly, LeadsTo}
@@ -85,18 +84,12 @@ module _ (subject : Subject) (ending : EndAsLines) (input : Store) (is_input : I
 
   pub told_is_true : (task : Task) (found : Found) (status : Status) (claim : Claim) → IsFound task subject found → IsToldOf found input status claim
       → Holds_of claim
-  told_is_true task found AllInputs claim finds (inl (rank, leads, is)) =
+  told_is_true task found status claim finds (inl (all, inl (rank, leads, is))) =
       subst Holds_of (sym is) (part_true task.formula task.delay found.exact rank finds.exact leads)
-  told_is_true task found AllInputs claim finds (inr (none, rank, leads, told)) =
+  told_is_true task found status claim finds (inl (all, inr (none, (rank, leads, told)))) =
       told_true subject.formula input (start subject.body input) (claim_of found.claims rank) claim told
       (leaf_true found.claims (plan_of found.cover) rank finds.holds leads)
-  told_is_true task found SomeInputs claim finds told = subst Holds_of (sym told.2) tt
-  told_is_true task found Words claim finds told = absurd told
-  told_is_true task found Program claim finds told = absurd told
-  told_is_true task found Formula claim finds told = absurd told
-  told_is_true task found ReadFault claim finds told = absurd told
-  told_is_true task found WriteFault claim finds told = absurd told
-  told_is_true task found NoMemory claim finds told = absurd told
+  told_is_true task found status claim finds (inr (some, none, lacks, is)) = subst Holds_of (sym is) tt
 
 -- ---- the other lines tell nothing
 

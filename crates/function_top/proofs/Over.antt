@@ -31,7 +31,6 @@ use Rattle.function_top.specs.declared.found.Exact.{Exact as Known}
 use Rattle.function_top.specs.declared.found.Exact.TheVariants.{Made, Unasked, Unmade}
 use Rattle.function_top.specs.declared.found.Found.{Found}
 use Rattle.function_top.specs.declared.status.Status.{Status}
-use Rattle.function_top.specs.declared.status.Status.TheVariants.{AllInputs, SomeInputs, Words, Program, Formula, ReadFault, WriteFault, NoMemory}
 use Rattle.function_top.specs.OneInput.{IsTold, IsToldAs, IsToldOf}
 use Rattle.function_top.specs.Printable.{IsExactPrintable, IsFoundPrintable}
 use Rattle.function_top.specs.Shown.{ShowsExact}
@@ -134,14 +133,8 @@ module _ (names : List (List ℕ)) (few : length names ≤ 15) where
 
   pub told_over : (found : Found) (input : List ℤ) (status : Status) (claim : Claim) → IsFoundPrintable (length names) found
       → IsToldOf found input status claim → IsClaimOver names claim
-  told_over found input AllInputs claim printable (inl (rank, leads, is)) = subst (IsClaimOver names) (sym is) tt
-  told_over found input AllInputs claim printable (inr (lacks, rank, leads, told)) =
+  told_over found input status claim printable (inl (all, inl (rank, leads, is))) = subst (IsClaimOver names) (sym is) tt
+  told_over found input status claim printable (inl (all, inr (otherwise, (rank, leads, told)))) =
       let over = subst (IsTreeOver (length names)) leads.is (leaf_over (plan_of found.cover) input printable.cover.over) in
       told_claim_over (claim_of found.claims rank) claim input (claim_over found.claims leads.why rank (named rank.value over.0)) told
-  told_over found input SomeInputs claim printable told = subst (IsClaimOver names) (sym told.2) tt
-  told_over found input Words claim printable told = absurd told
-  told_over found input Program claim printable told = absurd told
-  told_over found input Formula claim printable told = absurd told
-  told_over found input ReadFault claim printable told = absurd told
-  told_over found input WriteFault claim printable told = absurd told
-  told_over found input NoMemory claim printable told = absurd told
+  told_over found input status claim printable (inr (some, otherwise, lacks, is)) = subst (IsClaimOver names) (sym is) tt

@@ -1,6 +1,8 @@
 -- A text with a fault is no program, or no formula.
-use Rattle.std.proofs.Common.{◌≡◌, ◌∙◌, ◌⊎◌, inl, inr, ℕ, ◌<◌, List, Option, None, Some, refl, sym, ap}
+use Rattle.std.proofs.Common.{◌≡◌, ◌∙◌, ◌⊎◌, inl, inr, ℕ, ◌+◌, ◌<◌, List, length, Option, None, Some, refl, sym, ap, arith}
+use Rattle.std.specs.Prelude.{IfSome}
 use Rattle.std.proofs.lemmas.Option.{none-some, same_Some}
+use Rattle.outside.specs.ReadEnd.{ConsumesJust}
 use Rattle.ctl_formula.specs.Formulas.{Ctl, normal}
 use Rattle.normal_form.specs.Operators.{operators}
 use Rattle.formula_parse.specs.declared.fault.FormulaFault.{FormulaFault}
@@ -17,6 +19,7 @@ use Rattle.source_parse.specs.Laws.{ProgramsHaveNoFault}
 use Rattle.function_top.specs.Asking.{IsFaultAsked}
 use Rattle.function_top.specs.Output.{IsLongFormula, IsNoFormula}
 use Rattle.function_top.specs.Refusals.{formula_text}
+use Rattle.function_top.specs.Text.{IsRead}
 
 -- a fault with a number isn't want of memory
 is_no_memory : (fault : ParseFault) (found : ℕ × ℕ) → numbered fault ≡ Some found → IsMemory fault → ⊥
@@ -97,3 +100,9 @@ asked_refused names (Some text) fault number offset line law (inr of_normal) tol
         line_is = line_is ∙ ap (λ n. formula_text n offset) found.number_is ∙ ap (formula_text 11) found.offset_is;
       };
     }
+
+-- a text that is past the limit, which is the one that the source told where it told one
+pub long_text : (limit : ℕ) (left left' : Option (List ℕ)) → IfSome left (λ bytes. limit < length bytes) → ConsumesJust (limit + 1) left left'
+    → (text : List ℕ) × IsRead left text × (limit < length text)
+long_text limit None left' long just = let count = just.1 in (just.0, tt, omega (arith, count))
+long_text limit (Some told) left' long just = (told, refl, long)

@@ -1,5 +1,5 @@
 -- What is due by the report that shows what was found.
-use Rattle.std.proofs.Common.{◌≡◌, ◌≢◌, ℕ, ◌+◌, ◌<◌, ◌≤◌, ⊎_elim, List, [], ◌∷◌, ◌++◌, length, Option, None, Some, refl, sym, subst, ◌∙◌}
+use Rattle.std.proofs.Common.{◌≡◌, ◌≢◌, ℕ, ◌+◌, ◌<◌, ◌≤◌, ⊎_elim, List, [], ◌∷◌, ◌++◌, length, Option, None, Some, refl, ◌∙◌}
 use Rattle.step_meaning.specs.declared.program.Program.{Program as Parsed}
 use Rattle.step_meaning.specs.Outcome.{Store}
 use Rattle.step_meaning.specs.Syntax.{size_of, statements}
@@ -16,9 +16,8 @@ use Rattle.report_text.specs.declared.report.Report.{Report}
 use Rattle.report_text.specs.Printed.{IsReportText}
 use Rattle.function_top.specs.declared.found.Found.{Found}
 use Rattle.function_top.specs.declared.status.Status.{Status}
-use Rattle.function_top.specs.declared.status.Status.TheVariants.{AllInputs, SomeInputs, Words, Program, Formula, ReadFault, WriteFault, NoMemory}
 use Rattle.function_top.specs.Asking.{IsInputGiven, IsReadAs}
-use Rattle.function_top.specs.Output.{HasGraph, IsAnswerOn, IsCovering, IsDueOn, IsLacking, IsReportOn, IsVerdict}
+use Rattle.function_top.specs.Output.{HasGraph, IsDueOn, IsVerdict, answered, reported}
 use Rattle.function_top.specs.Explained.{explained, explanation}
 use Rattle.function_top.specs.Found.{IsFound}
 use Rattle.command_words.specs.Order.{Task}
@@ -45,20 +44,6 @@ module _ (task : Task) (text : List ℕ) (program : Parsed) (meant : Ctl) (found
     (finds : IsFound task (subject_of program meant) found) (asked : turns ≡ found.turns) (shows : Shows found report)
     (explains : report.explain ≡ explained task.explain (explanation (1 + size_of (statements program.body)) found.families advisers turns))
     (printed : IsReportText program.names report bytes) where
-  on : IsReportOn task text report advisers turns bytes
-  on = record {
-    subject = subject_of program meant;
-    is = record { program = derived; formula = formula };
-    within = within;
-    limited = limited;
-    found = found;
-    finds = finds;
-    asked = asked;
-    shows = shows;
-    explains = explains;
-    printed = printed;
-  }
-
   -- where a line is unknown the advisers that may help were asked eight times
   eight : report.unknown ≢ [] → IsAdvised (normal meant) → turns ≡ 8
   eight some advised = ⊎_elim
@@ -67,17 +52,19 @@ module _ (task : Task) (text : List ℕ) (program : Parsed) (meant : Ctl) (found
       (finds.insists advised)
 
   pub report_due : task.input ≡ None → (status : Status) → IsVerdict status report.unknown → IsDueOn task text status advisers turns bytes
-  unfolding on
-  report_due all AllInputs verdict =
-      subst (λ asked. IsCovering asked task text advisers turns bytes) (sym all) (report, on, verdict, subst (λ n. n ≤ 8) (sym asked) finds.few)
-  report_due all SomeInputs verdict =
-      subst (λ asked. IsLacking asked task text advisers turns bytes) (sym all) (report, on, verdict, (eight verdict, λ unadvised. asked ∙ finds.spares unadvised))
-  report_due all Words verdict = absurd verdict
-  report_due all Program verdict = absurd verdict
-  report_due all Formula verdict = absurd verdict
-  report_due all ReadFault verdict = absurd verdict
-  report_due all WriteFault verdict = absurd verdict
-  report_due all NoMemory verdict = absurd verdict
+  report_due all status verdict = reported report all record {
+    subject = subject_of program meant;
+    is = record { program = derived; formula = formula };
+    within = within;
+    limited = limited;
+    found = found;
+    finds = finds;
+    asked = asked;
+    advised = λ some. (eight some, λ unadvised. asked ∙ finds.spares unadvised);
+    shows = shows;
+    explains = explains;
+    printed = printed;
+  } verdict
 
 -- what is due where one input is asked for
 module _ (task : Task) (text asked_text : List ℕ) (program : Parsed) (meant : Ctl) (found : Found) (advisers turns : ℕ) (bytes line : List ℕ)
@@ -86,8 +73,8 @@ module _ (task : Task) (text asked_text : List ℕ) (program : Parsed) (meant : 
     (formula : IsFormulaAsked program.names task.formula meant) (limited : operators (normal meant) ≤ 256)
     (finds : IsFound task (subject_of program meant) found) (asked : turns ≡ found.turns)
     (given : IsInputText program.names asked_text input) (tells : Tells program.names line claim) (is_line : bytes ≡ line ++ 10 ∷ []) where
-  answer : (status : Status) → IsToldOf found input status claim → IsAnswerOn task text asked_text status turns bytes
-  answer status told = record {
+  pub answer_due : task.input ≡ Some asked_text → (status : Status) → IsToldOf found input status claim → IsDueOn task text status advisers turns bytes
+  answer_due one status told = answered asked_text one record {
     subject = subject_of program meant;
     is = record { program = derived; formula = formula };
     within = within;
@@ -97,23 +84,12 @@ module _ (task : Task) (text asked_text : List ℕ) (program : Parsed) (meant : 
     found = found;
     finds = finds;
     turns_are = asked;
-    few = subst (λ n. n ≤ 8) (sym asked) finds.few;
     claim = claim;
     told = told;
     line = line;
     tells = tells;
     is_line = is_line;
   }
-
-  pub answer_due : task.input ≡ Some asked_text → (status : Status) → IsToldOf found input status claim → IsDueOn task text status advisers turns bytes
-  answer_due one AllInputs told = subst (λ i. IsCovering i task text advisers turns bytes) (sym one) (answer AllInputs told)
-  answer_due one SomeInputs told = subst (λ i. IsLacking i task text advisers turns bytes) (sym one) (answer SomeInputs told)
-  answer_due one Words told = absurd told
-  answer_due one Program told = absurd told
-  answer_due one Formula told = absurd told
-  answer_due one ReadFault told = absurd told
-  answer_due one WriteFault told = absurd told
-  answer_due one NoMemory told = absurd told
 
 -- ---- the input that was read
 

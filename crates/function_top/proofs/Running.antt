@@ -7,19 +7,22 @@ use Rattle.function_top.specs.declared.status.Status.TheVariants.{AllInputs, NoM
 use Rattle.function_top.specs.Answer.{Answers, CoversDemos, IsRun, WasDemo}
 use Rattle.function_top.specs.Call.{Call}
 use Rattle.function_top.specs.Demo.{IsDemoDue}
-use Rattle.function_top.specs.Output.{IsDueOn}
+use Rattle.function_top.specs.Output.{IsDueOn, IsReport}
 use Rattle.function_top.specs.Form.{IsKnown}
 use Rattle.function_top.specs.Refusals.{usage_text}
 use Rattle.function_top.specs.Subject.{IsSubject}
 use Rattle.function_top.specs.Text.{IsRead}
 use Rattle.function_top.proofs.Formed.{summary_known, usage_known}
-use Rattle.function_top.proofs.Certain.{answers_exactly, covers_countdowns}
 use Rattle.function_top.proofs.Headline.{AskOnce, KnownTexts, Serves, Settles, complete, due_known, due_told, due_true, front_written, no_demo, nothing_written, refused_answers, same_task, settled_answers, told_read}
 use Rattle.function_top.proofs.OneTold.{TellsTrue, usage_tells}
-use Rattle.function_top.proofs.Proving.{answers_proving}
-use Rattle.function_top.proofs.Satisfied.{answers_satisfied}
+use Rattle.function_top.proofs.Saying.{said}
 use Rattle.function_top.proofs.Truth.{SaysTrue, usage_true}
 use Rattle.function_top.proofs.Written.{Bytes}
+
+-- no report is written where memory ran out
+no_report : IsReport NoMemory → ⊥
+no_report (inl all) = cc
+no_report (inr some) = cc
 
 module _ (words : List Bytes) (call : Call) where
   abbrev pub Settled : Status → Status → Bytes → Type 0
@@ -34,9 +37,8 @@ module _ (words : List Bytes) (call : Call) where
       record {
         headline = λ task told before written subject ask is h taken taken' line condition claim whole s.
             front_written (SaysTrue subject) status result bytes call.taken call.taken_after call.write_faults call.write_faults_after
-            (due_true known served.0 text subject status (length call.asked) turns bytes
-            (subst (λ a. IsSubject a text subject) (same_task words once task served.0 ask served.1)
-            (subst (λ t. IsSubject task t subject) (told_read call.left text told read is) h)) due)
+            (due_true known served.0 text subject (subst (λ a. IsSubject a text subject) (same_task words once task served.0 ask served.1)
+            (subst (λ t. IsSubject task t subject) (told_read call.left text told read is) h)) status (length call.asked) turns bytes due)
             settled before written taken taken' line whole condition claim s;
         answer = λ task told before written asked subject input ask is h one given taken taken' line claim whole tells.
             let same = same_task words once task served.0 ask served.1 in
@@ -50,11 +52,8 @@ module _ (words : List Bytes) (call : Call) where
             (due_known known served.0 call.left text read status (length call.asked) turns bytes due) settled before written taken taken' line whole;
         answers = answers;
         refuses = λ none. absurd (none (analysis served.0, served.1));
-        complete = complete known words once result call answers;
-        countdowns = covers_countdowns known words once result call answers;
-        exactly = answers_exactly known words once result call answers;
-        proves = answers_proving known words once result call answers;
-        satisfied = answers_satisfied known words once result call answers;
+        complete = complete known words once call result answers;
+        says = said known words once call result answers;
         demos = λ number ask. absurd (no_demo words once served.0 served.1 number ask);
       }
 
@@ -69,11 +68,8 @@ module _ (words : List Bytes) (call : Call) where
         nothing_written (IsKnown call.left) call.taken before written taken (sym same ∙ taken') line whole;
     answers = answers;
     refuses = λ none. absurd (none (analysis served.0, served.1));
-    complete = complete known words once ReadFault call answers;
-    countdowns = covers_countdowns known words once ReadFault call answers;
-    exactly = answers_exactly known words once ReadFault call answers;
-    proves = answers_proving known words once ReadFault call answers;
-    satisfied = answers_satisfied known words once ReadFault call answers;
+    complete = complete known words once call ReadFault answers;
+    says = said known words once call ReadFault answers;
     demos = λ number ask. absurd (no_demo words once served.0 served.1 number ask);
   }
 
@@ -89,10 +85,7 @@ module _ (words : List Bytes) (call : Call) where
     answers = answers;
     refuses = λ none. inr refl;
     complete = λ task text subject ask is program limits given limited reads writes. inr (inr refl);
-    countdowns = λ task told subject ask is program certain ends counts same. cc;
-    exactly = λ task text before written asked subject input ask is h unasked one given small report. absurd report;
-    proves = λ task text before written subject ask is h whole loopless within report. absurd report;
-    satisfied = λ task text asked subject input ask is h one given small report. absurd report;
+    says = λ task text subject ask is h report. absurd (no_report report);
     demos = λ number ask writes. inr refl;
   }
 
@@ -113,10 +106,7 @@ module _ (words : List Bytes) (call : Call) where
         answers = said.1;
         refuses = λ none. inl said.0;
         complete = λ task text subject ask is program limits given limited. absurd (none (analysis task, ask));
-        countdowns = λ task told subject ask. absurd (none (analysis task, ask));
-        exactly = λ task text before written asked subject input ask. absurd (none (analysis task, ask));
-        proves = λ task text before written subject ask. absurd (none (analysis task, ask));
-        satisfied = λ task text asked subject input ask. absurd (none (analysis task, ask));
+        says = λ task text subject ask. absurd (none (analysis task, ask));
         demos = λ number ask. absurd (none (demo number, ask));
       }
 
@@ -149,10 +139,7 @@ module _ (words : List Bytes) (call : Call) where
         answers = demo_answers number turns bytes result ask unread due rose settled;
         refuses = λ none. absurd (none (demo number, ask));
         complete = λ task text subject own. absurd (other task own);
-        countdowns = λ task told subject own. absurd (other task own);
-        exactly = λ task text before written asked subject input own. absurd (other task own);
-        proves = λ task text before written subject own. absurd (other task own);
-        satisfied = λ task text asked subject input own. absurd (other task own);
+        says = λ task text subject own. absurd (other task own);
         demos = demo_covers result bytes settled;
       }
 

@@ -1,5 +1,5 @@
 -- Something is told of one input of a program without loops exactly where its start satisfies the formula, where the measures of the two are small.
-use Rattle.std.proofs.Common.{◌≡◌, ◌↔◌, ℕ, true, inl, inr, List, length, Option, None, Some, refl, sym, ap, subst}
+use Rattle.std.proofs.Common.{◌≡◌, ◌↔◌, ◌∙◌, ℕ, true, inl, inr, length, Option, None, Some, refl, sym, ap, subst}
 use Rattle.step_meaning.specs.Outcome.{Store}
 use Rattle.step_meaning.specs.Run.{IsInput, start}
 use Rattle.ctl_formula.specs.Formulas.{normal}
@@ -14,15 +14,13 @@ use Rattle.input_text.specs.Input.{IsInputText}
 use Rattle.input_text.proofs.Unique.{same_input}
 use Rattle.command_words.specs.Order.{Task}
 use Rattle.function_top.specs.declared.status.Status.{Status}
-use Rattle.function_top.specs.declared.status.Status.TheVariants.{AllInputs, SomeInputs, Words, Program, Formula, ReadFault, WriteFault, NoMemory}
+use Rattle.function_top.specs.declared.status.Status.TheVariants.{AllInputs, SomeInputs}
 use Rattle.function_top.specs.declared.found.Found.{Found}
-use Rattle.function_top.specs.Answer.{Answers, AnswersSatisfied, WasDue}
-use Rattle.function_top.specs.Call.{Call}
-use Rattle.function_top.specs.Output.{IsAnswerOn, IsCovering, IsDueOn, IsLacking, IsReport}
+use Rattle.function_top.specs.Output.{IsAnswerOn}
 use Rattle.function_top.specs.Found.{HasSmallMeasures, IsExactPart, IsFound}
 use Rattle.function_top.specs.OneInput.{IsToldOf, LeadsExactly, LeadsTo}
 use Rattle.function_top.specs.Subject.{IsFormulaAsked, IsSubject, Subject}
-use Rattle.function_top.proofs.Headline.{AskOnce, KnownTexts, no_demo, own_names, read_subject, same_subject, same_task}
+use Rattle.function_top.proofs.Headline.{KnownTexts, own_names, same_subject}
 use Rattle.function_top.proofs.ToldExactly.{numbers_small}
 use Rattle.function_top.proofs.Written.{Bytes}
 
@@ -58,23 +56,20 @@ module _ (task : Task) (subject : Subject) (found : Found) (finds : IsFound task
       let there = which_leaf (eval (plan_of found.cover) input) (claimed.1 sat) in
       (there.1, record { fits = finds.narrow_ways small input is_input numbers sat; why = there.0; is = there.2 })
 
-  pub told_of_satisfied : (status : Status) (claim : Claim) → IsToldOf found input status claim → IsReport status → (status ≡ AllInputs) ↔ IsSatisfied
-  told_of_satisfied AllInputs claim (inl (rank, way, is)) report = ((λ all. by_exact task.formula formula finds.exact rank way), (λ sat. refl))
-  told_of_satisfied AllInputs claim (inr (none, rank, way, told)) report = ((λ all. by_cover rank way), (λ sat. refl))
-  told_of_satisfied SomeInputs claim told report = ((λ all. absurd (cc)), (λ sat. let way = leads sat in absurd (told.1 way.0 way.1)))
-  told_of_satisfied Words claim told report = absurd report
-  told_of_satisfied Program claim told report = absurd report
-  told_of_satisfied Formula claim told report = absurd report
-  told_of_satisfied ReadFault claim told report = absurd report
-  told_of_satisfied WriteFault claim told report = absurd report
-  told_of_satisfied NoMemory claim told report = absurd report
+  pub told_of_satisfied : (status : Status) (claim : Claim) → IsToldOf found input status claim → (status ≡ AllInputs) ↔ IsSatisfied
+  told_of_satisfied status claim (inl (all, inl (rank, way, is))) = ((λ same. by_exact task.formula formula finds.exact rank way), (λ sat. all))
+  told_of_satisfied status claim (inl (all, inr (none, (rank, way, told)))) = ((λ same. by_cover rank way), (λ sat. all))
+  told_of_satisfied status claim (inr (some, none, lacks, is)) = (
+    (λ all. absurd (let clash : SomeInputs ≡ AllInputs = sym some ∙ all in cc)),
+    (λ sat. let way = leads sat in absurd (lacks way.0 way.1)),
+  )
 
 -- ---- what was due
 
-satisfied_answer : KnownTexts → (task : Task) (text : Bytes) (subject : Subject) (asked : Bytes) (input : Store) (status : Status) (turns : ℕ) (bytes : Bytes)
-    → IsSubject task text subject → IsInputText subject.names asked input → HasSmallMeasures subject → IsReport status
-    → IsAnswerOn task text asked status turns bytes → (status ≡ AllInputs) ↔ Sat subject.formula (start subject.body input)
-satisfied_answer known task text subject asked input status turns bytes h given small report due =
+pub satisfied_answer : KnownTexts → (task : Task) (text : Bytes) (subject : Subject) (asked : Bytes) (input : Store) (status : Status) (turns : ℕ) (bytes : Bytes)
+    → IsSubject task text subject → IsInputText subject.names asked input → HasSmallMeasures subject → IsAnswerOn task text asked status turns bytes
+    → (status ≡ AllInputs) ↔ Sat subject.formula (start subject.body input)
+satisfied_answer known task text subject asked input status turns bytes h given small due =
     let own = due.subject in
     let names = own_names known task text own due.is in
     let same = same_subject known task text own subject due.is h in
@@ -83,44 +78,4 @@ satisfied_answer known task text subject asked input status turns bytes h given 
     subst (λ (s : Subject). (status ≡ AllInputs) ↔ Sat s.formula (start s.body input)) same
     (subst (λ i. (status ≡ AllInputs) ↔ Sat own.formula (start own.body i)) input_same
     (told_of_satisfied task own due.found due.finds due.is.formula (subst HasSmallMeasures (sym same) small) due.input due.input_is.input_is
-    (numbers_small own.names asked due.input due.input_is) status due.claim due.told report))
-
-pub due_satisfied : KnownTexts → (task : Task) (text : Bytes) (subject : Subject) (asked : Bytes) (input : Store) → task.input ≡ Some asked
-    → IsSubject task text subject → IsInputText subject.names asked input → HasSmallMeasures subject → (status : Status) (advisers turns : ℕ) (bytes : Bytes)
-    → IsDueOn task text status advisers turns bytes → IsReport status → (status ≡ AllInputs) ↔ Sat subject.formula (start subject.body input)
-due_satisfied known task text subject asked input one h given small AllInputs advisers turns bytes due is =
-    satisfied_answer known task text subject asked input AllInputs turns bytes h given small is
-    (subst (λ i. IsCovering i task text advisers turns bytes) one due)
-due_satisfied known task text subject asked input one h given small SomeInputs advisers turns bytes due is =
-    satisfied_answer known task text subject asked input SomeInputs turns bytes h given small is
-    (subst (λ i. IsLacking i task text advisers turns bytes) one due)
-due_satisfied known task text subject asked input one h given small Program advisers turns bytes due is = absurd is
-due_satisfied known task text subject asked input one h given small Words advisers turns bytes due is = absurd is
-due_satisfied known task text subject asked input one h given small Formula advisers turns bytes due is = absurd is
-due_satisfied known task text subject asked input one h given small ReadFault advisers turns bytes due is = absurd is
-due_satisfied known task text subject asked input one h given small WriteFault advisers turns bytes due is = absurd is
-due_satisfied known task text subject asked input one h given small NoMemory advisers turns bytes due is = absurd is
-
--- ---- what was answered
-
-module _ (known : KnownTexts) (words : List Bytes) (once : AskOnce words) (call : Call) (status : Status) (bytes : Bytes) where
-  was_satisfied : WasDue words call status bytes → AnswersSatisfied words status call
-  was_satisfied due task text asked subject input ask is h one given small report =
-      due_satisfied known due.task due.text subject asked input
-      (subst (λ (t : Task). t.input ≡ Some asked) (same_task words once task due.task ask due.asked) one)
-      (read_subject words once call status bytes due task text subject ask is h) given small status (length call.asked) due.turns bytes due.due report
-
-pub answers_satisfied : KnownTexts → (words : List Bytes) → AskOnce words → (status : Status) (call : Call) → Answers words status call
-    → AnswersSatisfied words status call
-answers_satisfied known words once AllInputs call (bytes, inl due, appends) task text asked subject input ask is h one given small report =
-    was_satisfied known words once call AllInputs bytes due task text asked subject input ask is h one given small report
-answers_satisfied known words once AllInputs call (bytes, inr shown, appends) task text asked subject input ask is h one given small report =
-    absurd (no_demo words once task ask shown.number shown.asked)
-answers_satisfied known words once SomeInputs call (bytes, due, appends) task text asked subject input ask is h one given small report =
-    was_satisfied known words once call SomeInputs bytes due task text asked subject input ask is h one given small report
-answers_satisfied known words once Words call said task text asked subject input ask is h one given small report = absurd report
-answers_satisfied known words once Program call said task text asked subject input ask is h one given small report = absurd report
-answers_satisfied known words once Formula call said task text asked subject input ask is h one given small report = absurd report
-answers_satisfied known words once ReadFault call said task text asked subject input ask is h one given small report = absurd report
-answers_satisfied known words once WriteFault call said task text asked subject input ask is h one given small report = absurd report
-answers_satisfied known words once NoMemory call said task text asked subject input ask is h one given small report = absurd report
+    (numbers_small own.names asked due.input due.input_is) status due.claim due.told))

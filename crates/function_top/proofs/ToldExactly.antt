@@ -30,7 +30,6 @@ use Rattle.function_top.specs.declared.found.Exact.{Exact}
 use Rattle.function_top.specs.declared.found.Exact.TheVariants.{Made, Unasked, Unmade}
 use Rattle.function_top.specs.declared.found.Found.{Found}
 use Rattle.function_top.specs.declared.status.Status.{Status}
-use Rattle.function_top.specs.declared.status.Status.TheVariants.{AllInputs, SomeInputs, Words, Program, Formula, ReadFault, WriteFault, NoMemory}
 use Rattle.function_top.specs.Exact.{EndsExactly, HasSmallLevels, IsExact, IsExactTree, IsStopAt}
 use Rattle.function_top.specs.Meeting.{TellsClaim}
 use Rattle.function_top.specs.OneInput.{IsTold, IsToldOf, LeadsExactly, LeadsTo}
@@ -116,18 +115,12 @@ module _ (vars : ℕ) (body : Statements) (tests : ℕ) (stop : Option Stop) (tr
     way_to rank way = subst (λ e. LeadsExactly e input rank) (sym made) way
 
     pub told_exactly : (status : Status) (claim : Claim) → IsToldOf found input status claim → (claim ≡ Exactly (pos n)) ↔ EndsExactly body tests input n
-    told_exactly AllInputs claim (inl (rank, way, is)) =
+    told_exactly status claim (inl (all, inl (rank, way, is))) =
         ((λ says. of_leaf rank claim (way_of rank way) is says), (λ ends. to_leaf rank claim (way_of rank way) is ends))
-    told_exactly AllInputs claim (inr (none, rank, way, told)) =
+    told_exactly status claim (inl (all, inr (none, (rank, way, told)))) =
         ((λ says. absurd (exactly_told found.claims rank input claim n claims told says)), (λ ends. absurd (none (counted n) (way_to (counted n) (leads ends)))))
-    told_exactly SomeInputs claim told =
-        ((λ says. absurd (let unknown = told.2 in cc)), (λ ends. absurd (told.0 (counted n) (way_to (counted n) (leads ends)))))
-    told_exactly Words claim told = absurd told
-    told_exactly Program claim told = absurd told
-    told_exactly Formula claim told = absurd told
-    told_exactly ReadFault claim told = absurd told
-    told_exactly WriteFault claim told = absurd told
-    told_exactly NoMemory claim told = absurd told
+    told_exactly status claim (inr (some, none, lacks, is)) =
+        ((λ says. absurd (let unknown = is in cc)), (λ ends. absurd (none (counted n) (way_to (counted n) (leads ends)))))
 
 -- ---- what a text tells
 

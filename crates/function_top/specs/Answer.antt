@@ -1,32 +1,22 @@
 -- What each status of the command says.
-use Rattle.std.specs.Prelude.{◌≡◌, ◌≢◌, ◌↔◌, ℕ, ◌≤◌, ◌⊎◌, List, ◌++◌, None, Some, length}
+use Rattle.std.specs.Prelude.{◌≡◌, ℕ, ◌≤◌, ◌⊎◌, List, Some, length}
 use Rattle.std.specs.Io.KnownBytes.{Appends, Keeps}
 use Rattle.outside.specs.Faults.{Rose}
 use Rattle.outside.specs.Sink.{AppendsFront, WritesOrFails}
-use Rattle.step_meaning.specs.Countdown.{IsCountdown}
-use Rattle.step_meaning.specs.Outcome.{Store}
-use Rattle.step_meaning.specs.Run.{start}
-use Rattle.ctl_formula.specs.Formulas.{af_exit, normal}
-use Rattle.ctl_formula.specs.Satisfaction.{Sat}
+use Rattle.ctl_formula.specs.Formulas.{normal}
 use Rattle.normal_form.specs.Operators.{operators}
-use Rattle.exact_families.specs.Completeness.{IsLoopless}
-use Rattle.formula_measures.specs.Measures.{IsWithinMeasures}
-use Rattle.fitting_ways.specs.Factors.{HasSmallFactors}
 use Rattle.ctl_rounds.specs.Asked.{RoseBy}
-use Rattle.input_text.specs.Input.{IsInputText}
 use Rattle.function_top.specs.declared.status.Status.{Status}
 use Rattle.function_top.specs.declared.status.Status.TheVariants.{AllInputs, SomeInputs, Words, Program, Formula, ReadFault, WriteFault, NoMemory}
 use Rattle.function_top.specs.Asking.{IsInputGiven}
 use Rattle.function_top.specs.Call.{Call}
 use Rattle.function_top.specs.Demo.{IsDemoDue}
 use Rattle.function_top.specs.Output.{IsDueOn, IsReport, IsWithinLimits}
-use Rattle.function_top.specs.Exact.{HasSmallLevels}
 use Rattle.function_top.specs.Form.{Form}
-use Rattle.function_top.specs.Found.{HasSmallMeasures}
 use Rattle.function_top.specs.Headline.{AnswerHeadline, Headline}
-use Rattle.function_top.specs.Meeting.{ProvesExactly, TellsExactly}
 use Rattle.command_words.specs.Order.{Accepted, Ask, Task, analysis, demo}
 use Rattle.function_top.specs.Refusals.{usage_text}
+use Rattle.function_top.specs.Says.{Says}
 use Rattle.function_top.specs.Subject.{IsSubject, Subject}
 use Rattle.function_top.specs.Text.{IsRead}
 
@@ -94,42 +84,17 @@ IsComplete words status call =
     → ¬ Rose call.read_faults call.read_faults_after → ¬ Rose call.write_faults call.write_faults_after
     → (status ≡ AllInputs) ⊎ (status ≡ SomeInputs) ⊎ (status ≡ NoMemory)
 
--- No input of a countdown program is left out of a report where the normal form of the formula is `AF exit`, as it is where no formula is asked about. And
--- where one input is asked for, something is claimed of it if the program has no loop, or the factors in front of the loop are small.
-abbrev pub CoversCountdowns : List (List ℕ) → Status → Call → Type 0
-CoversCountdowns words status call =
-    (task : Task) (text : List ℕ) (subject : Subject) → Ask words (analysis task) → call.left ≡ Some text → IsSubject task text subject
-    → (task.input ≡ None) ⊎ HasSmallFactors subject.body → normal subject.formula ≡ af_exit → IsCountdown subject.body → status ≢ SomeInputs
-
 -- A demo program gets its summary, which covers all inputs, where no count of faults of the sink rose and memory didn't run out.
 abbrev pub CoversDemos : List (List ℕ) → Status → Call → Type 0
 CoversDemos words status call =
     (number : ℕ) → Ask words (demo number) → ¬ Rose call.write_faults call.write_faults_after → (status ≡ AllInputs) ⊎ (status ≡ NoMemory)
 
--- Where one input is asked for and no formula, of a plain program whose levels up to that of as many tests as the delay are small, what is written whole
--- tells `exactly n steps` of the input exactly where every run from it ends with at most so many tests of a loop, and the longest has n steps.
-abbrev pub AnswersExactly : List (List ℕ) → Status → Call → Type 0
-AnswersExactly words status call =
-    (task : Task) (text before written asked : List ℕ) (subject : Subject) (input : Store) → Ask words (analysis task) → call.left ≡ Some text
-    → IsSubject task text subject → task.formula ≡ None → task.input ≡ Some asked → IsInputText subject.names asked input
-    → HasSmallLevels subject.body task.delay → IsReport status → call.taken ≡ Some before → call.taken_after ≡ Some (before ++ written)
-    → TellsExactly subject task.delay input written
-
--- Where no input is asked for, of a plain program without loops, and the formula's normal form is within the measures of the program, an input meets a
--- proved line of what is written whole exactly where its start satisfies the formula.
-abbrev pub AnswersProving : List (List ℕ) → Status → Call → Type 0
-AnswersProving words status call =
-    (task : Task) (text before written : List ℕ) (subject : Subject) → Ask words (analysis task) → call.left ≡ Some text
-    → IsSubject task text subject → task.input ≡ None → IsLoopless subject.body → IsWithinMeasures subject.body (normal subject.formula)
-    → IsReport status → call.taken ≡ Some before → call.taken_after ≡ Some (before ++ written) → ProvesExactly subject written
-
--- Where one input is asked for, of a plain program without loops, and the measures of the program and the formula are small, what is written whole claims
--- something of the input exactly where its start satisfies the formula.
-abbrev pub AnswersSatisfied : List (List ℕ) → Status → Call → Type 0
-AnswersSatisfied words status call =
-    (task : Task) (text asked : List ℕ) (subject : Subject) (input : Store) → Ask words (analysis task) → call.left ≡ Some text
-    → IsSubject task text subject → task.input ≡ Some asked → IsInputText subject.names asked input → HasSmallMeasures subject → IsReport status
-    → (status ≡ AllInputs) ↔ Sat subject.formula (start subject.body input)
+-- By words that ask for an analysis of a text with a subject, where the status is that of a report, bytes were written whole that say all that a report on it
+-- says, or what is told of the input.
+abbrev pub SaysAll : List (List ℕ) → Status → Call → Type 0
+SaysAll words status call =
+    (task : Task) (text : List ℕ) (subject : Subject) → Ask words (analysis task) → call.left ≡ Some text → IsSubject task text subject → IsReport status
+    → (bytes : List ℕ) × Appends call.taken call.taken_after bytes × Says task subject status bytes
 
 -- All that is said of a call of the command with these words that ended with this status.
 pub record IsRun (words : List (List ℕ)) (status : Status) (call : Call) : Type 0 where
@@ -139,8 +104,5 @@ pub record IsRun (words : List (List ℕ)) (status : Status) (call : Call) : Typ
   pub answers : Answers words status call
   pub refuses : ¬ Accepted words → (status ≡ Words) ⊎ (status ≡ NoMemory)
   pub complete : IsComplete words status call
-  pub countdowns : CoversCountdowns words status call
-  pub exactly : AnswersExactly words status call
-  pub proves : AnswersProving words status call
-  pub satisfied : AnswersSatisfied words status call
+  pub says : SaysAll words status call
   pub demos : CoversDemos words status call

@@ -15,4 +15,5 @@ pub mod Output
 pub mod Demo
 pub mod Form
 pub mod Meeting
+pub mod Says
 pub mod Answer

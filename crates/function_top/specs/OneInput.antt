@@ -15,7 +15,7 @@ use Rattle.function_top.specs.declared.found.Exact.{Exact}
 use Rattle.function_top.specs.declared.found.Exact.TheVariants.{Made, Unasked, Unmade}
 use Rattle.function_top.specs.declared.found.Found.{Found}
 use Rattle.function_top.specs.declared.status.Status.{Status}
-use Rattle.function_top.specs.declared.status.Status.TheVariants.{AllInputs, SomeInputs, Words, Program, Formula, ReadFault, WriteFault, NoMemory}
+use Rattle.function_top.specs.declared.status.Status.TheVariants.{AllInputs, SomeInputs}
 
 -- the input's way through the tree is found within 128 bits, and leads to a leaf of this rank
 pub record LeadsTo (tree : Plan AffineRank) (input : Store) (rank : AffineRank) : Type 0 where
@@ -40,18 +40,21 @@ IsTold (Exactly number) input claim = claim ≡ Exactly number
 IsTold Holds input claim = claim ≡ Holds
 IsTold Unknown input claim = claim ≡ Unknown
 
+-- the exact part claims this of the input
+abbrev pub IsToldExactly : Found → Store → Claim → Type 0
+IsToldExactly found input claim = (rank : AffineRank) × LeadsExactly found.exact input rank × (claim ≡ claim_of Counted rank)
+
+-- it claims nothing of it
+abbrev pub IsNotToldExactly : Found → Store → Type 0
+IsNotToldExactly found input = (rank : AffineRank) → ¬ LeadsExactly found.exact input rank
+
+-- the cover claims this
+abbrev pub IsToldByCover : Found → Store → Claim → Type 0
+IsToldByCover found input claim = (rank : AffineRank) × LeadsTo (plan_of found.cover) input rank × IsTold (claim_of found.claims rank) input claim
+
 -- By what was found this is told of the input, and the status says whether anything is claimed: what the exact part claims of it, else what the
 -- cover does, else that it is unknown.
 abbrev pub IsToldOf : Found → Store → Status → Claim → Type 0
-IsToldOf found input AllInputs claim =
-    ((rank : AffineRank) × LeadsExactly found.exact input rank × (claim ≡ claim_of Counted rank))
-    ⊎ (((rank : AffineRank) → ¬ LeadsExactly found.exact input rank)
-    × (rank : AffineRank) × LeadsTo (plan_of found.cover) input rank × IsTold (claim_of found.claims rank) input claim)
-IsToldOf found input SomeInputs claim =
-    ((rank : AffineRank) → ¬ LeadsExactly found.exact input rank) × ((rank : AffineRank) → ¬ LeadsTo (plan_of found.cover) input rank) × (claim ≡ Unknown)
-IsToldOf found input Words claim = ⊥
-IsToldOf found input Program claim = ⊥
-IsToldOf found input Formula claim = ⊥
-IsToldOf found input ReadFault claim = ⊥
-IsToldOf found input WriteFault claim = ⊥
-IsToldOf found input NoMemory claim = ⊥
+IsToldOf found input status claim =
+    ((status ≡ AllInputs) × (IsToldExactly found input claim ⊎ (IsNotToldExactly found input × IsToldByCover found input claim)))
+    ⊎ ((status ≡ SomeInputs) × IsNotToldExactly found input × ((rank : AffineRank) → ¬ LeadsTo (plan_of found.cover) input rank) × (claim ≡ Unknown))

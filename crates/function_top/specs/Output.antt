@@ -1,5 +1,5 @@
 -- What is due on a text.
-use Rattle.std.specs.Prelude.{◌≡◌, ◌≢◌, ℕ, ◌+◌, ◌<◌, ◌≤◌, ◌⊎◌, List, [], ◌∷◌, ◌++◌, length, Option, None, Some, ⊤}
+use Rattle.std.specs.Prelude.{◌≡◌, ◌≢◌, ℕ, ◌+◌, ◌<◌, ◌≤◌, ◌⊎◌, List, [], ◌∷◌, ◌++◌, length, Option, None, Some}
 use Rattle.step_meaning.specs.declared.program.Program.{Program as Parsed}
 use Rattle.step_meaning.specs.Offsets.{offsets}
 use Rattle.step_meaning.specs.Outcome.{Store}
@@ -24,7 +24,7 @@ use Rattle.report_text.specs.declared.report.Report.{Report}
 use Rattle.report_text.specs.Printed.{IsReportText}
 use Rattle.ctl_rounds.specs.Asked.{IsAdvised}
 use Rattle.function_top.specs.declared.status.Status.{Status}
-use Rattle.function_top.specs.declared.status.Status.TheVariants.{AllInputs, SomeInputs, Words, Program, Formula, ReadFault, WriteFault, NoMemory}
+use Rattle.function_top.specs.declared.status.Status.TheVariants.{AllInputs, SomeInputs, Words, Program, Formula}
 use Rattle.function_top.specs.declared.found.Found.{Found}
 use Rattle.function_top.specs.Asking.{IsInputGiven}
 use Rattle.function_top.specs.Explained.{explained, explanation}
@@ -44,8 +44,14 @@ pub record HasGraph (text : List ℕ) (names : List (List ℕ)) : Type 0 where
   pub labels : size_of (statements program.body) < 1024
   pub conjunctions : wide_offsets program.body ≡ []
 
+-- how often advisers are asked where an input is left without a claim: eight times where the normal form of the formula is a whole `A[f U g]`, and
+-- else never
+abbrev pub AreTurnsFor : Ctl → ℕ → Type 0
+AreTurnsFor normal_form turns = (IsAdvised normal_form → turns ≡ 8) × (¬ IsAdvised normal_form → turns ≡ 0)
+
 -- The text has a subject whose program is within the limits, and the normal form of its formula has at most 256 operators; by the task this was
--- found of it, asking each of so many advisers so many times; and the report that shows it, explained where that is asked for, is these bytes.
+-- found of it, asking each of so many advisers so many times, and as many times as they may help where a line is unknown; and the report that shows
+-- it, explained where that is asked for, is these bytes.
 pub record IsReportOn (task : Task) (text : List ℕ) (report : Report) (advisers turns : ℕ) (bytes : List ℕ) : Type 0 where
   pub subject : Subject
   pub is : IsSubject task text subject
@@ -54,6 +60,7 @@ pub record IsReportOn (task : Task) (text : List ℕ) (report : Report) (adviser
   pub found : Found
   pub finds : IsFound task subject found
   pub asked : turns ≡ found.turns
+  pub advised : report.unknown ≢ [] → AreTurnsFor (normal subject.formula) turns
   pub shows : Shows found report
   pub explains : report.explain ≡ explained task.explain (explanation (1 + size_of subject.body) found.families advisers turns)
   pub printed : IsReportText subject.names report bytes
@@ -69,7 +76,6 @@ pub record IsAnswerOn (task : Task) (text asked : List ℕ) (status : Status) (t
   pub found : Found
   pub finds : IsFound task subject found
   pub turns_are : turns ≡ found.turns
-  pub few : turns ≤ 8
   pub claim : Claim
   pub told : IsToldOf found input status claim
   pub line : List ℕ
@@ -148,56 +154,25 @@ pub record IsFormulaRefused (task : Task) (text line : List ℕ) : Type 0 where
   pub asked : task.formula ≡ Some formula
   pub refused : IsNoFormula names formula line ⊎ IsLongFormula names formula line
 
--- the status is that of a report
+-- the status is that of a report, or of what is told of one input
 abbrev pub IsReport : Status → Type 0
-IsReport AllInputs = ⊤
-IsReport SomeInputs = ⊤
-IsReport Words = ⊥
-IsReport Program = ⊥
-IsReport Formula = ⊥
-IsReport ReadFault = ⊥
-IsReport WriteFault = ⊥
-IsReport NoMemory = ⊥
+IsReport status = (status ≡ AllInputs) ⊎ (status ≡ SomeInputs)
 
 -- the status of a report with these unknown lines: all inputs exactly where there is none
 abbrev pub IsVerdict : Status → List Line → Type 0
-IsVerdict AllInputs unknown = unknown ≡ []
-IsVerdict SomeInputs unknown = unknown ≢ []
-IsVerdict Words unknown = ⊥
-IsVerdict Program unknown = ⊥
-IsVerdict Formula unknown = ⊥
-IsVerdict ReadFault unknown = ⊥
-IsVerdict WriteFault unknown = ⊥
-IsVerdict NoMemory unknown = ⊥
+IsVerdict status unknown = ((status ≡ AllInputs) × (unknown ≡ [])) ⊎ ((status ≡ SomeInputs) × (unknown ≢ []))
 
--- how often advisers are asked where an input is left without a claim: eight times where the normal form of the formula is a whole `A[f U g]`, and
--- else never
-abbrev pub AreTurnsFor : Ctl → ℕ → Type 0
-AreTurnsFor normal_form turns = (IsAdvised normal_form → turns ≡ 8) × (¬ IsAdvised normal_form → turns ≡ 0)
-
--- where no input is asked for, the bytes are due that are a report without an unknown line; where one is, a claim on it
-abbrev pub IsCovering : Option (List ℕ) → Task → List ℕ → (advisers turns : ℕ) → List ℕ → Type 0
-IsCovering None task text advisers turns bytes = (report : Report) × IsReportOn task text report advisers turns bytes × (report.unknown ≡ []) × (turns ≤ 8)
-IsCovering (Some asked) task text advisers turns bytes = IsAnswerOn task text asked AllInputs turns bytes
-
--- the same with an unknown line, or without a claim
-abbrev pub IsLacking : Option (List ℕ) → Task → List ℕ → (advisers turns : ℕ) → List ℕ → Type 0
-IsLacking None task text advisers turns bytes =
-    (report : Report) × (on : IsReportOn task text report advisers turns bytes) × (report.unknown ≢ []) × AreTurnsFor (normal on.subject.formula) turns
-IsLacking (Some asked) task text advisers turns bytes = IsAnswerOn task text asked SomeInputs turns bytes
-
--- These bytes are due on the text by the task, with this status, and each of so many advisers is asked for them so many times: a report that covers
--- all inputs, asking at most eight times; one that doesn't, asking eight times where advisers may help; a claim on one input, or that it is unknown;
--- or the line of a program's text, of an input's or of a formula's that is refused, asking nothing.
-abbrev pub IsDueOn : Task → List ℕ → Status → (advisers turns : ℕ) → List ℕ → Type 0
-IsDueOn task text AllInputs advisers turns bytes = IsCovering task.input task text advisers turns bytes
-IsDueOn task text SomeInputs advisers turns bytes = IsLacking task.input task text advisers turns bytes
-IsDueOn task text Program advisers turns bytes = (IsTooLong text bytes ⊎ IsNoProgram text bytes ⊎ IsPastLimits text bytes) × (turns ≡ 0)
-IsDueOn task text Words advisers turns bytes = IsInputRefused task text bytes × (turns ≡ 0)
-IsDueOn task text Formula advisers turns bytes = IsFormulaRefused task text bytes × (turns ≡ 0)
-IsDueOn task text ReadFault advisers turns bytes = ⊥
-IsDueOn task text WriteFault advisers turns bytes = ⊥
-IsDueOn task text NoMemory advisers turns bytes = ⊥
+-- These bytes are due on the text by the task, with this status, and each of so many advisers is asked for them so many times: where no input is asked
+-- for, a report with its verdict; where one is, what is told of it; or the line of a program's text, of an input's or of a formula's that is refused,
+-- asking nothing.
+pub data IsDueOn (task : Task) (text : List ℕ) (status : Status) (advisers turns : ℕ) (bytes : List ℕ) : Type 0 where
+  reported : (report : Report) → task.input ≡ None → IsReportOn task text report advisers turns bytes → IsVerdict status report.unknown
+      → IsDueOn task text status advisers turns bytes
+  answered : (asked : List ℕ) → task.input ≡ Some asked → IsAnswerOn task text asked status turns bytes → IsDueOn task text status advisers turns bytes
+  no_program : status ≡ Program → turns ≡ 0 → IsTooLong text bytes ⊎ IsNoProgram text bytes ⊎ IsPastLimits text bytes
+      → IsDueOn task text status advisers turns bytes
+  no_input : status ≡ Words → turns ≡ 0 → IsInputRefused task text bytes → IsDueOn task text status advisers turns bytes
+  no_formula : status ≡ Formula → turns ≡ 0 → IsFormulaRefused task text bytes → IsDueOn task text status advisers turns bytes
 
 -- so they are on each text of at most 65,536 bytes that is the program
 abbrev pub IsDueOnProgram : Task → Parsed → Status → (advisers turns : ℕ) → List ℕ → Type 0

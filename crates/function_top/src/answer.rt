@@ -1,16 +1,11 @@
 //! From a text to what is to be written for it.
 
-ghost use Rattle.std.specs.Prelude.{◌≡◌, ◌↔◌, ◌≤◌, ◌<◌, ◌+◌, ◌^◌, ℕ, List, [], All, IfOk, None, Some, length};
+ghost use Rattle.std.specs.Prelude.{◌≡◌, ◌≤◌, ◌<◌, ◌+◌, ◌^◌, ℕ, List, [], All, IfOk, Some, length};
 ghost use Rattle.step_meaning.specs.Outcome.{Store};
-ghost use Rattle.step_meaning.specs.Run.{start};
 ghost use Rattle.step_meaning.specs.Syntax.{size_of, statements};
 ghost use Rattle.control_flow.specs.Faults.{wide_offsets};
-ghost use Rattle.ctl_formula.specs.Formulas.{normal};
 ghost use Rattle.ctl_formula.specs.Mirror.{ctl};
-ghost use Rattle.ctl_formula.specs.Satisfaction.{Sat};
 ghost use Rattle.normal_form.specs.Rows.{RowsAreOver};
-ghost use Rattle.exact_families.specs.Completeness.{IsLoopless};
-ghost use Rattle.formula_measures.specs.Measures.{IsWithinMeasures};
 ghost use Rattle.ctl_rounds.specs.Asked.{RoseBy};
 ghost use Rattle.input_text.specs.Input.{IsInputText};
 ghost use Rattle.report_text.specs.declared.report.Report.{Report};
@@ -19,13 +14,11 @@ ghost use Rattle.function_top.specs.Asking.{IsNormalAsked, IsReadAs};
 ghost use Rattle.function_top.specs.Output.{IsDueOn, IsDueOnProgram, IsReport, IsVerdict};
 ghost use Rattle.function_top.specs.Explained.{explained, explanation};
 ghost use Rattle.function_top.specs.Form.{HasKnownLines};
-ghost use Rattle.function_top.specs.Found.{HasSmallMeasures};
 ghost use Rattle.function_top.specs.Headline.{IsTrueAnswer, IsTrueText};
-ghost use Rattle.function_top.specs.Exact.{HasSmallLevels};
-ghost use Rattle.function_top.specs.Meeting.{AreMetOnce, CountsExactly, ProvesExactly, TellsExactly};
 ghost use Rattle.command_words.specs.Order.{Task, task_of};
 ghost use Rattle.function_top.specs.Printable.{IsFoundPrintable};
 ghost use Rattle.function_top.specs.Refusals.{formula_text, program_text, usage_text};
+ghost use Rattle.function_top.specs.Says.{Says};
 ghost use Rattle.function_top.specs.Shown.{Shows};
 ghost use Rattle.function_top.specs.Subject.{IsSubject, Subject};
 
@@ -76,18 +69,8 @@ pub fn report_on(
     ensures form { IfOk result (λ due. HasKnownLines (Some text.now) due.bytes.items) }
     ensures answer { IfOk result (λ due. (subject : Subject) (asked : List ℕ) (input : Store) → IsSubject (task_of query.now) text.now subject
         → (task_of query.now).input ≡ Some asked → IsInputText subject.names asked input → IsTrueAnswer subject input due.bytes.items) }
-    ensures lines { IfOk result (λ due. (task_of query.now).input ≡ None → IsReport due.status → (subject : Subject) → IsSubject (task_of query.now) text.now subject
-        → AreMetOnce subject.names due.bytes.items) }
-    ensures counts { IfOk result (λ due. (task_of query.now).input ≡ None → IsReport due.status → (subject : Subject) → IsSubject (task_of query.now) text.now subject
-        → CountsExactly subject due.bytes.items) }
-    ensures proves { IfOk result (λ due. (task_of query.now).input ≡ None → IsReport due.status → (subject : Subject) → IsSubject (task_of query.now) text.now subject
-        → IsLoopless subject.body → IsWithinMeasures subject.body (normal subject.formula) → ProvesExactly subject due.bytes.items) }
-    ensures exactly { IfOk result (λ due. (subject : Subject) (asked : List ℕ) (input : Store) → IsSubject (task_of query.now) text.now subject
-        → (task_of query.now).formula ≡ None → (task_of query.now).input ≡ Some asked → IsInputText subject.names asked input
-        → HasSmallLevels subject.body query.now.delay → IsReport due.status → TellsExactly subject query.now.delay input due.bytes.items) }
-    ensures satisfied { IfOk result (λ due. (subject : Subject) (asked : List ℕ) (input : Store) → IsSubject (task_of query.now) text.now subject
-        → (task_of query.now).input ≡ Some asked → IsInputText subject.names asked input → HasSmallMeasures subject → IsReport due.status
-        → (due.status ≡ Status.AllInputs) ↔ Sat subject.formula (start subject.body input)) }
+    ensures says { IfOk result (λ due. IsReport due.status → (subject : Subject) → IsSubject (task_of query.now) text.now subject
+        → Says (task_of query.now) subject due.status due.bytes.items) }
     ensures asked { (times : ℕ) × (times ≤ 8) × RoseBy (λ adviser. asked_of adviser) times advisers.old.items advisers.new.items
         × IfOk result (λ due. due.turns ≡ times) }
 {
@@ -289,7 +272,8 @@ pub(crate) fn too_long(alloc: Global) -> Result<Output, AllocError>
         → IsDueOn task text due.status advisers due.turns due.bytes.items) }
     ensures unasked { IfOk result (λ due. due.turns ≡ 0) }
 {
-    no_program(alloc, 14, 65_536)
+    let line = no_program(alloc, 14, 65_536)?;
+    Ok(line)
 }
 
 /// The line of a program's fault, for which no adviser is asked.

@@ -5,6 +5,7 @@ use Rattle.ctl_rounds.proofs.Asking.{unasked}
 use Rattle.command_words.specs.Order.{task_of}
 use Rattle.line_text.specs.Names.{AreNames}
 use Rattle.function_top.specs.Asking.{IsInputGiven}
+use Rattle.function_top.specs.Output.{no_input}
 use Rattle.function_top.proofs.Named.{program_names}
 use Rattle.function_top.proofs.Reported.{graph_of}
 use Rattle.function_top.proofs.answer.due_on_graph.Goals as goal
@@ -13,16 +14,13 @@ pub returns-in_ok-no_input-in-None-clause-due : goal.returns-in_ok-no_input-in-N
 returns-in_ok-no_input-in-None-clause-due g c = λ text short derived stand.
     let program = c.args.graph.now in
     let names = program_names c.names_are_spelled_as_names.ensures c.names_are_distinct.ensures text program.names (statements program.body) derived in
-    rw (c.in_ok-no_input-in-None.ensures.status) (
-      record {
-        names = program.names;
-        within = graph_of text program short derived c.requires.labels c.requires.conjunctions;
-        refused = subst (λ (p : Program). ¬ IsInputGiven p.names (task_of c.args.query.now).input) c.program.ensures
-            (c.in-None.ensures.none (subst (λ (p : Program). AreNames p.names) (sym c.program.ensures) names));
-        line_is = c.in_ok-no_input-in-None.ensures.line;
-      },
-      c.in_ok-no_input-in-None.ensures.unasked,
-    )
+    no_input c.in_ok-no_input-in-None.ensures.status c.in_ok-no_input-in-None.ensures.unasked record {
+      names = program.names;
+      within = graph_of text program short derived c.requires.labels c.requires.conjunctions;
+      refused = subst (λ (p : Program). ¬ IsInputGiven p.names (task_of c.args.query.now).input) c.program.ensures
+          (c.in-None.ensures.none (subst (λ (p : Program). AreNames p.names) (sym c.program.ensures) names));
+      line_is = c.in_ok-no_input-in-None.ensures.line;
+    }
 
 pub returns-in_ok-no_input-in-None-clause-asked : goal.returns-in_ok-no_input-in-None-clause-asked
 returns-in_ok-no_input-in-None-clause-asked g c =

@@ -1,7 +1,7 @@
-use Rattle.std.proofs.Common.{rules, ℕ, ◌<◌, List, length, arith}
+use Rattle.std.proofs.Common.{rules, length, arith}
 use Rattle.ctl_rounds.proofs.Asking.{unasked}
-use Rattle.function_top.specs.Output.{IsDueOn}
 use Rattle.command_words.specs.Order.{task_of}
+use Rattle.function_top.proofs.Refusing.{long_text}
 use Rattle.function_top.proofs.top.answer.Goals as goal
 
 pub returns-in_err-text-clause-asked : goal.returns-in_err-text-clause-asked
@@ -18,7 +18,6 @@ returns-in-Failed-clause-asked g c = (0, omega (arith), unasked (λ a. (goal.Adv
 
 pub returns-in_ok-too_long-in-TooLong-clause-due : goal.returns-in_ok-too_long-in-TooLong-clause-due
 returns-in_ok-too_long-in-TooLong-clause-due g c =
-    let due : (text : List ℕ) → 65536 < length text
-    → IsDueOn (task_of c.args.query.now) text c.in_ok-too_long-in-TooLong.field-0.status (length c.args.advisers.now.items) c.in_ok-too_long-in-TooLong.field-0.turns c.in_ok-too_long-in-TooLong.field-0.bytes.items
-    = λ text long. c.in_ok-too_long-in-TooLong.ensures.due (task_of c.args.query.now) text (length c.args.advisers.now.items) long in
-    search rules
+    let ends = rw c.in-TooLong.is at c.in_ok-text.ensures.ends in
+    let read = long_text 65536 _ _ ends.0 ends.1 in
+    (read.0, read.1, ends.2, c.in_ok-too_long-in-TooLong.ensures.due (task_of c.args.query.now) read.0 (length c.args.advisers.now.items) read.2)
