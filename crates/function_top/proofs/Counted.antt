@@ -32,7 +32,7 @@ use Rattle.function_top.specs.Shown.{Shows, ShowsExact, header_of}
 use Rattle.function_top.specs.Subject.{Subject}
 use Rattle.function_top.proofs.Conditions.{condition_met, rows_met}
 use Rattle.function_top.proofs.ExactLines.{met_by_runs}
-use Rattle.function_top.proofs.Truth.{EndAsLines, KnownLines}
+use Rattle.function_top.proofs.Truth.{OpenAsLines, KnownLines}
 use Rattle.function_top.proofs.Written.{Bytes, stopped_line}
 
 -- ---- the lines and their texts
@@ -161,12 +161,12 @@ module _ (subject : Subject) (known : KnownLines subject.names) (delay tests : �
   part_counted (Some formula) exact header lines is shows are named =
       absurd (no_header tests stop (ap header_lines (sym (subst (λ e. ShowsExact e header lines) is shows).0) ∙ named))
 
-pub counts_exactly : (subject : Subject) → KnownLines subject.names → EndAsLines → (task : Task) (found : Found) (report : Report) (text : Bytes)
+pub counts_exactly : (subject : Subject) → KnownLines subject.names → OpenAsLines → (task : Task) (found : Found) (report : Report) (text : Bytes)
     → IsFound task subject found → Shows found report → IsReportText subject.names report text → CountsExactly subject text
-counts_exactly subject known ending task found report text finds shows printed tests allows input is_input n =
+counts_exactly subject known opening task found report text finds shows printed tests allows input is_input n =
     let texts : KnownTexts subject.names = record {
       newline = known.newline;
-      ending = λ line condition claim. ending subject.names line condition claim;
+      opening = λ line condition claim. opening subject.names line condition claim;
       digits = numeral_is_numeral;
     } in
     let cut = report_sections texts report text printed in

@@ -16,22 +16,22 @@ use Rattle.function_top.specs.Demo.{summary_lines}
 use Rattle.function_top.specs.Form.{IsKnown, exact_head, explanation, summary, proved_head, unknown_head, all_verdict, some_verdict, words, program, formula}
 use Rattle.function_top.specs.Refusals.{fault_line, formula_text, program_text, usage_line, usage_text}
 use Rattle.function_top.specs.Shown.{Shows}
-use Rattle.function_top.proofs.Truth.{KnownLines, fault_lacks, formula_lacks, program_lacks, usage_lacks}
-use Rattle.function_top.proofs.Written.{Bytes, EachWhole, Frames, Lacks, Prints, each_good, one_good, report_holds, summary_lacks}
+use Rattle.function_top.proofs.Truth.{KnownLines, formula_silent, program_silent, usage_silent}
+use Rattle.function_top.proofs.Written.{Bytes, EachWhole, Frames, Lacks, Prints, each_good, free_lacks, one_good, report_holds, summary_lacks}
 
 module _ (left : Option Bytes) where
   pub usage_known : EachWhole (IsKnown left) usage_text
-  usage_known = one_good (IsKnown left) usage_line usage_text usage_lacks (inr (inr words)) refl
+  usage_known = one_good (IsKnown left) usage_line usage_text (free_lacks usage_line usage_silent.free) (inr (inr words)) refl
 
   pub program_known : (number offset : ℕ) → EachWhole (IsKnown left) (program_text number offset)
   program_known number offset =
       one_good (IsKnown left) (fault_line (codes "program") number offset) (program_text number offset)
-      (fault_lacks (codes "program") number offset program_lacks) (inr (inr (program number offset))) refl
+      (free_lacks (fault_line (codes "program") number offset) (program_silent number offset).free) (inr (inr (program number offset))) refl
 
   pub formula_known : (number offset : ℕ) → EachWhole (IsKnown left) (formula_text number offset)
   formula_known number offset =
       one_good (IsKnown left) (fault_line (codes "formula") number offset) (formula_text number offset)
-      (fault_lacks (codes "formula") number offset formula_lacks) (inr (inr (formula number offset))) refl
+      (free_lacks (fault_line (codes "formula") number offset) (formula_silent number offset).free) (inr (inr (formula number offset))) refl
 
   -- a claim alone
   pub claim_known : (names : List Bytes)

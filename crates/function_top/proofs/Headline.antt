@@ -39,7 +39,7 @@ use Rattle.function_top.specs.Found.{IsExactPart}
 use Rattle.function_top.specs.Meeting.{AreMetOnce, CountsExactly, TellsClaim, TellsExactly}
 use Rattle.function_top.specs.OneInput.{IsToldOf}
 use Rattle.command_words.specs.Order.{Accepted, Ask, Request, Task, analysis, demo}
-use Rattle.function_top.specs.Refusals.{formula_text, program_text, usage_text}
+use Rattle.function_top.specs.Refusals.{fault_line, formula_text, program_text, usage_line, usage_text}
 use Rattle.function_top.specs.Subject.{IsFormulaAsked, IsSubject, Subject}
 use Rattle.function_top.specs.Text.{IsRead}
 use Rattle.function_top.specs.TrueLine.{IsTrueAt}
@@ -49,8 +49,8 @@ use Rattle.function_top.proofs.Claiming.{no_exact_number}
 use Rattle.function_top.proofs.MetOnce.{met_once}
 use Rattle.function_top.proofs.ToldExactly.{made_whole, numbers_small, tells_alone, told_exactly}
 use Rattle.function_top.proofs.Named.{program_names}
-use Rattle.function_top.proofs.Truth.{EndAsLines, KnownLines, SaysTrue, fault_true, formula_lacks, program_lacks, report_true, usage_true}
-use Rattle.function_top.proofs.OneTold.{EndAsClaims, KnownClaims, TellsTrue, fault_tells, told_is_true, usage_tells}
+use Rattle.function_top.proofs.Truth.{KnownLines, OpenAsLines, SaysTrue, formula_silent, program_silent, report_true, silent_true, usage_silent}
+use Rattle.function_top.proofs.OneTold.{HasNoColon, KnownClaims, TellsTrue, colon_tells, fault_colon, told_is_true}
 use Rattle.function_top.proofs.Written.{Bytes, EachWhole, Lacks, of_front, of_nothing, one_good}
 
 -- what is known of the texts of programs and formulas, and of the lines of reports
@@ -59,12 +59,11 @@ pub record KnownTexts : Type 0 where
   pub formulas : FormulasAreUnique
   pub spelled : NamesAreNames
   pub distinct : NamesAreDistinct
-  pub ending : EndAsLines
+  pub opening : OpenAsLines
   pub lines : (names : List Bytes) → AreNames names → KnownLines names
   pub alone : (names : List Bytes) → AreNames names → KnownClaims names
-  pub claim_ending : EndAsClaims
 
-pub known_texts : TextsAreUnique → FormulasAreUnique → NamesAreNames → NamesAreDistinct → EndAsLines
+pub known_texts : TextsAreUnique → FormulasAreUnique → NamesAreNames → NamesAreDistinct → OpenAsLines
     → ((names : List Bytes) (line : Bytes) (condition : List Affine) (claim : Claim) → AreNames names → Spells names line condition claim → Lacks line)
     → ((names : List Bytes) (line : Bytes) (condition other : List Affine) (claim claim' : Claim) → AreNames names → Spells names line condition claim
     → Spells names line other claim' → (condition ≡ other) × (claim ≡ claim'))
@@ -72,13 +71,13 @@ pub known_texts : TextsAreUnique → FormulasAreUnique → NamesAreNames → Nam
     → ((names : List Bytes) (line : Bytes) (claim : Claim) → AreNames names → Tells names line claim → Lacks line)
     → ((names : List Bytes) (line : Bytes) (condition : List Affine) (claim other : Claim) → AreNames names → Tells names line claim
     → ¬ Spells names line condition other)
-    → EndAsClaims → KnownTexts
-known_texts unique formulas spelled distinct ending newline one tells_one tells_newline apart claim_ending = record {
+    → ((names : List Bytes) (line : Bytes) (claim : Claim) → AreNames names → Tells names line claim → HasNoColon line) → KnownTexts
+known_texts unique formulas spelled distinct opening newline one tells_one tells_newline apart colon = record {
   unique = unique;
   formulas = formulas;
   spelled = spelled;
   distinct = distinct;
-  ending = ending;
+  opening = opening;
   lines = λ names are. record {
     newline = λ line condition claim. newline names line condition claim are;
     one = λ line condition other claim claim'. one names line condition other claim claim' are;
@@ -87,8 +86,8 @@ known_texts unique formulas spelled distinct ending newline one tells_one tells_
     newline = λ line claim. tells_newline names line claim are;
     one = λ line claim other. tells_one names line claim other are;
     apart = λ line condition claim other. apart names line condition claim other are;
+    colon = λ line claim. colon names line claim are;
   };
-  claim_ending = claim_ending;
 }
 
 -- ---- what is due is true, and of a known form
@@ -114,7 +113,7 @@ true_report : KnownTexts → (task : Task) (text : Bytes) (subject : Subject) (r
     → IsReportOn task text report advisers turns bytes → EachWhole (SaysTrue subject) bytes
 true_report known task text subject report advisers turns bytes h due =
     subst (λ s. EachWhole (SaysTrue s) bytes) (same_subject known task text due.subject subject due.is h)
-    (report_true due.subject known.ending
+    (report_true due.subject known.opening
     (known.lines due.subject.names (program_names known.spelled known.distinct text due.subject.names due.subject.body due.is.program))
     task due.found report bytes due.finds due.shows due.printed)
 
@@ -155,9 +154,11 @@ formula_refusal : (task : Task) (text bytes : Bytes) → IsFormulaRefused task t
 formula_refusal task text bytes due = meant_refusal due.names due.formula bytes due.refused
 
 true_refusal : KnownTexts → (subject : Subject) (bytes : Bytes) → IsRefusalText bytes → EachWhole (SaysTrue subject) bytes
-true_refusal known subject bytes usage = usage_true subject known.ending
-true_refusal known subject bytes (of_program number offset) = fault_true subject known.ending (codes "program") program_lacks number offset
-true_refusal known subject bytes (of_formula number offset) = fault_true subject known.ending (codes "formula") formula_lacks number offset
+true_refusal known subject bytes usage = silent_true subject known.opening usage_line usage_text usage_silent refl
+true_refusal known subject bytes (of_program number offset) =
+    silent_true subject known.opening (fault_line (codes "program") number offset) (program_text number offset) (program_silent number offset) refl
+true_refusal known subject bytes (of_formula number offset) =
+    silent_true subject known.opening (fault_line (codes "formula") number offset) (formula_text number offset) (formula_silent number offset) refl
 
 pub due_true : KnownTexts → (task : Task) (text : Bytes) (subject : Subject) → IsSubject task text subject → (status : Status) (advisers turns : ℕ)
     (bytes : Bytes) → IsDueOn task text status advisers turns bytes → EachWhole (SaysTrue subject) bytes
@@ -217,7 +218,7 @@ met_report known task text subject report advisers turns bytes h due =
     subst (λ (s : Subject). AreMetOnce s.names bytes) (same_subject known task text due.subject subject due.is h)
     (met_once due.subject.names
     (known.lines due.subject.names (program_names known.spelled known.distinct text due.subject.names due.subject.body due.is.program))
-    known.ending due.found report bytes due.shows due.printed)
+    known.opening due.found report bytes due.shows due.printed)
 
 -- its exact lines are met by the runs that they speak of
 pub counted_report : KnownTexts → (task : Task) (text : Bytes) (subject : Subject) (report : Report) (advisers turns : ℕ) (bytes : Bytes) → IsSubject task text subject
@@ -226,7 +227,7 @@ counted_report known task text subject report advisers turns bytes h due =
     subst (λ (s : Subject). CountsExactly s bytes) (same_subject known task text due.subject subject due.is h)
     (counts_exactly due.subject
     (known.lines due.subject.names (program_names known.spelled known.distinct text due.subject.names due.subject.body due.is.program))
-    known.ending task due.found report bytes due.finds due.shows due.printed)
+    known.opening task due.found report bytes due.finds due.shows due.printed)
 
 -- ---- what is due, by its status and by what is asked for
 
@@ -293,7 +294,7 @@ told_answer known task text subject asked input status turns bytes h given due =
     (one_good (TellsTrue own input) due.line bytes (claims.newline due.line due.claim due.tells)
     (λ claim tells. subst (λ k. IsTrueAt own.formula k input (start own.body input)) (claims.one due.line due.claim claim due.tells tells)
     (subst (λ i. IsTrueAt own.formula due.claim i (start own.body i)) input_same
-    (told_is_true own known.ending due.input due.input_is.input_is task due.found status due.claim due.finds due.told)))
+    (told_is_true own known.opening due.input due.input_is.input_is task due.found status due.claim due.finds due.told)))
     due.is_line)
 
 -- the text of an answer tells the exact claim exactly where the runs are as it says
@@ -321,12 +322,14 @@ exact_answer known task text subject asked input status turns bytes h given unas
       (λ ends. alone.1 (told.1 ends)),
     ))
 
-told_refusal : KnownTexts → (subject : Subject) (input : Store) (bytes : Bytes) → IsRefusalText bytes → EachWhole (TellsTrue subject input) bytes
-told_refusal known subject input bytes usage = usage_tells subject known.claim_ending input
-told_refusal known subject input bytes (of_program number offset) =
-    fault_tells subject known.claim_ending input (codes "program") program_lacks number offset
-told_refusal known subject input bytes (of_formula number offset) =
-    fault_tells subject known.claim_ending input (codes "formula") formula_lacks number offset
+told_refusal : (subject : Subject) → KnownClaims subject.names → (input : Store) (bytes : Bytes) → IsRefusalText bytes → EachWhole (TellsTrue subject input) bytes
+told_refusal subject known input bytes usage = colon_tells subject known input usage_line usage_text usage_silent (5, omega arith, refl) refl
+told_refusal subject known input bytes (of_program number offset) =
+    colon_tells subject known input (fault_line (codes "program") number offset) (program_text number offset) (program_silent number offset)
+    (fault_colon (codes "program") number offset) refl
+told_refusal subject known input bytes (of_formula number offset) =
+    colon_tells subject known input (fault_line (codes "formula") number offset) (formula_text number offset) (formula_silent number offset)
+    (fault_colon (codes "formula") number offset) refl
 
 pub due_told : KnownTexts → (task : Task) (text : Bytes) (subject : Subject) (asked : Bytes) (input : Store) → task.input ≡ Some asked
     → IsSubject task text subject → IsInputText subject.names asked input → (status : Status) (advisers turns : ℕ) (bytes : Bytes)
@@ -335,11 +338,11 @@ due_told known task text subject asked input one h given status advisers turns b
 due_told known task text subject asked input one h given status advisers turns bytes (answered other own on) =
     told_answer known task text subject asked input status turns bytes h given (own_answer task text asked other status turns bytes one own on)
 due_told known task text subject asked input one h given status advisers turns bytes (no_program is unasked refused) =
-    told_refusal known subject input bytes (program_refusal text bytes refused)
+    told_refusal subject (known.alone subject.names (own_names known task text subject h)) input bytes (program_refusal text bytes refused)
 due_told known task text subject asked input one h given status advisers turns bytes (no_input is unasked refused) =
-    told_refusal known subject input bytes (input_refusal task text bytes refused)
+    told_refusal subject (known.alone subject.names (own_names known task text subject h)) input bytes (input_refusal task text bytes refused)
 due_told known task text subject asked input one h given status advisers turns bytes (no_formula is unasked refused) =
-    told_refusal known subject input bytes (formula_refusal task text bytes refused)
+    told_refusal subject (known.alone subject.names (own_names known task text subject h)) input bytes (formula_refusal task text bytes refused)
 
 -- ---- what was written
 

@@ -1,4 +1,3 @@
-pub mod Endings
 pub mod Written
 pub mod OnlyMet
 pub mod Conditions

@@ -23,7 +23,7 @@ use Rattle.function_top.specs.Shown.{Shows}
 use Rattle.function_top.specs.Meeting.{AreMetOnce, AreUnmet, IsMet, MeetsOne}
 use Rattle.function_top.proofs.Conditions.{condition_met, rows_met}
 use Rattle.function_top.proofs.Once.{at_most_one, one_line}
-use Rattle.function_top.proofs.Truth.{EndAsLines, KnownLines}
+use Rattle.function_top.proofs.Truth.{OpenAsLines, KnownLines}
 use Rattle.function_top.proofs.Written.{Bytes}
 
 module _ (names : List Bytes) (known : KnownLines names) (input : Store) where
@@ -105,7 +105,7 @@ module _ (names : List Bytes) (known : KnownLines names) (input : Store) where
 
 -- ---- the text of a report
 
-module _ (names : List Bytes) (known : KnownLines names) (ending : EndAsLines) where
+module _ (names : List Bytes) (known : KnownLines names) (opening : OpenAsLines) where
   exact_texts : (input : Store) (header : Header) (lines : List Line) (texts : List Bytes) → AreExactTexts names header lines texts
       → MeetsAtMostOneLine input lines → AreUnmet names input texts ⊎ MeetsOne names input texts
   exact_texts input (Whole tests) lines texts are (inl none) = inl (none_of names known input lines texts are none)
@@ -120,7 +120,7 @@ module _ (names : List Bytes) (known : KnownLines names) (ending : EndAsLines) w
   met_once found report text shows printed =
       let texts : KnownTexts names = record {
         newline = known.newline;
-        ending = λ line condition claim. ending names line condition claim;
+        opening = λ line condition claim. opening names line condition claim;
         digits = numeral_is_numeral;
       } in
       let cut = report_sections texts report text printed in

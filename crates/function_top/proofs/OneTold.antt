@@ -1,5 +1,6 @@
 -- What is told of one input is true of it.
-use Rattle.std.proofs.Common.{◌≡◌, inl, inr, ◌∙◌, ℕ, List, ◌++◌, length, Option, None, Some, codes, refl, sym, ap, subst, arith}
+use Rattle.std.proofs.Common.{◌≡◌, ◌≢◌, inl, inr, ◌∙◌, ℕ, List, [], ◌∷◌, ◌++◌, length, All, Contains, Option, None, Some, codes, refl, sym, ap, subst, arith}
+use Rattle.std.proofs.lemmas.List.Elements.{All-contains, Contains-append_right}
 use Rattle.step_meaning.specs.Outcome.{Store}
 use Rattle.step_meaning.specs.Run.{IsInput, start}
 use Rattle.step_meaning.specs.Step.{Configuration}
@@ -13,8 +14,7 @@ use Rattle.decision_tree.specs.Plans.{Plan, plan_of}
 use Rattle.line_text.specs.declared.claim.Claim.{Claim}
 use Rattle.line_text.specs.declared.claim.Claim.TheVariants.{Exactly, Holds, Unknown, Within}
 use Rattle.line_text.specs.Numeral.{numeral}
-use Rattle.line_text.specs.Spells.{EndsAsLine, Spells}
-use Rattle.line_text.proofs.Words.{numeral_is_numeral}
+use Rattle.line_text.specs.Spells.{Spells}
 use Rattle.claim_line.specs.Tells.{Tells}
 use Rattle.report_text.specs.declared.line.Top.{Top}
 use Rattle.report_text.specs.declared.line.Top.TheVariants.{Exact as Counted}
@@ -27,22 +27,22 @@ use Rattle.function_top.specs.declared.status.Status.{Status}
 use Rattle.function_top.specs.Exact.{IsExact}
 use Rattle.function_top.specs.Found.{IsExactPart, IsFound, IsTrueTree}
 use Rattle.function_top.specs.OneInput.{IsTold, IsToldOf, LeadsExactly, LeadsTo}
-use Rattle.function_top.specs.Refusals.{fault_line, fault_text, usage_line, usage_text}
+use Rattle.function_top.specs.Refusals.{fault_line}
 use Rattle.function_top.specs.Subject.{Subject}
 use Rattle.function_top.specs.TrueLine.{IsTrueAt}
-use Rattle.function_top.proofs.Endings.{digit_last, other_last}
-use Rattle.function_top.proofs.Truth.{EndAsLines, exact_true, fault_front, fault_is, fault_lacks, usage_lacks}
-use Rattle.function_top.proofs.Written.{Bytes, EachWhole, Lacks, one_good}
+use Rattle.function_top.proofs.Truth.{OpenAsLines, exact_true}
+use Rattle.function_top.proofs.Written.{Bytes, EachWhole, IsSilent, Lacks, free_lacks, one_good}
+
+-- no byte is a colon, code 58
+abbrev pub HasNoColon : Bytes → Type 0
+HasNoColon line = All (λ byte. byte ≢ 58) line
 
 -- what is known of lines that are a claim alone over the names
 pub record KnownClaims (names : List Bytes) : Type 0 where
   pub newline : (line : Bytes) (claim : Claim) → Tells names line claim → Lacks line
   pub one : (line : Bytes) (claim other : Claim) → Tells names line claim → Tells names line other → claim ≡ other
   pub apart : (line : Bytes) (condition : List Affine) (claim other : Claim) → Tells names line claim → ¬ Spells names line condition other
-
--- a line that tells a claim ends as one
-abbrev pub EndAsClaims : Type 0
-EndAsClaims = (names : List Bytes) (line : Bytes) (claim : Claim) → Tells names line claim → EndsAsLine (codes "always: " ++ line)
+  pub colon : (line : Bytes) (claim : Claim) → Tells names line claim → HasNoColon line
 
 -- whatever claim alone the line is, it is true of the input
 abbrev pub TellsTrue : Subject → Store → Bytes → Type 0
@@ -62,7 +62,7 @@ told_true formula input c (Exactly number) told is truth = subst (λ claim. IsTr
 told_true formula input c Holds told is truth = subst (λ claim. IsTrueAt formula claim input c) (sym is) truth
 told_true formula input c Unknown told is truth = subst (λ claim. IsTrueAt formula claim input c) (sym is) truth
 
-module _ (subject : Subject) (ending : EndAsLines) (input : Store) (is_input : IsInput (length subject.names) input) where
+module _ (subject : Subject) (opening : OpenAsLines) (input : Store) (is_input : IsInput (length subject.names) input) where
   abbrev Holds_of : Claim → Type 0
   Holds_of claim = IsTrueAt subject.formula claim input (start subject.body input)
 
@@ -75,7 +75,7 @@ module _ (subject : Subject) (ending : EndAsLines) (input : Store) (is_input : I
   exactly_true delay Unasked rank is leads = absurd leads
   exactly_true delay (Unmade stop) rank is leads = absurd leads
   exactly_true delay (Made tests stop tree) rank is leads =
-      leaf_true Counted (plan_of tree) rank (exact_true subject ending tests (plan_of tree) is.2) leads
+      leaf_true Counted (plan_of tree) rank (exact_true subject opening tests (plan_of tree) is.2) leads
 
   part_true : (asked : Option Bytes) (delay : ℕ) (exact : Exact) (rank : AffineRank) → IsExactPart asked subject delay exact → LeadsExactly exact input rank
       → Holds_of (claim_of Counted rank)
@@ -93,20 +93,13 @@ module _ (subject : Subject) (ending : EndAsLines) (input : Store) (is_input : I
 
 -- ---- the other lines tell nothing
 
-module _ (subject : Subject) (ending : EndAsClaims) (input : Store) where
-  silent : (line : Bytes) → (EndsAsLine (codes "always: " ++ line) → ⊥) → TellsTrue subject input line
-  silent line other claim tells = absurd (other (ending subject.names line claim tells))
+-- a text of one line with a colon
+pub colon_tells : (subject : Subject) → KnownClaims subject.names → (input : Store) (line text : Bytes) → IsSilent line → Contains line 58
+    → text ≡ line ++ 10 ∷ [] → EachWhole (TellsTrue subject input) text
+colon_tells subject known input line text is has text_is =
+    one_good (TellsTrue subject input) line text (free_lacks line is.free)
+    (λ claim tells. absurd (All-contains (λ byte. byte ≢ 58) line 58 (known.colon line claim tells) has refl)) text_is
 
-  pub usage_tells : EachWhole (TellsTrue subject input) usage_text
-  usage_tells =
-      one_good (TellsTrue subject input) usage_line usage_text usage_lacks
-      (silent usage_line (other_last (codes "always: " ++ usage_line) (λ e. omega arith) (λ e. omega arith) (λ e. omega arith))) refl
-
-  pub fault_tells : (what : Bytes) → Lacks what → (number offset : ℕ) → EachWhole (TellsTrue subject input) (fault_text what number offset)
-  fault_tells what clean number offset =
-      let digits = numeral_is_numeral offset in
-      one_good (TellsTrue subject input) (fault_line what number offset) (fault_text what number offset) (fault_lacks what number offset clean)
-      (silent (fault_line what number offset)
-      (subst (λ line. EndsAsLine (codes "always: " ++ line) → ⊥) (sym (fault_is what number offset))
-      (digit_last (codes "always: " ++ fault_front what number offset) (numeral offset) digits.0 digits.1)))
-      refl
+pub fault_colon : (what : Bytes) (number offset : ℕ) → Contains (fault_line what number offset) 58
+fault_colon what number offset =
+    Contains-append_right what (codes ": " ++ (numeral number ++ (codes " at " ++ numeral offset))) 58 (0, omega arith, refl)

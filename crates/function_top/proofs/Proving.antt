@@ -20,18 +20,18 @@ use Rattle.function_top.specs.Subject.{IsSubject, Subject}
 use Rattle.function_top.proofs.Counted.{line_met, text_met}
 use Rattle.function_top.proofs.Headline.{KnownTexts, own_names, same_subject}
 use Rattle.function_top.proofs.ProvedLines.{met_by_satisfied}
-use Rattle.function_top.proofs.Truth.{EndAsLines, KnownLines}
+use Rattle.function_top.proofs.Truth.{OpenAsLines, KnownLines}
 use Rattle.function_top.proofs.Written.{Bytes}
 
 -- ---- the text of a report
 
-proves_exactly : (subject : Subject) → KnownLines subject.names → EndAsLines → (task : Task) (found : Found) (report : Report) (text : Bytes)
+proves_exactly : (subject : Subject) → KnownLines subject.names → OpenAsLines → (task : Task) (found : Found) (report : Report) (text : Bytes)
     → IsFound task subject found → Shows found report → IsReportText subject.names report text → IsLoopless subject.body
     → IsWithinMeasures subject.body (normal subject.formula) → ProvesExactly subject text
-proves_exactly subject known ending task found report text finds shows printed loopless within input is_input =
+proves_exactly subject known opening task found report text finds shows printed loopless within input is_input =
     let texts : KnownLineTexts subject.names = record {
       newline = known.newline;
-      ending = λ line condition claim. ending subject.names line condition claim;
+      opening = λ line condition claim. opening subject.names line condition claim;
       digits = numeral_is_numeral;
     } in
     let cut = report_sections texts report text printed in
@@ -49,6 +49,6 @@ module _ (known : KnownTexts) (task : Task) (text : Bytes) (subject : Subject) (
   proving_report report advisers turns bytes due =
       let same = same_subject known task text due.subject subject due.is is in
       subst (λ (s : Subject). ProvesExactly s bytes) same
-      (proves_exactly due.subject (known.lines due.subject.names (own_names known task text due.subject due.is)) known.ending task due.found report bytes
+      (proves_exactly due.subject (known.lines due.subject.names (own_names known task text due.subject due.is)) known.opening task due.found report bytes
       due.finds due.shows due.printed (subst (λ (s : Subject). IsLoopless s.body) (sym same) loopless)
       (subst (λ (s : Subject). IsWithinMeasures s.body (normal s.formula)) (sym same) within))

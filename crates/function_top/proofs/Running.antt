@@ -14,9 +14,9 @@ use Rattle.function_top.specs.Subject.{IsSubject}
 use Rattle.function_top.specs.Text.{IsRead}
 use Rattle.function_top.proofs.Formed.{summary_known, usage_known}
 use Rattle.function_top.proofs.Headline.{AskOnce, KnownTexts, Serves, Settles, complete, due_known, due_told, due_true, front_written, no_demo, nothing_written, refused_answers, same_task, settled_answers, told_read}
-use Rattle.function_top.proofs.OneTold.{TellsTrue, usage_tells}
+use Rattle.function_top.proofs.OneTold.{TellsTrue}
 use Rattle.function_top.proofs.Saying.{said}
-use Rattle.function_top.proofs.Truth.{SaysTrue, usage_true}
+use Rattle.function_top.proofs.Truth.{SaysTrue}
 use Rattle.function_top.proofs.Written.{Bytes}
 
 -- no report is written where memory ran out
@@ -90,16 +90,12 @@ module _ (words : List Bytes) (call : Call) where
   }
 
   -- the words were refused, and the usage line was written, or a front of it
-  pub run_refused : KnownTexts → ¬ Accepted words → (result : Status) → Settled Words result usage_text → IsRun words result call
-  run_refused known none result settled =
+  pub run_refused : ¬ Accepted words → (result : Status) → Settled Words result usage_text → IsRun words result call
+  run_refused none result settled =
       let said = refused_answers words call result none settled in
       record {
-        headline = λ task told before written subject ask is h taken taken' line condition claim whole s.
-            front_written (SaysTrue subject) Words result usage_text call.taken call.taken_after call.write_faults call.write_faults_after
-            (usage_true subject known.ending) settled before written taken taken' line whole condition claim s;
-        answer = λ task told before written asked subject input ask is h one given taken taken' line claim whole tells.
-            front_written (TellsTrue subject input) Words result usage_text call.taken call.taken_after call.write_faults call.write_faults_after
-            (usage_tells subject known.claim_ending input) settled before written taken taken' line whole claim tells;
+        headline = λ task told before written subject ask. absurd (none (analysis task, ask));
+        answer = λ task told before written asked subject input ask. absurd (none (analysis task, ask));
         form = λ before written taken taken' line whole.
             front_written (IsKnown call.left) Words result usage_text call.taken call.taken_after call.write_faults call.write_faults_after
             (usage_known call.left) settled before written taken taken' line whole;

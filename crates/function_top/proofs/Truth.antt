@@ -1,6 +1,6 @@
 -- What the command writes is true, line by line.
-use Rattle.std.proofs.Common.{◌≡◌, ℕ, ◌+◌, not, List, [], ◌∷◌, ◌++◌, length, All, Contains, Option, None, Some, codes, refl, sym, ap, ◌∙◌, subst, arith, append_assoc}
-use Rattle.std.proofs.lemmas.List.Elements.{All-cons, All-filter, All-nil}
+use Rattle.std.proofs.Common.{◌≡◌, ℕ, ◌+◌, not, List, [], ◌∷◌, ◌++◌, length, All, Contains, Option, None, Some, codes, refl, sym, ap, ◌∙◌, subst, arith}
+use Rattle.std.proofs.lemmas.List.Elements.{All-filter, All-nil}
 use Rattle.step_meaning.specs.Outcome.{Store}
 use Rattle.step_meaning.specs.Run.{IsInput, start}
 use Rattle.linear_cons.specs.declared.affine.Affine.{Affine}
@@ -12,19 +12,15 @@ use Rattle.decision_tree.specs.Plans.{Plan, bottom, branch, leaf, plan_of, top}
 use Rattle.line_text.specs.declared.claim.Claim.{Claim}
 use Rattle.line_text.specs.LineText.{functions_of}
 use Rattle.line_text.specs.Numeral.{numeral}
-use Rattle.line_text.specs.Spells.{EndsAsLine, Spells}
+use Rattle.line_text.specs.Spells.{OpensAsLine, Spells}
 use Rattle.line_text.proofs.Words.{numeral_is_numeral}
 use Rattle.report_text.specs.declared.line.Line.{Line}
 use Rattle.report_text.specs.declared.line.Top.{Top}
 use Rattle.report_text.specs.declared.line.Top.TheVariants.{Exact as Counted}
-use Rattle.report_text.specs.declared.report.Explain.{Explain}
 use Rattle.report_text.specs.declared.report.Header.{Header}
-use Rattle.report_text.specs.declared.report.Header.TheVariants.{Absent, Partial, Stopped, Whole}
-use Rattle.report_text.specs.declared.report.Stop.{Stop}
-use Rattle.report_text.specs.declared.report.Stop.TheVariants.{NotPlain, TooManyNodes, WideNumbers}
 use Rattle.report_text.specs.declared.report.Report.{Report}
 use Rattle.report_text.specs.Leaves.{AreLinesOf, claim_at, is_unknown}
-use Rattle.report_text.specs.Printed.{IsReportText, adviser_lines, cause_text, exact_part, explain_part, explained}
+use Rattle.report_text.specs.Printed.{IsReportText}
 use Rattle.report_text.proofs.Standing.{one_line_met}
 use Rattle.function_top.specs.declared.found.Exact.{Exact}
 use Rattle.function_top.specs.declared.found.Exact.TheVariants.{Made, Unasked, Unmade}
@@ -32,16 +28,15 @@ use Rattle.function_top.specs.declared.found.Found.{Found}
 use Rattle.function_top.specs.Exact.{IsExact, IsExactTree}
 use Rattle.function_top.specs.Found.{IsExactPart, IsFound, IsTrueTree}
 use Rattle.command_words.specs.Order.{Task}
-use Rattle.function_top.specs.Refusals.{fault_line, fault_text, usage_line, usage_text}
+use Rattle.function_top.specs.Refusals.{fault_line, usage_line}
 use Rattle.function_top.specs.Shown.{Shows, ShowsExact}
 use Rattle.function_top.specs.Subject.{Subject}
 use Rattle.function_top.specs.TrueLine.{IsTrueAt, TrueLine}
 use Rattle.unroll.specs.Levels.{RanksCount}
 use Rattle.function_top.proofs.Conditions.{condition_met}
-use Rattle.function_top.proofs.Endings.{colon_last, digit_last, other_before_s, other_last}
 use Rattle.function_top.proofs.ExactLines.{ranks_at}
 use Rattle.function_top.proofs.OnlyMet.{met_is_one}
-use Rattle.function_top.proofs.Written.{Bytes, EachWhole, Frames, Lacks, Prints, both_lack, digits_lack, one_good, partial_line, report_holds, stopped_line, tested, whole_line}
+use Rattle.function_top.proofs.Written.{Bytes, EachWhole, Frames, IsFree, IsSilent, Lacks, Prints, both_free, digits_free, free_lacks, one_good, report_holds, says_nothing, silent_frames, tested}
 
 -- what is known of the lines over the names
 pub record KnownLines (names : List Bytes) : Type 0 where
@@ -49,115 +44,41 @@ pub record KnownLines (names : List Bytes) : Type 0 where
   pub one : (line : Bytes) (condition other : List Affine) (claim claim' : Claim) → Spells names line condition claim
       → Spells names line other claim' → (condition ≡ other) × (claim ≡ claim')
 
--- a line that says anything ends as a claim
-abbrev pub EndAsLines : Type 0
-EndAsLines = (names : List Bytes) (line : Bytes) (condition : List Affine) (claim : Claim) → Spells names line condition claim → EndsAsLine line
+-- a line that says anything opens as one
+abbrev pub OpenAsLines : Type 0
+OpenAsLines = (names : List Bytes) (line : Bytes) (condition : List Affine) (claim : Claim) → Spells names line condition claim → OpensAsLine line
 
--- the lines of refused words and of faults have no newline byte, and end otherwise than a claim
-pub usage_lacks : Lacks usage_line
-usage_lacks = tested usage_line refl
+-- the lines of refused words and of faults say nothing
+pub usage_silent : IsSilent usage_line
+usage_silent = record { free = tested usage_line refl; second = λ e. omega arith }
 
-module _ (what : Bytes) (number offset : ℕ) where
-  pub fault_front : Bytes
-  fault_front = what ++ (codes ": " ++ (numeral number ++ codes " at "))
+pub fault_free : (what : Bytes) (number offset : ℕ) → IsFree what → IsFree (fault_line what number offset)
+fault_free what number offset clean =
+    both_free what (codes ": " ++ (numeral number ++ (codes " at " ++ numeral offset))) clean
+    (both_free (codes ": ") (numeral number ++ (codes " at " ++ numeral offset)) (tested (codes ": ") refl)
+    (both_free (numeral number) (codes " at " ++ numeral offset) (digits_free (numeral number) (numeral_is_numeral number).1)
+    (both_free (codes " at ") (numeral offset) (tested (codes " at ") refl) (digits_free (numeral offset) (numeral_is_numeral offset).1))))
 
-  pub fault_is : fault_line what number offset ≡ fault_front ++ numeral offset
-  unfolding fault_front
-  fault_is = simp append_assoc
+pub program_silent : (number offset : ℕ) → IsSilent (fault_line (codes "program") number offset)
+program_silent number offset = record { free = fault_free (codes "program") number offset (tested (codes "program") refl); second = λ e. omega arith }
 
-  pub fault_lacks : Lacks what → Lacks (fault_line what number offset)
-  fault_lacks clean =
-      both_lack what (codes ": " ++ (numeral number ++ (codes " at " ++ numeral offset))) clean
-      (both_lack (codes ": ") (numeral number ++ (codes " at " ++ numeral offset)) (tested (codes ": ") refl)
-      (both_lack (numeral number) (codes " at " ++ numeral offset) (digits_lack (numeral number) (numeral_is_numeral number).1)
-      (both_lack (codes " at ") (numeral offset) (tested (codes " at ") refl) (digits_lack (numeral offset) (numeral_is_numeral offset).1))))
-
--- what has a fault
-pub program_lacks : Lacks (codes "program")
-program_lacks = tested (codes "program") refl
-
-pub formula_lacks : Lacks (codes "formula")
-formula_lacks = tested (codes "formula") refl
+pub formula_silent : (number offset : ℕ) → IsSilent (fault_line (codes "formula") number offset)
+formula_silent number offset = record { free = fault_free (codes "formula") number offset (tested (codes "formula") refl); second = λ e. omega arith }
 
 -- whatever the line says over the names is true of the subject
 abbrev pub SaysTrue : Subject → Bytes → Type 0
 SaysTrue subject line = (condition : List Affine) (claim : Claim) → Spells subject.names line condition claim → TrueLine subject condition claim
 
-module _ (subject : Subject) (ending : EndAsLines) where
-  -- a line that ends otherwise says nothing
-  silent : (line : Bytes) → (EndsAsLine line → ⊥) → SaysTrue subject line
-  silent line other condition claim s = absurd (other (ending subject.names line condition claim s))
+module _ (subject : Subject) (opening : OpenAsLines) where
+  silent : (line : Bytes) → IsSilent line → SaysTrue subject line
+  silent line is condition claim s = absurd (says_nothing line is (opening subject.names line condition claim s))
 
-  pub usage_true : EachWhole (SaysTrue subject) usage_text
-  usage_true =
-      one_good (SaysTrue subject) usage_line usage_text usage_lacks
-      (silent usage_line (other_last usage_line (λ e. omega arith) (λ e. omega arith) (λ e. omega arith))) refl
-
-  pub fault_true : (what : Bytes) → Lacks what → (number offset : ℕ) → EachWhole (SaysTrue subject) (fault_text what number offset)
-  fault_true what clean number offset =
-      let digits = numeral_is_numeral offset in
-      one_good (SaysTrue subject) (fault_line what number offset) (fault_text what number offset) (fault_lacks what number offset clean)
-      (silent (fault_line what number offset)
-      (subst (λ line. EndsAsLine line → ⊥) (sym (fault_is what number offset))
-      (digit_last (fault_front what number offset) (numeral offset) digits.0 digits.1)))
-      refl
-
-  stop_silent : (cause : Stop) → SaysTrue subject (stopped_line cause)
-  stop_silent WideNumbers =
-      silent (codes "exact: wide numbers") (other_before_s (codes "exact: wide numbers") refl (λ e. omega arith) (λ e. omega arith))
-  stop_silent TooManyNodes =
-      silent (codes "exact: too many nodes") (other_before_s (codes "exact: too many nodes") refl (λ e. omega arith) (λ e. omega arith))
-  stop_silent NotPlain =
-      silent (codes "exact: not a plain program")
-      (other_last (codes "exact: not a plain program") (λ e. omega arith) (λ e. omega arith) (λ e. omega arith))
-
-  -- a header says nothing
-  colon_silent : (front line : Bytes) → line ≡ front ++ 58 ∷ [] → SaysTrue subject line
-  colon_silent front line is = silent line (subst (λ l. EndsAsLine l → ⊥) (sym is) (colon_last front))
-
-  headers_silent : (header : Header) → All (SaysTrue subject) (exact_part header [])
-  headers_silent Absent = All-nil (SaysTrue subject)
-  headers_silent (Whole tests) =
-      All-cons (SaysTrue subject) (whole_line tests) []
-      (colon_silent (codes "exact, " ++ (numeral tests ++ codes " tests")) (whole_line tests) (simp append_assoc)) (All-nil (SaysTrue subject))
-  headers_silent (Partial tests cause) =
-      All-cons (SaysTrue subject) (partial_line tests cause) []
-      (colon_silent (codes "exact, " ++ (numeral tests ++ (codes " tests, then " ++ cause_text cause))) (partial_line tests cause) (simp append_assoc))
-      (All-nil (SaysTrue subject))
-  headers_silent (Stopped cause) = All-cons (SaysTrue subject) (stopped_line cause) [] (stop_silent cause) (All-nil (SaysTrue subject))
-
-  -- nor does a line that ends in a numeral
-  numeral_silent : (front line : Bytes) (n : ℕ) → line ≡ front ++ numeral n → SaysTrue subject line
-  numeral_silent front line n is =
-      let digits = numeral_is_numeral n in
-      silent line (subst (λ l. EndsAsLine l → ⊥) (sym is) (digit_last front (numeral n) digits.0 digits.1))
-
-  advisers_silent : (first : ℕ) (asked : List ℕ) → All (SaysTrue subject) (adviser_lines first asked)
-  advisers_silent first [] = All-nil (SaysTrue subject)
-  advisers_silent first (times ∷ more) =
-      All-cons (SaysTrue subject) (codes "adviser " ++ (numeral first ++ (codes " asked " ++ numeral times))) (adviser_lines (first + 1) more)
-      (numeral_silent (codes "adviser " ++ (numeral first ++ codes " asked ")) (codes "adviser " ++ (numeral first ++ (codes " asked " ++ numeral times))) times
-      (simp append_assoc))
-      (advisers_silent (first + 1) more)
-
-  explanation_silent : (explain : Explain) → All (SaysTrue subject) (explain_part (Some explain))
-  explanation_silent explain =
-      All-cons (SaysTrue subject) (codes "explain:") (explained explain)
-      (silent (codes "explain:") (other_last (codes "explain:") (λ e. omega arith) (λ e. omega arith) (λ e. omega arith)))
-      (All-cons (SaysTrue subject) (codes "labels " ++ numeral explain.labels) ((codes "families " ++ numeral explain.families) ∷ adviser_lines 1 explain.asked)
-      (numeral_silent (codes "labels ") (codes "labels " ++ numeral explain.labels) explain.labels refl)
-      (All-cons (SaysTrue subject) (codes "families " ++ numeral explain.families) (adviser_lines 1 explain.asked)
-      (numeral_silent (codes "families ") (codes "families " ++ numeral explain.families) explain.families refl) (advisers_silent 1 explain.asked)))
+  -- a text of one such line
+  pub silent_true : (line text : Bytes) → IsSilent line → text ≡ line ++ 10 ∷ [] → EachWhole (SaysTrue subject) text
+  silent_true line text is text_is = one_good (SaysTrue subject) line text (free_lacks line is.free) (silent line is) text_is
 
   frames : Frames (SaysTrue subject)
-  frames = record {
-    exact = λ header. headers_silent header;
-    explanation = explanation_silent;
-    proved = silent (codes "proved:") (other_last (codes "proved:") (λ e. omega arith) (λ e. omega arith) (λ e. omega arith));
-    unknown = silent (codes "unknown:") (other_last (codes "unknown:") (λ e. omega arith) (λ e. omega arith) (λ e. omega arith));
-    all_inputs = silent (codes "verdict: all inputs") (other_before_s (codes "verdict: all inputs") refl (λ e. omega arith) (λ e. omega arith));
-    some_inputs = silent (codes "verdict: some inputs") (other_before_s (codes "verdict: some inputs") refl (λ e. omega arith) (λ e. omega arith));
-  }
+  frames = silent_frames (SaysTrue subject) silent
 
   counted_true : (tests : ℕ) (tree : Plan AffineRank) (level : IsExactTree (length subject.names) subject.body tests tree) (input : Store)
       → IsInput (length subject.names) input → (end : Plan AffineRank) → RanksCount end → eval tree input ≡ end

@@ -1,5 +1,5 @@
 -- Texts line by line: what holds of each line that was printed holds of each whole line of the text, and of any front of it.
-use Rattle.std.proofs.Common.{◌≡◌, ◌≢◌, ℕ, zero, suc, ◌+◌, ◌<◌, Bool, true, false, not, ◌&&◌, ◌⊎◌, inl, inr, ◌==◌, if◌then◌else◌, List, [], ◌∷◌, ◌++◌, take, drop, codes, All, Contains, Option, None, Some, refl, sym, ap, ◌∙◌, subst, arith}
+use Rattle.std.proofs.Common.{◌≡◌, ◌≢◌, ℕ, zero, suc, ◌+◌, ◌<◌, Bool, true, false, not, ◌&&◌, ◌⊎◌, inl, inr, ◌==◌, if◌then◌else◌, List, [], ◌∷◌, ◌++◌, take, drop, get_or, codes, All, Contains, Option, None, Some, refl, sym, ap, ◌∙◌, subst, arith}
 use Rattle.std.specs.Char.{digit_value}
 use Rattle.std.specs.List.{AllZip}
 use Rattle.std.specs.Str.Parse.{AllDigits}
@@ -10,7 +10,7 @@ use Rattle.std.proofs.lemmas.List.Sorted.{All-permutation}
 use Rattle.linear_cons.specs.declared.affine.Affine.{Affine}
 use Rattle.line_text.specs.declared.claim.Claim.{Claim}
 use Rattle.line_text.specs.LineText.{functions_of}
-use Rattle.line_text.specs.Spells.{Spells}
+use Rattle.line_text.specs.Spells.{OpensAsLine, Spells}
 use Rattle.report_text.specs.declared.line.Line.{Line}
 use Rattle.line_text.specs.Numeral.{numeral}
 use Rattle.line_text.proofs.Words.{numeral_is_numeral}
@@ -59,28 +59,54 @@ front_lines begun (byte ∷ front) more line found =
 abbrev pub Lacks : Bytes → Type 0
 Lacks line = All (λ byte. byte ≢ 10) line
 
--- no newline byte stands among the bytes
-abbrev has_no_newline : Bytes → Bool
-has_no_newline [] = true
-has_no_newline (byte ∷ more) = not (byte == 10) && has_no_newline more
+-- ---- lines that say nothing
 
-pub tested : (bytes : Bytes) → has_no_newline bytes ≡ true → Lacks bytes
-tested [] h = All-nil (λ byte. byte ≢ 10)
+-- neither the newline byte nor `>`, code 62, stands among the bytes
+abbrev pub IsFree : Bytes → Type 0
+IsFree line = All (λ byte. (byte ≢ 10) × (byte ≢ 62)) line
+
+abbrev is_free : Bytes → Bool
+is_free [] = true
+is_free (byte ∷ more) = not (byte == 10) && (not (byte == 62) && is_free more)
+
+pub tested : (bytes : Bytes) → is_free bytes ≡ true → IsFree bytes
+tested [] h = All-nil (λ byte. (byte ≢ 10) × (byte ≢ 62))
 tested (byte ∷ more) h =
-    elim (byte == 10) as (λ t. (byte == 10) ≡ t → (not t && has_no_newline more) ≡ true → Lacks (byte ∷ more)) [
-      | true ↦ λ e k. cc
-      | false ↦ λ e k. All-cons (λ b. b ≢ 10) byte more (λ same. let is = (Decides-eqb byte 10).1 same in cc) (tested more k)
+    elim (byte == 10) as (λ t. (byte == 10) ≡ t → (not t && (not (byte == 62) && is_free more)) ≡ true → IsFree (byte ∷ more)) [
+      | true ↦ λ newline k. cc
+      | false ↦ λ newline k. elim (byte == 62) as (λ t. (byte == 62) ≡ t → (not t && is_free more) ≡ true → IsFree (byte ∷ more)) [
+        | true ↦ λ above rest. cc
+        | false ↦ λ above rest. All-cons (λ b. (b ≢ 10) × (b ≢ 62)) byte more
+          ((λ same. let is = (Decides-eqb byte 10).1 same in cc), (λ same. let is = (Decides-eqb byte 62).1 same in cc)) (tested more rest)
+      ] refl k
     ] refl h
 
--- a digit is no newline byte
-pub digits_lack : (digits : Bytes) → AllDigits 10 digits → Lacks digits
-digits_lack [] h = All-nil (λ byte. byte ≢ 10)
-digits_lack (digit ∷ more) h =
-    All-cons (λ b. b ≢ 10) digit more (λ e. let bad : digit_value 10 < 10 = subst (λ b. digit_value b < 10) e h.0 in absurd (omega arith))
-    (digits_lack more h.1)
+-- a digit is neither
+pub digits_free : (digits : Bytes) → AllDigits 10 digits → IsFree digits
+digits_free [] h = All-nil (λ byte. (byte ≢ 10) × (byte ≢ 62))
+digits_free (digit ∷ more) h =
+    All-cons (λ b. (b ≢ 10) × (b ≢ 62)) digit more (
+      (λ e. let bad : digit_value 10 < 10 = subst (λ b. digit_value b < 10) e h.0 in absurd (omega arith)),
+      (λ e. let bad : digit_value 62 < 10 = subst (λ b. digit_value b < 10) e h.0 in absurd (omega arith)),
+    ) (digits_free more h.1)
 
-pub both_lack : (xs ys : Bytes) → Lacks xs → Lacks ys → Lacks (xs ++ ys)
-both_lack = All-append (λ byte. byte ≢ 10)
+pub both_free : (xs ys : Bytes) → IsFree xs → IsFree ys → IsFree (xs ++ ys)
+both_free = All-append (λ byte. (byte ≢ 10) × (byte ≢ 62))
+
+pub free_lacks : (line : Bytes) → IsFree line → Lacks line
+free_lacks = All-weaker (λ byte. (byte ≢ 10) × (byte ≢ 62)) (λ byte. byte ≢ 10) (λ byte is. is.0)
+
+-- Besides, the second byte isn't that of `always`: so the line opens as none that says anything.
+pub record IsSilent (line : Bytes) : Type 0 where
+  pub free : IsFree line
+  pub second : get_or line 1 0 ≢ 108
+
+pub says_nothing : (line : Bytes) → IsSilent line → ¬ OpensAsLine line
+says_nothing line is (inl begins) = is.second (ap (λ l. get_or l 1 0) begins.1)
+says_nothing line is (inr above) = (All-contains (λ byte. (byte ≢ 10) × (byte ≢ 62)) line 62 is.free above).1 refl
+
+silent_lacks : (line : Bytes) → IsSilent line → Lacks line
+silent_lacks line is = free_lacks line is.free
 
 -- ---- headers
 
@@ -93,60 +119,77 @@ partial_line tests cause = codes "exact, " ++ (numeral tests ++ (codes " tests, 
 abbrev pub stopped_line : Stop → Bytes
 stopped_line cause = codes "exact: " ++ cause_text cause
 
-numeral_lacks : (n : ℕ) → Lacks (numeral n)
-numeral_lacks n = digits_lack (numeral n) (numeral_is_numeral n).1
+numeral_free : (n : ℕ) → IsFree (numeral n)
+numeral_free n = digits_free (numeral n) (numeral_is_numeral n).1
 
-cause_lacks : (cause : Stop) → Lacks (cause_text cause)
-cause_lacks WideNumbers = tested (codes "wide numbers") refl
-cause_lacks TooManyNodes = tested (codes "too many nodes") refl
-cause_lacks NotPlain = tested (codes "not a plain program") refl
+cause_free : (cause : Stop) → IsFree (cause_text cause)
+cause_free WideNumbers = tested (codes "wide numbers") refl
+cause_free TooManyNodes = tested (codes "too many nodes") refl
+cause_free NotPlain = tested (codes "not a plain program") refl
 
-whole_lacks : (tests : ℕ) → Lacks (whole_line tests)
-whole_lacks tests =
-    both_lack (codes "exact, ") (numeral tests ++ codes " tests:") (tested (codes "exact, ") refl)
-    (both_lack (numeral tests) (codes " tests:") (numeral_lacks tests) (tested (codes " tests:") refl))
+whole_silent : (tests : ℕ) → IsSilent (whole_line tests)
+whole_silent tests = record {
+  free = both_free (codes "exact, ") (numeral tests ++ codes " tests:") (tested (codes "exact, ") refl)
+      (both_free (numeral tests) (codes " tests:") (numeral_free tests) (tested (codes " tests:") refl));
+  second = λ e. omega arith;
+}
 
-partial_lacks : (tests : ℕ) (cause : Stop) → Lacks (partial_line tests cause)
-partial_lacks tests cause =
-    both_lack (codes "exact, ") (numeral tests ++ (codes " tests, then " ++ (cause_text cause ++ codes ":"))) (tested (codes "exact, ") refl)
-    (both_lack (numeral tests) (codes " tests, then " ++ (cause_text cause ++ codes ":")) (numeral_lacks tests)
-    (both_lack (codes " tests, then ") (cause_text cause ++ codes ":") (tested (codes " tests, then ") refl)
-    (both_lack (cause_text cause) (codes ":") (cause_lacks cause) (tested (codes ":") refl))))
+partial_silent : (tests : ℕ) (cause : Stop) → IsSilent (partial_line tests cause)
+partial_silent tests cause = record {
+  free = both_free (codes "exact, ") (numeral tests ++ (codes " tests, then " ++ (cause_text cause ++ codes ":"))) (tested (codes "exact, ") refl)
+      (both_free (numeral tests) (codes " tests, then " ++ (cause_text cause ++ codes ":")) (numeral_free tests)
+      (both_free (codes " tests, then ") (cause_text cause ++ codes ":") (tested (codes " tests, then ") refl)
+      (both_free (cause_text cause) (codes ":") (cause_free cause) (tested (codes ":") refl))));
+  second = λ e. omega arith;
+}
 
-stopped_lacks : (cause : Stop) → Lacks (stopped_line cause)
-stopped_lacks cause = both_lack (codes "exact: ") (cause_text cause) (tested (codes "exact: ") refl) (cause_lacks cause)
+stopped_silent : (cause : Stop) → IsSilent (stopped_line cause)
+stopped_silent cause = record {
+  free = both_free (codes "exact: ") (cause_text cause) (tested (codes "exact: ") refl) (cause_free cause);
+  second = λ e. omega arith;
+}
+
+headers_silent : (header : Header) → All IsSilent (exact_part header [])
+headers_silent Absent = All-nil IsSilent
+headers_silent (Whole tests) = All-cons IsSilent (whole_line tests) [] (whole_silent tests) (All-nil IsSilent)
+headers_silent (Partial tests cause) = All-cons IsSilent (partial_line tests cause) [] (partial_silent tests cause) (All-nil IsSilent)
+headers_silent (Stopped cause) = All-cons IsSilent (stopped_line cause) [] (stopped_silent cause) (All-nil IsSilent)
 
 -- ---- the lines of an explanation
 
-counted_lacks : (front : Bytes) → Lacks front → (n : ℕ) → Lacks (front ++ numeral n)
-counted_lacks front clean n = both_lack front (numeral n) clean (numeral_lacks n)
+counted_free : (front : Bytes) → IsFree front → (n : ℕ) → IsFree (front ++ numeral n)
+counted_free front clean n = both_free front (numeral n) clean (numeral_free n)
 
-advisers_lack : (first : ℕ) (asked : List ℕ) → All Lacks (adviser_lines first asked)
-advisers_lack first [] = All-nil Lacks
-advisers_lack first (times ∷ more) =
-    All-cons Lacks (codes "adviser " ++ (numeral first ++ (codes " asked " ++ numeral times))) (adviser_lines (first + 1) more)
-    (both_lack (codes "adviser ") (numeral first ++ (codes " asked " ++ numeral times)) (tested (codes "adviser ") refl)
-    (both_lack (numeral first) (codes " asked " ++ numeral times) (numeral_lacks first) (counted_lacks (codes " asked ") (tested (codes " asked ") refl) times)))
-    (advisers_lack (first + 1) more)
+advisers_silent : (first : ℕ) (asked : List ℕ) → All IsSilent (adviser_lines first asked)
+advisers_silent first [] = All-nil IsSilent
+advisers_silent first (times ∷ more) =
+    All-cons IsSilent (codes "adviser " ++ (numeral first ++ (codes " asked " ++ numeral times))) (adviser_lines (first + 1) more)
+    (record {
+      free = both_free (codes "adviser ") (numeral first ++ (codes " asked " ++ numeral times)) (tested (codes "adviser ") refl)
+          (both_free (numeral first) (codes " asked " ++ numeral times) (numeral_free first) (counted_free (codes " asked ") (tested (codes " asked ") refl) times));
+      second = λ e. omega arith;
+    })
+    (advisers_silent (first + 1) more)
 
-explanation_lacks : (explain : Explain) → All Lacks (explain_part (Some explain))
-explanation_lacks explain =
-    All-cons Lacks (codes "explain:") (explained explain) (tested (codes "explain:") refl)
-    (All-cons Lacks (codes "labels " ++ numeral explain.labels) ((codes "families " ++ numeral explain.families) ∷ adviser_lines 1 explain.asked)
-    (counted_lacks (codes "labels ") (tested (codes "labels ") refl) explain.labels)
-    (All-cons Lacks (codes "families " ++ numeral explain.families) (adviser_lines 1 explain.asked)
-    (counted_lacks (codes "families ") (tested (codes "families ") refl) explain.families) (advisers_lack 1 explain.asked)))
+explanation_silent : (explain : Explain) → All IsSilent (explain_part (Some explain))
+explanation_silent explain =
+    All-cons IsSilent (codes "explain:") (explained explain) (record { free = tested (codes "explain:") refl; second = λ e. omega arith })
+    (All-cons IsSilent (codes "labels " ++ numeral explain.labels) ((codes "families " ++ numeral explain.families) ∷ adviser_lines 1 explain.asked)
+    (record { free = counted_free (codes "labels ") (tested (codes "labels ") refl) explain.labels; second = λ e. omega arith })
+    (All-cons IsSilent (codes "families " ++ numeral explain.families) (adviser_lines 1 explain.asked)
+    (record { free = counted_free (codes "families ") (tested (codes "families ") refl) explain.families; second = λ e. omega arith })
+    (advisers_silent 1 explain.asked)))
 
 -- ---- the lines of a summary
 
 -- a line of what is counted, before others
-more_lack : (front : Bytes) → Lacks front → (n : ℕ) (more : List Bytes) → All Lacks more → All Lacks ((front ++ numeral n) ∷ more)
-more_lack front clean n more all = All-cons Lacks (front ++ numeral n) more (counted_lacks front clean n) all
+more_lack : (front : Bytes) → IsFree front → (n : ℕ) (more : List Bytes) → All Lacks more → All Lacks ((front ++ numeral n) ∷ more)
+more_lack front clean n more all = All-cons Lacks (front ++ numeral n) more (free_lacks (front ++ numeral n) (counted_free front clean n)) all
 
 pub summary_lacks : (number bytes labels proved : ℕ) → All Lacks (summary_lines number bytes labels proved)
 summary_lacks number bytes labels proved =
     let last : All Lacks (codes "verdict: all inputs" ∷ []) =
-    All-cons Lacks (codes "verdict: all inputs") [] (tested (codes "verdict: all inputs") refl) (All-nil Lacks) in
+    All-cons Lacks (codes "verdict: all inputs") [] (free_lacks (codes "verdict: all inputs") (tested (codes "verdict: all inputs") refl)) (All-nil Lacks) in
     let lines = more_lack (codes "proved lines ") (tested (codes "proved lines ") refl) proved (codes "verdict: all inputs" ∷ []) last in
     let third = more_lack (codes "labels ") (tested (codes "labels ") refl) labels ((codes "proved lines " ++ numeral proved) ∷ (codes "verdict: all inputs" ∷ [])) lines in
     let second = more_lack (codes "bytes ") (tested (codes "bytes ") refl) bytes
@@ -192,14 +235,25 @@ module _ (P : Bytes → Type 0) where
     pub all_inputs : P (codes "verdict: all inputs")
     pub some_inputs : P (codes "verdict: some inputs")
 
+  -- where it holds of each line that says nothing
+  pub silent_frames : ((line : Bytes) → IsSilent line → P line) → Frames
+  silent_frames holds = record {
+    exact = λ header. All-weaker IsSilent P holds (exact_part header []) (headers_silent header);
+    explanation = λ explain. All-weaker IsSilent P holds (explain_part (Some explain)) (explanation_silent explain);
+    proved = holds (codes "proved:") (record { free = tested (codes "proved:") refl; second = λ e. omega arith });
+    unknown = holds (codes "unknown:") (record { free = tested (codes "unknown:") refl; second = λ e. omega arith });
+    all_inputs = holds (codes "verdict: all inputs") (record { free = tested (codes "verdict: all inputs") refl; second = λ e. omega arith });
+    some_inputs = holds (codes "verdict: some inputs") (record { free = tested (codes "verdict: some inputs") refl; second = λ e. omega arith });
+  }
+
   module _ (frames : Frames) (names : List Bytes)
       (newline : (line : Bytes) (condition : List Affine) (claim : Claim) → Spells names line condition claim → Lacks line) where
     -- of whatever the line is printed as
     abbrev pub Prints : Line → Type 0
     Prints line = (text : Bytes) → IsLineText names line text → P text
 
-    good_frame : (line : Bytes) → has_no_newline line ≡ true → P line → IsGood line
-    good_frame line clean h = record { lacking = tested line clean; holds = h }
+    good_frame : (line : Bytes) → is_free line ≡ true → P line → IsGood line
+    good_frame line clean h = record { lacking = free_lacks line (tested line clean); holds = h }
 
     good_verdict : (unknown : List Bytes) → IsGood (verdict_line unknown)
     good_verdict [] = good_frame (codes "verdict: all inputs") refl frames.all_inputs
@@ -207,7 +261,10 @@ module _ (P : Bytes → Type 0) where
 
     good_explanation : (explain : Option Explain) → All IsGood (explain_part explain)
     good_explanation None = All-nil IsGood
-    good_explanation (Some explain) = λ k d low. record { lacking = explanation_lacks explain k d low; holds = frames.explanation explain k d low }
+    good_explanation (Some explain) = λ k d low. record {
+      lacking = All-weaker IsSilent Lacks silent_lacks (explain_part (Some explain)) (explanation_silent explain) k d low;
+      holds = frames.explanation explain k d low;
+    }
 
     good_lines : (header : Header) (exact proved unknown : List Bytes) (explain : Option Explain) → All IsGood (exact_part header exact) → All IsGood proved
         → All IsGood unknown → All IsGood (report_lines header exact proved unknown explain)
@@ -245,12 +302,12 @@ module _ (P : Bytes → Type 0) where
         → All IsGood (exact_part header texts)
     good_exact Absent lines texts all are = All-nil IsGood
     good_exact (Whole tests) lines texts all are =
-        good_header (whole_line tests) (whole_lacks tests) (All-head P (whole_line tests) [] (frames.exact (Whole tests))) texts (good_texts lines texts all are)
+        good_header (whole_line tests) (silent_lacks (whole_line tests) (whole_silent tests)) (All-head P (whole_line tests) [] (frames.exact (Whole tests))) texts (good_texts lines texts all are)
     good_exact (Partial tests cause) lines texts all are =
-        good_header (partial_line tests cause) (partial_lacks tests cause) (All-head P (partial_line tests cause) [] (frames.exact (Partial tests cause)))
+        good_header (partial_line tests cause) (silent_lacks (partial_line tests cause) (partial_silent tests cause)) (All-head P (partial_line tests cause) [] (frames.exact (Partial tests cause)))
         texts (good_texts lines texts all are)
     good_exact (Stopped cause) lines texts all are =
-        good_header (stopped_line cause) (stopped_lacks cause) (All-head P (stopped_line cause) [] (frames.exact (Stopped cause))) [] (All-nil IsGood)
+        good_header (stopped_line cause) (silent_lacks (stopped_line cause) (stopped_silent cause)) (All-head P (stopped_line cause) [] (frames.exact (Stopped cause))) [] (All-nil IsGood)
 
     pub report_holds : (report : Report) (text : Bytes) → All Prints report.exact → All Prints report.proved → All Prints report.unknown
         → IsReportText names report text → EachWhole text

@@ -1,16 +1,17 @@
 -- No byte of a line is the newline byte, none of its condition and none of its claim the colon, and a line ends as a claim does.
-use Rattle.std.proofs.Common.{◌≡◌, ◌≢◌, ℕ, zero, suc, ◌<◌, Bool, true, false, not, ◌||◌, eqb, inl, inr, ⊎_elim, ℤ, pos, negsuc, List, [], ◌∷◌, ◌++◌, length, get_or, Option, None, Some, All, sym, refl, ◌∙◌, arith, append_assoc, unsigned_abs, codes}
+use Rattle.std.proofs.Common.{◌≡◌, ◌≢◌, ℕ, zero, suc, ◌<◌, Bool, true, false, not, ◌||◌, eqb, inl, inr, ⊎_elim, ℤ, pos, negsuc, List, [], ◌∷◌, ◌++◌, length, get_or, Option, None, Some, All, refl, arith, unsigned_abs, codes}
 use Rattle.std.specs.Prelude.{⊤}
 use Rattle.std.specs.Ordering.{int_eq}
 use Rattle.std.proofs.lemmas.Bool.Decides.{nat_tests}
+use Rattle.std.proofs.lemmas.List.Elements.{Contains-append_left, Contains-append_right}
 use Rattle.linear_cons.specs.declared.affine.Affine.{Affine}
 use Rattle.line_text.specs.declared.claim.Claim.{Claim}
 use Rattle.line_text.specs.declared.claim.Claim.TheVariants.{Exactly, Within, Holds, Unknown}
 use Rattle.line_text.specs.AffineText.{Term, affine_text, front_sign, joining_sign, later_text, number_text, product_text, sum_text, terms_of}
-use Rattle.line_text.specs.LineText.{claim_text, condition_text, is_one, more_joined, row_texts, steps_word}
+use Rattle.line_text.specs.LineText.{claim_text, condition_text, is_one, more_joined, row_text, row_texts, steps_word}
 use Rattle.line_text.specs.Names.{AreNames}
 use Rattle.line_text.specs.Numeral.{numeral}
-use Rattle.line_text.specs.Spells.{EndsAsLine, Spells}
+use Rattle.line_text.specs.Spells.{OpensAsLine, Spells}
 use Rattle.line_text.proofs.Cuts.{is_stop, IsWord}
 use Rattle.line_text.proofs.Products.{IsNamed, product_cases}
 use Rattle.line_text.proofs.Sums.{AllProper}
@@ -18,7 +19,7 @@ use Rattle.line_text.proofs.Terms.{AreDistinct, distinct_names, terms_proper}
 use Rattle.line_text.proofs.Words.{numeral_is_word}
 
 -- neither the newline byte nor the colon, code 58
-abbrev is_plain : ℕ → Bool
+abbrev pub is_plain : ℕ → Bool
 is_plain byte = not (eqb byte 10 || eqb byte 58)
 
 -- no byte is one of them
@@ -132,23 +133,12 @@ line_clean names line condition claim are spells =
     rw spells.text (each_clean _ (line_behind (condition_text names condition) (codes ": " ++ claim_text names claim)
     (condition_clean names condition distinct) (refl, (refl, own_line (claim_text names claim) (claim_clean names claim distinct)))))
 
--- behind any text, ` step` or ` steps`
-step_ends : (one : Bool) (front line : List ℕ) → line ≡ front ++ steps_word one → EndsAsLine line
-step_ends true front line e = inl (front, e)
-step_ends false front line e = inr (inl (front, e))
+-- ---- a line opens as its condition does
 
-claim_ends :
-    (names : List (List ℕ)) (before line : List ℕ) (claim : Claim) → line ≡ before ++ (codes ": " ++ claim_text names claim)
-    → EndsAsLine line
-claim_ends names before line (Exactly number) e =
-    step_ends (int_eq number (pos 1)) (before ++ (codes ": exactly " ++ number_text number)) line
-    (e ∙ sym (append_assoc before (codes ": exactly " ++ number_text number) (steps_word (int_eq number (pos 1)))))
-claim_ends names before line (Within bound) e =
-    step_ends (is_one bound) (before ++ (codes ": within " ++ affine_text names bound)) line
-    (e ∙ sym (append_assoc before (codes ": within " ++ affine_text names bound) (steps_word (is_one bound))))
-claim_ends names before line Holds e = inr (inr (inl (before, e)))
-claim_ends names before line Unknown e = inr (inr (inr (before, e)))
-
-pub line_ends :
-    (names : List (List ℕ)) (line : List ℕ) (condition : List Affine) (claim : Claim) → Spells names line condition claim → EndsAsLine line
-line_ends names line condition claim spells = claim_ends names (condition_text names condition) line claim spells.text
+pub line_opens :
+    (names : List (List ℕ)) (line : List ℕ) (condition : List Affine) (claim : Claim) → Spells names line condition claim → OpensAsLine line
+line_opens names line [] claim spells = inl (claim_text names claim, spells.text)
+line_opens names line (row ∷ more) claim spells =
+    inr (rw spells.text (Contains-append_left (condition_text names (row ∷ more)) (codes ": " ++ claim_text names claim) 62
+    (Contains-append_left (row_text names row) (more_joined (row_texts names more)) 62
+    (Contains-append_right (affine_text names row) (codes " >= 0") 62 (1, omega arith, refl)))))

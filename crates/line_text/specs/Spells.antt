@@ -1,5 +1,5 @@
 -- What a written line says.
-use Rattle.std.specs.Prelude.{◌≡◌, ◌⊎◌, ℕ, ℤ, pos, ◌≤ℤ◌, List, ◌++◌, All, codes, ⊤}
+use Rattle.std.specs.Prelude.{◌≡◌, ◌⊎◌, ℕ, ℤ, pos, ◌≤ℤ◌, List, ◌++◌, All, Contains, codes, ⊤}
 use Rattle.linear_cons.specs.declared.affine.Affine.{Affine}
 use Rattle.linear_cons.specs.Functions.{value_at}
 use Rattle.line_text.specs.declared.claim.Claim.{Claim}
@@ -26,11 +26,7 @@ MeetsCondition store condition = All (λ row. pos 0 ≤ℤ value_at row store) c
 
 -- What follows has no part in the headline.
 
--- the bytes end with those of the ending
-abbrev pub EndsWith : List ℕ → List ℕ → Type 0
-EndsWith bytes ending = (front : List ℕ) × (bytes ≡ front ++ ending)
-
--- the line ends in one of the ways in which a claim ends
-abbrev pub EndsAsLine : List ℕ → Type 0
-EndsAsLine line =
-    EndsWith line (codes " step") ⊎ EndsWith line (codes " steps") ⊎ EndsWith line (codes ": holds") ⊎ EndsWith line (codes ": unknown")
+-- the line begins with `always: `, or the byte `>`, code 62, stands in it: so does each line that says something, by its condition, and no other line
+-- of the command
+abbrev pub OpensAsLine : List ℕ → Type 0
+OpensAsLine line = ((rest : List ℕ) × (line ≡ codes "always: " ++ rest)) ⊎ Contains line 62

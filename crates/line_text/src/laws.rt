@@ -10,7 +10,7 @@ ghost use Rattle.line_text.specs.AffineText.{affine_text};
 ghost use Rattle.line_text.specs.LineText.{functions_of, row_text};
 ghost use Rattle.line_text.specs.Names.{AreNames, IsOver};
 ghost use Rattle.line_text.specs.Numeral.{numeral};
-ghost use Rattle.line_text.specs.Spells.{EndsAsLine, MeetsCondition, Spells};
+ghost use Rattle.line_text.specs.Spells.{MeetsCondition, OpensAsLine, Spells};
 
 /// Over names no two of which are equal, a line spells at most one condition and claim, whatever the names are and however large its
 /// numbers.
@@ -27,12 +27,12 @@ pub fn texts_tell_their_functions()
         row_text names a ≡ row_text names b → a ≡ b }
 {}
 
-/// A line's text lacks the newline byte that ends it, and it ends with ` step`, ` steps`, `: holds` or `: unknown`.
+/// A line's text lacks the newline byte that ends it, and it begins with `always: ` or has the byte `>`.
 pub fn lines_have_their_own_form()
     ensures newline { (names : List (List ℕ)) (line : List ℕ) (condition : List Affine) (claim : Claim) → AreNames names →
         Spells names line condition claim → All (λ byte. byte ≢ 10) line }
-    ensures ending { (names : List (List ℕ)) (line : List ℕ) (condition : List Affine) (claim : Claim) →
-        Spells names line condition claim → EndsAsLine line }
+    ensures opening { (names : List (List ℕ)) (line : List ℕ) (condition : List Affine) (claim : Claim) →
+        Spells names line condition claim → OpensAsLine line }
 {}
 
 /// A numeral has digits alone, and they say the number; below 10^64 it is what the standard library writes.

@@ -1,5 +1,5 @@
 -- A printed report is cut into the lines that were printed, and a front of it into fronts of these.
-use Rattle.std.proofs.Common.{◌≡◌, ◌≢◌, inl, inr, ℕ, suc, ◌+◌, ◌<◌, ◌==◌, Bool, true, false, cond, List, [], ◌∷◌, ◌++◌, get_or, refl, sym, ap, subst, ◌∙◌, arith, All, Contains, Option, None, Some, codes}
+use Rattle.std.proofs.Common.{◌≡◌, ◌≢◌, inl, inr, ℕ, zero, suc, ◌+◌, ◌<◌, ◌==◌, Bool, true, false, cond, List, [], ◌∷◌, ◌++◌, refl, sym, ap, subst, ◌∙◌, arith, All, Contains, Option, None, Some, codes}
 use Rattle.std.specs.List.{AllZip}
 use Rattle.std.specs.Str.{bytes_eq}
 use Rattle.std.specs.Str.Parse.{AllDigits, IsNumeral}
@@ -10,7 +10,7 @@ use Rattle.std.proofs.lemmas.List.{append-nil, append_assoc}
 use Rattle.std.proofs.lemmas.List.Elements.{All-append, All-cons, All-head, All-nil, All-tail, All-weaker}
 use Rattle.std.proofs.lemmas.List.Sorted.{All-permutation}
 use Rattle.line_text.specs.Numeral.{numeral}
-use Rattle.line_text.specs.Spells.{EndsAsLine, EndsWith, Spells}
+use Rattle.line_text.specs.Spells.{OpensAsLine, Spells}
 use Rattle.report_text.specs.declared.line.Line.{Line}
 use Rattle.report_text.specs.declared.report.Explain.{Explain}
 use Rattle.report_text.specs.declared.report.Header.{Header}
@@ -129,33 +129,40 @@ opens_nothing : (line : List ℕ) → line ≢ codes "proved:" → line ≢ code
 unfolding role_of
 opens_nothing line a b c d e before = rw (other_text line (codes "proved:") a, other_text line (codes "unknown:") b, other_text line (codes "explain:") c, other_text line (codes "verdict: all inputs") d, other_text line (codes "verdict: some inputs") e) refl
 
-abbrev backwards : List ℕ → List ℕ
-backwards [] = []
-backwards (x ∷ xs) = backwards xs ++ x ∷ []
+-- the byte `>`, code 62, isn't among the bytes
+is_free : List ℕ → Bool
+is_free [] = true
+is_free (byte ∷ bytes) = cond (byte == 62) false (is_free bytes)
 
-backwards_append : (xs ys : List ℕ) → backwards (xs ++ ys) ≡ backwards ys ++ backwards xs
-backwards_append [] ys = sym (append-nil (backwards ys))
-backwards_append (x ∷ xs) ys = ap (λ t. t ++ x ∷ []) (backwards_append xs ys) ∙ append_assoc (backwards ys) (backwards xs) (x ∷ [])
+free_lacks : (bytes : List ℕ) → is_free bytes ≡ true → Contains bytes 62 → ⊥
+unfolding is_free
+free_lacks [] free has = let low = has.1 in absurd (omega arith)
+free_lacks (byte ∷ bytes) free has = by_cases (byte == 62) refl (λ rest. free_lacks bytes rest) has
+  where
+    by_cases : (t : Bool) → (byte == 62) ≡ t → (is_free bytes ≡ true → Contains bytes 62 → ⊥) → Contains (byte ∷ bytes) 62 → ⊥
+    by_cases true is more at = let wrong : false ≡ true = rw is at free in cc
+    by_cases false is more (zero, low, same) =
+        let here : (byte == 62) ≡ true = (Decides-eqb byte 62).1 same in let wrong : true ≡ false = sym here ∙ is in cc
+    by_cases false is more (suc k, low, same) = let rest : is_free bytes ≡ true = rw is at free in more rest (k, omega arith, same)
 
--- the fixed lines end with a colon, or with `ts`
-by_end : (line ending : List ℕ) → EndsWith line ending → ((rest : List ℕ) → get_or (backwards ending ++ rest) 0 0 ≢ 58) →
-    ((rest : List ℕ) → get_or (backwards ending ++ rest) 1 0 ≢ 116) → OpensNothing line
-by_end line ending ends last second =
-    let back : backwards line ≡ backwards ending ++ backwards ends.0 = ap (λ t. backwards t) ends.1 ∙ backwards_append ends.0 ending in
-    let no_colon : get_or (backwards line) 0 0 ≢ 58 = λ e. last (backwards ends.0) (ap (λ t. get_or t 0 0) (sym back) ∙ e) in
-    let no_t : get_or (backwards line) 1 0 ≢ 116 = λ e. second (backwards ends.0) (ap (λ t. get_or t 1 0) (sym back) ∙ e) in
-    opens_nothing line
-    (λ is. no_colon (ap (λ t. get_or (backwards t) 0 0) is))
-    (λ is. no_colon (ap (λ t. get_or (backwards t) 0 0) is))
-    (λ is. no_colon (ap (λ t. get_or (backwards t) 0 0) is))
-    (λ is. no_t (ap (λ t. get_or (backwards t) 1 0) is))
-    (λ is. no_t (ap (λ t. get_or (backwards t) 1 0) is))
+-- a line with it is none of the fixed lines
+apart_from : (line fixed : List ℕ) → is_free fixed ≡ true → Contains line 62 → line ≢ fixed
+apart_from line fixed free has same = free_lacks fixed free (subst (λ l. Contains l 62) same has)
 
-line_opens_nothing : (line : List ℕ) → EndsAsLine line → OpensNothing line
-line_opens_nothing line (inl step) = by_end line (codes " step") step (λ rest e. omega arith) (λ rest e. omega arith)
-line_opens_nothing line (inr (inl steps)) = by_end line (codes " steps") steps (λ rest e. omega arith) (λ rest e. omega arith)
-line_opens_nothing line (inr (inr (inl holds))) = by_end line (codes ": holds") holds (λ rest e. omega arith) (λ rest e. omega arith)
-line_opens_nothing line (inr (inr (inr unknown))) = by_end line (codes ": unknown") unknown (λ rest e. omega arith) (λ rest e. omega arith)
+signed_plain : (line : List ℕ) → Contains line 62 → OpensNothing line
+unfolding is_free
+signed_plain line has =
+    opens_nothing line (apart_from line (codes "proved:") refl has) (apart_from line (codes "unknown:") refl has)
+    (apart_from line (codes "explain:") refl has) (apart_from line (codes "verdict: all inputs") refl has)
+    (apart_from line (codes "verdict: some inputs") refl has)
+
+always_plain : (n : List ℕ) → OpensNothing (codes "always: " ++ n)
+unfolding role_of
+always_plain n before = refl
+
+line_opens_nothing : (line : List ℕ) → OpensAsLine line → OpensNothing line
+line_opens_nothing line (inl begins) = subst OpensNothing (sym begins.1) (always_plain begins.0)
+line_opens_nothing line (inr has) = signed_plain line has
 
 labels_plain : (n : List ℕ) → OpensNothing (codes "labels " ++ n)
 unfolding role_of
@@ -325,7 +332,7 @@ both_lack xs ys = All-append (λ b. b ≢ 10) xs ys
 pub record KnownTexts (names : List (List ℕ)) : Type 0 where
   pub newline : (line : List ℕ) (condition : List Affine) (claim : Claim) → Spells names line condition claim →
       All (λ byte. byte ≢ 10) line
-  pub ending : (line : List ℕ) (condition : List Affine) (claim : Claim) → Spells names line condition claim → EndsAsLine line
+  pub opening : (line : List ℕ) (condition : List Affine) (claim : Claim) → Spells names line condition claim → OpensAsLine line
   pub digits : (n : ℕ) → IsNumeral 10 (numeral n)
 
 module _ {names : List (List ℕ)} (known : KnownTexts names) where
@@ -386,7 +393,7 @@ module _ {names : List (List ℕ)} (known : KnownTexts names) where
   section_lacks lines texts = All-weaker (IsTextAmong names lines) Lacks (λ text among. known.newline text _ _ among.text_is.spells) texts
 
   section_plain : (lines : List Line) (texts : List (List ℕ)) → All (IsTextAmong names lines) texts → All OpensNothing texts
-  section_plain lines texts = All-weaker (IsTextAmong names lines) OpensNothing (λ text among. line_opens_nothing text (known.ending text _ _ among.text_is.spells)) texts
+  section_plain lines texts = All-weaker (IsTextAmong names lines) OpensNothing (λ text among. line_opens_nothing text (known.opening text _ _ among.text_is.spells)) texts
 
   zip_among : (lines part : List Line) (texts : List (List ℕ)) → ((line : Line) → Contains part line → Contains lines line) →
       AllZip (λ line text. IsLineText names line text) part texts → All (IsTextAmong names lines) texts

@@ -7,9 +7,9 @@ use Rattle.function_top.proofs.answer.report_on.Goals as goal
 
 known : (g : given.Over) (c : goal.In_ok-due g) → KnownTexts
 known g c =
-    known_texts c.a_text_is_one_program.ensures c.a_text_is_one_formula.ensures c.names_are_spelled_as_names.ensures c.names_are_distinct.ensures c.lines_have_their_own_form.ensures.ending
+    known_texts c.a_text_is_one_program.ensures c.a_text_is_one_formula.ensures c.names_are_spelled_as_names.ensures c.names_are_distinct.ensures c.lines_have_their_own_form.ensures.opening
     c.lines_have_their_own_form.ensures.newline c.a_line_spells_at_most_one_claim.ensures c.a_line_tells_at_most_one_claim.ensures
-    c.claims_have_their_own_form.ensures.newline c.claims_have_their_own_form.ensures.apart c.claims_have_their_own_form.ensures.ending
+    c.claims_have_their_own_form.ensures.newline c.claims_have_their_own_form.ensures.apart c.claims_have_their_own_form.ensures.colon
 
 pub returns-clause-headline : goal.returns-clause-headline
 returns-clause-headline g c subject is line condition claim whole spells =

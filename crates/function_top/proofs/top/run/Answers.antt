@@ -31,8 +31,8 @@ returns-in-Ok-Some-clause-run g c =
     let asked = rw c.in-Ok-Some.field-0-is at c.in-Ok-Some.ensures.asked in
     let rose = subst (λ times. RoseBy (λ a. (goal.Adviser-dyn g (a.vtable, a.value)).asked_of a.value) times c.args.advisers.now.items c.answer.new.advisers.items) (sym asked.3) asked.2 in
     run_settled words _ (known_texts c.a_text_is_one_program.ensures c.a_text_is_one_formula.ensures c.names_are_spelled_as_names.ensures c.names_are_distinct.ensures
-    c.lines_have_their_own_form.ensures.ending c.lines_have_their_own_form.ensures.newline c.a_line_spells_at_most_one_claim.ensures c.a_line_tells_at_most_one_claim.ensures
-    c.claims_have_their_own_form.ensures.newline c.claims_have_their_own_form.ensures.apart c.claims_have_their_own_form.ensures.ending)
+    c.lines_have_their_own_form.ensures.opening c.lines_have_their_own_form.ensures.newline c.a_line_spells_at_most_one_claim.ensures c.a_line_tells_at_most_one_claim.ensures
+    c.claims_have_their_own_form.ensures.newline c.claims_have_their_own_form.ensures.apart c.claims_have_their_own_form.ensures.colon)
     (once words order.field-0 order.ensures) (task_of order.query, asks) c.in-Ok-Some.due.status c.settle.result due.0 c.in-Ok-Some.due.turns
     c.in-Ok-Some.due.bytes.items due.1 due.2
     (subst (λ (n : ℕ). IsDueOn (task_of order.query) due.0 c.in-Ok-Some.due.status n c.in-Ok-Some.due.turns c.in-Ok-Some.due.bytes.items)
@@ -51,8 +51,8 @@ returns-in-Ok-None-answer-clause-run g c =
     let asks = served words order.field-0 order.ensures order.query (order.field-0-is ∙ ap Some order.field-0-0-is) in
     let rose = rw c.in-Ok-None-answer.field-0-is at c.in-Ok-None-answer.ensures.due in
     run_unread words _ (known_texts c.a_text_is_one_program.ensures c.a_text_is_one_formula.ensures c.names_are_spelled_as_names.ensures c.names_are_distinct.ensures
-    c.lines_have_their_own_form.ensures.ending c.lines_have_their_own_form.ensures.newline c.a_line_spells_at_most_one_claim.ensures c.a_line_tells_at_most_one_claim.ensures
-    c.claims_have_their_own_form.ensures.newline c.claims_have_their_own_form.ensures.apart c.claims_have_their_own_form.ensures.ending)
+    c.lines_have_their_own_form.ensures.opening c.lines_have_their_own_form.ensures.newline c.a_line_spells_at_most_one_claim.ensures c.a_line_tells_at_most_one_claim.ensures
+    c.claims_have_their_own_form.ensures.newline c.claims_have_their_own_form.ensures.apart c.claims_have_their_own_form.ensures.colon)
     (once words order.field-0 order.ensures) (task_of order.query, asks) refl (rose, keeps_itself _)
 
 pub returns-in-Ok-None-answer-clause-unread : goal.returns-in-Ok-None-answer-clause-unread
@@ -85,10 +85,7 @@ returns-in-Err-demo-clause-run g c = run_out (texts c.args.words.now) _ refl (re
 pub returns-in-Ok-None-clause-run : goal.returns-in-Ok-None-clause-run
 returns-in-Ok-None-clause-run g c =
     let words = texts c.args.words.now in
-    run_refused words _ (known_texts c.a_text_is_one_program.ensures c.a_text_is_one_formula.ensures c.names_are_spelled_as_names.ensures c.names_are_distinct.ensures
-    c.lines_have_their_own_form.ensures.ending c.lines_have_their_own_form.ensures.newline c.a_line_spells_at_most_one_claim.ensures c.a_line_tells_at_most_one_claim.ensures
-    c.claims_have_their_own_form.ensures.newline c.claims_have_their_own_form.ensures.apart c.claims_have_their_own_form.ensures.ending)
-    (refused words c.in-Ok-None.field-0 c.in-Ok-None.ensures c.in-Ok-None.field-0-is) c.settle-in-Ok-None.result
+    run_refused words _ (refused words c.in-Ok-None.field-0 c.in-Ok-None.ensures c.in-Ok-None.field-0-is) c.settle-in-Ok-None.result
     (rw c.usage.ensures at c.settle-in-Ok-None.ensures.settles)
 
 pub returns-in-Ok-None-clause-asked : goal.returns-in-Ok-None-clause-asked

@@ -6,6 +6,6 @@ returns c =
     let form = c.lines_have_their_own_form.ensures in
     let numbers = c.numerals_say_their_numbers.ensures in
     record {
-      sections = λ names report text printed are. report_sections (record { newline = λ line condition claim. form.newline names line condition claim are; ending = λ line condition claim. form.ending names line condition claim; digits = numbers.digits }) report text printed;
-      lines = λ names report front rest are. front_says (record { newline = λ line condition claim. form.newline names line condition claim are; ending = λ line condition claim. form.ending names line condition claim; digits = numbers.digits }) report front rest;
+      sections = λ names report text printed are. report_sections (record { newline = λ line condition claim. form.newline names line condition claim are; opening = λ line condition claim. form.opening names line condition claim; digits = numbers.digits }) report text printed;
+      lines = λ names report front rest are. front_says (record { newline = λ line condition claim. form.newline names line condition claim are; opening = λ line condition claim. form.opening names line condition claim; digits = numbers.digits }) report front rest;
     }
