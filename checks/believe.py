@@ -21,7 +21,7 @@ LIST = ("<!-- begin: checks/believe.py -->", "<!-- end -->")
 SHOWN = ("<!-- begin: the headline, by checks/believe.py -->", "<!-- end of the headline -->")
 # The headline and what says it of a line, of the lines on one input, and which lines there are at all. The page shows the first six.
 ROOTS = [("function_top", file, name) for file, name in [
-    ("Headline", "Headline"), ("Headline", "IsTrueText"), ("TrueLine", "TrueLine"), ("TrueLine", "IsTrueAt"),
+    ("Headline", "Headline"), ("Headline", "IsTrueText"), ("TrueLine", "TrueLine"), ("TrueLine", "IsTrueOf"),
     ("Headline", "AnswerHeadline"), ("Headline", "IsTrueAnswer"), ("Form", "Form"),
 ]]
 SHOWN_ROOTS = 6

@@ -14,7 +14,7 @@ use Rattle.report_text.specs.declared.line.Top.TheVariants.{Bound, Exact as Coun
 use Rattle.report_text.specs.Leaves.{claim_at}
 use Rattle.function_top.specs.Found.{ClaimsExactly, IsTrueTree, claims_for}
 use Rattle.function_top.specs.Subject.{Subject}
-use Rattle.function_top.specs.TrueLine.{IsTrueAt}
+use Rattle.function_top.specs.TrueLine.{IsTrueOf}
 
 module _ (law : (f : Ctl) (c : Configuration) → Sat (normal f) c ↔ Sat f c) (subject : Subject) (tree : Plan AffineRank) where
   -- of a formula: wherever the tree is defined it holds, and it does so within the value of the rank
@@ -25,14 +25,14 @@ module _ (law : (f : Ctl) (c : Configuration) → Sat (normal f) c ↔ Sat f c) 
   Bounded f = SatisfiesWithin (length subject.names) subject.body f tree
 
   plain_end : (end : Plan AffineRank) (input : Store) → Satisfied (normal subject.formula) → IsInput (length subject.names) input → eval tree input ≡ end
-      → IsTrueAt subject.formula (claim_at Plain end) input (start subject.body input)
+      → IsTrueOf subject (claim_at Plain end) input
   plain_end bottom input satisfied is_input is = tt
   plain_end (top cause) input satisfied is_input is = tt
   plain_end (leaf why rank) input satisfied is_input is = (law subject.formula (start subject.body input)).0 (satisfied input why rank is_input is)
   plain_end (branch row this that) input satisfied is_input is = tt
 
   bound_end : (end : Plan AffineRank) (input : Store) → Bounded (normal subject.formula) → IsInput (length subject.names) input → eval tree input ≡ end
-      → IsTrueAt subject.formula (claim_at Bound end) input (start subject.body input)
+      → IsTrueOf subject (claim_at Bound end) input
   bound_end bottom input bounded is_input is = tt
   bound_end (top cause) input bounded is_input is = tt
   bound_end (leaf why rank) input bounded is_input is = bounded input why rank is_input is

@@ -6,7 +6,6 @@ use Rattle.std.proofs.lemmas.Option.{same_Some}
 use Rattle.outside.specs.Faults.{Rose}
 use Rattle.outside.specs.Sink.{AppendsFront}
 use Rattle.step_meaning.specs.Outcome.{Store}
-use Rattle.step_meaning.specs.Run.{start}
 use Rattle.step_meaning.specs.Syntax.{statements}
 use Rattle.ctl_formula.specs.Formulas.{Ctl, normal}
 use Rattle.normal_form.specs.Operators.{operators}
@@ -42,7 +41,7 @@ use Rattle.command_words.specs.Order.{Accepted, Ask, Request, Task, analysis, de
 use Rattle.function_top.specs.Refusals.{fault_line, formula_text, program_text, usage_line, usage_text}
 use Rattle.function_top.specs.Subject.{IsFormulaAsked, IsSubject, Subject}
 use Rattle.function_top.specs.Text.{IsRead}
-use Rattle.function_top.specs.TrueLine.{IsTrueAt}
+use Rattle.function_top.specs.TrueLine.{IsTrueOf}
 use Rattle.function_top.proofs.Counted.{counts_exactly}
 use Rattle.function_top.proofs.Formed.{claim_known, formula_known, program_known, report_known, usage_known}
 use Rattle.function_top.proofs.Claiming.{no_exact_number}
@@ -292,8 +291,8 @@ told_answer known task text subject asked input status turns bytes h given due =
     let input_same : due.input ≡ input = same_input own.names names asked input due.input here due.input_is.input_is due.input_is.some in
     subst (λ s. EachWhole (TellsTrue s input) bytes) same
     (one_good (TellsTrue own input) due.line bytes (claims.newline due.line due.claim due.tells)
-    (λ claim tells. subst (λ k. IsTrueAt own.formula k input (start own.body input)) (claims.one due.line due.claim claim due.tells tells)
-    (subst (λ i. IsTrueAt own.formula due.claim i (start own.body i)) input_same
+    (λ claim tells. subst (λ k. IsTrueOf own k input) (claims.one due.line due.claim claim due.tells tells)
+    (subst (IsTrueOf own due.claim) input_same
     (told_is_true own known.opening due.input due.input_is.input_is task due.found status due.claim due.finds due.told)))
     due.is_line)
 

@@ -3,11 +3,9 @@ use Rattle.std.proofs.Common.{◌≡◌, ◌≢◌, inl, inr, ◌∙◌, ℕ, Li
 use Rattle.std.proofs.lemmas.List.Elements.{All-contains, Contains-append_right}
 use Rattle.step_meaning.specs.Outcome.{Store}
 use Rattle.step_meaning.specs.Run.{IsInput, start}
-use Rattle.step_meaning.specs.Step.{Configuration}
 use Rattle.linear_cons.specs.declared.affine.Affine.{Affine}
 use Rattle.linear_cons.specs.Functions.{value_at}
 use Rattle.linear_cons.proofs.Forms.{value_constant}
-use Rattle.ctl_formula.specs.Formulas.{Ctl}
 use Rattle.ctl_formula.specs.Satisfaction.{SatWithin}
 use Rattle.decision_tree.specs.declared.affine_rank.AffineRank.{AffineRank}
 use Rattle.decision_tree.specs.Plans.{Plan, plan_of}
@@ -29,7 +27,7 @@ use Rattle.function_top.specs.Found.{IsExactPart, IsFound, IsTrueTree}
 use Rattle.function_top.specs.OneInput.{IsTold, IsToldOf, LeadsExactly, LeadsTo}
 use Rattle.function_top.specs.Refusals.{fault_line}
 use Rattle.function_top.specs.Subject.{Subject}
-use Rattle.function_top.specs.TrueLine.{IsTrueAt}
+use Rattle.function_top.specs.TrueLine.{IsTrueOf}
 use Rattle.function_top.proofs.Truth.{OpenAsLines, exact_true}
 use Rattle.function_top.proofs.Written.{Bytes, EachWhole, IsSilent, Lacks, free_lacks, one_good}
 
@@ -46,25 +44,24 @@ pub record KnownClaims (names : List Bytes) : Type 0 where
 
 -- whatever claim alone the line is, it is true of the input
 abbrev pub TellsTrue : Subject → Store → Bytes → Type 0
-TellsTrue subject input line = (claim : Claim) → Tells subject.names line claim → IsTrueAt subject.formula claim input (start subject.body input)
+TellsTrue subject input line = (claim : Claim) → Tells subject.names line claim → IsTrueOf subject claim input
 
 -- ---- what is told is true
 
 -- a claim that is told by its value at an input says the same of it
-told_true : (formula : Ctl) (input : Store) (c : Configuration) (claim told : Claim) → IsTold claim input told → IsTrueAt formula claim input c
-    → IsTrueAt formula told input c
-told_true formula input c (Within bound) told (function, inl (fits, same), is) truth =
+told_true : (subject : Subject) (input : Store) (claim told : Claim) → IsTold claim input told → IsTrueOf subject claim input → IsTrueOf subject told input
+told_true subject input (Within bound) told (function, inl (fits, same), is) truth =
     let value : value_at function input ≡ value_at bound input = ap (λ f. value_at f input) same ∙ value_constant (value_at bound input) input in
-    subst (λ claim. IsTrueAt formula claim input c) (sym is) (subst (λ v. SatWithin v formula c) (sym value) truth)
-told_true formula input c (Within bound) told (function, inr (wide, same), is) truth =
-    subst (λ claim. IsTrueAt formula claim input c) (sym is) (subst (λ f. IsTrueAt formula (Within f) input c) (sym same) truth)
-told_true formula input c (Exactly number) told is truth = subst (λ claim. IsTrueAt formula claim input c) (sym is) truth
-told_true formula input c Holds told is truth = subst (λ claim. IsTrueAt formula claim input c) (sym is) truth
-told_true formula input c Unknown told is truth = subst (λ claim. IsTrueAt formula claim input c) (sym is) truth
+    subst (λ claim. IsTrueOf subject claim input) (sym is) (subst (λ v. SatWithin v subject.formula (start subject.body input)) (sym value) truth)
+told_true subject input (Within bound) told (function, inr (wide, same), is) truth =
+    subst (λ claim. IsTrueOf subject claim input) (sym is) (subst (λ f. IsTrueOf subject (Within f) input) (sym same) truth)
+told_true subject input (Exactly number) told is truth = subst (λ claim. IsTrueOf subject claim input) (sym is) truth
+told_true subject input Holds told is truth = subst (λ claim. IsTrueOf subject claim input) (sym is) truth
+told_true subject input Unknown told is truth = subst (λ claim. IsTrueOf subject claim input) (sym is) truth
 
 module _ (subject : Subject) (opening : OpenAsLines) (input : Store) (is_input : IsInput (length subject.names) input) where
   abbrev Holds_of : Claim → Type 0
-  Holds_of claim = IsTrueAt subject.formula claim input (start subject.body input)
+  Holds_of claim = IsTrueOf subject claim input
 
   leaf_true : (claims : Top) (tree : Plan AffineRank) (rank : AffineRank) → IsTrueTree subject claims tree → LeadsTo tree input rank
       → Holds_of (claim_of claims rank)
@@ -87,7 +84,7 @@ module _ (subject : Subject) (opening : OpenAsLines) (input : Store) (is_input :
   told_is_true task found status claim finds (inl (all, inl (rank, leads, is))) =
       subst Holds_of (sym is) (part_true task.formula task.delay found.exact rank finds.exact leads)
   told_is_true task found status claim finds (inl (all, inr (none, (rank, leads, told)))) =
-      told_true subject.formula input (start subject.body input) (claim_of found.claims rank) claim told
+      told_true subject input (claim_of found.claims rank) claim told
       (leaf_true found.claims (plan_of found.cover) rank finds.holds leads)
   told_is_true task found status claim finds (inr (some, none, lacks, is)) = subst Holds_of (sym is) tt
 

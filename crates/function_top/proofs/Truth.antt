@@ -2,7 +2,7 @@
 use Rattle.std.proofs.Common.{◌≡◌, ℕ, ◌+◌, not, List, [], ◌∷◌, ◌++◌, length, All, Contains, Option, None, Some, codes, refl, sym, ap, ◌∙◌, subst, arith}
 use Rattle.std.proofs.lemmas.List.Elements.{All-filter, All-nil}
 use Rattle.step_meaning.specs.Outcome.{Store}
-use Rattle.step_meaning.specs.Run.{IsInput, start}
+use Rattle.step_meaning.specs.Run.{IsInput}
 use Rattle.linear_cons.specs.declared.affine.Affine.{Affine}
 use Rattle.linear_cons.specs.Rows.{MeetsAll}
 use Rattle.linear_solve.proofs.Lists.{all_of, member_of}
@@ -31,7 +31,7 @@ use Rattle.command_words.specs.Order.{Task}
 use Rattle.function_top.specs.Refusals.{fault_line, usage_line}
 use Rattle.function_top.specs.Shown.{Shows, ShowsExact}
 use Rattle.function_top.specs.Subject.{Subject}
-use Rattle.function_top.specs.TrueLine.{IsTrueAt, TrueLine}
+use Rattle.function_top.specs.TrueLine.{IsTrueOf, TrueLine}
 use Rattle.unroll.specs.Levels.{RanksCount}
 use Rattle.function_top.proofs.Conditions.{condition_met}
 use Rattle.function_top.proofs.ExactLines.{ranks_at}
@@ -82,12 +82,12 @@ module _ (subject : Subject) (opening : OpenAsLines) where
 
   counted_true : (tests : ℕ) (tree : Plan AffineRank) (level : IsExactTree (length subject.names) subject.body tests tree) (input : Store)
       → IsInput (length subject.names) input → (end : Plan AffineRank) → RanksCount end → eval tree input ≡ end
-      → IsTrueAt subject.formula (claim_at Counted end) input (start subject.body input)
+      → IsTrueOf subject (claim_at Counted end) input
   counted_true tests tree level input is_input bottom counts is = tt
   counted_true tests tree level input is_input (top cause) counts is = tt
   counted_true tests tree level input is_input (leaf why rank) counts is =
       let claimed = (level.exact input is_input counts.0).0 (why, is ∙ ap (leaf why) counts.1) in
-      subst (λ (r : AffineRank). IsTrueAt subject.formula (claim_at Counted (leaf why r)) input (start subject.body input)) (sym counts.1) claimed.longest
+      subst (λ (r : AffineRank). IsTrueOf subject (claim_at Counted (leaf why r)) input) (sym counts.1) claimed.longest
   counted_true tests tree level input is_input (branch row this that) counts is = tt
 
   pub exact_true : (tests : ℕ) (tree : Plan AffineRank) → IsExactTree (length subject.names) subject.body tests tree → IsTrueTree subject Counted tree
@@ -112,7 +112,7 @@ module _ (subject : Subject) (opening : OpenAsLines) where
         (subst (λ k. TrueLine subject (functions_of is.condition) k) same.1
         (record {
           holds = λ input is_input met.
-              subst (λ k. IsTrueAt subject.formula k input (start subject.body input))
+              subst (λ k. IsTrueOf subject k input)
               (sym (claim_is claims tree lines line input are member (condition_met line.rows is.condition input is.same met)))
               (truth input is_input);
         }))

@@ -28,7 +28,7 @@ use Rattle.function_top.specs.declared.found.Found.{Found}
 use Rattle.function_top.specs.Exact.{IsExact}
 use Rattle.command_words.specs.Order.{Task}
 use Rattle.function_top.specs.Subject.{Subject}
-use Rattle.function_top.specs.TrueLine.{IsTrueAt}
+use Rattle.function_top.specs.TrueLine.{IsTrueOf}
 
 -- what is claimed of a formula with this normal form: that it holds within so many steps where it is an until, and else that it holds
 abbrev pub claims_for : Ctl → Top
@@ -49,7 +49,7 @@ claims_for (weak all keep goal) = Plain
 -- what the tree's leaf claims where an input stands is true of the input
 abbrev pub IsTrueTree : Subject → Top → Plan AffineRank → Type 0
 IsTrueTree subject claims tree =
-    (input : Store) → IsInput (length subject.names) input → IsTrueAt subject.formula (claim_at claims (eval tree input)) input (start subject.body input)
+    (input : Store) → IsInput (length subject.names) input → IsTrueOf subject (claim_at claims (eval tree input)) input
 
 -- Where no formula is asked about this is known exactly of the subject's program, for as many tests as the delay; and where one is, nothing is
 -- known exactly.

@@ -1,7 +1,6 @@
 -- The headline: each claim that the command writes is true.
 use Rattle.std.specs.Prelude.{◌≡◌, ℕ, List, ◌++◌, Some}
 use Rattle.step_meaning.specs.Outcome.{Store}
-use Rattle.step_meaning.specs.Run.{start}
 use Rattle.linear_cons.specs.declared.affine.Affine.{Affine}
 use Rattle.line_text.specs.declared.claim.Claim.{Claim}
 use Rattle.line_text.specs.Spells.{Spells}
@@ -11,7 +10,7 @@ use Rattle.input_text.specs.Input.{IsInputText}
 use Rattle.function_top.specs.Call.{Call}
 use Rattle.command_words.specs.Order.{Ask, Task, analysis}
 use Rattle.function_top.specs.Subject.{IsSubject, Subject}
-use Rattle.function_top.specs.TrueLine.{IsTrueAt, TrueLine}
+use Rattle.function_top.specs.TrueLine.{IsTrueOf, TrueLine}
 
 -- whatever a whole line of the text says over the subject's names is true of the subject
 abbrev pub IsTrueText : Subject → List ℕ → Type 0
@@ -30,7 +29,7 @@ Headline words call =
 -- whatever a whole line of the text tells that is a claim alone is true of the input
 abbrev pub IsTrueAnswer : Subject → Store → List ℕ → Type 0
 IsTrueAnswer subject input text =
-    (line : List ℕ) (claim : Claim) → IsWholeLine text line → Tells subject.names line claim → IsTrueAt subject.formula claim input (start subject.body input)
+    (line : List ℕ) (claim : Claim) → IsWholeLine text line → Tells subject.names line claim → IsTrueOf subject claim input
 
 -- The same where one input is asked for, by a text that is one of the program's: whatever claim a whole line is that the sink took in the call is true
 -- of that input.

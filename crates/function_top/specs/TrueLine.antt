@@ -5,7 +5,6 @@ use Rattle.step_meaning.specs.Step.{Configuration}
 use Rattle.step_meaning.specs.Run.{IsInput, start, Longest}
 use Rattle.linear_cons.specs.declared.affine.Affine.{Affine}
 use Rattle.linear_cons.specs.Functions.{value_at}
-use Rattle.ctl_formula.specs.Formulas.{Ctl}
 use Rattle.ctl_formula.specs.Satisfaction.{Sat, SatWithin}
 use Rattle.line_text.specs.declared.claim.Claim.{Claim}
 use Rattle.line_text.specs.declared.claim.Claim.TheVariants.{Exactly, Within, Holds, Unknown}
@@ -17,17 +16,15 @@ abbrev pub IsLongest : ℤ → Configuration → Type 0
 IsLongest (pos n) c = Longest n c
 IsLongest (negsuc n) c = ⊥
 
--- The claim is true where the runs of this input begin, at `c`: the longest of them has exactly so many steps; the formula, whose normal form
--- is an until, holds within as many steps as the function's value at the input, which for `AF exit` says that each run ends within so many;
--- the formula holds; or nothing is claimed.
-abbrev pub IsTrueAt : Ctl → Claim → Store → Configuration → Type 0
-IsTrueAt formula (Exactly number) input c = IsLongest number c
-IsTrueAt formula (Within bound) input c = SatWithin (value_at bound input) formula c
-IsTrueAt formula Holds input c = Sat formula c
-IsTrueAt formula Unknown input c = ⊤
+-- The claim is true of the input of the subject: the longest of its runs has exactly so many steps; the formula, whose normal form is an until, holds
+-- where they begin within as many steps as the function's value at the input, which for `AF exit` says that each run ends within so many; the formula
+-- holds there; or nothing is claimed.
+abbrev pub IsTrueOf : Subject → Claim → Store → Type 0
+IsTrueOf subject (Exactly number) input = IsLongest number (start subject.body input)
+IsTrueOf subject (Within bound) input = SatWithin (value_at bound input) subject.formula (start subject.body input)
+IsTrueOf subject Holds input = Sat subject.formula (start subject.body input)
+IsTrueOf subject Unknown input = ⊤
 
--- the line of this condition and claim is true of the subject: for every input that meets the condition, the claim is true of where its runs
--- begin
+-- the line of this condition and claim is true of the subject: for every input that meets the condition the claim is true of it
 pub record TrueLine (subject : Subject) (condition : List Affine) (claim : Claim) : Type 0 where
-  pub holds : (input : Store) → IsInput (length subject.names) input → MeetsCondition input condition
-      → IsTrueAt subject.formula claim input (start subject.body input)
+  pub holds : (input : Store) → IsInput (length subject.names) input → MeetsCondition input condition → IsTrueOf subject claim input

@@ -1,4 +1,4 @@
--- No byte of a line is the newline byte, none of its condition and none of its claim the colon, and a line ends as a claim does.
+-- No byte of a line is the newline byte, none of its condition and none of its claim the colon, and how a line opens.
 use Rattle.std.proofs.Common.{◌≡◌, ◌≢◌, ℕ, zero, suc, ◌<◌, Bool, true, false, not, ◌||◌, eqb, inl, inr, ⊎_elim, ℤ, pos, negsuc, List, [], ◌∷◌, ◌++◌, length, get_or, Option, None, Some, All, refl, arith, unsigned_abs, codes}
 use Rattle.std.specs.Prelude.{⊤}
 use Rattle.std.specs.Ordering.{int_eq}
