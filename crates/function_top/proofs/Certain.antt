@@ -28,7 +28,7 @@ use Rattle.command_words.specs.Order.{Task}
 use Rattle.function_top.specs.Shown.{Shows}
 use Rattle.function_top.specs.Subject.{IsSubject, Subject}
 use Rattle.function_top.proofs.ToldExactly.{numbers_small}
-use Rattle.function_top.proofs.Written.{Bytes}
+use Rattle.report_text.proofs.Frame.{Bytes}
 use Rattle.function_top.proofs.Headline.{KnownTexts, none_some, same_subject}
 
 -- ---- countdown programs

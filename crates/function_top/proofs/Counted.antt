@@ -13,13 +13,13 @@ use Rattle.line_text.specs.LineText.{functions_of}
 use Rattle.line_text.specs.Numeral.{numeral}
 use Rattle.line_text.specs.Spells.{MeetsCondition, Spells}
 use Rattle.line_text.proofs.Cuts.{word_cut}
-use Rattle.line_text.proofs.Words.{numeral_injective, numeral_is_numeral, numeral_is_word}
+use Rattle.line_text.proofs.Words.{numeral_injective, numeral_is_word}
 use Rattle.report_text.specs.declared.line.Line.{Line}
 use Rattle.report_text.specs.declared.report.Header.{Header}
 use Rattle.report_text.specs.declared.report.Report.{Report}
 use Rattle.report_text.specs.declared.report.Stop.{Stop}
 use Rattle.report_text.specs.Printed.{AreExactTexts, AreTextsOf, IsReportText, IsLineText, cause_text}
-use Rattle.report_text.specs.Sections.{Sections, header_lines}
+use Rattle.report_text.specs.Sections.{exact_head, exact_line, header_lines}
 use Rattle.report_text.proofs.Cutting.{KnownTexts, report_sections}
 use Rattle.function_top.specs.declared.found.Exact.{Exact}
 use Rattle.function_top.specs.declared.found.Exact.TheVariants.{Made, Unasked, Unmade}
@@ -33,7 +33,7 @@ use Rattle.function_top.specs.Subject.{Subject}
 use Rattle.function_top.proofs.Conditions.{condition_met, rows_met}
 use Rattle.function_top.proofs.ExactLines.{met_by_runs}
 use Rattle.function_top.proofs.Truth.{OpenAsLines, KnownLines}
-use Rattle.function_top.proofs.Written.{Bytes, stopped_line}
+use Rattle.report_text.proofs.Frame.{Bytes, stopped_line}
 
 -- ---- the lines and their texts
 
@@ -167,9 +167,8 @@ counts_exactly subject known opening task found report text finds shows printed 
     let texts : KnownTexts subject.names = record {
       newline = known.newline;
       opening = λ line condition claim. opening subject.names line condition claim;
-      digits = numeral_is_numeral;
     } in
     let cut = report_sections texts report text printed in
-    subst (λ (s : Sections). MeetsClaim subject.names input (Exactly (pos n)) s.exact ↔ EndsExactly subject.body tests input n) (sym cut)
+    subst (λ (lines : List Bytes). MeetsClaim subject.names input (Exactly (pos n)) lines ↔ EndsExactly subject.body tests input n) (sym (cut exact_line))
     (part_counted subject known task.delay tests allows.0 input is_input n printed.exact task.formula found.exact report.header report.exact finds.exact
-    shows.exact printed.exact_are (sym (ap (λ (s : Sections). s.header) cut) ∙ allows.1))
+    shows.exact printed.exact_are (sym (cut exact_head) ∙ allows.1))

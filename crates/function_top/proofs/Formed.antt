@@ -10,14 +10,15 @@ use Rattle.claim_line.specs.Tells.{Tells}
 use Rattle.report_text.specs.declared.line.Line.{Line}
 use Rattle.report_text.specs.declared.report.Report.{Report}
 use Rattle.report_text.specs.declared.report.Header.{Header}
-use Rattle.report_text.specs.Printed.{IsReportText, ended_lines, exact_part, explain_part}
+use Rattle.report_text.specs.Printed.{IsReportText, ended_lines, exact_part, explain_part, lines_under}
 use Rattle.function_top.specs.declared.found.Found.{Found}
 use Rattle.function_top.specs.Demo.{summary_lines}
-use Rattle.function_top.specs.Form.{IsKnown, exact_head, explanation, summary, proved_head, unknown_head, all_verdict, some_verdict, words, program, formula}
+use Rattle.function_top.specs.Form.{IsKnown, exact_head, explanation, section, summary, all_verdict, some_verdict, words, program, formula}
 use Rattle.function_top.specs.Refusals.{fault_line, formula_text, program_text, usage_line, usage_text}
 use Rattle.function_top.specs.Shown.{Shows}
 use Rattle.function_top.proofs.Truth.{KnownLines, formula_silent, program_silent, usage_silent}
-use Rattle.function_top.proofs.Written.{Bytes, EachWhole, Frames, Lacks, Prints, each_good, free_lacks, one_good, report_holds, summary_lacks}
+use Rattle.report_text.proofs.Frame.{Bytes, Lacks, free_lacks}
+use Rattle.function_top.proofs.Written.{EachWhole, Frames, Prints, each_good, one_good, report_holds, summary_lacks}
 
 module _ (left : Option Bytes) where
   pub usage_known : EachWhole (IsKnown left) usage_text
@@ -58,8 +59,7 @@ module _ (left : Option Bytes) where
   frames = record {
     exact = header_known;
     explanation = λ explain. all_of (IsKnown left) (explain_part (Some explain)) (λ line member. inr (inl (explanation explain line member)));
-    proved = inr (inl proved_head);
-    unknown = inr (inl unknown_head);
+    each_head = λ head. inr (inl (section head));
     all_inputs = inr (inl all_verdict);
     some_inputs = inr (inl some_verdict);
   }
@@ -77,5 +77,4 @@ module _ (left : Option Bytes) where
     pub report_known : (found : Found) (report : Report) (text : Bytes) → Shows found report → IsReportText names report text
         → EachWhole (IsKnown left) text
     report_known found report text shows printed =
-        report_holds (IsKnown left) frames names known.newline report text (all_spoken report.exact) (all_spoken report.proved)
-        (all_spoken report.unknown) printed
+        report_holds (IsKnown left) frames names known.newline report text (all_spoken report.exact) (λ head. all_spoken (lines_under head report)) printed

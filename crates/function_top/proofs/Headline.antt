@@ -50,7 +50,8 @@ use Rattle.function_top.proofs.ToldExactly.{made_whole, numbers_small, tells_alo
 use Rattle.function_top.proofs.Named.{program_names}
 use Rattle.function_top.proofs.Truth.{KnownLines, OpenAsLines, SaysTrue, formula_silent, program_silent, report_true, silent_true, usage_silent}
 use Rattle.function_top.proofs.OneTold.{HasNoColon, KnownClaims, TellsTrue, colon_tells, fault_colon, told_is_true}
-use Rattle.function_top.proofs.Written.{Bytes, EachWhole, Lacks, of_front, of_nothing, one_good}
+use Rattle.report_text.proofs.Frame.{Bytes, Lacks}
+use Rattle.function_top.proofs.Written.{EachWhole, of_front, of_nothing, one_good}
 
 -- what is known of the texts of programs and formulas, and of the lines of reports
 pub record KnownTexts : Type 0 where

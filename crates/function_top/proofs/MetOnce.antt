@@ -13,10 +13,9 @@ use Rattle.report_text.specs.Leaves.{NoneOf, OneOf}
 use Rattle.report_text.specs.declared.report.Header.{Header}
 use Rattle.report_text.specs.declared.report.Header.TheVariants.{Absent, Partial, Stopped, Whole}
 use Rattle.report_text.specs.declared.report.Report.{Report}
-use Rattle.report_text.specs.Printed.{AreExactTexts, AreTextsOf, IsReportText, IsLineText}
-use Rattle.report_text.specs.Sections.{Sections}
+use Rattle.report_text.specs.Printed.{AreExactTexts, AreTextsOf, IsReportText, IsLineText, proved_head, unknown_head}
+use Rattle.report_text.specs.Sections.{exact_line, section_line}
 use Rattle.report_text.proofs.Cutting.{KnownTexts, report_sections}
-use Rattle.line_text.proofs.Words.{numeral_is_numeral}
 use Rattle.function_top.specs.declared.found.Found.{Found}
 use Rattle.function_top.specs.Exact.{MeetsAtMostOneLine}
 use Rattle.function_top.specs.Shown.{Shows}
@@ -24,7 +23,7 @@ use Rattle.function_top.specs.Meeting.{AreMetOnce, AreUnmet, IsMet, MeetsOne}
 use Rattle.function_top.proofs.Conditions.{condition_met, rows_met}
 use Rattle.function_top.proofs.Once.{at_most_one, one_line}
 use Rattle.function_top.proofs.Truth.{OpenAsLines, KnownLines}
-use Rattle.function_top.proofs.Written.{Bytes}
+use Rattle.report_text.proofs.Frame.{Bytes}
 
 module _ (names : List Bytes) (known : KnownLines names) (input : Store) where
   abbrev Met : Line → Type 0
@@ -121,16 +120,15 @@ module _ (names : List Bytes) (known : KnownLines names) (opening : OpenAsLines)
       let texts : KnownTexts names = record {
         newline = known.newline;
         opening = λ line condition claim. opening names line condition claim;
-        digits = numeral_is_numeral;
       } in
       let cut = report_sections texts report text printed in
       record {
         together = λ input.
             let one = one_line found report shows input in
-            subst (λ (s : Sections). MeetsOne names input (s.proved ++ s.unknown)) (sym cut)
-            (one_of_both names known input (λ line. line.claim ≡ one.0) report.proved report.unknown printed.proved printed.unknown printed.proved_are
-            printed.unknown_are one.1);
+            rw (cut (section_line proved_head), cut (section_line unknown_head))
+            (one_of_both names known input (λ line. line.claim ≡ one.0) report.proved report.unknown (printed.texts proved_head) (printed.texts unknown_head)
+            (printed.are proved_head) (printed.are unknown_head) one.1);
         exact = λ input.
-            subst (λ (s : Sections). AreUnmet names input s.exact ⊎ MeetsOne names input s.exact) (sym cut)
+            subst (λ (lines : List Bytes). AreUnmet names input lines ⊎ MeetsOne names input lines) (sym (cut exact_line))
             (exact_texts input report.header report.exact printed.exact printed.exact_are (at_most_one found report shows input));
       }

@@ -29,7 +29,8 @@ use Rattle.function_top.specs.Refusals.{fault_line}
 use Rattle.function_top.specs.Subject.{Subject}
 use Rattle.function_top.specs.TrueLine.{IsTrueOf}
 use Rattle.function_top.proofs.Truth.{OpenAsLines, exact_true}
-use Rattle.function_top.proofs.Written.{Bytes, EachWhole, IsSilent, Lacks, free_lacks, one_good}
+use Rattle.report_text.proofs.Frame.{Bytes, IsSilent, Lacks, free_lacks}
+use Rattle.function_top.proofs.Written.{EachWhole, one_good}
 
 -- no byte is a colon, code 58
 abbrev pub HasNoColon : Bytes → Type 0

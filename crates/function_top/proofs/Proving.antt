@@ -1,14 +1,13 @@
 -- The proved lines of a report on a program without loops are met by the inputs whose start satisfies the formula.
-use Rattle.std.proofs.Common.{◌↔◌, ℕ, sym, subst}
+use Rattle.std.proofs.Common.{◌↔◌, ℕ, List, sym, subst}
 use Rattle.step_meaning.specs.Run.{start}
 use Rattle.ctl_formula.specs.Formulas.{normal}
 use Rattle.ctl_formula.specs.Satisfaction.{Sat}
 use Rattle.exact_families.specs.Completeness.{IsLoopless}
 use Rattle.formula_measures.specs.Measures.{IsWithinMeasures}
-use Rattle.line_text.proofs.Words.{numeral_is_numeral}
 use Rattle.report_text.specs.declared.report.Report.{Report}
-use Rattle.report_text.specs.Printed.{IsReportText}
-use Rattle.report_text.specs.Sections.{Sections}
+use Rattle.report_text.specs.Printed.{IsReportText, proved_head}
+use Rattle.report_text.specs.Sections.{section_line}
 use Rattle.report_text.proofs.Cutting.{KnownTexts as KnownLineTexts, report_sections}
 use Rattle.command_words.specs.Order.{Task}
 use Rattle.function_top.specs.declared.found.Found.{Found}
@@ -21,7 +20,7 @@ use Rattle.function_top.proofs.Counted.{line_met, text_met}
 use Rattle.function_top.proofs.Headline.{KnownTexts, own_names, same_subject}
 use Rattle.function_top.proofs.ProvedLines.{met_by_satisfied}
 use Rattle.function_top.proofs.Truth.{OpenAsLines, KnownLines}
-use Rattle.function_top.proofs.Written.{Bytes}
+use Rattle.report_text.proofs.Frame.{Bytes}
 
 -- ---- the text of a report
 
@@ -32,13 +31,12 @@ proves_exactly subject known opening task found report text finds shows printed 
     let texts : KnownLineTexts subject.names = record {
       newline = known.newline;
       opening = λ line condition claim. opening subject.names line condition claim;
-      digits = numeral_is_numeral;
     } in
     let cut = report_sections texts report text printed in
     let met = met_by_satisfied task subject found report finds shows loopless within input is_input in
-    subst (λ (s : Sections). MeetsSome subject.names input s.proved ↔ Sat subject.formula (start subject.body input)) (sym cut) (
-      (λ some. met.0 (some.0, line_met subject.names known input some.0 report.proved printed.proved printed.proved_are some.1)),
-      (λ sat. let line = met.1 sat in (line.0, text_met subject.names known input line.0 report.proved printed.proved printed.proved_are line.1)),
+    subst (λ (lines : List Bytes). MeetsSome subject.names input lines ↔ Sat subject.formula (start subject.body input)) (sym (cut (section_line proved_head))) (
+      (λ some. met.0 (some.0, line_met subject.names known input some.0 report.proved (printed.texts proved_head) (printed.are proved_head) some.1)),
+      (λ sat. let line = met.1 sat in (line.0, text_met subject.names known input line.0 report.proved (printed.texts proved_head) (printed.are proved_head) line.1)),
     )
 
 -- ---- what was due

@@ -17,7 +17,7 @@ use Rattle.function_top.proofs.Headline.{AskOnce, KnownTexts, Serves, Settles, c
 use Rattle.function_top.proofs.OneTold.{TellsTrue}
 use Rattle.function_top.proofs.Saying.{said}
 use Rattle.function_top.proofs.Truth.{SaysTrue}
-use Rattle.function_top.proofs.Written.{Bytes}
+use Rattle.report_text.proofs.Frame.{Bytes}
 
 -- no report is written where memory ran out
 no_report : IsReport NoMemory → ⊥

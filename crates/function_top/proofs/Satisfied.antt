@@ -22,7 +22,7 @@ use Rattle.function_top.specs.OneInput.{IsToldOf, LeadsExactly, LeadsTo}
 use Rattle.function_top.specs.Subject.{IsFormulaAsked, IsSubject, Subject}
 use Rattle.function_top.proofs.Headline.{KnownTexts, own_names, same_subject}
 use Rattle.function_top.proofs.ToldExactly.{numbers_small}
-use Rattle.function_top.proofs.Written.{Bytes}
+use Rattle.report_text.proofs.Frame.{Bytes}
 
 -- ---- what was found
 

@@ -13,7 +13,7 @@ use Rattle.function_top.proofs.Certain.{due_covers}
 use Rattle.function_top.proofs.Headline.{AskOnce, KnownTexts, counted_report, due_answer, due_report, exact_answer, met_report, no_demo, read_subject, same_task}
 use Rattle.function_top.proofs.Proving.{proving_report}
 use Rattle.function_top.proofs.Satisfied.{satisfied_answer}
-use Rattle.function_top.proofs.Written.{Bytes}
+use Rattle.report_text.proofs.Frame.{Bytes}
 
 pub due_says : KnownTexts → (task : Task) (text : Bytes) (subject : Subject) → IsSubject task text subject → (status : Status) (advisers turns : ℕ)
     (bytes : Bytes) → IsDueOn task text status advisers turns bytes → IsReport status → Says task subject status bytes

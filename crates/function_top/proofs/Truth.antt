@@ -20,7 +20,7 @@ use Rattle.report_text.specs.declared.line.Top.TheVariants.{Exact as Counted}
 use Rattle.report_text.specs.declared.report.Header.{Header}
 use Rattle.report_text.specs.declared.report.Report.{Report}
 use Rattle.report_text.specs.Leaves.{AreLinesOf, claim_at, is_unknown}
-use Rattle.report_text.specs.Printed.{IsReportText}
+use Rattle.report_text.specs.Printed.{Head, IsReportText, lines_under, proved_head, unknown_head}
 use Rattle.report_text.proofs.Standing.{one_line_met}
 use Rattle.function_top.specs.declared.found.Exact.{Exact}
 use Rattle.function_top.specs.declared.found.Exact.TheVariants.{Made, Unasked, Unmade}
@@ -36,7 +36,8 @@ use Rattle.unroll.specs.Levels.{RanksCount}
 use Rattle.function_top.proofs.Conditions.{condition_met}
 use Rattle.function_top.proofs.ExactLines.{ranks_at}
 use Rattle.function_top.proofs.OnlyMet.{met_is_one}
-use Rattle.function_top.proofs.Written.{Bytes, EachWhole, Frames, IsFree, IsSilent, Lacks, Prints, both_free, digits_free, free_lacks, one_good, report_holds, says_nothing, silent_frames, tested}
+use Rattle.report_text.proofs.Frame.{Bytes, IsFree, IsSilent, Lacks, both_free, digits_free, free_lacks, says_nothing, tested}
+use Rattle.function_top.proofs.Written.{EachWhole, Frames, Prints, one_good, report_holds, silent_frames}
 
 -- what is known of the lines over the names
 pub record KnownLines (names : List Bytes) : Type 0 where
@@ -137,12 +138,18 @@ module _ (subject : Subject) (opening : OpenAsLines) where
     part_lines_true (Some text) delay exact header lines is shows =
         subst (All Printed) (sym (subst (λ e. ShowsExact e header lines) is shows).1) (All-nil Printed)
 
+    under_true : (report : Report) → All Printed report.proved → All Printed report.unknown → (head : Head)
+        → All Printed (lines_under head report)
+    under_true report proved unknown proved_head = proved
+    under_true report proved unknown unknown_head = unknown
+
     pub report_true : (task : Task) (found : Found) (report : Report) (text : Bytes) → IsFound task subject found → Shows found report
         → IsReportText subject.names report text → EachWhole (SaysTrue subject) text
     report_true task found report text finds shows printed =
         let all = all_of Printed shows.lines (line_true found.claims (plan_of found.cover) shows.lines finds.holds shows.lines_of) in
         report_holds (SaysTrue subject) frames subject.names known.newline report text
         (part_lines_true task.formula task.delay found.exact report.header report.exact finds.exact shows.exact)
+        (under_true report
         (subst (All Printed) (sym shows.proved) (All-filter (λ line. not (is_unknown line.claim)) Printed shows.lines all))
-        (subst (All Printed) (sym shows.unknown) (All-filter (λ line. is_unknown line.claim) Printed shows.lines all))
+        (subst (All Printed) (sym shows.unknown) (All-filter (λ line. is_unknown line.claim) Printed shows.lines all)))
         printed

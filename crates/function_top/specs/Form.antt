@@ -8,7 +8,7 @@ use Rattle.line_text.specs.declared.claim.Claim.{Claim}
 use Rattle.line_text.specs.Spells.{Spells}
 use Rattle.report_text.specs.declared.report.Explain.{Explain}
 use Rattle.report_text.specs.declared.report.Header.{Header}
-use Rattle.report_text.specs.Printed.{exact_part, explain_part}
+use Rattle.report_text.specs.Printed.{Head, exact_part, explain_part, head_text}
 use Rattle.report_text.specs.Sections.{IsWholeLine}
 use Rattle.claim_line.specs.Tells.{Tells}
 use Rattle.function_top.specs.Call.{Call}
@@ -28,8 +28,7 @@ pub record IsClaimAlone (names : List (List ℕ)) (line : List ℕ) : Type 0 whe
 
 -- the line is the head of a section, a header of the exact part, a line of the explanation, one of the summary of a demo program, or a verdict
 pub data IsFrame : List ℕ → Type 0 where
-  proved_head : IsFrame (codes "proved:")
-  unknown_head : IsFrame (codes "unknown:")
+  section : (head : Head) → IsFrame (head_text head)
   exact_head : (header : Header) (line : List ℕ) → Contains (exact_part header []) line → IsFrame line
   explanation : (explain : Explain) (line : List ℕ) → Contains (explain_part (Some explain)) line → IsFrame line
   summary : (number bytes labels proved : ℕ) (line : List ℕ) → Contains (summary_lines number bytes labels proved) line → IsFrame line

@@ -9,7 +9,8 @@ use Rattle.line_text.specs.declared.claim.Claim.TheVariants.{Exactly}
 use Rattle.line_text.specs.Spells.{MeetsCondition, Spells}
 use Rattle.claim_line.specs.Tells.{Tells}
 use Rattle.report_text.specs.declared.report.Stop.{Stop}
-use Rattle.report_text.specs.Sections.{IsWholeLine, header_lines, sections_of}
+use Rattle.report_text.specs.Printed.{proved_head, unknown_head}
+use Rattle.report_text.specs.Sections.{IsWholeLine, exact_head, exact_line, header_lines, lines_in, section_line}
 use Rattle.function_top.specs.Exact.{EndsExactly}
 use Rattle.function_top.specs.Shown.{header_of}
 use Rattle.function_top.specs.Subject.{Subject}
@@ -35,8 +36,8 @@ pub record MeetsOne (names : List (List ℕ)) (input : Store) (lines : List (Lis
 
 -- of the text of a report each input meets exactly one line of the proved and unknown sections together, and at most one of the exact part
 pub record AreMetOnce (names : List (List ℕ)) (text : List ℕ) : Type 0 where
-  pub together : (input : Store) → MeetsOne names input ((sections_of text).proved ++ (sections_of text).unknown)
-  pub exact : (input : Store) → AreUnmet names input (sections_of text).exact ⊎ MeetsOne names input (sections_of text).exact
+  pub together : (input : Store) → MeetsOne names input (lines_in (section_line proved_head) text ++ lines_in (section_line unknown_head) text)
+  pub exact : (input : Store) → AreUnmet names input (lines_in exact_line text) ⊎ MeetsOne names input (lines_in exact_line text)
 
 -- one of the lines says the claim over the names under a condition that the input meets
 pub record MeetsClaim (names : List (List ℕ)) (input : Store) (claim : Claim) (lines : List (List ℕ)) : Type 0 where
@@ -48,14 +49,14 @@ pub record MeetsClaim (names : List (List ℕ)) (input : Store) (claim : Claim) 
 
 -- by its header the exact part of the text allows so many tests of loops
 abbrev pub AllowsTests : List ℕ → ℕ → Type 0
-AllowsTests text tests = (stop : Option Stop) × ((sections_of text).header ≡ header_lines (header_of tests stop))
+AllowsTests text tests = (stop : Option Stop) × (lines_in exact_head text ≡ header_lines (header_of tests stop))
 
 -- An input meets a line `exactly n steps` of the text's exact part exactly where every run from it ends with at most as many tests of a loop as
 -- the part allows, and the longest has n steps.
 abbrev pub CountsExactly : Subject → List ℕ → Type 0
 CountsExactly subject text =
     (tests : ℕ) → AllowsTests text tests → (input : Store) → IsInput (length subject.names) input → (n : ℕ)
-    → MeetsClaim subject.names input (Exactly (pos n)) (sections_of text).exact ↔ EndsExactly subject.body tests input n
+    → MeetsClaim subject.names input (Exactly (pos n)) (lines_in exact_line text) ↔ EndsExactly subject.body tests input n
 
 -- one of the lines says something over the names under a condition that the input meets
 abbrev pub MeetsSome : List (List ℕ) → Store → List (List ℕ) → Type 0
@@ -65,7 +66,7 @@ MeetsSome names input lines = (claim : Claim) × MeetsClaim names input claim li
 abbrev pub ProvesExactly : Subject → List ℕ → Type 0
 ProvesExactly subject text =
     (input : Store) → IsInput (length subject.names) input
-    → MeetsSome subject.names input (sections_of text).proved ↔ Sat subject.formula (start subject.body input)
+    → MeetsSome subject.names input (lines_in (section_line proved_head) text) ↔ Sat subject.formula (start subject.body input)
 
 -- a whole line of the text is the claim alone
 pub record TellsClaim (names : List (List ℕ)) (text : List ℕ) (claim : Claim) : Type 0 where

@@ -1,9 +1,7 @@
 -- A printed report is cut into the lines that were printed, and a front of it into fronts of these.
-use Rattle.std.proofs.Common.{◌≡◌, ◌≢◌, inl, inr, ℕ, zero, suc, ◌+◌, ◌<◌, ◌==◌, Bool, true, false, cond, List, [], ◌∷◌, ◌++◌, refl, sym, ap, subst, ◌∙◌, arith, All, Contains, Option, None, Some, codes}
+use Rattle.std.proofs.Common.{◌≡◌, ◌≢◌, inl, inr, ℕ, zero, suc, ◌+◌, ◌==◌, Bool, true, false, cond, List, [], ◌∷◌, ◌++◌, refl, sym, ap, subst, ◌∙◌, arith, All, Contains, Option, None, Some, codes}
 use Rattle.std.specs.List.{AllZip}
 use Rattle.std.specs.Str.{bytes_eq}
-use Rattle.std.specs.Str.Parse.{AllDigits, IsNumeral}
-use Rattle.std.specs.Char.{digit_value}
 use Rattle.std.proofs.lemmas.Bool.Decides.{Decides-eqb}
 use Rattle.std.proofs.lemmas.Slice.Eq.{bytes_eq-Decides}
 use Rattle.std.proofs.lemmas.List.{append-nil, append_assoc}
@@ -16,17 +14,13 @@ use Rattle.report_text.specs.declared.report.Explain.{Explain}
 use Rattle.report_text.specs.declared.report.Header.{Header}
 use Rattle.report_text.specs.declared.report.Header.TheVariants.{Absent, Whole, Partial, Stopped}
 use Rattle.report_text.specs.declared.report.Report.{Report}
-use Rattle.report_text.specs.declared.report.Stop.{Stop}
-use Rattle.report_text.specs.declared.report.Stop.TheVariants.{WideNumbers, TooManyNodes, NotPlain}
 use Rattle.linear_cons.specs.declared.affine.Affine.{Affine}
 use Rattle.line_text.specs.declared.claim.Claim.{Claim}
-use Rattle.report_text.specs.Printed.{AreExactTexts, AreTextsOf, IsReportText, IsLineText, adviser_lines, cause_text, ended_lines, exact_part, explain_part, explained, report_lines, verdict_line}
-use Rattle.report_text.specs.Sections.{Role, start, exact_head, exact_line, proved_head, proved_line, unknown_head, unknown_line, explain_head, explain_line, verdict, goes_on, role_of, is_role, lines_after, lines_with, whole_lines, IsFrontOf, IsTextAmong, SaysOnly, explained_lines, header_lines, sections_of, sections_printed}
+use Rattle.report_text.specs.Printed.{AreExactTexts, AreTextsOf, Head, IsReportText, IsLineText, adviser_lines, cause_text, ended_lines, exact_part, explain_part, explained, head_text, heads, lines_under, proved_head, report_lines, section_lines, unknown_head, verdict_line}
+use Rattle.report_text.specs.Sections.{Role, start, exact_head, exact_line, section_head, section_line, explain_head, explain_line, verdict, goes_on, role_of, is_role, lines_after, lines_in, lines_printed, lines_with, whole_lines, IsFrontOf, IsTextAmong, SaysOnly, explained_head, explained_lines, header_lines}
+use Rattle.report_text.proofs.Frame.{IsSilent, Lacks, explanation_silent, head_silent, partial_line, partial_silent, silent_lacks, stopped_line, stopped_silent, verdict_silent, whole_line, whole_silent}
 
 -- ---- whole lines
-
-abbrev Lacks : List ℕ → Type 0
-Lacks line = All (λ byte. byte ≢ 10) line
 
 not_ten : (byte : ℕ) → byte ≢ 10 → (byte == 10) ≡ false
 not_ten byte apart = by_cases (byte == 10) refl
@@ -187,13 +181,10 @@ explained_plain explain =
 
 -- ---- the fixed lines
 
-proved_opens : (before : Role) → role_of before (codes "proved:") ≡ proved_head
+head_opens : (head : Head) (before : Role) → role_of before (head_text head) ≡ section_head head
 unfolding role_of
-proved_opens before = refl
-
-unknown_opens : (before : Role) → role_of before (codes "unknown:") ≡ unknown_head
-unfolding role_of
-unknown_opens before = refl
+head_opens proved_head before = refl
+head_opens unknown_head before = refl
 
 explain_opens : (before : Role) → role_of before (codes "explain:") ≡ explain_head
 unfolding role_of
@@ -214,179 +205,189 @@ stopped_opens rest = refl
 
 -- ---- the whole report
 
--- a role that no fixed line has but the verdict
-record IsLineRole (wanted : Role) : Type 0 where
-  proved : is_role wanted proved_head ≡ false
-  unknown : is_role wanted unknown_head ≡ false
-  explain : is_role wanted explain_head ≡ false
-
-heading : (wanted head : Role) (line : List ℕ) (tail result : List (List ℕ)) → ((before : Role) → role_of before line ≡ head) →
-    is_role wanted head ≡ false → lines_with wanted head tail ≡ result → (before : Role) →
-    lines_with wanted before (line ∷ tail) ≡ result
-heading wanted head line tail result opens other behind before = rw (opens before, other) behind
-
-nothing : (t : Bool) (result : List (List ℕ)) → result ≡ cond t [] [] ++ result
-nothing true result = refl
-nothing false result = refl
-
-verdict_cut : (wanted : Role) (unknown : List (List ℕ)) (before : Role) →
-    lines_with wanted before (verdict_line unknown ∷ []) ≡ cond (is_role wanted verdict) (verdict_line unknown ∷ []) []
-verdict_cut wanted unknown before = rw (verdict_opens unknown before) refl
-
-explain_cut : (wanted : Role) (explain : Option Explain) (unknown : List (List ℕ)) → IsLineRole wanted → (before : Role) →
-    lines_with wanted before (explain_part explain ++ verdict_line unknown ∷ []) ≡ cond (is_role wanted explain_line) (explained_lines explain) [] ++ cond (is_role wanted verdict) (verdict_line unknown ∷ []) []
-explain_cut wanted None unknown role before = verdict_cut wanted unknown before ∙ nothing (is_role wanted explain_line) (cond (is_role wanted verdict) (verdict_line unknown ∷ []) [])
-explain_cut wanted (Some explain) unknown role before =
-    heading wanted explain_head (codes "explain:") (explained explain ++ verdict_line unknown ∷ []) _ explain_opens role.explain
-    (section wanted explain_line (explained explain) (verdict_line unknown ∷ []) (cond (is_role wanted verdict) (verdict_line unknown ∷ []) []) (explained_plain explain) refl (verdict_cut wanted unknown) explain_head refl) before
-
--- what is cut from the lines behind the exact part
-cut_below : Role → (proved unknown : List (List ℕ)) → Option Explain → List (List ℕ)
-cut_below wanted proved unknown explain = cond (is_role wanted proved_line) proved [] ++ (cond (is_role wanted unknown_line) unknown [] ++ (cond (is_role wanted explain_line) (explained_lines explain) [] ++ cond (is_role wanted verdict) (verdict_line unknown ∷ []) []))
-
-lines_below : (proved unknown : List (List ℕ)) → Option Explain → List (List ℕ)
-lines_below proved unknown explain = codes "proved:" ∷ (proved ++ (codes "unknown:" ∷ (unknown ++ (explain_part explain ++ verdict_line unknown ∷ []))))
-
-below_cut : (wanted : Role) (proved unknown : List (List ℕ)) (explain : Option Explain) → IsLineRole wanted → All OpensNothing proved →
-    All OpensNothing unknown → (before : Role) →
-    lines_with wanted before (lines_below proved unknown explain) ≡ cut_below wanted proved unknown explain
-unfolding cut_below lines_below
-below_cut wanted proved unknown explain role plain_proved plain_unknown before =
-    heading wanted proved_head (codes "proved:") _ _ proved_opens role.proved
-    (section wanted proved_line proved _ _ plain_proved refl
-    (heading wanted unknown_head (codes "unknown:") _ _ unknown_opens role.unknown
-    (section wanted unknown_line unknown _ _ plain_unknown refl (explain_cut wanted explain unknown role) unknown_head refl))
-    proved_head refl) before
-
 with_head : (t : Bool) (head : List ℕ) (rest : List (List ℕ)) → cond t (head ∷ rest) rest ≡ cond t (head ∷ []) [] ++ rest
 with_head true head rest = refl
 with_head false head rest = refl
 
+-- a line that opens a section, whatever is before it
+heading : (wanted role : Role) (line : List ℕ) (tail result : List (List ℕ)) → ((before : Role) → role_of before line ≡ role) →
+    lines_with wanted role tail ≡ result → (before : Role) → lines_with wanted before (line ∷ tail) ≡ cond (is_role wanted role) (line ∷ []) [] ++ result
+heading wanted role line tail result opens behind before =
+    rw (opens before) (with_head (is_role wanted role) line (lines_with wanted role tail) ∙ ap (λ t. cond (is_role wanted role) (line ∷ []) [] ++ t) behind)
+
+-- what is cut from the verdict, from the explanation before it, from the sections before these, and from the exact part
+verdict_cut : (wanted : Role) (unknown : List (List ℕ)) (before : Role) →
+    lines_with wanted before (verdict_line unknown ∷ []) ≡ cond (is_role wanted verdict) (verdict_line unknown ∷ []) []
+verdict_cut wanted unknown before = rw (verdict_opens unknown before) refl
+
+abbrev explain_result : Role → Option Explain → List (List ℕ) → List (List ℕ)
+explain_result wanted None result = result
+explain_result wanted (Some explain) result =
+    cond (is_role wanted explain_head) (codes "explain:" ∷ []) [] ++ (cond (is_role wanted explain_line) (explained explain) [] ++ result)
+
+explain_cut : (wanted : Role) (explain : Option Explain) (tail result : List (List ℕ)) → ((before : Role) → lines_with wanted before tail ≡ result) →
+    (before : Role) → lines_with wanted before (explain_part explain ++ tail) ≡ explain_result wanted explain result
+explain_cut wanted None tail result behind before = behind before
+explain_cut wanted (Some explain) tail result behind before =
+    heading wanted explain_head (codes "explain:") (explained explain ++ tail) _ explain_opens
+    (section wanted explain_line (explained explain) tail result (explained_plain explain) refl behind explain_head refl) before
+
+abbrev sections_result : Role → List Head → (Head → List (List ℕ)) → List (List ℕ) → List (List ℕ)
+sections_result wanted [] texts result = result
+sections_result wanted (head ∷ more) texts result =
+    cond (is_role wanted (section_head head)) (head_text head ∷ []) [] ++ (cond (is_role wanted (section_line head)) (texts head) [] ++ sections_result wanted more texts result)
+
+sections_cut : (wanted : Role) (texts : Head → List (List ℕ)) (tail result : List (List ℕ)) → ((head : Head) → All OpensNothing (texts head)) →
+    ((before : Role) → lines_with wanted before tail ≡ result) → (under : List Head) (before : Role) →
+    lines_with wanted before (section_lines under texts tail) ≡ sections_result wanted under texts result
+sections_cut wanted texts tail result plain behind [] before = behind before
+sections_cut wanted texts tail result plain behind (head ∷ more) before =
+    heading wanted (section_head head) (head_text head) (texts head ++ section_lines more texts tail) _ (head_opens head)
+    (section wanted (section_line head) (texts head) (section_lines more texts tail) (sections_result wanted more texts result) (plain head) refl
+    (sections_cut wanted texts tail result plain behind more) (section_head head) refl) before
+
+abbrev exact_result : Role → Header → (exact result : List (List ℕ)) → List (List ℕ)
+exact_result wanted Absent exact result = result
+exact_result wanted (Whole tests) exact result = cond (is_role wanted exact_head) (header_lines (Whole tests)) [] ++ (cond (is_role wanted exact_line) exact [] ++ result)
+exact_result wanted (Partial tests cause) exact result =
+    cond (is_role wanted exact_head) (header_lines (Partial tests cause)) [] ++ (cond (is_role wanted exact_line) exact [] ++ result)
+exact_result wanted (Stopped cause) exact result = cond (is_role wanted exact_head) (header_lines (Stopped cause)) [] ++ result
+
+made_cut : (wanted : Role) (head : List ℕ) (exact tail result : List (List ℕ)) → All OpensNothing exact → role_of start head ≡ exact_head →
+    ((before : Role) → lines_with wanted before tail ≡ result) →
+    lines_with wanted start (head ∷ (exact ++ tail)) ≡ cond (is_role wanted exact_head) (head ∷ []) [] ++ (cond (is_role wanted exact_line) exact [] ++ result)
+made_cut wanted head exact tail result plain opens behind =
+    let rest = section wanted exact_line exact tail result plain refl behind exact_head refl in
+    rw opens (with_head (is_role wanted exact_head) head (lines_with wanted exact_head (exact ++ tail)) ∙ ap (λ t. cond (is_role wanted exact_head) (head ∷ []) [] ++ t) rest)
+
+exact_cut : (wanted : Role) (header : Header) (exact tail result : List (List ℕ)) → All OpensNothing exact → ((before : Role) → lines_with wanted before tail ≡ result) →
+    lines_with wanted start (exact_part header exact ++ tail) ≡ exact_result wanted header exact result
+exact_cut wanted Absent exact tail result plain behind = behind start
+exact_cut wanted (Whole tests) exact tail result plain behind =
+    made_cut wanted (codes "exact, " ++ (numeral tests ++ codes " tests:")) exact tail result plain (whole_opens (numeral tests ++ codes " tests:")) behind
+exact_cut wanted (Partial tests cause) exact tail result plain behind =
+    made_cut wanted (codes "exact, " ++ (numeral tests ++ (codes " tests, then " ++ (cause_text cause ++ codes ":")))) exact tail result plain
+    (whole_opens (numeral tests ++ (codes " tests, then " ++ (cause_text cause ++ codes ":")))) behind
+exact_cut wanted (Stopped cause) exact tail result plain behind =
+    rw (stopped_opens (cause_text cause)) (with_head (is_role wanted exact_head) (codes "exact: " ++ cause_text cause) (lines_with wanted exact_head tail)
+    ∙ ap (λ t. cond (is_role wanted exact_head) ((codes "exact: " ++ cause_text cause) ∷ []) [] ++ t) (behind exact_head))
+
+-- what is cut from a whole report
+abbrev report_result : Role → Header → (exact : List (List ℕ)) → (Head → List (List ℕ)) → Option Explain → List (List ℕ)
+report_result wanted header exact texts explain =
+    exact_result wanted header exact (sections_result wanted heads texts
+    (explain_result wanted explain (cond (is_role wanted verdict) (verdict_line (texts unknown_head) ∷ []) [])))
+
+report_cut : (wanted : Role) (header : Header) (exact : List (List ℕ)) (texts : Head → List (List ℕ)) (explain : Option Explain) → All OpensNothing exact →
+    ((head : Head) → All OpensNothing (texts head)) →
+    lines_with wanted start (report_lines header exact texts explain) ≡ report_result wanted header exact texts explain
+report_cut wanted header exact texts explain plain_exact plain =
+    let last = verdict_line (texts unknown_head) ∷ [] in
+    exact_cut wanted header exact (section_lines heads texts (explain_part explain ++ last)) _ plain_exact
+    (sections_cut wanted texts (explain_part explain ++ last) _ plain (explain_cut wanted explain last _ (verdict_cut wanted (texts unknown_head))) heads)
+
+-- ---- the lines with each role
+
+-- with a role of the exact part or of none nothing is cut from the explanation, and with another one nothing from the exact part
+abbrev IsOfExact : Role → Type 0
+IsOfExact wanted = (is_role wanted explain_head ≡ false) × (is_role wanted explain_line ≡ false)
+
+abbrev IsBelowExact : Role → Type 0
+IsBelowExact wanted = (is_role wanted exact_head ≡ false) × (is_role wanted exact_line ≡ false)
+
+no_explanation : (wanted : Role) (explain : Option Explain) (result : List (List ℕ)) → IsOfExact wanted → explain_result wanted explain result ≡ result
+no_explanation wanted None result is = refl
+no_explanation wanted (Some explain) result is = rw (is.0, is.1) refl
+
+no_exact : (wanted : Role) (header : Header) (exact result : List (List ℕ)) → IsBelowExact wanted → exact_result wanted header exact result ≡ result
+no_exact wanted Absent exact result is = refl
+no_exact wanted (Whole tests) exact result is = rw (is.0, is.1) refl
+no_exact wanted (Partial tests cause) exact result is = rw (is.0, is.1) refl
+no_exact wanted (Stopped cause) exact result is = rw is.0 refl
+
+header_cut : (header : Header) (exact : List (List ℕ)) → exact_result exact_head header exact [] ≡ header_lines header
+header_cut Absent exact = refl
+header_cut (Whole tests) exact = refl
+header_cut (Partial tests cause) exact = refl
+header_cut (Stopped cause) exact = refl
+
+explanation_cut : (explain : Option Explain) → explain_result explain_line explain [] ≡ explained_lines explain
+explanation_cut None = refl
+explanation_cut (Some explain) = append-nil (explained explain)
+
+explanation_head_cut : (explain : Option Explain) → explain_result explain_head explain [] ≡ explained_head explain
+explanation_head_cut None = refl
+explanation_head_cut (Some explain) = refl
+
 -- the exact lines that are printed
-exact_printed : Header → List (List ℕ) → List (List ℕ)
-exact_printed (Whole tests) exact = exact
-exact_printed (Partial tests cause) exact = exact
-exact_printed Absent exact = []
-exact_printed (Stopped cause) exact = []
+exact_printed : (names : List (List ℕ)) (header : Header) (lines : List Line) (exact : List (List ℕ)) → AreExactTexts names header lines exact →
+    exact_result exact_line header exact [] ≡ exact
+exact_printed names (Whole tests) lines exact are = append-nil exact
+exact_printed names (Partial tests cause) lines exact are = append-nil exact
+exact_printed names Absent lines exact are = sym are
+exact_printed names (Stopped cause) lines exact are = sym are
 
-cut_all : Role → Header → (exact proved unknown : List (List ℕ)) → Option Explain → List (List ℕ)
-cut_all wanted header exact proved unknown explain = cond (is_role wanted exact_head) (header_lines header) [] ++ (cond (is_role wanted exact_line) (exact_printed header exact) [] ++ cut_below wanted proved unknown explain)
-
-exact_cut : (wanted : Role) (head : List ℕ) (exact below result : List (List ℕ)) → All OpensNothing exact →
-    role_of start head ≡ exact_head → ((before : Role) → lines_with wanted before below ≡ result) →
-    lines_with wanted start (head ∷ (exact ++ below)) ≡ cond (is_role wanted exact_head) (head ∷ []) [] ++ (cond (is_role wanted exact_line) exact [] ++ result)
-exact_cut wanted head exact below result plain opens behind =
-    let rest = section wanted exact_line exact below result plain refl behind exact_head refl in
-    rw opens (with_head (is_role wanted exact_head) head (lines_with wanted exact_head (exact ++ below)) ∙ ap (λ t. cond (is_role wanted exact_head) (head ∷ []) [] ++ t) rest)
-
-report_cut : (wanted : Role) (header : Header) (exact proved unknown : List (List ℕ)) (explain : Option Explain) → IsLineRole wanted →
-    All OpensNothing exact → All OpensNothing proved → All OpensNothing unknown →
-    lines_with wanted start (report_lines header exact proved unknown explain) ≡ cut_all wanted header exact proved unknown explain
-unfolding cut_all exact_printed lines_below
-report_cut wanted Absent exact proved unknown explain role plain_exact plain_proved plain_unknown =
-    below_cut wanted proved unknown explain role plain_proved plain_unknown start ∙ nothing (is_role wanted exact_line) _ ∙ nothing (is_role wanted exact_head) _
-report_cut wanted (Whole tests) exact proved unknown explain role plain_exact plain_proved plain_unknown =
-    exact_cut wanted (codes "exact, " ++ (numeral tests ++ codes " tests:")) exact _ _ plain_exact (whole_opens (numeral tests ++ codes " tests:")) (below_cut wanted proved unknown explain role plain_proved plain_unknown)
-report_cut wanted (Partial tests cause) exact proved unknown explain role plain_exact plain_proved plain_unknown =
-    exact_cut wanted (codes "exact, " ++ (numeral tests ++ (codes " tests, then " ++ (cause_text cause ++ codes ":")))) exact _ _ plain_exact (whole_opens (numeral tests ++ (codes " tests, then " ++ (cause_text cause ++ codes ":")))) (below_cut wanted proved unknown explain role plain_proved plain_unknown)
-report_cut wanted (Stopped cause) exact proved unknown explain role plain_exact plain_proved plain_unknown =
-    exact_cut wanted (codes "exact: " ++ cause_text cause) [] (lines_below proved unknown explain) _ (All-nil OpensNothing) (stopped_opens (cause_text cause)) (below_cut wanted proved unknown explain role plain_proved plain_unknown)
-
-plain_sections : (header : Header) (exact proved unknown : List (List ℕ)) (explain : Option Explain) (text : List ℕ) →
-    whole_lines text ≡ report_lines header exact proved unknown explain → All OpensNothing exact → All OpensNothing proved →
-    All OpensNothing unknown → sections_of text ≡ sections_printed header (exact_printed header exact) proved unknown explain
-unfolding cut_all cut_below
-plain_sections header exact proved unknown explain text lines plain_exact plain_proved plain_unknown =
-    let at : (wanted : Role) → IsLineRole wanted → lines_with wanted start (whole_lines text) ≡ cut_all wanted header exact proved unknown explain = λ wanted role. ap (λ t. lines_with wanted start t) lines ∙ report_cut wanted header exact proved unknown explain role plain_exact plain_proved plain_unknown in
-    rw (
-      at exact_head (record { proved = refl; unknown = refl; explain = refl }) ∙ append-nil (header_lines header),
-      at exact_line (record { proved = refl; unknown = refl; explain = refl }) ∙ append-nil (exact_printed header exact),
-      at proved_line (record { proved = refl; unknown = refl; explain = refl }) ∙ append-nil proved,
-      at unknown_line (record { proved = refl; unknown = refl; explain = refl }) ∙ append-nil unknown,
-      at explain_line (record { proved = refl; unknown = refl; explain = refl }) ∙ append-nil (explained_lines explain),
-      at verdict (record { proved = refl; unknown = refl; explain = refl }),
-    ) refl
+role_cut : (wanted : Role) (names : List (List ℕ)) (header : Header) (lines : List Line) (exact : List (List ℕ)) (texts : Head → List (List ℕ))
+    (explain : Option Explain) → AreExactTexts names header lines exact →
+    report_result wanted header exact texts explain ≡ lines_printed wanted header exact texts explain
+role_cut start names header lines exact texts explain are = no_exact start header exact _ (refl, refl) ∙ no_explanation start explain [] (refl, refl)
+role_cut exact_head names header lines exact texts explain are =
+    ap (exact_result exact_head header exact) (no_explanation exact_head explain [] (refl, refl)) ∙ header_cut header exact
+role_cut exact_line names header lines exact texts explain are =
+    ap (exact_result exact_line header exact) (no_explanation exact_line explain [] (refl, refl)) ∙ exact_printed names header lines exact are
+role_cut (section_head proved_head) names header lines exact texts explain are =
+    no_exact (section_head proved_head) header exact _ (refl, refl)
+    ∙ ap (λ t. codes "proved:" ∷ t) (no_explanation (section_head proved_head) explain [] (refl, refl))
+role_cut (section_head unknown_head) names header lines exact texts explain are =
+    no_exact (section_head unknown_head) header exact _ (refl, refl)
+    ∙ ap (λ t. codes "unknown:" ∷ t) (no_explanation (section_head unknown_head) explain [] (refl, refl))
+role_cut (section_line proved_head) names header lines exact texts explain are =
+    no_exact (section_line proved_head) header exact _ (refl, refl)
+    ∙ ap (λ t. texts proved_head ++ t) (no_explanation (section_line proved_head) explain [] (refl, refl)) ∙ append-nil (texts proved_head)
+role_cut (section_line unknown_head) names header lines exact texts explain are =
+    no_exact (section_line unknown_head) header exact _ (refl, refl)
+    ∙ ap (λ t. texts unknown_head ++ t) (no_explanation (section_line unknown_head) explain [] (refl, refl)) ∙ append-nil (texts unknown_head)
+role_cut explain_head names header lines exact texts explain are = no_exact explain_head header exact _ (refl, refl) ∙ explanation_head_cut explain
+role_cut explain_line names header lines exact texts explain are = no_exact explain_line header exact _ (refl, refl) ∙ explanation_cut explain
+role_cut verdict names header lines exact texts explain are =
+    no_exact verdict header exact _ (refl, refl) ∙ no_explanation verdict explain (verdict_line (texts unknown_head) ∷ []) (refl, refl)
 
 -- ---- lines without a newline byte
 
-abbrev no_ten : List ℕ → Bool
-no_ten [] = true
-no_ten (byte ∷ more) = cond (byte == 10) false (no_ten more)
+exact_lacks : (header : Header) (exact : List (List ℕ)) → All Lacks exact → All Lacks (exact_part header exact)
+exact_lacks Absent exact lacks = All-nil Lacks
+exact_lacks (Whole tests) exact lacks = All-cons Lacks (whole_line tests) exact (silent_lacks (whole_line tests) (whole_silent tests)) lacks
+exact_lacks (Partial tests cause) exact lacks =
+    All-cons Lacks (partial_line tests cause) exact (silent_lacks (partial_line tests cause) (partial_silent tests cause)) lacks
+exact_lacks (Stopped cause) exact lacks = All-cons Lacks (stopped_line cause) [] (silent_lacks (stopped_line cause) (stopped_silent cause)) (All-nil Lacks)
 
-tested : (bytes : List ℕ) → no_ten bytes ≡ true → Lacks bytes
-tested [] is = All-nil (λ b. b ≢ 10)
-tested (byte ∷ more) is = at_byte (byte == 10) refl is (λ rest. tested more rest)
-  where
-    at_byte : (t : Bool) → (byte == 10) ≡ t → cond t false (no_ten more) ≡ true → (no_ten more ≡ true → Lacks more) → Lacks (byte ∷ more)
-    at_byte true same wrong rest = absurd (cc)
-    at_byte false other is' rest = All-cons (λ b. b ≢ 10) byte more (λ e. let same = (Decides-eqb byte 10).1 e in cc) (rest is')
+explain_lacks : (explain : Option Explain) → All Lacks (explain_part explain)
+explain_lacks None = All-nil Lacks
+explain_lacks (Some explain) = All-weaker IsSilent Lacks silent_lacks (explain_part (Some explain)) (explanation_silent explain)
 
-digits_lack : (digits : List ℕ) → AllDigits 10 digits → Lacks digits
-digits_lack [] all = All-nil (λ b. b ≢ 10)
-digits_lack (digit ∷ more) all = All-cons (λ b. b ≢ 10) digit more (λ e. let wrong : digit_value 10 < 10 = subst (λ c. digit_value c < 10) e all.0 in absurd (omega arith)) (digits_lack more all.1)
+sections_lack : (texts : Head → List (List ℕ)) (behind : List (List ℕ)) → ((head : Head) → All Lacks (texts head)) → All Lacks behind → (under : List Head) →
+    All Lacks (section_lines under texts behind)
+sections_lack texts behind each end [] = end
+sections_lack texts behind each end (head ∷ more) =
+    All-cons Lacks (head_text head) (texts head ++ section_lines more texts behind) (silent_lacks (head_text head) (head_silent head))
+    (All-append Lacks (texts head) (section_lines more texts behind) (each head) (sections_lack texts behind each end more))
 
-both_lack : (xs ys : List ℕ) → Lacks xs → Lacks ys → Lacks (xs ++ ys)
-both_lack xs ys = All-append (λ b. b ≢ 10) xs ys
+report_lacks : (header : Header) (exact : List (List ℕ)) (texts : Head → List (List ℕ)) (explain : Option Explain) → All Lacks exact →
+    ((head : Head) → All Lacks (texts head)) → All Lacks (report_lines header exact texts explain)
+report_lacks header exact texts explain first each =
+    let last = verdict_line (texts unknown_head) in
+    let behind = explain_part explain ++ last ∷ [] in
+    All-append Lacks (exact_part header exact) (section_lines heads texts behind) (exact_lacks header exact first)
+    (sections_lack texts behind each (All-append Lacks (explain_part explain) (last ∷ []) (explain_lacks explain)
+    (All-cons Lacks last [] (silent_lacks last (verdict_silent (texts unknown_head))) (All-nil Lacks))) heads)
 
 -- what is known of the texts over the names
 pub record KnownTexts (names : List (List ℕ)) : Type 0 where
   pub newline : (line : List ℕ) (condition : List Affine) (claim : Claim) → Spells names line condition claim →
       All (λ byte. byte ≢ 10) line
   pub opening : (line : List ℕ) (condition : List Affine) (claim : Claim) → Spells names line condition claim → OpensAsLine line
-  pub digits : (n : ℕ) → IsNumeral 10 (numeral n)
 
 module _ {names : List (List ℕ)} (known : KnownTexts names) where
-  number_lacks : (n : ℕ) → Lacks (numeral n)
-  number_lacks n = digits_lack (numeral n) (known.digits n).1
-
-  advisers_lack : (first : ℕ) (asked : List ℕ) → All Lacks (adviser_lines first asked)
-  advisers_lack first [] = All-nil Lacks
-  advisers_lack first (times ∷ asked) =
-      All-cons Lacks (codes "adviser " ++ (numeral first ++ (codes " asked " ++ numeral times))) (adviser_lines (first + 1) asked)
-      (both_lack (codes "adviser ") (numeral first ++ (codes " asked " ++ numeral times)) (tested (codes "adviser ") refl)
-      (both_lack (numeral first) (codes " asked " ++ numeral times) (number_lacks first) (both_lack (codes " asked ") (numeral times) (tested (codes " asked ") refl) (number_lacks times))))
-      (advisers_lack (first + 1) asked)
-
-  explain_lacks : (explain : Option Explain) → All Lacks (explain_part explain)
-  explain_lacks None = All-nil Lacks
-  explain_lacks (Some explain) =
-      All-cons Lacks (codes "explain:") (explained explain) (tested (codes "explain:") refl)
-      (All-cons Lacks (codes "labels " ++ numeral explain.labels) ((codes "families " ++ numeral explain.families) ∷ adviser_lines 1 explain.asked) (both_lack (codes "labels ") (numeral explain.labels) (tested (codes "labels ") refl) (number_lacks explain.labels))
-      (All-cons Lacks (codes "families " ++ numeral explain.families) (adviser_lines 1 explain.asked) (both_lack (codes "families ") (numeral explain.families) (tested (codes "families ") refl) (number_lacks explain.families))
-      (advisers_lack 1 explain.asked)))
-
-  verdict_lacks : (unknown : List (List ℕ)) → Lacks (verdict_line unknown)
-  verdict_lacks [] = tested (codes "verdict: all inputs") refl
-  verdict_lacks (line ∷ more) = tested (codes "verdict: some inputs") refl
-
-  cause_lacks : (cause : Stop) → Lacks (cause_text cause)
-  cause_lacks WideNumbers = tested (codes "wide numbers") refl
-  cause_lacks TooManyNodes = tested (codes "too many nodes") refl
-  cause_lacks NotPlain = tested (codes "not a plain program") refl
-
-  exact_lacks : (header : Header) (exact : List (List ℕ)) → All Lacks exact → All Lacks (exact_part header exact)
-  exact_lacks Absent exact lacks = All-nil Lacks
-  exact_lacks (Whole tests) exact lacks =
-      All-cons Lacks (codes "exact, " ++ (numeral tests ++ codes " tests:")) exact
-      (both_lack (codes "exact, ") (numeral tests ++ codes " tests:") (tested (codes "exact, ") refl) (both_lack (numeral tests) (codes " tests:") (number_lacks tests) (tested (codes " tests:") refl)))
-      lacks
-  exact_lacks (Partial tests cause) exact lacks =
-      All-cons Lacks (codes "exact, " ++ (numeral tests ++ (codes " tests, then " ++ (cause_text cause ++ codes ":")))) exact
-      (both_lack (codes "exact, ") (numeral tests ++ (codes " tests, then " ++ (cause_text cause ++ codes ":"))) (tested (codes "exact, ") refl)
-      (both_lack (numeral tests) (codes " tests, then " ++ (cause_text cause ++ codes ":")) (number_lacks tests)
-      (both_lack (codes " tests, then ") (cause_text cause ++ codes ":") (tested (codes " tests, then ") refl) (both_lack (cause_text cause) (codes ":") (cause_lacks cause) (tested (codes ":") refl)))))
-      lacks
-  exact_lacks (Stopped cause) exact lacks = All-cons Lacks (codes "exact: " ++ cause_text cause) [] (both_lack (codes "exact: ") (cause_text cause) (tested (codes "exact: ") refl) (cause_lacks cause)) (All-nil Lacks)
-
-  report_lacks : (header : Header) (exact proved unknown : List (List ℕ)) (explain : Option Explain) → All Lacks exact →
-      All Lacks proved → All Lacks unknown → All Lacks (report_lines header exact proved unknown explain)
-  report_lacks header exact proved unknown explain first second third =
-      let last = All-append Lacks (explain_part explain) (verdict_line unknown ∷ []) (explain_lacks explain) (All-cons Lacks (verdict_line unknown) [] (verdict_lacks unknown) (All-nil Lacks)) in
-      let open_lines = All-cons Lacks (codes "unknown:") (unknown ++ (explain_part explain ++ verdict_line unknown ∷ [])) (tested (codes "unknown:") refl) (All-append Lacks unknown (explain_part explain ++ verdict_line unknown ∷ []) third last) in
-      All-append Lacks (exact_part header exact) (codes "proved:" ∷ (proved ++ (codes "unknown:" ∷ (unknown ++ (explain_part explain ++ verdict_line unknown ∷ []))))) (exact_lacks header exact first)
-      (All-cons Lacks (codes "proved:") (proved ++ (codes "unknown:" ∷ (unknown ++ (explain_part explain ++ verdict_line unknown ∷ [])))) (tested (codes "proved:") refl)
-      (All-append Lacks proved (codes "unknown:" ∷ (unknown ++ (explain_part explain ++ verdict_line unknown ∷ []))) second open_lines))
-
   -- ---- the texts of a section
 
   section_lacks : (lines : List Line) (texts : List (List ℕ)) → All (IsTextAmong names lines) texts → All Lacks texts
@@ -414,26 +415,21 @@ module _ {names : List (List ℕ)} (known : KnownTexts names) where
   exact_among Absent lines texts are = rw are (All-nil (IsTextAmong names lines))
   exact_among (Stopped cause) lines texts are = rw are (All-nil (IsTextAmong names lines))
 
-  exact_same : (header : Header) (lines : List Line) (texts : List (List ℕ)) → AreExactTexts names header lines texts →
-      exact_printed header texts ≡ texts
-  unfolding exact_printed
-  exact_same (Whole tests) lines texts are = refl
-  exact_same (Partial tests cause) lines texts are = refl
-  exact_same Absent lines texts are = sym are
-  exact_same (Stopped cause) lines texts are = sym are
-
-  pub report_sections : (report : Report) (text : List ℕ) (printed : IsReportText names report text) →
-      sections_of text ≡ sections_printed report.header printed.exact printed.proved printed.unknown report.explain
-  report_sections report text printed =
+  pub report_sections : (report : Report) (text : List ℕ) (printed : IsReportText names report text) (role : Role) →
+      lines_in role text ≡ lines_printed role report.header printed.exact printed.texts report.explain
+  report_sections report text printed role =
       let exact = exact_among report.header report.exact printed.exact printed.exact_are in
-      let proved = texts_among report.proved printed.proved printed.proved_are in
-      let unknown = texts_among report.unknown printed.unknown printed.unknown_are in
-      let lines : whole_lines text ≡ report_lines report.header printed.exact printed.proved printed.unknown report.explain =
+      let under : (head : Head) → All (IsTextAmong names (lines_under head report)) (printed.texts head) =
+      λ head. texts_among (lines_under head report) (printed.texts head) (printed.are head) in
+      let lines : whole_lines text ≡ report_lines report.header printed.exact printed.texts report.explain =
       ap (λ t. whole_lines t) printed.is
-      ∙ whole_lines_are (report_lines report.header printed.exact printed.proved printed.unknown report.explain)
-      (report_lacks report.header printed.exact printed.proved printed.unknown report.explain (section_lacks report.exact printed.exact exact) (section_lacks report.proved printed.proved proved) (section_lacks report.unknown printed.unknown unknown)) in
-      plain_sections report.header printed.exact printed.proved printed.unknown report.explain text lines (section_plain report.exact printed.exact exact) (section_plain report.proved printed.proved proved) (section_plain report.unknown printed.unknown unknown)
-      ∙ ap (λ t. sections_printed report.header t printed.proved printed.unknown report.explain) (exact_same report.header report.exact printed.exact printed.exact_are)
+      ∙ whole_lines_are (report_lines report.header printed.exact printed.texts report.explain)
+      (report_lacks report.header printed.exact printed.texts report.explain (section_lacks report.exact printed.exact exact)
+      (λ head. section_lacks (lines_under head report) (printed.texts head) (under head))) in
+      ap (λ t. lines_with role start t) lines
+      ∙ report_cut role report.header printed.exact printed.texts report.explain (section_plain report.exact printed.exact exact)
+      (λ head. section_plain (lines_under head report) (printed.texts head) (under head))
+      ∙ role_cut role names report.header report.exact printed.exact printed.texts report.explain printed.exact_are
 
   all_front : {X : Type 0} (P : X → Type 0) (front rest : List X) → All P (front ++ rest) → All P front
   all_front P [] rest all = All-nil P
@@ -447,7 +443,8 @@ module _ {names : List (List ℕ)} (known : KnownTexts names) where
   front_says report front rest printed =
       let cut = report_sections report (front ++ rest) printed in
       record {
-        exact = front_among report.exact _ _ printed.exact (section_front exact_line front rest) (ap (λ s. s.exact) cut) (exact_among report.header report.exact printed.exact printed.exact_are);
-        proved = front_among report.proved _ _ printed.proved (section_front proved_line front rest) (ap (λ s. s.proved) cut) (texts_among report.proved printed.proved printed.proved_are);
-        unknown = front_among report.unknown _ _ printed.unknown (section_front unknown_line front rest) (ap (λ s. s.unknown) cut) (texts_among report.unknown printed.unknown printed.unknown_are);
+        exact = front_among report.exact _ _ printed.exact (section_front exact_line front rest) (cut exact_line) (exact_among report.header report.exact printed.exact printed.exact_are);
+        under = λ head.
+            front_among (lines_under head report) _ _ (printed.texts head) (section_front (section_line head) front rest) (cut (section_line head))
+            (texts_among (lines_under head report) (printed.texts head) (printed.are head));
       }

@@ -19,7 +19,7 @@ use Rattle.report_text.specs.declared.report.Header.{Header}
 use Rattle.report_text.specs.declared.report.Header.TheVariants.{Whole, Partial}
 use Rattle.report_text.specs.declared.report.Stop.{Stop}
 use Rattle.report_text.specs.declared.report.Report.{Report}
-use Rattle.report_text.specs.Printed.{AreInOrder, AreRowTexts, AreTextsOf, IsExactAdded, IsLineOver, IsReportText, IsSectionAdded, IsLineText, adviser_lines, cause_text, ended_lines, exact_part, explain_part, row_texts, verdict_line}
+use Rattle.report_text.specs.Printed.{AreInOrder, AreRowTexts, AreTextsOf, Head, IsExactAdded, IsLineOver, IsReportText, IsSectionAdded, IsLineText, adviser_lines, cause_text, ended_lines, exact_part, explain_part, lines_under, proved_head, row_texts, unknown_head, verdict_line}
 use Rattle.line_text.proofs.Joined.{bytes_more}
 
 -- ---- ended lines
@@ -238,33 +238,41 @@ partial_added names header tests cause lines old between new is head section =
 pub record Appended (names : List (List ℕ)) (report : Report) (t0 t1 t2 t3 t4 t5 t6 t7 : List ℕ) : Type 0 where
   pub empty : t0 ≡ []
   pub exact : IsExactAdded names report.header report.exact t0 t1
-  pub proved_head : t2 ≡ t1 ++ ended_lines (codes "proved:" ∷ [])
+  pub proved_opened : t2 ≡ t1 ++ ended_lines (codes "proved:" ∷ [])
   pub proved : IsSectionAdded names report.proved t2 t3
-  pub unknown_head : t4 ≡ t3 ++ ended_lines (codes "unknown:" ∷ [])
+  pub unknown_opened : t4 ≡ t3 ++ ended_lines (codes "unknown:" ∷ [])
   pub unknown : IsSectionAdded names report.unknown t4 t5
   pub explain : t6 ≡ t5 ++ ended_lines (explain_part report.explain)
   pub verdict : t7 ≡ t6 ++ ended_lines (verdict_line report.unknown ∷ [])
+
+-- the texts of both sections, by their heads
+abbrev by_head : (proved unknown : List (List ℕ)) → Head → List (List ℕ)
+by_head proved unknown proved_head = proved
+by_head proved unknown unknown_head = unknown
+
+are_by_head : (names : List (List ℕ)) (report : Report) (proved unknown : List (List ℕ)) → AreTextsOf names report.proved proved →
+    AreTextsOf names report.unknown unknown → (head : Head) → AreTextsOf names (lines_under head report) (by_head proved unknown head)
+are_by_head names report proved unknown first second proved_head = first
+are_by_head names report proved unknown first second unknown_head = second
 
 pub report_printed : (names : List (List ℕ)) (report : Report) (t0 t1 t2 t3 t4 t5 t6 t7 : List ℕ) →
     Appended names report t0 t1 t2 t3 t4 t5 t6 t7 → IsReportText names report t7
 report_printed names report t0 t1 t2 t3 t4 t5 t6 t7 is = record {
   exact = is.exact.texts;
-  proved = is.proved.texts;
-  unknown = is.unknown.texts;
+  texts = by_head is.proved.texts is.unknown.texts;
   exact_are = is.exact.are;
-  proved_are = is.proved.are;
-  unknown_are = is.unknown.are;
+  are = are_by_head names report is.proved.texts is.unknown.texts is.proved.are is.unknown.are;
   is =
       let exact = ended_lines (exact_part report.header is.exact.texts) in
       let proved = ended_lines is.proved.texts in
       let unknown = ended_lines is.unknown.texts in
       let explain = ended_lines (explain_part report.explain) in
-      let proved_head = ended_lines (codes "proved:" ∷ []) in
-      let unknown_head = ended_lines (codes "unknown:" ∷ []) in
+      let proved_opened = ended_lines (codes "proved:" ∷ []) in
+      let unknown_opened = ended_lines (codes "unknown:" ∷ []) in
       let at1 : t1 ≡ exact = is.exact.appended ∙ ap (λ t. t ++ exact) is.empty in
-      let at3 : t3 ≡ (exact ++ proved_head) ++ proved = is.proved.appended ∙ ap (λ t. t ++ proved) (is.proved_head ∙ ap (λ t. t ++ proved_head) at1) in
-      let at5 : t5 ≡ (((exact ++ proved_head) ++ proved) ++ unknown_head) ++ unknown = is.unknown.appended ∙ ap (λ t. t ++ unknown) (is.unknown_head ∙ ap (λ t. t ++ unknown_head) at3) in
+      let at3 : t3 ≡ (exact ++ proved_opened) ++ proved = is.proved.appended ∙ ap (λ t. t ++ proved) (is.proved_opened ∙ ap (λ t. t ++ proved_opened) at1) in
+      let at5 : t5 ≡ (((exact ++ proved_opened) ++ proved) ++ unknown_opened) ++ unknown = is.unknown.appended ∙ ap (λ t. t ++ unknown) (is.unknown_opened ∙ ap (λ t. t ++ unknown_opened) at3) in
       is.verdict ∙ ap (λ t. t ++ ended_lines (verdict_line report.unknown ∷ [])) (is.explain ∙ ap (λ t. t ++ explain) at5)
-      ∙ ap (λ v. (((((exact ++ proved_head) ++ proved) ++ unknown_head) ++ unknown) ++ explain) ++ ended_lines (v ∷ [])) (verdict_is names report.unknown is.unknown.texts is.unknown.are)
+      ∙ ap (λ v. (((((exact ++ proved_opened) ++ proved) ++ unknown_opened) ++ unknown) ++ explain) ++ ended_lines (v ∷ [])) (verdict_is names report.unknown is.unknown.texts is.unknown.are)
       ∙ parts_ended (exact_part report.header is.exact.texts) is.proved.texts is.unknown.texts (explain_part report.explain) (verdict_line is.unknown.texts);
 }

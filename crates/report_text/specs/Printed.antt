@@ -46,7 +46,24 @@ abbrev pub explain_part : Option Explain → List (List ℕ)
 explain_part None = []
 explain_part (Some explain) = codes "explain:" ∷ explained explain
 
+-- the sections below the exact part, each under a head of its own: what is proved, and what isn't known
+pub data Head : Type 0 where
+  proved_head : Head
+  unknown_head : Head
+
+abbrev pub head_text : Head → List ℕ
+head_text proved_head = codes "proved:"
+head_text unknown_head = codes "unknown:"
+
 -- What follows has no part in the headline.
+
+-- the heads in their order, and the lines of a report under a head
+abbrev pub heads : List Head
+heads = proved_head ∷ unknown_head ∷ []
+
+abbrev pub lines_under : Head → Report → List Line
+lines_under proved_head report = report.proved
+lines_under unknown_head report = report.unknown
 
 -- the texts stand in the order of their bytes
 abbrev pub AreInOrder : List (List ℕ) → Type 0
@@ -75,11 +92,15 @@ abbrev pub verdict_line : {A : Type 0} → List A → List ℕ
 verdict_line [] = codes "verdict: all inputs"
 verdict_line (line ∷ more) = codes "verdict: some inputs"
 
+-- sections under their heads, and what stands behind them
+abbrev pub section_lines : List Head → (Head → List (List ℕ)) → List (List ℕ) → List (List ℕ)
+section_lines [] texts behind = behind
+section_lines (head ∷ more) texts behind = head_text head ∷ (texts head ++ section_lines more texts behind)
+
 -- the lines of a report
-abbrev pub report_lines : Header → (exact proved unknown : List (List ℕ)) → Option Explain → List (List ℕ)
-report_lines header exact proved unknown explain =
-    exact_part header exact
-    ++ (codes "proved:" ∷ (proved ++ (codes "unknown:" ∷ (unknown ++ (explain_part explain ++ verdict_line unknown ∷ [])))))
+abbrev pub report_lines : Header → (exact : List (List ℕ)) → (Head → List (List ℕ)) → Option Explain → List (List ℕ)
+report_lines header exact texts explain =
+    exact_part header exact ++ section_lines heads texts (explain_part explain ++ verdict_line (texts unknown_head) ∷ [])
 
 -- the lines one after the other, each ended by a newline byte
 abbrev pub ended_lines : List (List ℕ) → List ℕ
@@ -96,12 +117,10 @@ AreExactTexts names (Stopped cause) lines texts = texts ≡ []
 -- the text is that of the report
 pub record IsReportText (names : List (List ℕ)) (report : Report) (text : List ℕ) : Type 0 where
   pub exact : List (List ℕ)
-  pub proved : List (List ℕ)
-  pub unknown : List (List ℕ)
+  pub texts : Head → List (List ℕ)
   pub exact_are : AreExactTexts names report.header report.exact exact
-  pub proved_are : AreTextsOf names report.proved proved
-  pub unknown_are : AreTextsOf names report.unknown unknown
-  pub is : text ≡ ended_lines (report_lines report.header exact proved unknown report.explain)
+  pub are : (head : Head) → AreTextsOf names (lines_under head report) (texts head)
+  pub is : text ≡ ended_lines (report_lines report.header exact texts report.explain)
 
 -- the rows and the claim of the line speak of no variable past the names
 pub record IsLineOver (names : List (List ℕ)) (line : Line) : Type 0 where

@@ -12,12 +12,12 @@ ghost use Rattle.report_text.specs.declared.line.Line.{Line};
 ghost use Rattle.report_text.specs.declared.line.Top.{Top};
 ghost use Rattle.report_text.specs.Leaves.{AreLinesOf, MeetsOneLine, claim_at, claiming, claiming_nothing};
 ghost use Rattle.line_text.specs.declared.claim.Claim.{Claim};
-ghost use Rattle.report_text.specs.Sections.{AreFrontsOf, SaysOnly, sections_of, sections_printed};
+ghost use Rattle.report_text.specs.Sections.{IsFrontOf, Role, SaysOnly, lines_in, lines_printed};
 ghost use Rattle.report_text.specs.Printed.{IsReportText};
 ghost use Rattle.report_text.specs.declared.report.Report.{Report};
 ghost use Rattle.line_text.specs.Names.{AreNames};
 
-use line_text::laws::{lines_have_their_own_form, numerals_say_their_numbers};
+use line_text::laws::lines_have_their_own_form;
 
 /// A store meets the tightest rows of a path exactly where it meets the path.
 pub fn tightest_rows_are_met_with_the_path()
@@ -36,20 +36,19 @@ pub fn parted_lines_are_met_once()
         → MeetsOneLine store claim (claiming lines ++ claiming_nothing lines) }
 {}
 
-/// A front of a text, as a write that failed half way leaves it, is cut into fronts of the text's
-/// sections.
+/// A front of a text, as a write that failed half way leaves it, is cut into fronts of what the text is cut
+/// into.
 pub fn a_front_is_cut_into_fronts()
-    ensures { (front rest : List ℕ) → AreFrontsOf (sections_of front) (sections_of (front ++ rest)) }
+    ensures { (front rest : List ℕ) (role : Role) → IsFrontOf (lines_in role front) (lines_in role (front ++ rest)) }
 {}
 
-/// A printed report is cut into the lines that were printed; and each whole exact, proved or unknown
-/// line of a front of it is the text of a line of the report's, in the same section.
+/// A printed report is cut into the lines that were printed; and each whole line of the exact part or of a
+/// section in a front of it is the text of a line of the report's there.
 pub fn printed_reports_are_cut_into_their_lines()
     ensures sections { (names : List (List ℕ)) (report : Report) (text : List ℕ) (printed : IsReportText names report text)
-        → AreNames names → sections_of text ≡ sections_printed report.header printed.exact printed.proved printed.unknown report.explain }
+        → AreNames names → (role : Role) → lines_in role text ≡ lines_printed role report.header printed.exact printed.texts report.explain }
     ensures lines { (names : List (List ℕ)) (report : Report) (front rest : List ℕ) → AreNames names
         → IsReportText names report (front ++ rest) → SaysOnly names report front }
 {
     lines_have_their_own_form();
-    numerals_say_their_numbers();
 }

@@ -2,7 +2,7 @@
 //!
 //! It stands on `decision_tree` (leaves and their paths), `linear_solve` (conditions that are met
 //! nowhere) and `line_text` (the text of one line). The front door: `lines`, `print` and the types of a
-//! report; the words `AreLinesOf`, `IsReportText` and `sections_of`; and the laws that each store meets
+//! report; the words `AreLinesOf`, `IsReportText` and `lines_in`; and the laws that each store meets
 //! exactly one of a tree's lines, and that a printed report, or a front of it, is cut into what was
 //! printed.
 #![tactic(auto)]

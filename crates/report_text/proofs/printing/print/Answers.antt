@@ -5,9 +5,9 @@ pub returns : goal.returns
 returns c = report_printed _ _ _ _ _ _ _ _ _ _ (record {
   empty = c.new-text.ensures.items;
   exact = c.in_ok-push_exact.ensures;
-  proved_head = c.in_ok-push_ended.ensures;
+  proved_opened = c.in_ok-push_ended.ensures;
   proved = c.in_ok-push_section.ensures;
-  unknown_head = c.in_ok-push_ended-2.ensures;
+  unknown_opened = c.in_ok-push_ended-2.ensures;
   unknown = c.in_ok-push_section-2.ensures;
   explain = c.in_ok-push_explain.ensures;
   verdict = c.in_ok-push_verdict.ensures;
