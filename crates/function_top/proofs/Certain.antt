@@ -1,7 +1,8 @@
 -- What is certain to be claimed: of each input of a countdown program, and of one input of one with small factors.
-use Rattle.std.proofs.Common.{◌≡◌, ◌≢◌, ℕ, ◌⊎◌, false, inl, inr, List, [], ◌∷◌, ◌++◌, All, None, refl, sym, ap, ◌∙◌, subst}
+use Rattle.std.proofs.Common.{◌≡◌, ◌≢◌, ℕ, ◌⊎◌, false, inl, inr, List, [], ◌∷◌, ◌++◌, All, None, refl, sym, ap, ◌∙◌}
 use Rattle.std.proofs.lemmas.List.Elements.{All-append, All-cons, All-head, All-nil, All-tail}
 use Rattle.step_meaning.specs.Countdown.{IsCountdown}
+use Rattle.step_meaning.specs.Outcome.{Store}
 use Rattle.ctl_formula.specs.Formulas.{af_exit, normal}
 use Rattle.exact_families.proofs.Making.{which_leaf}
 use Rattle.ctl_rounds.proofs.Exactly.{whole_defined}
@@ -21,7 +22,7 @@ use Rattle.report_text.specs.Leaves.{AreLines, AreLinesOf, claim_of, claiming_no
 use Rattle.function_top.specs.declared.status.Status.{Status}
 use Rattle.function_top.specs.declared.status.Status.TheVariants.{AllInputs, SomeInputs, Words, Program, Formula}
 use Rattle.function_top.specs.declared.found.Found.{Found}
-use Rattle.function_top.specs.Output.{IsAnswerOn, IsDueOn, IsReport, IsReportOn, answered, no_formula, no_input, no_program, reported}
+use Rattle.function_top.specs.Output.{IsAnswerOn, IsDueOn, answered, no_formula, no_input, no_program, reported}
 use Rattle.function_top.specs.Found.{IsFound}
 use Rattle.function_top.specs.OneInput.{IsToldOf, LeadsTo}
 use Rattle.command_words.specs.Order.{Task}
@@ -29,7 +30,7 @@ use Rattle.function_top.specs.Shown.{Shows}
 use Rattle.function_top.specs.Subject.{IsSubject, Subject}
 use Rattle.function_top.proofs.ToldExactly.{numbers_small}
 use Rattle.report_text.proofs.Frame.{Bytes}
-use Rattle.function_top.proofs.Headline.{KnownTexts, none_some, same_subject}
+use Rattle.function_top.proofs.Headline.{KnownTexts, none_some, own_answer, own_report}
 
 -- ---- countdown programs
 
@@ -68,45 +69,34 @@ pub covered : (task : Task) (subject : Subject) (found : Found) (report : Report
 covered task subject found report finds shows ends counts =
     shows.unknown ∙ whole_claims found.claims (plan_of found.cover) shows.lines shows.lines_of (finds.countdown ends counts)
 
--- nothing is left unknown of a countdown program
+-- nothing is left unknown of a countdown program, nor is one input of one where the factors are small
 module _ (known : KnownTexts) (task : Task) (text : Bytes) (subject : Subject) (is : IsSubject task text subject) (ends : normal subject.formula ≡ af_exit)
     (counts : IsCountdown subject.body) where
-  no_unknown : (report : Report) (advisers turns : ℕ) (bytes : Bytes) → IsReportOn task text report advisers turns bytes → report.unknown ≡ []
-  no_unknown report advisers turns bytes on =
-      let own : subject ≡ on.subject = same_subject known task text subject on.subject is on.is in
-      covered task on.subject on.found report on.finds on.shows (subst (λ (s : Subject). normal s.formula ≡ af_exit) own ends)
-      (subst (λ (s : Subject). IsCountdown s.body) own counts)
-
-  -- nor of one input of one, where the factors are small
-  leads : HasSmallFactors subject.body → (asked : Bytes) (status : Status) (turns : ℕ) (bytes : Bytes) (on : IsAnswerOn task text asked status turns bytes)
-      → (rank : AffineRank) × LeadsTo (plan_of on.found.cover) on.input rank
-  leads little asked status turns bytes on =
-      let own : subject ≡ on.subject = same_subject known task text subject on.subject is on.is in
-      let af = subst (λ (s : Subject). normal s.formula ≡ af_exit) own ends in
-      let countdown = subst (λ (s : Subject). IsCountdown s.body) own counts in
+  leads : HasSmallFactors subject.body → (asked : Bytes) (input : Store) (status : Status) (turns : ℕ) (bytes : Bytes)
+      → (on : IsAnswerOn task text asked subject input status turns bytes) → (rank : AffineRank) × LeadsTo (plan_of on.found.cover) input rank
+  leads little asked input status turns bytes on =
       let cover = plan_of on.found.cover in
-      let there = which_leaf (eval cover on.input) (whole_defined on.input cover (on.finds.countdown af countdown)) in
-      let fits = on.finds.ways af countdown (subst (λ (s : Subject). HasSmallFactors s.body) own little) on.input
-      (numbers_small on.subject.names asked on.input on.input_is)
-      in
+      let there = which_leaf (eval cover input) (whole_defined input cover (on.finds.countdown ends counts)) in
+      let fits = on.finds.ways ends counts little input (numbers_small subject.names asked input on.input_is) in
       (there.1, record { fits = fits; why = there.0; is = there.2 })
 
-  told_claims : HasSmallFactors subject.body → (asked : Bytes) (status : Status) (turns : ℕ) (bytes : Bytes) (on : IsAnswerOn task text asked status turns bytes)
-      → IsToldOf on.found on.input status on.claim → status ≢ SomeInputs
-  told_claims little asked status turns bytes on (inl (all, claimed)) some = let clash : AllInputs ≡ SomeInputs = sym all ∙ some in cc
-  told_claims little asked status turns bytes on (inr (is_lacking, nowhere, lacks, unknown)) some =
-      let way = leads little asked status turns bytes on in lacks way.0 way.1
+  told_claims : HasSmallFactors subject.body → (asked : Bytes) (input : Store) (status : Status) (turns : ℕ) (bytes : Bytes)
+      → (on : IsAnswerOn task text asked subject input status turns bytes) → IsToldOf on.found input status on.claim → status ≢ SomeInputs
+  told_claims little asked input status turns bytes on (inl (all, claimed)) some = let clash : AllInputs ≡ SomeInputs = sym all ∙ some in cc
+  told_claims little asked input status turns bytes on (inr (is_lacking, nowhere, lacks, unknown)) some =
+      let way = leads little asked input status turns bytes on in lacks way.0 way.1
 
   pub due_covers : (task.input ≡ None) ⊎ HasSmallFactors subject.body → (status : Status) (advisers turns : ℕ) (bytes : Bytes)
-      → IsDueOn task text status advisers turns bytes → IsReport status → status ≢ SomeInputs
-  due_covers certain status advisers turns bytes (reported report whole on (inl (all, covers))) shown some =
+      → IsDueOn task text status advisers turns bytes → status ≢ SomeInputs
+  due_covers certain status advisers turns bytes (reported own report whole on (inl (all, covers))) some =
       let clash : AllInputs ≡ SomeInputs = sym all ∙ some in cc
-  due_covers certain status advisers turns bytes (reported report whole on (inr (is_lacking, lacks))) shown some =
-      lacks (no_unknown report advisers turns bytes on)
-  due_covers (inl whole) status advisers turns bytes (answered asked one on) shown some = none_some task one whole
-  due_covers (inr little) status advisers turns bytes (answered asked one on) shown some = told_claims little asked status turns bytes on on.told some
-  due_covers certain status advisers turns bytes (no_program other unasked refused) shown some =
-      let clash : Program ≡ SomeInputs = sym other ∙ some in cc
-  due_covers certain status advisers turns bytes (no_input other unasked refused) shown some = let clash : Words ≡ SomeInputs = sym other ∙ some in cc
-  due_covers certain status advisers turns bytes (no_formula other unasked refused) shown some =
-      let clash : Formula ≡ SomeInputs = sym other ∙ some in cc
+  due_covers certain status advisers turns bytes (reported own report whole on (inr (is_lacking, lacks))) some =
+      let here = own_report known task text own subject is report advisers turns bytes on in
+      lacks (covered task subject here.found report here.finds here.shows ends counts)
+  due_covers (inl whole) status advisers turns bytes (answered asked own input one on) some = none_some task one whole
+  due_covers (inr little) status advisers turns bytes (answered asked own input one on) some =
+      let here = own_answer known task text asked own subject is input status turns bytes on in
+      told_claims little asked input status turns bytes here here.told some
+  due_covers certain status advisers turns bytes (no_program other unasked refused) some = let clash : Program ≡ SomeInputs = sym other ∙ some in cc
+  due_covers certain status advisers turns bytes (no_input other unasked refused) some = let clash : Words ≡ SomeInputs = sym other ∙ some in cc
+  due_covers certain status advisers turns bytes (no_formula other unasked refused) some = let clash : Formula ≡ SomeInputs = sym other ∙ some in cc

@@ -1,12 +1,12 @@
 -- What a run wrote is true and has a known form, and its status says what it wrote.
-use Rattle.std.proofs.Common.{◌≡◌, ◌≢◌, ◌↔◌, pos, ℕ, ◌⊎◌, ◌≤◌, inl, inr, List, [], ◌++◌, length, take, Option, None, Some, codes, refl, sym, ap, ◌∙◌, subst, arith, append-nil}
+use Rattle.std.proofs.Common.{◌≡◌, ◌≢◌, pos, ℕ, ◌⊎◌, ◌≤◌, inl, inr, List, [], ◌++◌, length, take, Option, None, Some, codes, refl, sym, ap, ◌∙◌, subst, arith, append-nil}
 use Rattle.std.specs.Io.KnownBytes.{Appends, Keeps}
 use Rattle.std.proofs.lemmas.List.{append_cancel_left, take_all}
 use Rattle.std.proofs.lemmas.Option.{same_Some}
 use Rattle.outside.specs.Faults.{Rose}
 use Rattle.outside.specs.Sink.{AppendsFront}
 use Rattle.step_meaning.specs.Outcome.{Store}
-use Rattle.step_meaning.specs.Syntax.{statements}
+use Rattle.step_meaning.specs.Syntax.{Statements, statements}
 use Rattle.ctl_formula.specs.Formulas.{Ctl, normal}
 use Rattle.normal_form.specs.Operators.{operators}
 use Rattle.formula_parse.specs.Derives.{IsFormulaOf}
@@ -33,19 +33,17 @@ use Rattle.function_top.specs.Call.{Call}
 use Rattle.function_top.specs.Asking.{IsInputGiven}
 use Rattle.function_top.specs.Output.{IsAnswerOn, IsDueOn, IsFormulaRefused, IsInputRefused, IsLongFormula, IsNoFormula, IsNoProgram, IsPastLimits, IsReport, IsReportOn, IsTooLong, IsVerdict, IsWithinLimits, answered, no_formula, no_input, no_program, reported}
 use Rattle.function_top.specs.Form.{HasKnownLines}
-use Rattle.function_top.specs.Exact.{EndsExactly, HasSmallLevels, IsExact}
+use Rattle.function_top.specs.Exact.{HasSmallLevels, IsExact}
 use Rattle.function_top.specs.Found.{IsExactPart}
-use Rattle.function_top.specs.Meeting.{AreMetOnce, CountsExactly, TellsClaim, TellsExactly}
+use Rattle.function_top.specs.Meeting.{TellsExactly}
 use Rattle.function_top.specs.OneInput.{IsToldOf}
 use Rattle.command_words.specs.Order.{Accepted, Ask, Request, Task, analysis, demo}
 use Rattle.function_top.specs.Refusals.{fault_line, formula_text, program_text, usage_line, usage_text}
 use Rattle.function_top.specs.Subject.{IsFormulaAsked, IsSubject, Subject}
 use Rattle.function_top.specs.Text.{IsRead}
 use Rattle.function_top.specs.TrueLine.{IsTrueOf}
-use Rattle.function_top.proofs.Counted.{counts_exactly}
 use Rattle.function_top.proofs.Formed.{claim_known, formula_known, program_known, report_known, usage_known}
 use Rattle.function_top.proofs.Claiming.{no_exact_number}
-use Rattle.function_top.proofs.MetOnce.{met_once}
 use Rattle.function_top.proofs.ToldExactly.{made_whole, numbers_small, tells_alone, told_exactly}
 use Rattle.function_top.proofs.Named.{program_names}
 use Rattle.function_top.proofs.Truth.{KnownLines, OpenAsLines, SaysTrue, formula_silent, program_silent, report_true, silent_true, usage_silent}
@@ -109,26 +107,42 @@ same_subject known task text one other here there =
     ∙ ap {B = Subject} (λ body. record { names = other.names; body = body; formula = one.formula }) same.1
     ∙ ap {B = Subject} (λ formula. record { names = other.names; body = other.body; formula = formula }) formula
 
-true_report : KnownTexts → (task : Task) (text : Bytes) (subject : Subject) (report : Report) (advisers turns : ℕ) (bytes : Bytes) → IsSubject task text subject
-    → IsReportOn task text report advisers turns bytes → EachWhole (SaysTrue subject) bytes
-true_report known task text subject report advisers turns bytes h due =
-    subst (λ s. EachWhole (SaysTrue s) bytes) (same_subject known task text due.subject subject due.is h)
-    (report_true due.subject known.opening
-    (known.lines due.subject.names (program_names known.spelled known.distinct text due.subject.names due.subject.body due.is.program))
-    task due.found report bytes due.finds due.shows due.printed)
-
 -- the names of a text that is a program
 pub own_names : KnownTexts → (task : Task) (text : Bytes) (subject : Subject) → IsSubject task text subject → AreNames subject.names
 own_names known task text subject is = program_names known.spelled known.distinct text subject.names subject.body is.program
 
-true_answer : KnownTexts → (task : Task) (text : Bytes) (subject : Subject) (asked : Bytes) (status : Status) (turns : ℕ) (bytes : Bytes)
-    → IsSubject task text subject → IsAnswerOn task text asked status turns bytes → EachWhole (SaysTrue subject) bytes
-true_answer known task text subject asked status turns bytes h due =
-    let own = due.subject in
-    let claims = known.alone own.names (own_names known task text own due.is) in
-    subst (λ s. EachWhole (SaysTrue s) bytes) (same_subject known task text own subject due.is h)
-    (one_good (SaysTrue own) due.line bytes (claims.newline due.line due.claim due.tells)
-    (λ condition claim s. absurd (claims.apart due.line condition due.claim claim due.tells s)) due.is_line)
+-- a report, or what is told of an input, is on the subject, and the input, that is given
+pub own_report : KnownTexts → (task : Task) (text : Bytes) (own subject : Subject) → IsSubject task text subject → (report : Report) (advisers turns : ℕ)
+    (bytes : Bytes) → IsReportOn task text own report advisers turns bytes → IsReportOn task text subject report advisers turns bytes
+own_report known task text own subject h report advisers turns bytes on =
+    subst (λ s. IsReportOn task text s report advisers turns bytes) (same_subject known task text own subject on.is h) on
+
+pub own_answer : KnownTexts → (task : Task) (text asked : Bytes) (own subject : Subject) → IsSubject task text subject → (input : Store) (status : Status)
+    (turns : ℕ) (bytes : Bytes) → IsAnswerOn task text asked own input status turns bytes → IsAnswerOn task text asked subject input status turns bytes
+own_answer known task text asked own subject h input status turns bytes on =
+    subst (λ s. IsAnswerOn task text asked s input status turns bytes) (same_subject known task text own subject on.is h) on
+
+own_input : KnownTexts → (task : Task) (text other asked : Bytes) (subject : Subject) (its input : Store) → task.input ≡ Some other → task.input ≡ Some asked
+    → IsSubject task text subject → IsInputText subject.names asked input → (status : Status) (turns : ℕ) (bytes : Bytes)
+    → IsAnswerOn task text other subject its status turns bytes → IsAnswerOn task text asked subject input status turns bytes
+own_input known task text other asked subject its input two one h given status turns bytes on =
+    let here : IsAnswerOn task text asked subject its status turns bytes =
+    subst (λ a. IsAnswerOn task text a subject its status turns bytes) (same_Some other asked (sym two ∙ one)) on in
+    subst (λ i. IsAnswerOn task text asked subject i status turns bytes)
+    (same_input subject.names (own_names known task text subject h) asked input its given here.input_is.input_is here.input_is.some) here
+
+true_report : KnownTexts → (task : Task) (text : Bytes) (subject : Subject) (report : Report) (advisers turns : ℕ) (bytes : Bytes)
+    → IsReportOn task text subject report advisers turns bytes → EachWhole (SaysTrue subject) bytes
+true_report known task text subject report advisers turns bytes on =
+    report_true subject known.opening (known.lines subject.names (own_names known task text subject on.is)) task on.found report bytes on.finds on.shows
+    on.printed
+
+true_answer : KnownTexts → (task : Task) (text asked : Bytes) (subject : Subject) (input : Store) (status : Status) (turns : ℕ) (bytes : Bytes)
+    → IsAnswerOn task text asked subject input status turns bytes → EachWhole (SaysTrue subject) bytes
+true_answer known task text asked subject input status turns bytes on =
+    let claims = known.alone subject.names (own_names known task text subject on.is) in
+    one_good (SaysTrue subject) on.line bytes (claims.newline on.line on.claim on.tells)
+    (λ condition claim s. absurd (claims.apart on.line condition on.claim claim on.tells s)) on.is_line
 
 -- ---- the lines of what is refused
 
@@ -162,9 +176,10 @@ true_refusal known subject bytes (of_formula number offset) =
 
 pub due_true : KnownTexts → (task : Task) (text : Bytes) (subject : Subject) → IsSubject task text subject → (status : Status) (advisers turns : ℕ)
     (bytes : Bytes) → IsDueOn task text status advisers turns bytes → EachWhole (SaysTrue subject) bytes
-due_true known task text subject h status advisers turns bytes (reported report whole on verdict) =
-    true_report known task text subject report advisers turns bytes h on
-due_true known task text subject h status advisers turns bytes (answered asked one on) = true_answer known task text subject asked status turns bytes h on
+due_true known task text subject h status advisers turns bytes (reported own report whole on verdict) =
+    true_report known task text subject report advisers turns bytes (own_report known task text own subject h report advisers turns bytes on)
+due_true known task text subject h status advisers turns bytes (answered asked own input one on) =
+    true_answer known task text asked subject input status turns bytes (own_answer known task text asked own subject h input status turns bytes on)
 due_true known task text subject h status advisers turns bytes (no_program is unasked refused) =
     true_refusal known subject bytes (program_refusal text bytes refused)
 due_true known task text subject h status advisers turns bytes (no_input is unasked refused) =
@@ -176,23 +191,24 @@ due_true known task text subject h status advisers turns bytes (no_formula is un
 pub told_read : (left : Option Bytes) (text told : Bytes) → IsRead left text → left ≡ Some told → told ≡ text
 told_read left text told read is = subst (λ l. IsRead l text) is read
 
-known_report : KnownTexts → (task : Task) (left : Option Bytes) (text : Bytes) → IsRead left text → (report : Report) (advisers turns : ℕ) (bytes : Bytes)
-    → IsReportOn task text report advisers turns bytes → HasKnownLines left bytes
-known_report known task left text read report advisers turns bytes due =
-    let subject = due.subject in
-    report_known left subject.names (known.lines subject.names (program_names known.spelled known.distinct text subject.names subject.body due.is.program))
-    (λ told declared other is own. (known.unique text subject.names declared subject.body other due.is.program
-    (subst (λ t. IsProgramText t declared other) (told_read left text told read is) own)).0)
-    due.found report bytes due.shows due.printed
+-- the names of a program are those that its text declares, where it was told
+declared_names : KnownTexts → (task : Task) (left : Option Bytes) (text : Bytes) → IsRead left text → (subject : Subject) → IsSubject task text subject
+    → (told : Bytes) (declared : List Bytes) (other : Statements) → left ≡ Some told → IsProgramText told declared other → subject.names ≡ declared
+declared_names known task left text read subject h told declared other is own =
+    (known.unique text subject.names declared subject.body other h.program (subst (λ t. IsProgramText t declared other) (told_read left text told read is) own)).0
 
-known_answer : KnownTexts → (task : Task) (left : Option Bytes) (text : Bytes) → IsRead left text → (asked : Bytes) (status : Status) (turns : ℕ)
-    (bytes : Bytes) → IsAnswerOn task text asked status turns bytes → HasKnownLines left bytes
-known_answer known task left text read asked status turns bytes due =
-    let subject = due.subject in
-    let claims = known.alone subject.names (own_names known task text subject due.is) in
-    claim_known left subject.names (λ told declared other is own. (known.unique text subject.names declared subject.body other due.is.program
-    (subst (λ t. IsProgramText t declared other) (told_read left text told read is) own)).0) due.line bytes due.claim
-    (claims.newline due.line due.claim due.tells) due.tells due.is_line
+known_report : KnownTexts → (task : Task) (left : Option Bytes) (text : Bytes) → IsRead left text → (subject : Subject) (report : Report) (advisers turns : ℕ)
+    (bytes : Bytes) → IsReportOn task text subject report advisers turns bytes → HasKnownLines left bytes
+known_report known task left text read subject report advisers turns bytes on =
+    report_known left subject.names (known.lines subject.names (own_names known task text subject on.is))
+    (declared_names known task left text read subject on.is) on.found report bytes on.shows on.printed
+
+known_answer : KnownTexts → (task : Task) (left : Option Bytes) (text : Bytes) → IsRead left text → (asked : Bytes) (subject : Subject) (input : Store)
+    (status : Status) (turns : ℕ) (bytes : Bytes) → IsAnswerOn task text asked subject input status turns bytes → HasKnownLines left bytes
+known_answer known task left text read asked subject input status turns bytes on =
+    let claims = known.alone subject.names (own_names known task text subject on.is) in
+    claim_known left subject.names (declared_names known task left text read subject on.is) on.line bytes on.claim
+    (claims.newline on.line on.claim on.tells) on.tells on.is_line
 
 known_refusal : (left : Option Bytes) (bytes : Bytes) → IsRefusalText bytes → HasKnownLines left bytes
 known_refusal left bytes usage = usage_known left
@@ -201,9 +217,10 @@ known_refusal left bytes (of_formula number offset) = formula_known left number 
 
 pub due_known : KnownTexts → (task : Task) (left : Option Bytes) (text : Bytes) → IsRead left text → (status : Status) (advisers turns : ℕ) (bytes : Bytes)
     → IsDueOn task text status advisers turns bytes → HasKnownLines left bytes
-due_known known task left text read status advisers turns bytes (reported report whole on verdict) =
-    known_report known task left text read report advisers turns bytes on
-due_known known task left text read status advisers turns bytes (answered asked one on) = known_answer known task left text read asked status turns bytes on
+due_known known task left text read status advisers turns bytes (reported own report whole on verdict) =
+    known_report known task left text read own report advisers turns bytes on
+due_known known task left text read status advisers turns bytes (answered asked own input one on) =
+    known_answer known task left text read asked own input status turns bytes on
 due_known known task left text read status advisers turns bytes (no_program is unasked refused) =
     known_refusal left bytes (program_refusal text bytes refused)
 due_known known task left text read status advisers turns bytes (no_input is unasked refused) =
@@ -211,35 +228,11 @@ due_known known task left text read status advisers turns bytes (no_input is una
 due_known known task left text read status advisers turns bytes (no_formula is unasked refused) =
     known_refusal left bytes (formula_refusal task text bytes refused)
 
--- the lines of a report that is due are met once
-pub met_report : KnownTexts → (task : Task) (text : Bytes) (subject : Subject) (report : Report) (advisers turns : ℕ) (bytes : Bytes) → IsSubject task text subject
-    → IsReportOn task text report advisers turns bytes → AreMetOnce subject.names bytes
-met_report known task text subject report advisers turns bytes h due =
-    subst (λ (s : Subject). AreMetOnce s.names bytes) (same_subject known task text due.subject subject due.is h)
-    (met_once due.subject.names
-    (known.lines due.subject.names (program_names known.spelled known.distinct text due.subject.names due.subject.body due.is.program))
-    known.opening due.found report bytes due.shows due.printed)
-
--- its exact lines are met by the runs that they speak of
-pub counted_report : KnownTexts → (task : Task) (text : Bytes) (subject : Subject) (report : Report) (advisers turns : ℕ) (bytes : Bytes) → IsSubject task text subject
-    → IsReportOn task text report advisers turns bytes → CountsExactly subject bytes
-counted_report known task text subject report advisers turns bytes h due =
-    subst (λ (s : Subject). CountsExactly s bytes) (same_subject known task text due.subject subject due.is h)
-    (counts_exactly due.subject
-    (known.lines due.subject.names (program_names known.spelled known.distinct text due.subject.names due.subject.body due.is.program))
-    known.opening task due.found report bytes due.finds due.shows due.printed)
-
 -- ---- what is due, by its status and by what is asked for
 
 -- one input is asked for, or none
 pub none_some : {asked : Bytes} (task : Task) → task.input ≡ Some asked → task.input ≡ None → ⊥
 none_some {asked} task one none = let clash : None ≡ Some asked = sym none ∙ one in cc
-
--- what is told of an input is told of the one that is asked for
-pub own_answer : (task : Task) (text asked other : Bytes) (status : Status) (turns : ℕ) (bytes : Bytes) → task.input ≡ Some asked → task.input ≡ Some other
-    → IsAnswerOn task text other status turns bytes → IsAnswerOn task text asked status turns bytes
-own_answer task text asked other status turns bytes one own on =
-    subst (λ a. IsAnswerOn task text a status turns bytes) (same_Some other asked (sym own ∙ one)) on
 
 pub verdict_report : (status : Status) (unknown : List Line) → IsVerdict status unknown → IsReport status
 verdict_report status unknown (inl covers) = inl covers.0
@@ -249,78 +242,62 @@ pub told_report : (found : Found) (input : Store) (status : Status) (claim : Cla
 told_report found input status claim (inl claimed) = inl claimed.0
 told_report found input status claim (inr unclaimed) = inr unclaimed.0
 
--- a refusal has another status
-refused_otherwise : (status other : Status) → other ≢ AllInputs → other ≢ SomeInputs → status ≡ other → IsReport status → ⊥
-refused_otherwise status other all some is (inl covers) = all (sym is ∙ covers)
-refused_otherwise status other all some is (inr lacks) = some (sym is ∙ lacks)
+-- what is due with the status of a report is one on the subject, or what is told of the input that is asked for
+module _ (known : KnownTexts) (task : Task) (text : Bytes) (subject : Subject) (h : IsSubject task text subject) (status : Status) (advisers turns : ℕ)
+    (bytes : Bytes) (is : IsReport status) where
+  refused_otherwise : (other : Status) → other ≢ AllInputs → other ≢ SomeInputs → status ≡ other → ⊥
+  refused_otherwise other all some same = elim is [
+    | inl covers ↦ all (sym same ∙ covers)
+    | inr lacks ↦ some (sym same ∙ lacks)
+  ]
 
--- a report that is due is a report
-pub due_report : (task : Task) (text : Bytes) (status : Status) (advisers turns : ℕ) (bytes : Bytes) → IsDueOn task text status advisers turns bytes
-    → IsReport status → task.input ≡ None → (report : Report) × IsReportOn task text report advisers turns bytes
-due_report task text status advisers turns bytes (reported report whole on verdict) is none = (report, on)
-due_report task text status advisers turns bytes (answered asked one on) is none = absurd (none_some task one none)
-due_report task text status advisers turns bytes (no_program other unasked refused) is none =
-    absurd (refused_otherwise status Program (λ e. cc) (λ e. cc) other is)
-due_report task text status advisers turns bytes (no_input other unasked refused) is none =
-    absurd (refused_otherwise status Words (λ e. cc) (λ e. cc) other is)
-due_report task text status advisers turns bytes (no_formula other unasked refused) is none =
-    absurd (refused_otherwise status Formula (λ e. cc) (λ e. cc) other is)
+  not_refused : (status ≡ Program) ⊎ (status ≡ Words) ⊎ (status ≡ Formula) → ⊥
+  not_refused (inl other) = refused_otherwise Program (λ e. cc) (λ e. cc) other
+  not_refused (inr (inl other)) = refused_otherwise Words (λ e. cc) (λ e. cc) other
+  not_refused (inr (inr other)) = refused_otherwise Formula (λ e. cc) (λ e. cc) other
 
--- what is due on one input is told of it
-pub due_answer : (task : Task) (text asked : Bytes) (status : Status) (advisers turns : ℕ) (bytes : Bytes)
-    → IsDueOn task text status advisers turns bytes → IsReport status → task.input ≡ Some asked → IsAnswerOn task text asked status turns bytes
-due_answer task text asked status advisers turns bytes (reported report whole on verdict) is one = absurd (none_some task one whole)
-due_answer task text asked status advisers turns bytes (answered other own on) is one = own_answer task text asked other status turns bytes one own on
-due_answer task text asked status advisers turns bytes (no_program other unasked refused) is one =
-    absurd (refused_otherwise status Program (λ e. cc) (λ e. cc) other is)
-due_answer task text asked status advisers turns bytes (no_input other unasked refused) is one =
-    absurd (refused_otherwise status Words (λ e. cc) (λ e. cc) other is)
-due_answer task text asked status advisers turns bytes (no_formula other unasked refused) is one =
-    absurd (refused_otherwise status Formula (λ e. cc) (λ e. cc) other is)
+  pub due_report : IsDueOn task text status advisers turns bytes → task.input ≡ None → (report : Report) × IsReportOn task text subject report advisers turns bytes
+  due_report (reported own report whole on verdict) none = (report, own_report known task text own subject h report advisers turns bytes on)
+  due_report (answered asked own input one on) none = absurd (none_some task one none)
+  due_report (no_program other unasked refused) none = absurd (not_refused (inl other))
+  due_report (no_input other unasked refused) none = absurd (not_refused (inr (inl other)))
+  due_report (no_formula other unasked refused) none = absurd (not_refused (inr (inr other)))
+
+  pub due_answer : (asked : Bytes) (input : Store) → task.input ≡ Some asked → IsInputText subject.names asked input
+      → IsDueOn task text status advisers turns bytes → IsAnswerOn task text asked subject input status turns bytes
+  due_answer asked input one given (reported own report whole on verdict) = absurd (none_some task one whole)
+  due_answer asked input one given (answered other own its two on) =
+      own_input known task text other asked subject its input two one h given status turns bytes
+      (own_answer known task text other own subject h its status turns bytes on)
+  due_answer asked input one given (no_program other unasked refused) = absurd (not_refused (inl other))
+  due_answer asked input one given (no_input other unasked refused) = absurd (not_refused (inr (inl other)))
+  due_answer asked input one given (no_formula other unasked refused) = absurd (not_refused (inr (inr other)))
 
 -- ---- what is told of one input
 
-told_answer : KnownTexts → (task : Task) (text : Bytes) (subject : Subject) (asked : Bytes) (input : Store) (status : Status) (turns : ℕ) (bytes : Bytes)
-    → IsSubject task text subject → IsInputText subject.names asked input → IsAnswerOn task text asked status turns bytes
-    → EachWhole (TellsTrue subject input) bytes
-told_answer known task text subject asked input status turns bytes h given due =
-    let own = due.subject in
-    let names = own_names known task text own due.is in
-    let same = same_subject known task text own subject due.is h in
-    let claims = known.alone own.names names in
-    let here : IsInputText own.names asked input = subst (λ (s : Subject). IsInputText s.names asked input) (sym same) given in
-    let input_same : due.input ≡ input = same_input own.names names asked input due.input here due.input_is.input_is due.input_is.some in
-    subst (λ s. EachWhole (TellsTrue s input) bytes) same
-    (one_good (TellsTrue own input) due.line bytes (claims.newline due.line due.claim due.tells)
-    (λ claim tells. subst (λ k. IsTrueOf own k input) (claims.one due.line due.claim claim due.tells tells)
-    (subst (IsTrueOf own due.claim) input_same
-    (told_is_true own known.opening due.input due.input_is.input_is task due.found status due.claim due.finds due.told)))
-    due.is_line)
+told_answer : KnownTexts → (task : Task) (text asked : Bytes) (subject : Subject) (input : Store) (status : Status) (turns : ℕ) (bytes : Bytes)
+    → IsAnswerOn task text asked subject input status turns bytes → EachWhole (TellsTrue subject input) bytes
+told_answer known task text asked subject input status turns bytes on =
+    let claims = known.alone subject.names (own_names known task text subject on.is) in
+    one_good (TellsTrue subject input) on.line bytes (claims.newline on.line on.claim on.tells)
+    (λ claim tells. subst (λ k. IsTrueOf subject k input) (claims.one on.line on.claim claim on.tells tells)
+    (told_is_true subject known.opening input on.input_is.input_is task on.found status on.claim on.finds on.told))
+    on.is_line
 
 -- the text of an answer tells the exact claim exactly where the runs are as it says
-pub exact_answer : KnownTexts → (task : Task) (text : Bytes) (subject : Subject) (asked : Bytes) (input : Store) (status : Status) (turns : ℕ) (bytes : Bytes)
-    → IsSubject task text subject → IsInputText subject.names asked input → task.formula ≡ None → HasSmallLevels subject.body task.delay
-    → IsAnswerOn task text asked status turns bytes → TellsExactly subject task.delay input bytes
-exact_answer known task text subject asked input status turns bytes h given unasked small due n =
-    let own = due.subject in
-    let names = own_names known task text own due.is in
-    let same = same_subject known task text own subject due.is h in
-    let claims = known.alone own.names names in
-    let here : IsInputText own.names asked input = subst (λ (s : Subject). IsInputText s.names asked input) (sym same) given in
-    let input_same : due.input ≡ input = same_input own.names names asked input due.input here due.input_is.input_is due.input_is.some in
-    let levels : HasSmallLevels own.body task.delay = subst (λ (s : Subject). HasSmallLevels s.body task.delay) (sym same) small in
-    let exact : IsExact (length own.names) own.body task.delay due.found.exact =
-    subst (λ formula. IsExactPart formula own task.delay due.found.exact) unasked due.finds.exact in
-    let made = made_whole own.body task.delay levels (length own.names) due.found.exact exact in
-    let told = told_exactly (length own.names) own.body task.delay made.stop made.tree made.level levels.growth due.input due.input_is.input_is
-    (numbers_small own.names asked due.input due.input_is) n due.found made.is
-    (subst (λ claims. claims ≢ Counted) (sym due.finds.claims) (no_exact_number (normal own.formula))) status due.claim due.told in
-    let alone = tells_alone own.names claims due.line bytes due.claim due.tells due.is_line (Exactly (pos n)) in
-    subst (λ (s : Subject). TellsClaim s.names bytes (Exactly (pos n)) ↔ EndsExactly s.body task.delay input n) same
-    (subst (λ i. TellsClaim own.names bytes (Exactly (pos n)) ↔ EndsExactly own.body task.delay i n) input_same (
-      (λ says. told.0 (alone.0 says)),
-      (λ ends. alone.1 (told.1 ends)),
-    ))
+pub exact_answer : KnownTexts → (task : Task) (text asked : Bytes) (subject : Subject) (input : Store) (status : Status) (turns : ℕ) (bytes : Bytes)
+    → task.formula ≡ None → HasSmallLevels subject.body task.delay → IsAnswerOn task text asked subject input status turns bytes
+    → TellsExactly subject task.delay input bytes
+exact_answer known task text asked subject input status turns bytes unasked small on n =
+    let claims = known.alone subject.names (own_names known task text subject on.is) in
+    let exact : IsExact (length subject.names) subject.body task.delay on.found.exact =
+    subst (λ formula. IsExactPart formula subject task.delay on.found.exact) unasked on.finds.exact in
+    let made = made_whole subject.body task.delay small (length subject.names) on.found.exact exact in
+    let told = told_exactly (length subject.names) subject.body task.delay made.stop made.tree made.level small.growth input on.input_is.input_is
+    (numbers_small subject.names asked input on.input_is) n on.found made.is
+    (subst (λ claims. claims ≢ Counted) (sym on.finds.claims) (no_exact_number (normal subject.formula))) status on.claim on.told in
+    let alone = tells_alone subject.names claims on.line bytes on.claim on.tells on.is_line (Exactly (pos n)) in
+    ((λ says. told.0 (alone.0 says)), (λ ends. alone.1 (told.1 ends)))
 
 told_refusal : (subject : Subject) → KnownClaims subject.names → (input : Store) (bytes : Bytes) → IsRefusalText bytes → EachWhole (TellsTrue subject input) bytes
 told_refusal subject known input bytes usage = colon_tells subject known input usage_line usage_text usage_silent (5, omega arith, refl) refl
@@ -334,9 +311,12 @@ told_refusal subject known input bytes (of_formula number offset) =
 pub due_told : KnownTexts → (task : Task) (text : Bytes) (subject : Subject) (asked : Bytes) (input : Store) → task.input ≡ Some asked
     → IsSubject task text subject → IsInputText subject.names asked input → (status : Status) (advisers turns : ℕ) (bytes : Bytes)
     → IsDueOn task text status advisers turns bytes → EachWhole (TellsTrue subject input) bytes
-due_told known task text subject asked input one h given status advisers turns bytes (reported report whole on verdict) = absurd (none_some task one whole)
-due_told known task text subject asked input one h given status advisers turns bytes (answered other own on) =
-    told_answer known task text subject asked input status turns bytes h given (own_answer task text asked other status turns bytes one own on)
+due_told known task text subject asked input one h given status advisers turns bytes (reported own report whole on verdict) =
+    absurd (none_some task one whole)
+due_told known task text subject asked input one h given status advisers turns bytes (answered other own its two on) =
+    told_answer known task text asked subject input status turns bytes
+    (own_input known task text other asked subject its input two one h given status turns bytes
+    (own_answer known task text other own subject h its status turns bytes on))
 due_told known task text subject asked input one h given status advisers turns bytes (no_program is unasked refused) =
     told_refusal subject (known.alone subject.names (own_names known task text subject h)) input bytes (program_refusal text bytes refused)
 due_told known task text subject asked input one h given status advisers turns bytes (no_input is unasked refused) =
@@ -454,10 +434,10 @@ module _ (words : List Bytes) (call : Call) (served : Serves words) (text bytes 
 
   pub settled_answers : (status result : Status) → IsDueOn served.0 text status (length call.asked) turns bytes → Written status result
       → Answers words result call
-  settled_answers status result (reported report whole on verdict) settled =
-      report_answers status result (verdict_report status report.unknown verdict) (was_due status (reported report whole on verdict)) settled
-  settled_answers status result (answered asked one on) settled =
-      report_answers status result (told_report on.found on.input status on.claim on.told) (was_due status (answered asked one on)) settled
+  settled_answers status result (reported own report whole on verdict) settled =
+      report_answers status result (verdict_report status report.unknown verdict) (was_due status (reported own report whole on verdict)) settled
+  settled_answers status result (answered asked own input one on) settled =
+      report_answers status result (told_report on.found input status on.claim on.told) (was_due status (answered asked own input one on)) settled
   settled_answers status result (no_program is unasked refused) settled =
       program_answers status result is (was_due status (no_program is unasked refused)) settled
   settled_answers status result (no_input is unasked refused) settled =
@@ -480,14 +460,14 @@ read_subject words once call status bytes due task told subject ask is h =
     (subst (λ t. IsSubject task t subject) (told_read call.left due.text told due.read is) h)
 
 -- no other status is left for a text with a subject within the limits
-not_refused : (task : Task) (text : Bytes) (subject : Subject) (bytes : Bytes) → IsSubject task text subject → IsWithinLimits text
+program_not_refused : (task : Task) (text : Bytes) (subject : Subject) (bytes : Bytes) → IsSubject task text subject → IsWithinLimits text
     → IsTooLong text bytes ⊎ IsNoProgram text bytes ⊎ IsPastLimits text bytes → ⊥
-not_refused task text subject bytes h limits (inl long) =
+program_not_refused task text subject bytes h limits (inl long) =
     let fits = limits.short in
     let over = long.long in
     omega (arith, fits, over)
-not_refused task text subject bytes h limits (inr (inl other)) = other.none subject.names subject.body h.program
-not_refused task text subject bytes h limits (inr (inr past)) = limits.graph bytes past
+program_not_refused task text subject bytes h limits (inr (inl other)) = other.none subject.names subject.body h.program
+program_not_refused task text subject bytes h limits (inr (inr past)) = limits.graph bytes past
 
 -- nor is a formula within the limit refused
 meant_not_refused : KnownTexts → (names : List Bytes) (formula bytes : Bytes) (meant : Ctl) → IsFormulaOf formula names meant → operators (normal meant) ≤ 256
@@ -521,12 +501,12 @@ input_not_refused known task text subject bytes h given due =
 shown_due : KnownTexts → (task : Task) (text : Bytes) (subject : Subject) → IsSubject task text subject → IsWithinLimits text
     → IsInputGiven subject.names task.input → operators (normal subject.formula) ≤ 256 → (status : Status) (advisers turns : ℕ) (bytes : Bytes)
     → IsDueOn task text status advisers turns bytes → IsReport status
-shown_due known task text subject h limits given limited status advisers turns bytes (reported report whole on verdict) =
+shown_due known task text subject h limits given limited status advisers turns bytes (reported own report whole on verdict) =
     verdict_report status report.unknown verdict
-shown_due known task text subject h limits given limited status advisers turns bytes (answered asked one on) =
-    told_report on.found on.input status on.claim on.told
+shown_due known task text subject h limits given limited status advisers turns bytes (answered asked own input one on) =
+    told_report on.found input status on.claim on.told
 shown_due known task text subject h limits given limited status advisers turns bytes (no_program is unasked refused) =
-    absurd (not_refused task text subject bytes h limits refused)
+    absurd (program_not_refused task text subject bytes h limits refused)
 shown_due known task text subject h limits given limited status advisers turns bytes (no_input is unasked refused) =
     absurd (input_not_refused known task text subject bytes h given refused)
 shown_due known task text subject h limits given limited status advisers turns bytes (no_formula is unasked refused) =

@@ -1,5 +1,5 @@
 -- The proved lines of a report on a program without loops are met by the inputs whose start satisfies the formula.
-use Rattle.std.proofs.Common.{◌↔◌, ℕ, List, sym, subst}
+use Rattle.std.proofs.Common.{List, ◌↔◌, sym, subst}
 use Rattle.step_meaning.specs.Run.{start}
 use Rattle.ctl_formula.specs.Formulas.{normal}
 use Rattle.ctl_formula.specs.Satisfaction.{Sat}
@@ -11,20 +11,16 @@ use Rattle.report_text.specs.Sections.{section_line}
 use Rattle.report_text.proofs.Cutting.{KnownTexts as KnownLineTexts, report_sections}
 use Rattle.command_words.specs.Order.{Task}
 use Rattle.function_top.specs.declared.found.Found.{Found}
-use Rattle.function_top.specs.Output.{IsReportOn}
 use Rattle.function_top.specs.Found.{IsFound}
 use Rattle.function_top.specs.Meeting.{MeetsSome, ProvesExactly}
 use Rattle.function_top.specs.Shown.{Shows}
-use Rattle.function_top.specs.Subject.{IsSubject, Subject}
+use Rattle.function_top.specs.Subject.{Subject}
 use Rattle.function_top.proofs.Counted.{line_met, text_met}
-use Rattle.function_top.proofs.Headline.{KnownTexts, own_names, same_subject}
 use Rattle.function_top.proofs.ProvedLines.{met_by_satisfied}
 use Rattle.function_top.proofs.Truth.{OpenAsLines, KnownLines}
 use Rattle.report_text.proofs.Frame.{Bytes}
 
--- ---- the text of a report
-
-proves_exactly : (subject : Subject) → KnownLines subject.names → OpenAsLines → (task : Task) (found : Found) (report : Report) (text : Bytes)
+pub proves_exactly : (subject : Subject) → KnownLines subject.names → OpenAsLines → (task : Task) (found : Found) (report : Report) (text : Bytes)
     → IsFound task subject found → Shows found report → IsReportText subject.names report text → IsLoopless subject.body
     → IsWithinMeasures subject.body (normal subject.formula) → ProvesExactly subject text
 proves_exactly subject known opening task found report text finds shows printed loopless within input is_input =
@@ -38,15 +34,3 @@ proves_exactly subject known opening task found report text finds shows printed 
       (λ some. met.0 (some.0, line_met subject.names known input some.0 report.proved (printed.texts proved_head) (printed.are proved_head) some.1)),
       (λ sat. let line = met.1 sat in (line.0, text_met subject.names known input line.0 report.proved (printed.texts proved_head) (printed.are proved_head) line.1)),
     )
-
--- ---- what was due
-
-module _ (known : KnownTexts) (task : Task) (text : Bytes) (subject : Subject) (is : IsSubject task text subject) (loopless : IsLoopless subject.body)
-    (within : IsWithinMeasures subject.body (normal subject.formula)) where
-  pub proving_report : (report : Report) (advisers turns : ℕ) (bytes : Bytes) → IsReportOn task text report advisers turns bytes → ProvesExactly subject bytes
-  proving_report report advisers turns bytes due =
-      let same = same_subject known task text due.subject subject due.is is in
-      subst (λ (s : Subject). ProvesExactly s bytes) same
-      (proves_exactly due.subject (known.lines due.subject.names (own_names known task text due.subject due.is)) known.opening task due.found report bytes
-      due.finds due.shows due.printed (subst (λ (s : Subject). IsLoopless s.body) (sym same) loopless)
-      (subst (λ (s : Subject). IsWithinMeasures s.body (normal s.formula)) (sym same) within))

@@ -52,8 +52,7 @@ module _ (task : Task) (text : List ℕ) (program : Parsed) (meant : Ctl) (found
       (finds.insists advised)
 
   pub report_due : task.input ≡ None → (status : Status) → IsVerdict status report.unknown → IsDueOn task text status advisers turns bytes
-  report_due all status verdict = reported report all record {
-    subject = subject_of program meant;
+  report_due all status verdict = reported (subject_of program meant) report all record {
     is = record { program = derived; formula = formula };
     within = within;
     limited = limited;
@@ -74,12 +73,10 @@ module _ (task : Task) (text asked_text : List ℕ) (program : Parsed) (meant : 
     (finds : IsFound task (subject_of program meant) found) (asked : turns ≡ found.turns)
     (given : IsInputText program.names asked_text input) (tells : Tells program.names line claim) (is_line : bytes ≡ line ++ 10 ∷ []) where
   pub answer_due : task.input ≡ Some asked_text → (status : Status) → IsToldOf found input status claim → IsDueOn task text status advisers turns bytes
-  answer_due one status told = answered asked_text one record {
-    subject = subject_of program meant;
+  answer_due one status told = answered asked_text (subject_of program meant) input one record {
     is = record { program = derived; formula = formula };
     within = within;
     limited = limited;
-    input = input;
     input_is = given;
     found = found;
     finds = finds;

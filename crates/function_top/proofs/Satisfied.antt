@@ -10,8 +10,6 @@ use Rattle.decision_tree.specs.Plans.{Plan, bottom, branch, is_defined, leaf, pl
 use Rattle.fitting_ways.specs.Ways.{HasSmallNumbers}
 use Rattle.exact_families.proofs.Making.{which_leaf}
 use Rattle.line_text.specs.declared.claim.Claim.{Claim}
-use Rattle.input_text.specs.Input.{IsInputText}
-use Rattle.input_text.proofs.Unique.{same_input}
 use Rattle.command_words.specs.Order.{Task}
 use Rattle.function_top.specs.declared.status.Status.{Status}
 use Rattle.function_top.specs.declared.status.Status.TheVariants.{AllInputs, SomeInputs}
@@ -19,8 +17,7 @@ use Rattle.function_top.specs.declared.found.Found.{Found}
 use Rattle.function_top.specs.Output.{IsAnswerOn}
 use Rattle.function_top.specs.Found.{HasSmallMeasures, IsExactPart, IsFound}
 use Rattle.function_top.specs.OneInput.{IsToldOf, LeadsExactly, LeadsTo}
-use Rattle.function_top.specs.Subject.{IsFormulaAsked, IsSubject, Subject}
-use Rattle.function_top.proofs.Headline.{KnownTexts, own_names, same_subject}
+use Rattle.function_top.specs.Subject.{IsFormulaAsked, Subject}
 use Rattle.function_top.proofs.ToldExactly.{numbers_small}
 use Rattle.report_text.proofs.Frame.{Bytes}
 
@@ -66,16 +63,9 @@ module _ (task : Task) (subject : Subject) (found : Found) (finds : IsFound task
 
 -- ---- what was due
 
-pub satisfied_answer : KnownTexts → (task : Task) (text : Bytes) (subject : Subject) (asked : Bytes) (input : Store) (status : Status) (turns : ℕ) (bytes : Bytes)
-    → IsSubject task text subject → IsInputText subject.names asked input → HasSmallMeasures subject → IsAnswerOn task text asked status turns bytes
+pub satisfied_answer : (task : Task) (text asked : Bytes) (subject : Subject) (input : Store) (status : Status) (turns : ℕ) (bytes : Bytes)
+    → HasSmallMeasures subject → IsAnswerOn task text asked subject input status turns bytes
     → (status ≡ AllInputs) ↔ Sat subject.formula (start subject.body input)
-satisfied_answer known task text subject asked input status turns bytes h given small due =
-    let own = due.subject in
-    let names = own_names known task text own due.is in
-    let same = same_subject known task text own subject due.is h in
-    let here : IsInputText own.names asked input = subst (λ (s : Subject). IsInputText s.names asked input) (sym same) given in
-    let input_same : due.input ≡ input = same_input own.names names asked input due.input here due.input_is.input_is due.input_is.some in
-    subst (λ (s : Subject). (status ≡ AllInputs) ↔ Sat s.formula (start s.body input)) same
-    (subst (λ i. (status ≡ AllInputs) ↔ Sat own.formula (start own.body i)) input_same
-    (told_of_satisfied task own due.found due.finds due.is.formula (subst HasSmallMeasures (sym same) small) due.input due.input_is.input_is
-    (numbers_small own.names asked due.input due.input_is) status due.claim due.told))
+satisfied_answer task text asked subject input status turns bytes small on =
+    told_of_satisfied task subject on.found on.finds on.is.formula small input on.input_is.input_is (numbers_small subject.names asked input on.input_is)
+    status on.claim on.told

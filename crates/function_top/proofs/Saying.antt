@@ -1,36 +1,44 @@
 -- What a whole report says of its subject, and what is told of one input.
-use Rattle.std.proofs.Common.{ℕ, inl, inr, List, length, sym, subst}
+use Rattle.std.proofs.Common.{◌≡◌, ℕ, inl, inr, List, None, length, sym, subst}
 use Rattle.std.specs.Io.KnownBytes.{Appends}
 use Rattle.command_words.specs.Order.{Task}
+use Rattle.report_text.specs.declared.report.Report.{Report}
 use Rattle.function_top.specs.declared.status.Status.{Status}
 use Rattle.function_top.specs.declared.status.Status.TheVariants.{AllInputs, SomeInputs}
 use Rattle.function_top.specs.Answer.{Answers, SaysAll, WasDue}
 use Rattle.function_top.specs.Call.{Call}
-use Rattle.function_top.specs.Output.{IsDueOn, IsReport}
+use Rattle.function_top.specs.Output.{IsDueOn, IsReport, IsReportOn}
 use Rattle.function_top.specs.Says.{Says}
 use Rattle.function_top.specs.Subject.{IsSubject, Subject}
 use Rattle.function_top.proofs.Certain.{due_covers}
-use Rattle.function_top.proofs.Headline.{AskOnce, KnownTexts, counted_report, due_answer, due_report, exact_answer, met_report, no_demo, read_subject, same_task}
-use Rattle.function_top.proofs.Proving.{proving_report}
+use Rattle.function_top.proofs.Counted.{counts_exactly}
+use Rattle.function_top.proofs.Headline.{AskOnce, KnownTexts, due_answer, due_report, exact_answer, no_demo, own_names, read_subject, same_task}
+use Rattle.function_top.proofs.MetOnce.{met_once}
+use Rattle.function_top.proofs.Proving.{proves_exactly}
 use Rattle.function_top.proofs.Satisfied.{satisfied_answer}
 use Rattle.report_text.proofs.Frame.{Bytes}
 
 pub due_says : KnownTexts → (task : Task) (text : Bytes) (subject : Subject) → IsSubject task text subject → (status : Status) (advisers turns : ℕ)
     (bytes : Bytes) → IsDueOn task text status advisers turns bytes → IsReport status → Says task subject status bytes
-due_says known task text subject h status advisers turns bytes due is = record {
-  lines = λ whole. let on = due_report task text status advisers turns bytes due is whole in met_report known task text subject on.0 advisers turns bytes h on.1;
-  counts = λ whole.
-      let on = due_report task text status advisers turns bytes due is whole in counted_report known task text subject on.0 advisers turns bytes h on.1;
-  proves = λ whole loopless within.
-      let on = due_report task text status advisers turns bytes due is whole in
-      proving_report known task text subject h loopless within on.0 advisers turns bytes on.1;
-  exactly = λ asked input one given unasked small.
-      exact_answer known task text subject asked input status turns bytes h given unasked small
-      (due_answer task text asked status advisers turns bytes due is one);
-  satisfied = λ asked input one given small.
-      satisfied_answer known task text subject asked input status turns bytes h given small (due_answer task text asked status advisers turns bytes due is one);
-  countdowns = λ certain ends counts. due_covers known task text subject h ends counts certain status advisers turns bytes due is;
-}
+due_says known task text subject h status advisers turns bytes due is =
+    let lines = known.lines subject.names (own_names known task text subject h) in
+    let report : task.input ≡ None → (report : Report) × IsReportOn task text subject report advisers turns bytes =
+    due_report known task text subject h status advisers turns bytes is due in
+    record {
+      lines = λ whole. let on = report whole in met_once subject.names lines known.opening on.1.found on.0 bytes on.1.shows on.1.printed;
+      counts = λ whole.
+          let on = report whole in counts_exactly subject lines known.opening task on.1.found on.0 bytes on.1.finds on.1.shows on.1.printed;
+      proves = λ whole loopless within.
+          let on = report whole in
+          proves_exactly subject lines known.opening task on.1.found on.0 bytes on.1.finds on.1.shows on.1.printed loopless within;
+      exactly = λ asked input one given unasked small.
+          exact_answer known task text asked subject input status turns bytes unasked small
+          (due_answer known task text subject h status advisers turns bytes is asked input one given due);
+      satisfied = λ asked input one given small.
+          satisfied_answer task text asked subject input status turns bytes small
+          (due_answer known task text subject h status advisers turns bytes is asked input one given due);
+      countdowns = λ certain ends counts. due_covers known task text subject h ends counts certain status advisers turns bytes due;
+    }
 
 module _ (known : KnownTexts) (words : List Bytes) (once : AskOnce words) (call : Call) where
   was_said : (status : Status) (bytes : Bytes) → WasDue words call status bytes → Appends call.taken call.taken_after bytes → SaysAll words status call

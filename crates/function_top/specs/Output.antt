@@ -49,11 +49,10 @@ pub record HasGraph (text : List ℕ) (names : List (List ℕ)) : Type 0 where
 abbrev pub AreTurnsFor : Ctl → ℕ → Type 0
 AreTurnsFor normal_form turns = (IsAdvised normal_form → turns ≡ 8) × (¬ IsAdvised normal_form → turns ≡ 0)
 
--- The text has a subject whose program is within the limits, and the normal form of its formula has at most 256 operators; by the task this was
+-- The text has this subject, whose program is within the limits, and the normal form of its formula has at most 256 operators; by the task this was
 -- found of it, asking each of so many advisers so many times, and as many times as they may help where a line is unknown; and the report that shows
 -- it, explained where that is asked for, is these bytes.
-pub record IsReportOn (task : Task) (text : List ℕ) (report : Report) (advisers turns : ℕ) (bytes : List ℕ) : Type 0 where
-  pub subject : Subject
+pub record IsReportOn (task : Task) (text : List ℕ) (subject : Subject) (report : Report) (advisers turns : ℕ) (bytes : List ℕ) : Type 0 where
   pub is : IsSubject task text subject
   pub within : HasGraph text subject.names
   pub limited : operators (normal subject.formula) ≤ 256
@@ -65,13 +64,11 @@ pub record IsReportOn (task : Task) (text : List ℕ) (report : Report) (adviser
   pub explains : report.explain ≡ explained task.explain (explanation (1 + size_of subject.body) found.families advisers turns)
   pub printed : IsReportText subject.names report bytes
 
--- The same of a text with a subject where one input is asked for, by its text: what is told of the input by what was found, on one line.
-pub record IsAnswerOn (task : Task) (text asked : List ℕ) (status : Status) (turns : ℕ) (bytes : List ℕ) : Type 0 where
-  pub subject : Subject
+-- The same where one input is asked for, by its text: what is told of the input by what was found, on one line.
+pub record IsAnswerOn (task : Task) (text asked : List ℕ) (subject : Subject) (input : Store) (status : Status) (turns : ℕ) (bytes : List ℕ) : Type 0 where
   pub is : IsSubject task text subject
   pub within : HasGraph text subject.names
   pub limited : operators (normal subject.formula) ≤ 256
-  pub input : Store
   pub input_is : IsInputText subject.names asked input
   pub found : Found
   pub finds : IsFound task subject found
@@ -166,9 +163,10 @@ IsVerdict status unknown = ((status ≡ AllInputs) × (unknown ≡ [])) ⊎ ((st
 -- for, a report with its verdict; where one is, what is told of it; or the line of a program's text, of an input's or of a formula's that is refused,
 -- asking nothing.
 pub data IsDueOn (task : Task) (text : List ℕ) (status : Status) (advisers turns : ℕ) (bytes : List ℕ) : Type 0 where
-  reported : (report : Report) → task.input ≡ None → IsReportOn task text report advisers turns bytes → IsVerdict status report.unknown
+  reported : (subject : Subject) (report : Report) → task.input ≡ None → IsReportOn task text subject report advisers turns bytes
+      → IsVerdict status report.unknown → IsDueOn task text status advisers turns bytes
+  answered : (asked : List ℕ) (subject : Subject) (input : Store) → task.input ≡ Some asked → IsAnswerOn task text asked subject input status turns bytes
       → IsDueOn task text status advisers turns bytes
-  answered : (asked : List ℕ) → task.input ≡ Some asked → IsAnswerOn task text asked status turns bytes → IsDueOn task text status advisers turns bytes
   no_program : status ≡ Program → turns ≡ 0 → IsTooLong text bytes ⊎ IsNoProgram text bytes ⊎ IsPastLimits text bytes
       → IsDueOn task text status advisers turns bytes
   no_input : status ≡ Words → turns ≡ 0 → IsInputRefused task text bytes → IsDueOn task text status advisers turns bytes
