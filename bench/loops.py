@@ -1,5 +1,5 @@
 #!/usr/bin/env python3
-"""Prints, for six kinds of programs that grow and whose loops are left to sweeps and hints, the time of the built command divided by that for the
+"""Prints, for nine kinds of programs that grow and whose loops are left to sweeps and hints, the time of the built command divided by that for the
 smallest of the kind, and by that for the one before.
 
 Each ratio is one of medians over several runs, less the time for an empty program. Nothing is asserted: machines differ and are shared.
@@ -46,7 +46,31 @@ def tests_behind(count):
     return f"int main() {{ int x, y, {', '.join(names)}; while (x != 0) x = x - 1; {tests}}}"
 
 
-KINDS = [(straight, (100, 300, 1000)), (choices, (2, 4, 6, 8)), (leaving, (100, 300, 500)), (one_after_another, (1, 5, 20)), (nested, (1, 2, 3)), (tests_behind, (6, 8, 9, 10))]
+def line_behind(count):
+    """A loop with so many tests of one variable behind it."""
+    tests = "".join(f"if (x > {number}) y = y + {number}; " for number in range(count))
+    return "int main() { int x, y, z; while (z != 0) z = z - 1; " + tests + "}"
+
+
+def loops_in_a_row(count):
+    """So many loops in a row, each of which counts one of ten variables down and changes two others."""
+    names = [f"v{number}" for number in range(10)]
+    loops = ""
+    for number in range(count):
+        own, up, down = (names[(number + apart) % 10] for apart in (0, 3, 7))
+        loops += f"while ({own} > 0) {{ {own} = {own} - 1; {up} = {up} + 1; if ({down} > {number % 5}) {down} = {down} - 1; else {up} = {up} + 2; }} "
+    return f"int main() {{ int {', '.join(names)}; {loops}}}"
+
+
+def long_front(count):
+    """So many assignments and tests of two variables in turn, without a loop."""
+    return "int main() { int x, y; " + "".join(f"x = x + {number}; if (x > y) y = y + 1; " for number in range(count)) + "}"
+
+
+KINDS = [
+    (straight, (100, 300, 1000)), (choices, (2, 4, 6, 8)), (leaving, (100, 300, 500)), (one_after_another, (1, 5, 20)), (nested, (1, 2, 3)), (tests_behind, (6, 8, 9, 10)),
+    (line_behind, (50, 100, 200)), (loops_in_a_row, (2, 5, 10)), (long_front, (25, 50, 100)),
+]
 
 
 def seconds(binary, text):

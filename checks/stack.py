@@ -9,6 +9,7 @@ does with more. With `--least` it looks for the least stack that each run needs,
 function the bytes of one call. It ends with 1 where a run ends otherwise.
 """
 import argparse
+import math
 import re
 import resource
 import subprocess
@@ -21,6 +22,13 @@ LONG_TESTS = TOP / "crates/long_tests/src/trees.rt"
 STACK = 8 * 2**20
 MOST = 512 * 2**20
 SECONDS = 300
+
+
+def tests_of_many_rows(tests, rows):
+    """Tests in a row, each of so many rows, of which no two have the same linear part: so a tree has a line of them all."""
+    parts = (f"{a}*x > {total - a}*y" for total in range(2, 200) for a in range(1, total) if math.gcd(a, total - a) == 1)
+    return " ".join(f"if ({' || '.join(next(parts) for _ in range(rows))}) z = {number};" for number in range(tests))
+
 
 PROGRAMS = [
     ("1,023 skips", [], "; " * 1023),
@@ -43,6 +51,7 @@ PROGRAMS = [
     ("a formula of 64 conjunctions", ["--ctl", "&&".join(["true"] * 65)], "x = 1;"),
     ("200 assignments on some way", ["--ctl", "EF x > 5"], "x = x + 1; " * 200),
     ("200 assignments on every way", ["--ctl", "AG x > 5"], "x = x + 1; " * 200),
+    ("a line of 2,048 rows on some way", ["--ctl", "EF z > 7 && EX y > 3"], tests_of_many_rows(32, 64)),
 ]
 
 

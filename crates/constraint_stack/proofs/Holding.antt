@@ -9,12 +9,14 @@ use Rattle.linear_cons.specs.declared.row.RowKind.{RowKind}
 use Rattle.linear_cons.specs.declared.row.RowKind.TheVariants.{Always, Never, Row as Kept}
 use Rattle.linear_cons.specs.Exact.{IsOutside}
 use Rattle.linear_cons.specs.Rows.{MeetsKind, PointMeets}
+use Rattle.linear_cons.specs.Tightest.{IsCovered}
 use Rattle.linear_cons.proofs.RowLaws.{opposed_never}
 use Rattle.linear_solve.proofs.Lists.{all_of, in_map, member_of}
 use Rattle.linear_solve.specs.Answers.{HasNoStore}
 use Rattle.linear_solve.specs.Systems.{HasOpposed}
 use Rattle.constraint_stack.specs.Reasons.{row_in_kind, rows_in}
-use Rattle.constraint_stack.specs.Stacks.{Adds, Forms, Held, IsFormed, IsMetNowhere, Item, KeepsApart, first_of, kind_of, kinds, may_form}
+use Rattle.constraint_stack.proofs.Covering.{cover_more, cover_told, covered_left, covered_self}
+use Rattle.constraint_stack.specs.Stacks.{Adds, Cover, Forms, Held, IsFormed, IsMetNowhere, Item, KeepsApart, first_of, kind_of, kinds, may_form}
 
 kinds_more : (items : List Item) (item : Item) → kinds (items ++ item ∷ []) ≡ kinds items ++ kind_of item ∷ []
 kinds_more items item = map-append kind_of items (item ∷ [])
@@ -65,15 +67,16 @@ held_ok : (items : List Item) (rows : List Row) (wide : Option Wide) (item : Ite
 held_ok items rows wide item kind held is may met keeps = record {
   among = All-append (λ (row : Row). Contains (kinds (items ++ item ∷ [])) (Kept row)) rows (rows_in (kind ∷ [])) (among_more items item rows held.among) (among_kind items item kind is);
   shown = λ other row member formed same. ⊎_elim
-      (λ before. Contains-append_left rows (rows_in (kind ∷ [])) row (held.shown other row before formed same))
-      (λ here. Contains-append_right rows (rows_in (kind ∷ [])) row (kept_in kind row (sym is ∙ ap kind_of here ∙ same)))
+      (λ before. covered_left rows (rows_in (kind ∷ [])) row.affine (held.shown other row before formed same))
+      (λ here. covered_self (rows ++ rows_in (kind ∷ [])) row (Contains-append_right rows (rows_in (kind ∷ [])) row (kept_in kind row (sym is ∙ ap kind_of here ∙ same))))
       (Contains-push_cases items item other member);
   there = λ other member formed same. ⊎_elim
       (λ before. held.there other before formed same)
       (λ here. met (sym is ∙ ap kind_of here ∙ same))
       (Contains-push_cases items item other member);
   whole = λ none. (
-    ap (λ front. front ++ rows_in (kind ∷ [])) (held.whole none).0 ∙ ap (λ k. rows_in (kinds items) ++ rows_in (k ∷ [])) (sym is) ∙ sym (rows_more items item),
+    subst (Cover (rows ++ rows_in (kind ∷ []))) (ap (λ k. rows_in (kinds items) ++ rows_in (k ∷ [])) (sym is) ∙ sym (rows_more items item))
+    (cover_more rows (rows_in (kinds items)) (rows_in (kind ∷ [])) (held.whole none).0),
     subst (λ all. All (λ k. k ≢ Never) all) (sym (kinds_more items item)) (All-push (λ (k : RowKind). k ≢ Never) (kinds items) (kind_of item) (held.whole none).1 (λ never. met (sym is ∙ never))),
   );
   apart = keeps held.apart;
@@ -100,6 +103,35 @@ held_wide items rows wide item w held outside unformed = record {
   apart = held.apart;
   missing = λ other member none absent. never_none wide w absent;
   outside = first_outside items item wide w held.outside outside unformed;
+}
+
+-- what could be formed and is implied needn't come
+pub held_told : (items : List Item) (rows : List Row) (wide : Option Wide) (item : Item) (row : Row) → Held items rows wide → kind_of item ≡ Kept row → may_form item ≡ true
+    → IsCovered rows row.affine → Held (items ++ item ∷ []) rows wide
+held_told items rows wide item row held is may told = record {
+  among = among_more items item rows held.among;
+  shown = λ other one member formed same. ⊎_elim
+      (λ before. held.shown other one before formed same)
+      (λ here.
+          let rows_same : Some row ≡ Some one = ap row_in_kind (sym is ∙ ap kind_of here ∙ same) in
+          let row_same : row ≡ one = cc in
+          subst (λ (r : Row). IsCovered rows r.affine) row_same told)
+      (Contains-push_cases items item other member);
+  there = λ other member formed same. ⊎_elim
+      (λ before. held.there other before formed same)
+      (λ here. absurd (let never : Kept row ≡ Never = sym is ∙ ap kind_of here ∙ same in cc))
+      (Contains-push_cases items item other member);
+  whole = λ none. (
+    subst (Cover rows) (ap (λ k. rows_in (kinds items) ++ rows_in (k ∷ [])) (sym is) ∙ sym (rows_more items item))
+    (cover_told rows (rows_in (kinds items)) row (held.whole none).0 told),
+    subst (λ all. All (λ k. k ≢ Never) all) (sym (kinds_more items item)) (All-push (λ (k : RowKind). k ≢ Never) (kinds items) (kind_of item) (held.whole none).1 (λ never. absurd (let wrong : Kept row ≡ Never = sym is ∙ never in cc))),
+  );
+  apart = held.apart;
+  missing = λ other member none. ⊎_elim
+      (λ before. held.missing other before none)
+      (λ here. absurd (let both : true ≡ false = sym may ∙ ap may_form here ∙ none in cc))
+      (Contains-push_cases items item other member);
+  outside = outside_more items item wide held.outside;
 }
 
 -- one more is on the stack

@@ -7,6 +7,7 @@ use Rattle.linear_cons.specs.declared.row.Row.{Row}
 use Rattle.linear_cons.specs.declared.row.RowKind.{RowKind}
 use Rattle.linear_cons.specs.declared.row.RowKind.TheVariants.{Always, Never, Row as Kept}
 use Rattle.linear_cons.specs.Rows.{PointMeetsAll, PointMeetsKind, row_kind_of}
+use Rattle.linear_cons.specs.Tightest.{IsCovered}
 use Rattle.linear_solve.proofs.Lists.{in_map}
 use Rattle.decision_tree.specs.declared.rank.Rank.{Ghosts as Ranks}
 use Rattle.constraint_stack.specs.declared.reason.Reason.{Reason}
@@ -14,7 +15,8 @@ use Rattle.constraint_stack.specs.declared.reason.Reason.TheVariants.{Point, Wid
 use Rattle.constraint_stack.specs.Reasons.{IsOpen, IsSeen, IsWhole, Justifies, Shows, row_in_kind, rows_in, rows_of}
 use Rattle.constraint_stack.specs.Forming.{Formed, FormsWhole, exact}
 use Rattle.constraint_stack.specs.Claims.{ClaimFits, choices, kinds_of, System}
-use Rattle.constraint_stack.specs.Stacks.{Gives, GivesWith, Held, IsFormed, Item, Refutes, all_asked, all_chosen, asked, chosen, kind_of, kinds, unformed}
+use Rattle.constraint_stack.proofs.Covering.{cover_met, cover_octagons, cover_outgrows, cover_overflows, covered_opposed}
+use Rattle.constraint_stack.specs.Stacks.{Cover, Gives, GivesWith, Held, IsFormed, Item, Refutes, all_asked, all_chosen, asked, chosen, kind_of, kinds, unformed}
 
 kinds_asked : (asks : List Formed) → kinds (all_asked asks) ≡ map (λ a. row_kind_of (exact a)) asks
 kinds_asked [] = refl
@@ -48,7 +50,7 @@ module _ {R : Type 0} (ranks : Ranks R) where
     picks : ClaimFits ranks s.claim → (kind : RowKind) → Contains choice kind → Contains items (chosen kind)
     whole : IsWhole ranks s → All IsFormed items
 
-  shown_row : (s : System R) (choice : List RowKind) (items : List Item) (rows : List Row) (wide : Option Wide) → Stands s choice items → Held items rows wide → (row : Row) → Shows ranks s choice (Kept row) → Contains rows row
+  shown_row : (s : System R) (choice : List RowKind) (items : List Item) (rows : List Row) (wide : Option Wide) → Stands s choice items → Held items rows wide → (row : Row) → Shows ranks s choice (Kept row) → IsCovered rows row.affine
   shown_row s choice items rows wide stands held row shows = ⊎_elim
       (λ here. held.shown (asked here.0) row (stands.asks here.0 here.1) here.2 here.3)
       (λ here. held.shown (chosen (Kept row)) row (stands.picks here.0 (Kept row) here.1) tt refl)
@@ -60,17 +62,12 @@ module _ {R : Type 0} (ranks : Ranks R) where
         (λ here. held.there (asked here.0) (stands.asks here.0 here.1) here.2 here.3)
         (λ here. held.there (chosen Never) (stands.picks here.0 Never here.1) tt refl)
         shows;
-    apart = λ row other first second opposed. held.apart (record {
-      row = row;
-      other = other;
-      row_in = shown_row s choice items rows wide stands held row first;
-      other_in = shown_row s choice items rows wide stands held other second;
-      opposed = opposed;
-    });
+    apart = λ row other first second opposed. held.apart
+        (covered_opposed rows row other (shown_row s choice items rows wide stands held row first) (shown_row s choice items rows wide stands held other second) opposed);
   }
 
-  rows_are : (s : System R) (choice : List RowKind) (items : List Item) (rows : List Row) → Stands s choice items → Held items rows None → rows ≡ rows_of ranks s choice
-  rows_are s choice items rows stands held = (held.whole refl).0 ∙ stands.same
+  rows_cover : (s : System R) (choice : List RowKind) (items : List Item) (rows : List Row) → Stands s choice items → Held items rows None → Cover rows (rows_of ranks s choice)
+  rows_cover s choice items rows stands held = subst (Cover rows) stands.same (held.whole refl).0
 
   by_wide : (s : System R) (choice : List RowKind) (items : List Item) (rows : List Row) (w : Wide) (reason : Reason) → Stands s choice items → Held items rows (Some w) → reason ≡ TooWide w → IsSeen ranks s choice → Justifies ranks reason s
   by_wide s choice items rows w reason stands held gives seen =
@@ -79,14 +76,18 @@ module _ {R : Type 0} (ranks : Ranks R) where
 
   by_rows : (s : System R) (choice : List RowKind) (items : List Item) (rows : List Row) (reason : Reason) → Stands s choice items → Held items rows None → Gives rows reason → IsSeen ranks s choice → Contains (choices ranks s.claim) choice → kinds items ≡ kinds_of ranks s choice → Justifies ranks reason s
   by_rows s choice items rows (Point num den) stands held gives seen member all =
-      let kinds_met = point_kinds (kinds items) num den (held.whole refl).1 (subst (λ all. PointMeetsAll num den all) (held.whole refl).0 gives.meets) in
+      let kinds_met = point_kinds (kinds items) num den (held.whole refl).1 (cover_met rows (rows_in (kinds items)) num den (held.whole refl).0 gives) in
       (gives.positive, (choice, member, subst (λ each. All (λ kind. PointMeetsKind num den kind) each) all kinds_met))
   by_rows s choice items rows (TooWide w) stands held gives seen member all =
-      let same = rows_are s choice items rows stands held in
-      (gives.0, (choice, seen, open_held s choice items rows None stands held, inr (rw (← same) (gives.1, gives.2))))
+      let cover = rows_cover s choice items rows stands held in
+      let all = rows_of ranks s choice in
+      (gives.0, (choice, seen, open_held s choice items rows None stands held, inr (cover_octagons rows all cover gives.1, cover_outgrows rows all cover gives.2)))
   by_rows s choice items rows (Rows count) stands held gives seen member all =
-      let same = rows_are s choice items rows stands held in
-      (gives.0, (choice, member, open_held s choice items rows None stands held, rw (← same) gives.1))
+      let cover = rows_cover s choice items rows stands held in
+      let all = rows_of ranks s choice in
+      let few = cover.few in
+      let many = ⊎_elim (λ more. inl (omega (arith, more, few))) (λ more. inr (cover_octagons rows all cover more.0, cover_overflows rows all cover more.1)) gives.1 in
+      (gives.0, (choice, member, open_held s choice items rows None stands held, many))
 
   stands_fit : (s : System R) (choice : List RowKind) → ClaimFits ranks s.claim → Stands s choice (all_asked s.asks ++ all_chosen choice)
   stands_fit s choice fits = record {

@@ -1,5 +1,5 @@
 -- Rows on the stack: what the things that a system asks for come to, as far as they could be formed.
-use Rattle.std.specs.Prelude.{◌≡◌, ◌≢◌, ◌⊎◌, ℕ, ◌<◌, ℤ, Bool, true, false, List, [], ◌∷◌, ◌++◌, length, map, All, Contains, Option, None, Some, Result, Ok, Err, IfSome, IsSomeAnd, if◌then◌else◌, ⊤}
+use Rattle.std.specs.Prelude.{◌≡◌, ◌≢◌, ◌⊎◌, ℕ, ◌<◌, ◌≤◌, ℤ, Bool, true, false, List, [], ◌∷◌, ◌++◌, length, map, All, Contains, Option, None, Some, Result, Ok, Err, IfSome, IsSomeAnd, if◌then◌else◌, ⊤}
 use Rattle.linear_cons.specs.declared.exact.Wide.{Wide}
 use Rattle.linear_cons.specs.declared.row.Row.{Row}
 use Rattle.linear_cons.specs.declared.row.RowKind.{RowKind}
@@ -7,6 +7,7 @@ use Rattle.linear_cons.specs.declared.row.RowKind.TheVariants.{Always, Never, Ro
 use Rattle.linear_cons.specs.Exact.{IsOutside}
 use Rattle.linear_cons.specs.Rows.{MeetsKind, row_kind_of}
 use Rattle.linear_cons.specs.Settling.{tells}
+use Rattle.linear_cons.specs.Tightest.{IsCovered}
 use Rattle.linear_solve.specs.Answers.{IsPointOf, MayOutgrow, MayOverflow}
 use Rattle.linear_solve.specs.Systems.{HasOpposed, IsOctagonList, IsOpposedToOne, occurring}
 use Rattle.constraint_stack.specs.declared.reason.Reason.{Reason}
@@ -64,13 +65,19 @@ AreFormed _ _ = ⊥
 abbrev pub IsMetNowhere : List Item → Type 0
 IsMetNowhere items = (store : List ℤ) → All (λ kind. MeetsKind store kind) (kinds items) → ⊥
 
--- The rows are those of the items that could be formed, none of which is never met and no two of which are opposed; and these operands are
--- the first that left 128 bits, where any did.
+-- the rows are some of them all, and imply each of these: one has its linear part and a constant that isn't greater
+pub record Cover (rows all : List Row) : Type 0 where
+  pub among : All (λ row. Contains all row) rows
+  pub covers : All (λ row. IsCovered rows row.affine) all
+  pub few : length rows ≤ length all
+
+-- The rows are of the items that could be formed, and imply the row of each of these; none of them is never met and no two of the rows are
+-- opposed; and these operands are the first that left 128 bits, where any did.
 pub record Held (items : List Item) (rows : List Row) (wide : Option Wide) : Type 0 where
   pub among : All (λ row. Contains (kinds items) (Kept row)) rows
-  pub shown : (item : Item) (row : Row) → Contains items item → IsFormed item → kind_of item ≡ Kept row → Contains rows row
+  pub shown : (item : Item) (row : Row) → Contains items item → IsFormed item → kind_of item ≡ Kept row → IsCovered rows row.affine
   pub there : (item : Item) → Contains items item → IsFormed item → kind_of item ≡ Never → ⊥
-  pub whole : wide ≡ None → (rows ≡ rows_in (kinds items)) × All (λ kind. kind ≢ Never) (kinds items)
+  pub whole : wide ≡ None → Cover rows (rows_in (kinds items)) × All (λ kind. kind ≢ Never) (kinds items)
   pub apart : HasOpposed rows → ⊥
   pub missing : (item : Item) → Contains items item → may_form item ≡ false → wide ≡ None → ⊥
   pub outside : IfSome wide (λ w. IsOutside w × (All IsFormed items → ⊥))

@@ -107,15 +107,11 @@ excludes_complement sets a rows low holds store met missed =
     omega (arith, ints)
 
 -- what rows settle of what a side's row comes to, they exclude the other side
-settled_excludes : (sets : Option (ℕ × Affine)) (a : Affine) (row : Row) (rows : List Row) (holds : Bool) → IfSome sets (λ s. s.0 < 16) → Forms (asked (moved_by sets a)) (Ok (Kept row)) → settles rows row ≡ Some holds → Excludes rows (moved_by sets (side_of a (not holds)))
+pub settled_excludes : (sets : Option (ℕ × Affine)) (a : Affine) (row : Row) (rows : List Row) (holds : Bool) → IfSome sets (λ s. s.0 < 16) → Forms (asked (moved_by sets a)) (Ok (Kept row)) → settles rows row ≡ Some holds → Excludes rows (moved_by sets (side_of a (not holds)))
 settled_excludes sets a row rows true low forms settled =
     excludes_complement sets a rows low (λ store met. subst (λ kind. MeetsKind store kind) forms.0 (settled_row_holds rows row store settled met))
 settled_excludes sets a row rows false low forms settled = λ store met here.
     settled_row_fails rows row store settled met (subst (λ kind. MeetsKind store kind) (sym forms.0) here)
-
-pub settled_excluded : (sets : Option (ℕ × Affine)) (a : Affine) (row : Row) (rows : List Row) (settled : Option Bool) → IfSome sets (λ s. s.0 < 16) → Forms (asked (moved_by sets a)) (Ok (Kept row)) → settled ≡ settles rows row → IfSome settled (λ holds. Excludes rows (moved_by sets (side_of a (not holds))))
-settled_excluded sets a row rows None low forms is = tt
-settled_excluded sets a row rows (Some holds) low forms is = settled_excludes sets a row rows holds low forms (sym is)
 
 pub always_excludes : (sets : Option (ℕ × Affine)) (a : Affine) (rows : List Row) → IfSome sets (λ s. s.0 < 16) → Forms (asked (moved_by sets a)) (Ok Always) → Excludes rows (moved_by sets (side_of a false))
 always_excludes sets a rows low forms = excludes_complement sets a rows low (λ store met. subst (λ kind. MeetsKind store kind) forms.0 tt)

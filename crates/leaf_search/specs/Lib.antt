@@ -3,3 +3,4 @@ pub mod Arcs
 pub mod Operands
 pub mod Parts
 pub mod Leaves
+pub mod Ahead

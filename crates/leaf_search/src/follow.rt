@@ -1,5 +1,5 @@
 //! The targets of a label's arcs, and of parts at the same label.
-ghost use Rattle.std.specs.Prelude.{◌≡◌, ◌++◌, ◌∷◌, [], ◌<◌, List, true, false, IfOk, OnOk, IfSome, map};
+ghost use Rattle.std.specs.Prelude.{◌≡◌, ◌++◌, ◌∷◌, [], ◌<◌, List, Some, None, true, false, IfOk, OnOk, IfSome, map};
 ghost use Rattle.decision_tree.specs.Plans.{plan_of};
 ghost use Rattle.tree_support.specs.Arcs.{above_end, below_end, putting, rows_given, testing, arcs_of, outcome_arcs, value_arcs};
 ghost use Rattle.constraint_stack.specs.Forming.{Formed, given, minus, plus};
@@ -8,8 +8,10 @@ ghost use Rattle.linear_cons.specs.Functions.{constant_of, variable_at};
 ghost use Rattle.constraint_stack.specs.Stacks.{AreFormed, Forms, IsMetNowhere, all_asked, asked};
 ghost use Rattle.leaf_search.specs.Arcs.{over_each};
 ghost use Rattle.constraint_stack.specs.Searches.{Holds, IsLonger, IsSame, IsSearched, WhereAsked};
-ghost use Rattle.leaf_search.specs.Walks.{systems_behind};
+ghost use Rattle.leaf_search.specs.Ahead.{LieBehind, target_of};
+ghost use Rattle.leaf_search.specs.Walks.{LeadsTo, systems_behind};
 
+use crate::ahead::Ahead;
 use crate::walk::{Way, has_sixteen_places};
 use constraint_stack::{ConstraintStack, Finding};
 use control_flow::{Place, Transition};
@@ -64,16 +66,55 @@ pub fn refute_at<R: Rank>(
     }
 }
 
+/// The same, in the part of the tree to which the rows on the stack lead, where it is told.
+fn refute_part<R: Rank>(
+    trees: &[Tree<R>],
+    way: &Way<R>,
+    label: u32,
+    ahead: Option<&Tree<R>>,
+    stack: &mut ConstraintStack,
+    found: &mut Option<Finding>,
+) -> Result<bool, AllocError>
+    requires place { IfSome way.now.sets (λ s. s.0 < 16) }
+    requires ahead { IfSome ahead (λ part.
+        LeadsTo stack.old.rows way.now.sets (trees_in (map plan_of trees.now) label) (plan_of part.now)) }
+    ensures same { OnOk result (IsSame stack.old stack.new) }
+    ensures searched { IfOk result (λ refuted. WhereAsked stack.old (λ asks.
+        IsSearched R.Rank.own (systems_behind way.now.edge way.now.sets way.now.limit (trees_in (map plan_of trees.now) label) asks)
+        refuted found.new)) }
+{
+    match ahead {
+        Some(part) => {
+            let refuted = way.refute_tree(part, stack, found)?;
+            Ok(refuted)
+        }
+        None => {
+            let refuted = refute_at(trees, way, label, stack, found)?;
+            Ok(refuted)
+        }
+    }
+}
+
+/// That no part of any of the trees is told.
+pub(crate) fn untold<'a, R: Rank>(_trees: &'a [Tree<R>]) -> Option<&'a Tree<R>>
+    ensures { result ≡ None }
+{
+    None
+}
+
 /// Looks for a reason against the systems of an arc that asks for the rows.
 fn refute_behind<R: Rank>(
     rows: &[Row],
     trees: &[Tree<R>],
     way: &Way<R>,
     label: u32,
+    ahead: Option<&Tree<R>>,
     stack: &mut ConstraintStack,
     found: &mut Option<Finding>,
 ) -> Result<bool, AllocError>
-    requires { IfSome way.now.sets (λ s. s.0 < 16) }
+    requires place { IfSome way.now.sets (λ s. s.0 < 16) }
+    requires ahead { IfSome ahead (λ part.
+        LeadsTo stack.old.rows way.now.sets (trees_in (map plan_of trees.now) label) (plan_of part.now)) }
     ensures same { OnOk result (IsSame stack.old stack.new) }
     ensures searched { IfOk result (λ refuted. WhereAsked stack.old (λ asks.
         IsSearched R.Rank.own (systems_behind way.now.edge way.now.sets way.now.limit (trees_in (map plan_of trees.now) label)
@@ -84,7 +125,7 @@ fn refute_behind<R: Rank>(
         stack.restore(checkpoint);
         return Ok(false);
     }
-    let refuted = refute_at(trees, way, label, stack, found)?;
+    let refuted = refute_part(trees, way, label, ahead, stack, found)?;
     stack.restore(checkpoint);
     Ok(refuted)
 }
@@ -96,9 +137,12 @@ fn refute_each<R: Rank>(
     limit: Option<R>,
     edge: u32,
     label: u32,
+    ahead: Option<&Tree<R>>,
     stack: &mut ConstraintStack,
     found: &mut Option<Finding>,
 ) -> Result<bool, AllocError>
+    requires ahead { IfSome ahead (λ part.
+        LeadsTo stack.old.rows None (trees_in (map plan_of trees.now) label) (plan_of part.now)) }
     ensures same { OnOk result (IsSame stack.old stack.new) }
     ensures searched { IfOk result (λ refuted. WhereAsked stack.old (λ asks.
         IsSearched R.Rank.own (over_each (trees_in (map plan_of trees.now)) limit (testing edge label conjunctions.now) asks)
@@ -110,7 +154,7 @@ fn refute_each<R: Rank>(
         limit,
     };
     for rows in conjunctions {
-        if refute_behind(rows.items(), trees, &way, label, stack, found)? {
+        if refute_behind(rows.items(), trees, &way, label, ahead, stack, found)? {
             return Ok(true);
         }
     }
@@ -226,14 +270,16 @@ fn below_function(function: &Affine, hi: i128) -> Result<RowKind, Wide>
 }
 
 /// Looks for a reason against the systems of the transition's arcs, behind the rows on the stack: a leaf of a target that is undefined, or
-/// whose rank isn't less. False where no store meets any of them. The error is want of memory.
+/// whose rank isn't less. The trees ahead are those among the targets to which the rows lead. False where no store meets any of them. The error is want of memory.
 pub fn refute_arcs<R: Rank>(
     transition: &Transition,
     trees: &[Tree<R>],
     limit: Option<R>,
+    ahead: &Ahead<'_, R>,
     stack: &mut ConstraintStack,
     found: &mut Option<Finding>,
 ) -> Result<bool, AllocError>
+    requires { LieBehind transition.now (trees_in (map plan_of trees.now)) stack.old.rows ahead.now }
     ensures same { OnOk result (IsSame stack.old stack.new) }
     ensures searched { IfOk result (λ refuted. WhereAsked stack.old (λ asks.
         IsSearched R.Rank.own (over_each (trees_in (map plan_of trees.now)) limit (arcs_of transition.now) asks)
@@ -241,10 +287,10 @@ pub fn refute_arcs<R: Rank>(
 {
     match transition {
         Transition::Dead => Ok(false),
-        Transition::End => refute_assigned(None, trees, limit, 0, stack, found),
-        Transition::Pass { to } => refute_assigned(None, trees, limit, *to, stack, found),
+        Transition::End => refute_assigned(None, trees, limit, 0, ahead.first, stack, found),
+        Transition::Pass { to } => refute_assigned(None, trees, limit, *to, ahead.first, stack, found),
         Transition::Assign { place, value, to } => {
-            refute_put(*place, value, trees, limit, *to, stack, found)
+            refute_put(*place, value, trees, limit, *to, ahead.first, stack, found)
         }
         Transition::Choose {
             place,
@@ -261,10 +307,10 @@ pub fn refute_arcs<R: Rank>(
             Ok(refuted)
         }
         Transition::Test { .. } => {
-            if refute_outcome(transition, true, trees, limit, stack, found)? {
+            if refute_outcome(transition, true, trees, limit, ahead.first, stack, found)? {
                 return Ok(true);
             }
-            let refuted = refute_outcome(transition, false, trees, limit, stack, found)?;
+            let refuted = refute_outcome(transition, false, trees, limit, ahead.second, stack, found)?;
             Ok(refuted)
         }
     }
@@ -276,9 +322,12 @@ pub fn refute_outcome<R: Rank>(
     outcome: bool,
     trees: &[Tree<R>],
     limit: Option<R>,
+    ahead: Option<&Tree<R>>,
     stack: &mut ConstraintStack,
     found: &mut Option<Finding>,
 ) -> Result<bool, AllocError>
+    requires ahead { IfSome ahead (λ part.
+        LeadsTo stack.old.rows None (trees_in (map plan_of trees.now) (target_of transition.now outcome)) (plan_of part.now)) }
     ensures same { OnOk result (IsSame stack.old stack.new) }
     ensures searched { IfOk result (λ refuted. WhereAsked stack.old (λ asks.
         IsSearched R.Rank.own (over_each (trees_in (map plan_of trees.now)) limit (outcome_arcs transition.now outcome) asks)
@@ -295,10 +344,10 @@ pub fn refute_outcome<R: Rank>(
         return Ok(false);
     };
     if outcome {
-        let refuted = refute_each(holds, trees, limit, 0, *yes, stack, found)?;
+        let refuted = refute_each(holds, trees, limit, 0, *yes, ahead, stack, found)?;
         return Ok(refuted);
     }
-    let refuted = refute_each(fails, trees, limit, 1, *no, stack, found)?;
+    let refuted = refute_each(fails, trees, limit, 1, *no, ahead, stack, found)?;
     Ok(refuted)
 }
 
@@ -322,11 +371,11 @@ pub fn refute_value<R: Rank>(
             value: _,
             to,
         } => {
-            let refuted = refute_put(*place, value, trees, limit, *to, stack, found)?;
+            let refuted = refute_put(*place, value, trees, limit, *to, untold(trees), stack, found)?;
             Ok(refuted)
         }
         Transition::Choose { place, to, .. } => {
-            let refuted = refute_put(*place, value, trees, limit, *to, stack, found)?;
+            let refuted = refute_put(*place, value, trees, limit, *to, untold(trees), stack, found)?;
             Ok(refuted)
         }
         Transition::End | Transition::Dead | Transition::Pass { .. } | Transition::Test { .. } =>
@@ -341,16 +390,19 @@ fn refute_put<R: Rank>(
     trees: &[Tree<R>],
     limit: Option<R>,
     label: u32,
+    ahead: Option<&Tree<R>>,
     stack: &mut ConstraintStack,
     found: &mut Option<Finding>,
 ) -> Result<bool, AllocError>
+    requires ahead { IfSome ahead (λ part.
+        LeadsTo stack.old.rows (Some (place.number, value.now)) (trees_in (map plan_of trees.now) label) (plan_of part.now)) }
     ensures same { OnOk result (IsSame stack.old stack.new) }
     ensures searched { IfOk result (λ refuted. WhereAsked stack.old (λ asks.
         IsSearched R.Rank.own (over_each (trees_in (map plan_of trees.now)) limit (putting place.number label value.now ∷ []) asks)
         refuted found.new)) }
 {
     let sets = Some((place.number, *value));
-    let refuted = refute_assigned(sets, trees, limit, label, stack, found)?;
+    let refuted = refute_assigned(sets, trees, limit, label, ahead, stack, found)?;
     Ok(refuted)
 }
 
@@ -360,10 +412,13 @@ fn refute_assigned<R: Rank>(
     trees: &[Tree<R>],
     limit: Option<R>,
     label: u32,
+    ahead: Option<&Tree<R>>,
     stack: &mut ConstraintStack,
     found: &mut Option<Finding>,
 ) -> Result<bool, AllocError>
-    requires { IfSome sets (λ s. s.0 < 16) }
+    requires place { IfSome sets (λ s. s.0 < 16) }
+    requires ahead { IfSome ahead (λ part.
+        LeadsTo stack.old.rows sets (trees_in (map plan_of trees.now) label) (plan_of part.now)) }
     ensures same { OnOk result (IsSame stack.old stack.new) }
     ensures searched { IfOk result (λ refuted. WhereAsked stack.old (λ asks.
         IsSearched R.Rank.own (over_each (trees_in (map plan_of trees.now)) limit
@@ -374,6 +429,6 @@ fn refute_assigned<R: Rank>(
         sets,
         limit,
     };
-    let refuted = refute_at(trees, &way, label, stack, found)?;
+    let refuted = refute_part(trees, &way, label, ahead, stack, found)?;
     Ok(refuted)
 }

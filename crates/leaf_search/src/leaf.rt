@@ -1,5 +1,5 @@
 //! One leaf of a family, by its why.
-ghost use Rattle.std.specs.Prelude.{◌∷◌, ◌++◌, [], IfOk, OnOk, map};
+ghost use Rattle.std.specs.Prelude.{◌∷◌, ◌++◌, [], None, IfOk, IfSome, OnOk, map};
 ghost use Rattle.linear_cons.specs.Functions.{complement_of};
 ghost use Rattle.decision_tree.specs.Plans.{leaf, plan_of};
 ghost use Rattle.constraint_stack.specs.Forming.{Formed, given};
@@ -8,9 +8,12 @@ ghost use Rattle.tree_support.specs.Systems.{of_atom, of_both, of_end, of_keep, 
 ghost use Rattle.constraint_stack.specs.Claims.{unnatural};
 ghost use Rattle.constraint_stack.specs.Stacks.{Forms, IsTried, all_asked, asked};
 ghost use Rattle.constraint_stack.specs.Searches.{IsClaimFormed, IsSame, IsSearched, WhereAsked};
+ghost use Rattle.leaf_search.specs.Ahead.{IsAhead};
 ghost use Rattle.leaf_search.specs.Operands.{families_of};
 ghost use Rattle.leaf_search.specs.Leaves.{WhereStood};
+ghost use Rattle.leaf_search.specs.Walks.{LeadsTo};
 
+use crate::ahead::{Ahead, here};
 use crate::follow::refute_at;
 use crate::part::Part;
 use crate::walk::Way;
@@ -36,16 +39,18 @@ pub struct Stand<'a, R: Rank> {
 }
 
 impl<'a, R: Rank> Stand<'a, R> {
-    /// Looks for a reason against the systems of a defined leaf, behind the rows of its region on the stack. False where no store meets any of
+    /// Looks for a reason against the systems of a defined leaf, behind the rows of its region on the stack, which have led to the trees ahead. False where no store meets any of
     /// them. The error is want of memory.
     #[inline(never)]
     pub fn refute_leaf(
         &self,
         why: &Why,
         rank: &R,
+        ahead: &Ahead<'a, R>,
         stack: &mut ConstraintStack,
         found: &mut Option<Finding>,
     ) -> Result<bool, AllocError>
+        requires { IsAhead self.now stack.old.rows ahead.now }
         ensures same { OnOk result (IsSame stack.old stack.new) }
         ensures searched { IfOk result (λ refuted. WhereStood self.now (λ at. WhereAsked stack.old (λ asks.
             IsSearched R.Rank.own (of_leaf at (leaf why.now rank.now) (trees_in (map plan_of self.now.family.now)) self.now.label asks)
@@ -54,7 +59,7 @@ impl<'a, R: Rank> Stand<'a, R> {
         if self.refute_bound(rank, stack, found)? {
             return Ok(true);
         }
-        let refuted = self.refute_why(why, rank, stack, found)?;
+        let refuted = self.refute_why(why, rank, ahead, stack, found)?;
         Ok(refuted)
     }
 
@@ -81,9 +86,11 @@ impl<'a, R: Rank> Stand<'a, R> {
         &self,
         why: &Why,
         rank: &R,
+        ahead: &Ahead<'a, R>,
         stack: &mut ConstraintStack,
         found: &mut Option<Finding>,
     ) -> Result<bool, AllocError>
+        requires { IsAhead self.now stack.old.rows ahead.now }
         ensures same { OnOk result (IsSame stack.old stack.new) }
         ensures searched { IfOk result (λ refuted. WhereStood self.now (λ at. WhereAsked stack.old (λ asks.
             IsSearched R.Rank.own (of_why at why.now (trees_in (map plan_of self.now.family.now)) rank.now self.now.label asks)
@@ -119,10 +126,10 @@ impl<'a, R: Rank> Stand<'a, R> {
                 Ok(refuted)
             }
             Why::Step(pick) => {
-                if self.refute_kept(stack, found)? {
+                if self.refute_kept(ahead.kept, stack, found)? {
                     return Ok(true);
                 }
-                let refuted = self.refute_pick(pick, rank, stack, found)?;
+                let refuted = self.refute_pick(pick, rank, ahead, stack, found)?;
                 Ok(refuted)
             }
         }
@@ -235,18 +242,46 @@ impl<'a, R: Rank> Stand<'a, R> {
     /// What an until is to keep holds before a step.
     fn refute_kept(
         &self,
+        ahead: Option<&Tree<R>>,
         stack: &mut ConstraintStack,
         found: &mut Option<Finding>,
     ) -> Result<bool, AllocError>
+        requires { IfSome ahead (λ part.
+            LeadsTo stack.old.rows None (families_of self.now.parts.now 0 self.now.label) (plan_of part.now)) }
         ensures same { OnOk result (IsSame stack.old stack.new) }
         ensures searched { IfOk result (λ refuted. WhereStood self.now (λ at. WhereAsked stack.old (λ asks.
             IsSearched R.Rank.own (of_keep at at.formula self.now.label asks) refuted found.new))) }
     {
         if self.part.keeps() {
-            let refuted = refute_part(self.parts, 0, self.label, stack, found)?;
+            let refuted = self.refute_first(ahead, stack, found)?;
             return Ok(refuted);
         }
         Ok(false)
+    }
+
+    /// Looks for a reason against the undefined leaves of the first operand's tree at the label, in the part of it to which the rows on the stack lead, where it is told.
+    fn refute_first(
+        &self,
+        ahead: Option<&Tree<R>>,
+        stack: &mut ConstraintStack,
+        found: &mut Option<Finding>,
+    ) -> Result<bool, AllocError>
+        requires { IfSome ahead (λ part.
+            LeadsTo stack.old.rows None (families_of self.now.parts.now 0 self.now.label) (plan_of part.now)) }
+        ensures same { OnOk result (IsSame stack.old stack.new) }
+        ensures searched { IfOk result (λ refuted. WhereAsked stack.old (λ asks.
+            IsSearched R.Rank.own (undefined_at (families_of self.now.parts.now 0 self.now.label) asks) refuted found.new)) }
+    {
+        match ahead {
+            Some(part) => {
+                let refuted = here().refute_tree(part, stack, found)?;
+                Ok(refuted)
+            }
+            None => {
+                let refuted = refute_part(self.parts, 0, self.label, stack, found)?;
+                Ok(refuted)
+            }
+        }
     }
 }
 

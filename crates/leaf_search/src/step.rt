@@ -1,5 +1,5 @@
 //! A step of a leaf, by its pick.
-ghost use Rattle.std.specs.Prelude.{◌≡◌, List, pos, IfOk, OnOk, map};
+ghost use Rattle.std.specs.Prelude.{◌≡◌, List, pos, IfOk, IfSome, OnOk, map};
 ghost use Rattle.linear_cons.specs.Functions.{constant_of};
 ghost use Rattle.decision_tree.specs.Plans.{plan_of};
 ghost use Rattle.tree_support.specs.Arcs.{Arc};
@@ -8,10 +8,12 @@ ghost use Rattle.tree_support.specs.Setting.{trees_in};
 ghost use Rattle.tree_support.specs.Systems.{of_arcs, of_outcome, of_pick, of_value};
 ghost use Rattle.constraint_stack.specs.Stacks.{Forms, asked};
 ghost use Rattle.constraint_stack.specs.Searches.{IsSame, IsSearched, WhereAsked};
+ghost use Rattle.leaf_search.specs.Ahead.{IsAhead, aims};
 ghost use Rattle.leaf_search.specs.Operands.{families_of};
 ghost use Rattle.leaf_search.specs.Leaves.{IsPastTried, WhereStood, above_ends, below_ends, over_targets, where_some};
 
-use crate::follow::{refute_arcs, refute_outcome, refute_value};
+use crate::ahead::Ahead;
+use crate::follow::{refute_arcs, refute_outcome, refute_value, untold};
 use crate::leaf::{Stand, refute_plain, refute_with};
 use crate::part::Part;
 use constraint_stack::{ConstraintStack, Finding};
@@ -31,8 +33,9 @@ impl<'a, R: Rank> Stand<'a, R> {
     /// Where a step leads: a next to the trees of its operand, an until to the family itself, with a rank that is less, and a weak until to
     /// the family itself. A step stands for nothing else.
     fn targets(&self, rank: &R) -> Option<Targets<'a, R>>
-        ensures { WhereStood self.now (λ at. (arcs : List Arc) (asks : List Formed)
+        ensures over { WhereStood self.now (λ at. (arcs : List Arc) (asks : List Formed)
             → of_arcs at at.formula (trees_in (map plan_of self.now.family.now)) rank.now arcs asks ≡ over_targets result arcs asks) }
+        ensures aims { IfSome result (λ to. trees_in (map plan_of to.trees.now) ≡ aims self.now) }
     {
         match self.part {
             Part::Next { all: _ } => Some(Targets {
@@ -52,7 +55,7 @@ impl<'a, R: Rank> Stand<'a, R> {
     }
 
     /// The trees of a next's operand; past the last operand there are none.
-    fn operand(&self) -> &'a [Tree<R>]
+    pub(crate) fn operand(&self) -> &'a [Tree<R>]
         ensures { trees_in (map plan_of result.now) ≡ families_of self.now.parts.now 0 }
     {
         match self.parts.first() {
@@ -66,9 +69,11 @@ impl<'a, R: Rank> Stand<'a, R> {
         &self,
         pick: &Pick,
         rank: &R,
+        ahead: &Ahead<'a, R>,
         stack: &mut ConstraintStack,
         found: &mut Option<Finding>,
     ) -> Result<bool, AllocError>
+        requires { IsAhead self.now stack.old.rows ahead.now }
         ensures same { OnOk result (IsSame stack.old stack.new) }
         ensures searched { IfOk result (λ refuted. WhereStood self.now (λ at. WhereAsked stack.old (λ asks.
             IsSearched R.Rank.own (of_pick at pick.now (trees_in (map plan_of self.now.family.now)) rank.now self.now.label asks)
@@ -76,7 +81,7 @@ impl<'a, R: Rank> Stand<'a, R> {
     {
         match pick {
             Pick::All => {
-                let refuted = self.refute_arcs(rank, stack, found)?;
+                let refuted = self.refute_arcs(rank, ahead, stack, found)?;
                 Ok(refuted)
             }
             Pick::Yes => {
@@ -98,9 +103,11 @@ impl<'a, R: Rank> Stand<'a, R> {
     fn refute_arcs(
         &self,
         rank: &R,
+        ahead: &Ahead<'a, R>,
         stack: &mut ConstraintStack,
         found: &mut Option<Finding>,
     ) -> Result<bool, AllocError>
+        requires { IsAhead self.now stack.old.rows ahead.now }
         ensures same { OnOk result (IsSame stack.old stack.new) }
         ensures searched { IfOk result (λ refuted. WhereStood self.now (λ at. WhereAsked stack.old (λ asks.
             IsSearched R.Rank.own (of_arcs at at.formula (trees_in (map plan_of self.now.family.now)) rank.now (at.flow.arcs self.now.label) asks)
@@ -108,7 +115,14 @@ impl<'a, R: Rank> Stand<'a, R> {
     {
         match self.targets(rank) {
             Some(to) => {
-                let refuted = refute_arcs(self.transition, to.trees, to.limit, stack, found)?;
+                let refuted = refute_arcs(
+                    self.transition,
+                    to.trees,
+                    to.limit,
+                    ahead,
+                    stack,
+                    found,
+                )?;
                 Ok(refuted)
             }
             None => {
@@ -168,6 +182,7 @@ impl<'a, R: Rank> Stand<'a, R> {
                     outcome,
                     to.trees,
                     to.limit,
+                    untold(to.trees),
                     stack,
                     found,
                 )?;

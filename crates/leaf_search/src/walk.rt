@@ -1,5 +1,5 @@
 //! The walk over the leaves of another tree.
-ghost use Rattle.std.specs.Prelude.{◌≡◌, ◌++◌, ◌∷◌, ◌<◌, [], true, false, not, None, All, IfOk, OnOk, IfSome, length};
+ghost use Rattle.std.specs.Prelude.{◌≡◌, ◌++◌, ◌∷◌, ◌<◌, [], true, false, None, All, IfOk, OnOk, IfSome, length};
 ghost use Rattle.linear_cons.specs.Functions.{complement_of};
 ghost use Rattle.decision_tree.specs.Plans.{leaf, plan_of};
 ghost use Rattle.decision_tree.specs.declared.reason.Why.{Why};
@@ -7,7 +7,7 @@ ghost use Rattle.constraint_stack.specs.Claims.{HasNoStore, exceeding};
 ghost use Rattle.tree_support.specs.Systems.{moved_by};
 ghost use Rattle.constraint_stack.specs.Stacks.{Forms, IsMetNowhere, all_asked, asked};
 ghost use Rattle.constraint_stack.specs.Searches.{Holds, IsClaimFormed, IsLonger, IsSame, IsSearched, WhereAsked};
-ghost use Rattle.leaf_search.specs.Walks.{Excludes, IsKept, WhereAmong, ending, side_of, systems_behind};
+ghost use Rattle.leaf_search.specs.Walks.{IsKept, IsSettled, LeadsTo, WhereAmong, ending, side_of, systems_behind};
 
 use constraint_stack::{ConstraintStack, Finding, try_claim};
 use decision_tree::{Alternatives, Rank, Tree};
@@ -24,8 +24,7 @@ pub struct Way<R: Rank> {
 }
 
 impl<R: Rank> Way<R> {
-    /// Looks for a reason against the systems of the tree's leaves, behind the rows on the stack. Where ranks may be any, it first looks whether
-    /// the rows on the stack leave any of them, for which no row is added.
+    /// Looks for a reason against the systems of the tree's leaves, behind the rows on the stack. No row is added that these settle.
     pub(crate) fn refute_tree(
         &self,
         tree: &Tree<R>,
@@ -37,6 +36,27 @@ impl<R: Rank> Way<R> {
         ensures searched { IfOk result (λ refuted. WhereAsked stack.old (λ asks.
             IsSearched R.Rank.own (systems_behind self.now.edge self.now.sets self.now.limit (plan_of tree.now) asks) refuted found.new)) }
     {
+        let part = self.led(tree, stack);
+        let refuted = self.refute_part(part, stack, found)?;
+        Ok(refuted)
+    }
+
+    /// The same. Where ranks may be any, it first looks whether the rows on the stack leave any of the leaves, for which no row is added. A single leaf needs
+    /// no walk.
+    fn refute_part(
+        &self,
+        tree: &Tree<R>,
+        stack: &mut ConstraintStack,
+        found: &mut Option<Finding>,
+    ) -> Result<bool, AllocError>
+        requires { IfSome self.now.sets (λ s. s.0 < 16) }
+        ensures same { OnOk result (IsSame stack.old stack.new) }
+        ensures searched { IfOk result (λ refuted. WhereAsked stack.old (λ asks.
+            IsSearched R.Rank.own (systems_behind self.now.edge self.now.sets self.now.limit (plan_of tree.now) asks) refuted found.new)) }
+    {
+        if let Tree::Leaf { why: _, rank } = tree {
+            return self.refute_less(rank, stack, found);
+        }
         if self.limit.is_none() && self.is_clear(tree, stack) {
             return Ok(false);
         }
@@ -44,9 +64,8 @@ impl<R: Rank> Way<R> {
         Ok(refuted)
     }
 
-    /// The same by a walk, which adds the rows on the way to a leaf.
+    /// The same by a walk, which adds those of the rows on the way to a leaf that aren't settled.
     #[cycle(walk)]
-    #[inline(always)]
     fn refute(
         &self,
         tree: &Tree<R>,
@@ -59,13 +78,23 @@ impl<R: Rank> Way<R> {
             IsSearched R.Rank.own (systems_behind self.now.edge self.now.sets self.now.limit (plan_of tree.now) asks) refuted found.new)) }
     {
         match tree {
-            Tree::Node { row, yes, no } => {
-                if self.refute_behind(row, true, yes, stack, found)? {
-                    return Ok(true);
+            Tree::Node { row, yes, no } => match self.settled(row, stack) {
+                Some(true) => {
+                    let refuted = self.refute(yes, stack, found)?;
+                    Ok(refuted)
                 }
-                let refuted = self.refute_behind(row, false, no, stack, found)?;
-                Ok(refuted)
-            }
+                Some(false) => {
+                    let refuted = self.refute(no, stack, found)?;
+                    Ok(refuted)
+                }
+                None => {
+                    if self.refute_behind(row, true, yes, stack, found)? {
+                        return Ok(true);
+                    }
+                    let refuted = self.refute_behind(row, false, no, stack, found)?;
+                    Ok(refuted)
+                }
+            },
             Tree::Leaf { why: _, rank } => self.refute_less(rank, stack, found),
             Tree::Bottom | Tree::Top(_) => {
                 let refuted = stack.check(self.edge, found)?;
@@ -173,9 +202,26 @@ impl<R: Rank> Way<R> {
         }
     }
 
+    /// The part of the tree to which the rows on the stack lead.
+    #[inline(never)]
+    pub(crate) fn led<'t>(&self, tree: &'t Tree<R>, stack: &ConstraintStack) -> &'t Tree<R>
+        requires { IfSome self.now.sets (λ s. s.0 < 16) }
+        ensures { LeadsTo stack.now.rows self.now.sets (plan_of tree.now) (plan_of result.now) }
+    {
+        let mut part = tree;
+        while let Tree::Node { row, yes, no } = part {
+            match self.settled(row, stack) {
+                Some(true) => part = yes,
+                Some(false) => part = no,
+                None => return part,
+            }
+        }
+        part
+    }
+
     /// Whether it is seen, without a row added to those on the stack, that no store meets a system of the tree's leaves behind them: each leaf is
     /// defined, or the rows on the stack settle a row before it against it. It speaks of leaves whose rank may be any.
-    pub(crate) fn is_clear(&self, tree: &Tree<R>, stack: &ConstraintStack) -> bool
+    fn is_clear(&self, tree: &Tree<R>, stack: &ConstraintStack) -> bool
         requires { IfSome self.now.sets (λ s. s.0 < 16) }
         ensures { result ≡ true → WhereAmong stack.now.rows (λ asks.
             All (HasNoStore R.Rank.own) (systems_behind self.now.edge self.now.sets None (plan_of tree.now) asks)) }
@@ -191,11 +237,11 @@ impl<R: Rank> Way<R> {
         }
     }
 
-    /// The side of a row, moved back, to which all stores go that meet the rows on the stack, where these settle it.
+    /// The side of a row, moved back, which the rows on the stack imply, where they exclude the other.
     #[inline(never)]
     fn settled(&self, row: &Row, stack: &ConstraintStack) -> Option<bool>
         requires { IfSome self.now.sets (λ s. s.0 < 16) }
-        ensures { IfSome result (λ holds. Excludes stack.now.rows (moved_by self.now.sets (side_of row.now.affine (not holds)))) }
+        ensures { IfSome result (λ holds. IsSettled stack.now.rows self.now.sets row.now.affine holds) }
     {
         if self.keeps(row) {
             return stack.settles(row);

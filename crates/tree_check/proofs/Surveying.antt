@@ -1,5 +1,5 @@
 -- The leaves of a label's tree, one after the other.
-use Rattle.std.proofs.Common.{◌≡◌, ◌≢◌, ◌⊎◌, ℕ, zero, suc, ◌+◌, ◌-◌, ◌<◌, ◌≤◌, inl, inr, Bool, true, false, nat_lt, List, [], ◌∷◌, ◌++◌, length, map, get_or, All, AllPairs, Option, None, refl, sym, ap, subst, ◌∙◌, arith}
+use Rattle.std.proofs.Common.{◌≡◌, ◌≢◌, ◌⊎◌, ℕ, zero, suc, ◌+◌, ◌-◌, ◌<◌, ◌≤◌, inl, inr, Bool, true, false, nat_lt, List, [], ◌∷◌, ◌++◌, length, map, take, get_or, All, AllPairs, Option, None, refl, sym, ap, subst, ◌∙◌, arith}
 use Rattle.std.proofs.lemmas.Bool.{cases_lt, le-ltb, lt-ltb}
 use Rattle.std.proofs.lemmas.List.{append_assoc, append-nil, length-append, nil_from_length}
 use Rattle.std.proofs.lemmas.List.Elements.{All-append, All-nil, All-tail, All-weaker}
@@ -27,6 +27,11 @@ use Rattle.tree_check.specs.declared.survey.Refuted.{Refuted}
 use Rattle.tree_check.specs.declared.survey.Span.{Span}
 use Rattle.tree_check.specs.Surveys.{AreApart, IsAside, IsFound, IsFoundWithin, IsReviewed, IsBeyond, IsSurveyed, LooksOn, systems_within}
 use Rattle.tree_support.proofs.Lists.{all_first, all_left, all_one, all_right}
+use Rattle.leaf_search.specs.Ahead.{IsAhead, aims, put_by, target_of}
+use Rattle.leaf_search.specs.declared.ahead.Ahead.{Ahead}
+use Rattle.leaf_search.specs.declared.leaf.Stand.{Stand}
+use Rattle.leaf_search.specs.Operands.{families_of}
+use Rattle.leaf_search.proofs.Leading.{told_longer}
 use Rattle.leaf_search.specs.Walks.{side_of}
 use Rattle.tree_support.proofs.Nowhere.{leaf_nowhere}
 use Rattle.leaf_search.proofs.Following.{nowhere_more}
@@ -304,7 +309,7 @@ held_empty rows wide empty none =
       among = λ k d low. absurd (omega arith);
       shown = λ item row member. absurd (let low = member.1 in omega arith);
       there = λ item member. absurd (let low = member.1 in omega arith);
-      whole = λ is. (refl, λ k d low. absurd (omega arith));
+      whole = λ is. (record { among = λ k d low. absurd (omega arith); covers = λ k d low. absurd (omega arith); few = omega arith }, λ k d low. absurd (omega arith));
       apart = λ two. absurd (let low = two.row_in.1 in omega arith);
       missing = λ item member. absurd (let low = member.1 in omega arith);
       outside = tt;
@@ -315,3 +320,16 @@ pub tree_at : {R : Type 0} (trees : List (Tree R)) (label : ℕ) (tree : Tree R)
 tree_at [] label tree low is = absurd (omega (arith, low))
 tree_at (first ∷ trees) zero tree low is = ap plan_of (sym is)
 tree_at (first ∷ trees) (suc label) tree low is = tree_at trees label tree (omega (arith, low)) is
+
+-- ---- the trees ahead
+
+module _ {R : Type 0} (stand : Stand R) (ahead : Ahead R) where
+  -- where rows lead, more rows lead
+  pub ahead_longer : (old new : List Row) → take (length old) new ≡ old → IsAhead stand old ahead → IsAhead stand new ahead
+  ahead_longer old new longer is = record {
+    kept = told_longer (λ part. plan_of part.now) None (families_of stand.parts.now 0 stand.label) old new ahead.kept longer is.kept;
+    behind = record {
+      first = told_longer (λ part. plan_of part.now) (put_by stand.transition.now) (aims stand (target_of stand.transition.now true)) old new ahead.first longer is.behind.first;
+      second = told_longer (λ part. plan_of part.now) (put_by stand.transition.now) (aims stand (target_of stand.transition.now false)) old new ahead.second longer is.behind.second;
+    };
+  }

@@ -4,6 +4,7 @@ ghost use Rattle.decision_tree.specs.Plans.{leaf, leaves_of, plan_of};
 ghost use Rattle.constraint_stack.specs.Forming.{Formed, given};
 ghost use Rattle.tree_support.specs.Setting.{trees_in};
 ghost use Rattle.constraint_stack.specs.Stacks.{IsMetNowhere, all_asked};
+ghost use Rattle.leaf_search.specs.Ahead.{IsAhead};
 ghost use Rattle.leaf_search.specs.Leaves.{WhereStood};
 ghost use Rattle.constraint_stack.specs.Searches.{Holds, IsLonger, IsSame, WhereAsked};
 ghost use Rattle.tree_check.specs.Surveys.{IsReviewed, IsSurveyed, LooksOn};
@@ -11,7 +12,7 @@ ghost use Rattle.leaf_search.specs.Walks.{side_of};
 
 use constraint_stack::{ConstraintStack, Finding};
 use decision_tree::{Rank, Tree, Why};
-use leaf_search::{Stand, UNEDGED, Way, add_rows};
+use leaf_search::{Ahead, Stand, UNEDGED, Way, add_rows};
 use linear_cons::Row;
 use std::alloc::{AllocError, Global};
 
@@ -31,14 +32,15 @@ pub(crate) struct Span {
     pub(crate) narrows: bool,
 }
 
-/// How far a survey came: how many leaves it passed, the rows on the stack before the next, those in the second stack where it is narrowed, and the
-/// leaves with a reason against them. One thing, so that a call of the walk takes little of the stack.
+/// How far a survey came: how many leaves it passed, the rows on the stack before the next, those in the second stack where it is narrowed, the
+/// leaves with a reason against them, and how far the rows on the stack have led into the trees ahead. One thing, so that a call of the walk takes little of the stack.
 #[derive(Drop)]
-struct Progress {
+struct Progress<'a, R: Rank> {
     passed: u64,
     stack: ConstraintStack,
     narrow: ConstraintStack,
     refuted: Vec<Refuted>,
+    ahead: Ahead<'a, R>,
 }
 
 /// A survey of the leaves of a label's tree.
@@ -74,7 +76,12 @@ impl<'a, R: Rank> Survey<'a, R> {
             stack,
             narrow,
             refuted,
+            ahead: self.stand.ahead(),
         };
+        if let Tree::Leaf { why, rank } = tree {
+            self.refute_leaf(why, rank, &mut progress)?;
+            return Ok(progress.refuted);
+        }
         self.refute(tree, &mut progress)?;
         Ok(progress.refuted)
     }
@@ -82,10 +89,12 @@ impl<'a, R: Rank> Survey<'a, R> {
     /// Lists the leaves of the tree with a reason against them, behind the rows on the stack, and counts the leaves that it passes.
     #[cycle(survey)]
     #[inline(always)]
-    fn refute(&self, tree: &Tree<R>, progress: &mut Progress) -> Result<(), AllocError>
+    fn refute(&self, tree: &Tree<R>, progress: &mut Progress<'a, R>) -> Result<(), AllocError>
         requires few { progress.old.passed + leaves_of (plan_of tree.now) < 2 ^ 64 - 1 }
+        requires ahead { IsAhead self.now.stand progress.old.stack.rows progress.old.ahead }
         ensures same { OnOk result (IsSame progress.old.stack progress.new.stack) }
         ensures narrow { OnOk result (IsSame progress.old.narrow progress.new.narrow) }
+        ensures ahead { OnOk result (progress.new.ahead ≡ progress.old.ahead) }
         ensures passed { OnOk result (progress.new.passed ≡ progress.old.passed + leaves_of (plan_of tree.now)) }
         ensures surveyed { OnOk result (WhereStood self.now.stand (λ at.
             WhereAsked progress.old.stack (λ asks. WhereAsked progress.old.narrow (λ within.
@@ -99,14 +108,7 @@ impl<'a, R: Rank> Survey<'a, R> {
                 Ok(())
             }
             Tree::Leaf { why, rank } => {
-                let number = progress.passed;
-                self.refute_leaf(
-                    why,
-                    rank,
-                    number,
-                    &mut progress.stack,
-                    &mut progress.refuted,
-                )?;
+                self.refute_leaf(why, rank, progress)?;
                 progress.passed += 1;
                 Ok(())
             }
@@ -117,39 +119,45 @@ impl<'a, R: Rank> Survey<'a, R> {
         }
     }
 
-    /// Looks for a reason against a defined leaf with the number, if it is one of those that are looked at.
+    /// Looks for a reason against a defined leaf, if it is one of those that are looked at.
     #[inline(never)]
     fn refute_leaf(
         &self,
         why: &Why,
         rank: &R,
-        number: u64,
-        stack: &mut ConstraintStack,
-        refuted: &mut Vec<Refuted>,
+        progress: &mut Progress<'a, R>,
     ) -> Result<(), AllocError>
-        ensures same { OnOk result (IsSame stack.old stack.new) }
-        ensures surveyed { OnOk result (WhereStood self.now.stand (λ at. WhereAsked stack.old (λ asks. (within : List Formed)
+        requires { IsAhead self.now.stand progress.old.stack.rows progress.old.ahead }
+        ensures same { OnOk result (IsSame progress.old.stack progress.new.stack) }
+        ensures narrow { OnOk result (IsSame progress.old.narrow progress.new.narrow) }
+        ensures ahead { OnOk result (progress.new.ahead ≡ progress.old.ahead) }
+        ensures passed { OnOk result (progress.new.passed ≡ progress.old.passed) }
+        ensures surveyed { OnOk result (WhereStood self.now.stand (λ at. WhereAsked progress.old.stack (λ asks. (within : List Formed)
             → IsSurveyed R.Rank.own at (trees_in (map plan_of self.now.stand.family.now)) self.now.stand.label self.now.span
-            (leaf why.now rank.now) asks within number refuted.old.items refuted.new.items))) }
+            (leaf why.now rank.now) asks within progress.old.passed progress.old.refuted.items progress.new.refuted.items))) }
     {
-        if number < self.span.first {
+        if progress.passed < self.span.first {
             return Ok(());
         }
-        if self.is_done(refuted) {
+        if self.is_done(&progress.refuted) {
             return Ok(());
         }
         let mut found = None;
-        if !self.stand.refute_leaf(why, rank, stack, &mut found)? {
+        let ahead = progress.ahead;
+        if !self
+            .stand
+            .refute_leaf(why, rank, &ahead, &mut progress.stack, &mut found)?
+        {
             return Ok(());
         }
         let Some(finding) = found else {
             return Ok(());
         };
         let leaf = Refuted {
-            leaf: number,
+            leaf: progress.passed,
             finding,
         };
-        refuted.push(leaf)?;
+        progress.refuted.push(leaf)?;
         Ok(())
     }
 
@@ -184,11 +192,13 @@ impl<'a, R: Rank> Survey<'a, R> {
         row: &Row,
         holds: bool,
         side: &Tree<R>,
-        progress: &mut Progress,
+        progress: &mut Progress<'a, R>,
     ) -> Result<(), AllocError>
         requires few { progress.old.passed + leaves_of (plan_of side.now) < 2 ^ 64 - 1 }
+        requires ahead { IsAhead self.now.stand progress.old.stack.rows progress.old.ahead }
         ensures same { OnOk result (IsSame progress.old.stack progress.new.stack) }
         ensures narrow { OnOk result (IsSame progress.old.narrow progress.new.narrow) }
+        ensures ahead { OnOk result (progress.new.ahead ≡ progress.old.ahead) }
         ensures passed { OnOk result (progress.new.passed ≡ progress.old.passed + leaves_of (plan_of side.now)) }
         ensures surveyed { OnOk result (WhereStood self.now.stand (λ at.
             WhereAsked progress.old.stack (λ asks. WhereAsked progress.old.narrow (λ within.
@@ -205,7 +215,10 @@ impl<'a, R: Rank> Survey<'a, R> {
             progress.passed += side.leaves();
             return Ok(());
         }
+        let before = progress.ahead;
+        progress.ahead = self.stand.led(&before, &progress.stack);
         self.refute_within(row, holds, side, progress)?;
+        progress.ahead = before;
         progress.stack.restore(checkpoint);
         Ok(())
     }
@@ -217,11 +230,13 @@ impl<'a, R: Rank> Survey<'a, R> {
         row: &Row,
         holds: bool,
         side: &Tree<R>,
-        progress: &mut Progress,
+        progress: &mut Progress<'a, R>,
     ) -> Result<(), AllocError>
         requires few { progress.old.passed + leaves_of (plan_of side.now) < 2 ^ 64 - 1 }
+        requires ahead { IsAhead self.now.stand progress.old.stack.rows progress.old.ahead }
         ensures same { OnOk result (IsSame progress.old.stack progress.new.stack) }
         ensures narrow { OnOk result (IsSame progress.old.narrow progress.new.narrow) }
+        ensures ahead { OnOk result (progress.new.ahead ≡ progress.old.ahead) }
         ensures passed { OnOk result (progress.new.passed ≡ progress.old.passed + leaves_of (plan_of side.now)) }
         ensures surveyed { OnOk result (WhereStood self.now.stand (λ at.
             WhereAsked progress.old.stack (λ asks. WhereAsked progress.old.narrow (λ within.

@@ -33,3 +33,6 @@ returns-in_ok-refuted-in-Test-clause-searched g c asks held =
     let again = held_same (all_asked asks) c.args.stack.now c.refute_outcome.new.stack (c.in_ok-refute_outcome-in-Test.ensures.same) held in
     let searched = rw c.in-Test.is at c.in_ok-refuted-in-Test.ensures.searched asks again in
     rw c.in-Test.is (test_searched g.R.Rank (trees_in (map plan_of c.args.trees.now)) c.args.limit (testing 0 c.in-Test.yes c.in-Test.holds.items) (testing 1 c.in-Test.no c.in-Test.fails.items) asks c.in_ok-refuted-in-Test.refuted c.refute_outcome-in-Test.new.found none searched)
+
+pub refute_assigned-requires-clause-ahead : goal.refute_assigned-requires-clause-ahead
+refute_assigned-requires-clause-ahead g c = rw c.in-End.is at c.requires.first

@@ -1,9 +1,10 @@
-use Rattle.std.proofs.Common.{◌+◌, true, false, arith, map, ◌∙◌}
+use Rattle.std.proofs.Common.{◌+◌, None, true, false, arith, map, ◌∙◌}
 use Rattle.decision_tree.specs.Plans.{plan_of}
 use Rattle.tree_support.specs.Setting.{trees_in}
 use Rattle.constraint_stack.specs.Stacks.{all_asked}
 use Rattle.constraint_stack.proofs.Choosing.{held_same}
 use Rattle.leaf_search.proofs.Following.{arcs_end, arcs_found, arcs_searched}
+use Rattle.leaf_search.proofs.Leading.{told_same}
 use Rattle.leaf_search.proofs.follow.refute_each.Goals as goal
 
 pub returns-then-branch-clause-searched : goal.returns-then-branch-clause-searched
@@ -26,3 +27,8 @@ loop-rows-preserved g c =
 pub returns-clause-searched : goal.returns-clause-searched
 returns-clause-searched g c asks held =
     arcs_end g.R.Rank (trees_in (map plan_of c.args.trees.now)) c.args.limit c.args.edge c.args.label c.args.conjunctions.now c.loop-rows.rows-index asks (omega arith) (c.loop-rows.invariant.1 asks held)
+
+pub refute_behind-requires-clause-ahead : goal.refute_behind-requires-clause-ahead
+refute_behind-requires-clause-ahead g c =
+    told_same (λ part. plan_of part.now) None (trees_in (map plan_of c.args.trees.now) c.args.label) c.args.stack.now.rows c.loop-rows.stack.rows c.args.ahead
+    c.loop-rows.invariant.0.0 c.requires.ahead

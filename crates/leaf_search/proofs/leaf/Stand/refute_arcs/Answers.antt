@@ -1,12 +1,18 @@
 use Rattle.leaf_search.proofs.Walking.{plain_searched}
+use Rattle.std.proofs.Common.{subst, sym}
+use Rattle.leaf_search.specs.Ahead.{LieBehind}
 use Rattle.leaf_search.proofs.leaf.Stand.refute_arcs.Goals as goal
 
 pub returns-in_ok-refuted-in-Some-clause-searched : goal.returns-in_ok-refuted-in-Some-clause-searched
 returns-in_ok-refuted-in-Some-clause-searched g c at is_at asks held =
-    let to = rw c.in-Some.is at c.targets.ensures at is_at (at.flow.arcs c.args.self.now.label) asks in
+    let to = rw c.in-Some.is at c.targets.ensures.over at is_at (at.flow.arcs c.args.self.now.label) asks in
     rw (to, is_at.follows.arcs) (c.in_ok-refuted-in-Some.ensures.searched asks held)
 
 pub returns-in_ok-refuted-in-None-clause-searched : goal.returns-in_ok-refuted-in-None-clause-searched
 returns-in_ok-refuted-in-None-clause-searched g c at is_at asks held =
-    let to = rw c.in-None.is at c.targets.ensures at is_at (at.flow.arcs c.args.self.now.label) asks in
+    let to = rw c.in-None.is at c.targets.ensures.over at is_at (at.flow.arcs c.args.self.now.label) asks in
     rw to (plain_searched g.R.Rank 2 asks c.in_ok-refuted-in-None.refuted c.refute_plain.new.found (c.in_ok-refuted-in-None.ensures.tried asks held))
+
+pub refute_arcs-requires : goal.refute_arcs-requires
+refute_arcs-requires g c =
+    subst (λ trees. LieBehind c.args.self.now.transition.now trees c.args.stack.now.rows c.args.ahead.now) (sym (rw c.in-Some.is at c.targets.ensures.aims)) c.requires.behind

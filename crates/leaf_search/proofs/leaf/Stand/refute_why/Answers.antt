@@ -1,4 +1,4 @@
-use Rattle.std.proofs.Common.{map, arith}
+use Rattle.std.proofs.Common.{map, arith, subst, sym}
 use Rattle.std.proofs.lemmas.Grind.{elements}
 use Rattle.decision_tree.specs.Plans.{plan_of}
 use Rattle.tree_support.specs.Setting.{trees_in}
@@ -6,6 +6,7 @@ use Rattle.tree_support.specs.Systems.{of_keep, of_pick}
 use Rattle.constraint_stack.specs.Stacks.{all_asked}
 use Rattle.constraint_stack.proofs.Choosing.{held_same}
 use Rattle.leaf_search.proofs.Walking.{plain_searched, searched_first, searched_then}
+use Rattle.leaf_search.specs.Ahead.{IsAhead}
 use Rattle.leaf_search.proofs.leaf.Stand.refute_why.Goals as goal
 
 pub returns-then-branch-clause-searched : goal.returns-then-branch-clause-searched
@@ -30,3 +31,9 @@ returns-in_ok-refuted-in-Step-clause-searched g c at is_at asks held =
 
 pub returns-in_ok-refuted-in-Left-clause-searched : goal.returns-in_ok-refuted-in-Left-clause-searched
 returns-in_ok-refuted-in-Left-clause-searched g c = grind (arith, elements)
+
+pub refute_kept-requires : goal.refute_kept-requires
+refute_kept-requires g c = c.requires.kept
+
+pub refute_pick-requires : goal.refute_pick-requires
+refute_pick-requires g c = subst (λ rows. IsAhead c.args.self.now rows c.args.ahead.now) (sym c.in_ok-refute_kept-in-Step.ensures.same.0) c.requires

@@ -8,7 +8,7 @@ use Rattle.tree_support.proofs.Lists.{all_none}
 use Rattle.constraint_stack.specs.Stacks.{all_asked}
 use Rattle.leaf_search.specs.Walks.{side_of}
 use Rattle.constraint_stack.proofs.Choosing.{held_same}
-use Rattle.tree_check.proofs.Surveying.{surveyed_before, surveyed_beyond, surveyed_both, surveyed_nowhere, surveyed_undefined, surveyed_wholly}
+use Rattle.tree_check.proofs.Surveying.{ahead_longer, surveyed_before, surveyed_beyond, surveyed_both, surveyed_nowhere, surveyed_undefined, surveyed_wholly}
 use Rattle.tree_check.proofs.survey.Survey.+survey.Goals as goal
 
 pub refute-returns-in_ok-refute_behind-in-Node-2-clause-surveyed :
@@ -66,3 +66,7 @@ refute_within-returns-clause-surveyed g t c at is_at asks held within narrowed =
 
 pub refute_within-overflow_add-progress : goal.refute_within-overflow_add-progress
 refute_within-overflow_add-progress g c = grind (arith, common_steps)
+
+pub refute_behind-led-progress-requires : goal.refute_behind-led-progress-requires
+refute_behind-led-progress-requires g t c =
+    ahead_longer c.args.self.now.stand c.args.progress.now.ahead c.args.progress.now.stack.rows c.enter.new.stack.rows c.in_ok-enter.ensures.longer.0 c.requires.ahead
