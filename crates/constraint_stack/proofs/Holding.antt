@@ -76,7 +76,7 @@ held_ok items rows wide item kind held is may met keeps = record {
       (Contains-push_cases items item other member);
   whole = λ none. (
     subst (Cover (rows ++ rows_in (kind ∷ []))) (ap (λ k. rows_in (kinds items) ++ rows_in (k ∷ [])) (sym is) ∙ sym (rows_more items item))
-    (cover_more rows (rows_in (kinds items)) (rows_in (kind ∷ [])) (held.whole none).0),
+        (cover_more rows (rows_in (kinds items)) (rows_in (kind ∷ [])) (held.whole none).0),
     subst (λ all. All (λ k. k ≢ Never) all) (sym (kinds_more items item)) (All-push (λ (k : RowKind). k ≢ Never) (kinds items) (kind_of item) (held.whole none).1 (λ never. met (sym is ∙ never))),
   );
   apart = keeps held.apart;
@@ -113,9 +113,9 @@ held_told items rows wide item row held is may told = record {
   shown = λ other one member formed same. ⊎_elim
       (λ before. held.shown other one before formed same)
       (λ here.
-          let rows_same : Some row ≡ Some one = ap row_in_kind (sym is ∙ ap kind_of here ∙ same) in
-          let row_same : row ≡ one = cc in
-          subst (λ (r : Row). IsCovered rows r.affine) row_same told)
+      let rows_same : Some row ≡ Some one = ap row_in_kind (sym is ∙ ap kind_of here ∙ same) in
+      let row_same : row ≡ one = cc in
+      subst (λ (r : Row). IsCovered rows r.affine) row_same told)
       (Contains-push_cases items item other member);
   there = λ other member formed same. ⊎_elim
       (λ before. held.there other before formed same)
@@ -123,7 +123,7 @@ held_told items rows wide item row held is may told = record {
       (Contains-push_cases items item other member);
   whole = λ none. (
     subst (Cover rows) (ap (λ k. rows_in (kinds items) ++ rows_in (k ∷ [])) (sym is) ∙ sym (rows_more items item))
-    (cover_told rows (rows_in (kinds items)) row (held.whole none).0 told),
+        (cover_told rows (rows_in (kinds items)) row (held.whole none).0 told),
     subst (λ all. All (λ k. k ≢ Never) all) (sym (kinds_more items item)) (All-push (λ (k : RowKind). k ≢ Never) (kinds items) (kind_of item) (held.whole none).1 (λ never. absurd (let wrong : Kept row ≡ Never = sym is ∙ never in cc))),
   );
   apart = held.apart;

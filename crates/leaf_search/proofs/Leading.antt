@@ -45,22 +45,22 @@ complement_moves : (a : Affine) (place : ℕ) (by : Affine) → place < 16 → s
 complement_moves a place by low =
     let times : coefficient (complement_of a) place ≡ neg_ℤ (coefficient a place) = turned a place low in
     let coefs : (substituted (complement_of a) place by).coef ≡ (complement_of (substituted a place by)).coef =
-        places-ext (substituted (complement_of a) place by).coef (complement_of (substituted a place by)).coef (length-at_places _) (length-at_places _) (λ i h.
-        let own : number_at (substituted (complement_of a) place by).coef i ≡ coefficient (without (complement_of a) place) i +ℤ coefficient (multiple_of by (coefficient (complement_of a) place)) i =
-            number_at_places (λ j. coefficient (without (complement_of a) place) j +ℤ coefficient (multiple_of by (coefficient (complement_of a) place)) j) i h in
-        let whole : coefficient (substituted a place by) i ≡ coefficient (without a place) i +ℤ coefficient (multiple_of by (coefficient a place)) i =
-            number_at_places (λ j. coefficient (without a place) j +ℤ coefficient (multiple_of by (coefficient a place)) j) i h in
-        let other = turned (substituted a place by) i h in
-        let rest : coefficient (without (complement_of a) place) i ≡ neg_ℤ (coefficient (without a place) i) =
-            number_at-clear (complement_of a).coef place i ∙ cleared_turned a place i (eqb i place) h ∙ ap neg_ℤ (sym (number_at-clear a.coef place i)) in
-        let product : coefficient (multiple_of by (coefficient (complement_of a) place)) i ≡ coefficient by i *ℤ coefficient (complement_of a) place =
-            number_at_places (λ j. coefficient by j *ℤ coefficient (complement_of a) place) i h in
-        let also : coefficient (multiple_of by (coefficient a place)) i ≡ coefficient by i *ℤ coefficient a place = number_at_places (λ j. coefficient by j *ℤ coefficient a place) i h in
-        let negative : coefficient by i *ℤ coefficient (complement_of a) place ≡ neg_ℤ (coefficient by i *ℤ coefficient a place) =
-            ap (λ t. coefficient by i *ℤ t) times ∙ mul_neg (coefficient by i) (coefficient a place) in
-        omega (arith, ints)) in
+    places-ext (substituted (complement_of a) place by).coef (complement_of (substituted a place by)).coef (length-at_places _) (length-at_places _) (λ i h.
+    let own : number_at (substituted (complement_of a) place by).coef i ≡ coefficient (without (complement_of a) place) i +ℤ coefficient (multiple_of by (coefficient (complement_of a) place)) i =
+    number_at_places (λ j. coefficient (without (complement_of a) place) j +ℤ coefficient (multiple_of by (coefficient (complement_of a) place)) j) i h in
+    let whole : coefficient (substituted a place by) i ≡ coefficient (without a place) i +ℤ coefficient (multiple_of by (coefficient a place)) i =
+    number_at_places (λ j. coefficient (without a place) j +ℤ coefficient (multiple_of by (coefficient a place)) j) i h in
+    let other = turned (substituted a place by) i h in
+    let rest : coefficient (without (complement_of a) place) i ≡ neg_ℤ (coefficient (without a place) i) =
+    number_at-clear (complement_of a).coef place i ∙ cleared_turned a place i (eqb i place) h ∙ ap neg_ℤ (sym (number_at-clear a.coef place i)) in
+    let product : coefficient (multiple_of by (coefficient (complement_of a) place)) i ≡ coefficient by i *ℤ coefficient (complement_of a) place =
+    number_at_places (λ j. coefficient by j *ℤ coefficient (complement_of a) place) i h in
+    let also : coefficient (multiple_of by (coefficient a place)) i ≡ coefficient by i *ℤ coefficient a place = number_at_places (λ j. coefficient by j *ℤ coefficient a place) i h in
+    let negative : coefficient by i *ℤ coefficient (complement_of a) place ≡ neg_ℤ (coefficient by i *ℤ coefficient a place) =
+    ap (λ t. coefficient by i *ℤ t) times ∙ mul_neg (coefficient by i) (coefficient a place) in
+    omega (arith, ints)) in
     let product : by.constant *ℤ coefficient (complement_of a) place ≡ neg_ℤ (by.constant *ℤ coefficient a place) =
-        ap (λ t. by.constant *ℤ t) times ∙ mul_neg by.constant (coefficient a place) in
+    ap (λ t. by.constant *ℤ t) times ∙ mul_neg by.constant (coefficient a place) in
     let constants : (substituted (complement_of a) place by).constant ≡ (complement_of (substituted a place by)).constant = omega (arith, ints) in
     same_function (substituted (complement_of a) place by) (complement_of (substituted a place by)) coefs constants
   where

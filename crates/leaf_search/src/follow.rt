@@ -288,7 +288,15 @@ pub fn refute_arcs<R: Rank>(
     match transition {
         Transition::Dead => Ok(false),
         Transition::End => refute_assigned(None, trees, limit, 0, ahead.first, stack, found),
-        Transition::Pass { to } => refute_assigned(None, trees, limit, *to, ahead.first, stack, found),
+        Transition::Pass { to } => refute_assigned(
+            None,
+            trees,
+            limit,
+            *to,
+            ahead.first,
+            stack,
+            found,
+        ),
         Transition::Assign { place, value, to } => {
             refute_put(*place, value, trees, limit, *to, ahead.first, stack, found)
         }
@@ -310,7 +318,15 @@ pub fn refute_arcs<R: Rank>(
             if refute_outcome(transition, true, trees, limit, ahead.first, stack, found)? {
                 return Ok(true);
             }
-            let refuted = refute_outcome(transition, false, trees, limit, ahead.second, stack, found)?;
+            let refuted = refute_outcome(
+                transition,
+                false,
+                trees,
+                limit,
+                ahead.second,
+                stack,
+                found,
+            )?;
             Ok(refuted)
         }
     }
@@ -371,11 +387,29 @@ pub fn refute_value<R: Rank>(
             value: _,
             to,
         } => {
-            let refuted = refute_put(*place, value, trees, limit, *to, untold(trees), stack, found)?;
+            let refuted = refute_put(
+                *place,
+                value,
+                trees,
+                limit,
+                *to,
+                untold(trees),
+                stack,
+                found,
+            )?;
             Ok(refuted)
         }
         Transition::Choose { place, to, .. } => {
-            let refuted = refute_put(*place, value, trees, limit, *to, untold(trees), stack, found)?;
+            let refuted = refute_put(
+                *place,
+                value,
+                trees,
+                limit,
+                *to,
+                untold(trees),
+                stack,
+                found,
+            )?;
             Ok(refuted)
         }
         Transition::End | Transition::Dead | Transition::Pass { .. } | Transition::Test { .. } =>

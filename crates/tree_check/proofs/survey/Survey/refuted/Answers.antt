@@ -52,7 +52,7 @@ pub refute-requires : goal.refute-requires
 refute-requires g c = record {
   few =
       let is : trees_in (map plan_of c.args.self.now.stand.family.now) c.args.self.now.stand.label ≡ plan_of c.in-Some.tree.now =
-          tree_at c.args.self.now.stand.family.now c.args.self.now.stand.label c.in-Some.tree.now (ltb-true c.args.self.now.stand.label (length c.args.self.now.stand.family.now) (sym c.in-Some.ensures.lookup.0)) c.in-Some.ensures.lookup.1 in
+      tree_at c.args.self.now.stand.family.now c.args.self.now.stand.label c.in-Some.tree.now (ltb-true c.args.self.now.stand.label (length c.args.self.now.stand.family.now) (sym c.in-Some.ensures.lookup.0)) c.in-Some.ensures.lookup.1 in
       let few : leaves_of (plan_of c.in-Some.tree.now) < 2 ^ 64 - 1 = subst (λ plan. leaves_of plan < 2 ^ 64 - 1) is c.requires.few in
       omega (arith, few);
   ahead = c.ahead.ensures c.add_rows.new.stack.rows;
