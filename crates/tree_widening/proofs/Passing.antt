@@ -2,6 +2,8 @@
 -- the path.
 use Rattle.std.proofs.Common.{◌≡◌, ◌↔◌, ◌⊎◌, ℕ, negsuc, ◌-ℤ◌, ◌<◌, Bool, true, false, cond, ◌||◌, List, [], ◌∷◌, ◌++◌, length, Option, Some, None, refl, sym, ap, ◌∙◌, subst, ⊎_elim, inl, inr, arith}
 use Rattle.std.proofs.lemmas.Int.{ints}
+use Rattle.std.proofs.Common.{Result, Ok, Err}
+use Rattle.std.specs.Result.{OnErr}
 use Rattle.std.proofs.lemmas.Bool.{false≢true}
 use Rattle.std.proofs.lemmas.List.Folds.{list_any-append}
 use Rattle.std.proofs.lemmas.Option.{same_Some}
@@ -17,9 +19,9 @@ use Rattle.linear_cons.proofs.Telling.{settled_by, tells-Decides}
 use Rattle.decision_tree.specs.Plans.{Plan, bottom, branch, leaf, top}
 use Rattle.tree_unify.specs.Shapes.{OnSide, TrimWithFits, on_side}
 use Rattle.tree_widening.specs.Leaves.{AtEach, AtOne, beginning, first_claim, first_left, first_of}
-use Rattle.decision_tree.specs.declared.affine_rank.AffineRank.{AffineRank}
+use Rattle.decision_tree.specs.declared.rank.Rank.{Ghosts as Ranks}
 use Rattle.decision_tree.specs.declared.reason.Why.{Why}
-use Rattle.tree_widening.specs.Widening.{BearsOut, ExtrapolatedFits, GrownFits, IsAgainst, IsHeld, extrapolated, grown, same_rank}
+use Rattle.tree_widening.specs.Widening.{BearsOut, ExtrapolatedFits, GrownFits, IsAgainst, IsHeld, extrapolated, grown}
 
 -- ---- what tells a row
 
@@ -189,29 +191,31 @@ module _ {R : Type 0} (path : List Row) (Q : Plan R → Type 0)
   carried : (rest new : Plan R) → beginning path rest ≡ beginning path new → Q rest → Q new
   carried rest new begins it = (passed new).0 (subst Q begins ((passed rest).1 it))
 
-each_carried : (rank : AffineRank) (path : List Row) (rest new : Plan AffineRank) → beginning path rest ≡ beginning path new
-    → AtEach (BearsOut rank) path rest → AtEach (BearsOut rank) path new
-each_carried rank path = carried path (λ t. AtEach (BearsOut rank) path t)
-    (λ row this that is. on_this (AtEach (BearsOut rank) path this) (AtEach (BearsOut rank) path that) (AtEach (BearsOut rank) (path ++ row ∷ []) this × AtEach (BearsOut rank) (path ++ complement row ∷ []) that) (settles path row) is)
-    (λ row this that is. on_that (AtEach (BearsOut rank) path this) (AtEach (BearsOut rank) path that) (AtEach (BearsOut rank) (path ++ row ∷ []) this × AtEach (BearsOut rank) (path ++ complement row ∷ []) that) (settles path row) is)
+module _ {R : Type 0} (ranks : Ranks R) where
+  each_carried : (rank : R) (path : List Row) (rest new : Plan R) → beginning path rest ≡ beginning path new
+      → AtEach (BearsOut ranks rank) path rest → AtEach (BearsOut ranks rank) path new
+  each_carried rank path = carried path (λ t. AtEach (BearsOut ranks rank) path t)
+      (λ row this that is. on_this (AtEach (BearsOut ranks rank) path this) (AtEach (BearsOut ranks rank) path that) (AtEach (BearsOut ranks rank) (path ++ row ∷ []) this × AtEach (BearsOut ranks rank) (path ++ complement row ∷ []) that) (settles path row) is)
+      (λ row this that is. on_that (AtEach (BearsOut ranks rank) path this) (AtEach (BearsOut ranks rank) path that) (AtEach (BearsOut ranks rank) (path ++ row ∷ []) this × AtEach (BearsOut ranks rank) (path ++ complement row ∷ []) that) (settles path row) is)
 
-one_carried : (rank : AffineRank) (path : List Row) (rest new : Plan AffineRank) → beginning path rest ≡ beginning path new
-    → AtOne (IsAgainst rank) path rest → AtOne (IsAgainst rank) path new
-one_carried rank path = carried path (λ t. AtOne (IsAgainst rank) path t)
-    (λ row this that is. on_this (AtOne (IsAgainst rank) path this) (AtOne (IsAgainst rank) path that) (AtOne (IsAgainst rank) (path ++ row ∷ []) this ⊎ AtOne (IsAgainst rank) (path ++ complement row ∷ []) that) (settles path row) is)
-    (λ row this that is. on_that (AtOne (IsAgainst rank) path this) (AtOne (IsAgainst rank) path that) (AtOne (IsAgainst rank) (path ++ row ∷ []) this ⊎ AtOne (IsAgainst rank) (path ++ complement row ∷ []) that) (settles path row) is)
+  one_carried : (rank : R) (path : List Row) (rest new : Plan R) → beginning path rest ≡ beginning path new
+      → AtOne (IsAgainst ranks rank) path rest → AtOne (IsAgainst ranks rank) path new
+  one_carried rank path = carried path (λ t. AtOne (IsAgainst ranks rank) path t)
+      (λ row this that is. on_this (AtOne (IsAgainst ranks rank) path this) (AtOne (IsAgainst ranks rank) path that) (AtOne (IsAgainst ranks rank) (path ++ row ∷ []) this ⊎ AtOne (IsAgainst ranks rank) (path ++ complement row ∷ []) that) (settles path row) is)
+      (λ row this that is. on_that (AtOne (IsAgainst ranks rank) path this) (AtOne (IsAgainst ranks rank) path that) (AtOne (IsAgainst ranks rank) (path ++ row ∷ []) this ⊎ AtOne (IsAgainst ranks rank) (path ++ complement row ∷ []) that) (settles path row) is)
 
-pub fits_carried : (Fits : Plan AffineRank → Type 0) (path : List Row) (rest new : Plan AffineRank) → beginning path rest ≡ beginning path new
-    → TrimWithFits same_rank Fits path new → TrimWithFits same_rank Fits path rest
-fits_carried Fits path rest new begins = carried path (λ t. TrimWithFits same_rank Fits path t)
-    (λ row this that is. on_this (TrimWithFits same_rank Fits path this) (TrimWithFits same_rank Fits path that) (TrimWithFits same_rank Fits (path ++ row ∷ []) this × NumbersFit (complement_of row.affine) × TrimWithFits same_rank Fits (path ++ complement row ∷ []) that) (settles path row) is)
-    (λ row this that is. on_that (TrimWithFits same_rank Fits path this) (TrimWithFits same_rank Fits path that) (TrimWithFits same_rank Fits (path ++ row ∷ []) this × NumbersFit (complement_of row.affine) × TrimWithFits same_rank Fits (path ++ complement row ∷ []) that) (settles path row) is)
-    new rest (sym begins)
+  pub held_carried : (why : Why) (rank : R) (path : List Row) (rest new made : Plan R) → beginning path rest ≡ beginning path new
+      → IsHeld ranks why rank path rest made → IsHeld ranks why rank path new made
+  held_carried why rank path rest new made begins held =
+      ⊎_elim (λ stays. inl (stays.0, each_carried rank path rest new begins stays.1)) (λ gone. inr (gone.0, one_carried rank path rest new begins gone.1)) held
 
-pub held_carried : (why : Why) (rank : AffineRank) (path : List Row) (rest new made : Plan AffineRank) → beginning path rest ≡ beginning path new
-    → IsHeld why rank path rest made → IsHeld why rank path new made
-held_carried why rank path rest new made begins held =
-    ⊎_elim (λ stays. inl (stays.0, each_carried rank path rest new begins stays.1)) (λ gone. inr (gone.0, one_carried rank path rest new begins gone.1)) held
+module _ {R : Type 0} (same : R → R → Bool) where
+  pub fits_carried : (Fits : Plan R → Type 0) (path : List Row) (rest new : Plan R) → beginning path rest ≡ beginning path new
+      → TrimWithFits same Fits path new → TrimWithFits same Fits path rest
+  fits_carried Fits path rest new begins = carried path (λ t. TrimWithFits same Fits path t)
+      (λ row this that is. on_this (TrimWithFits same Fits path this) (TrimWithFits same Fits path that) (TrimWithFits same Fits (path ++ row ∷ []) this × NumbersFit (complement_of row.affine) × TrimWithFits same Fits (path ++ complement row ∷ []) that) (settles path row) is)
+      (λ row this that is. on_that (TrimWithFits same Fits path this) (TrimWithFits same Fits path that) (TrimWithFits same Fits (path ++ row ∷ []) this × NumbersFit (complement_of row.affine) × TrimWithFits same Fits (path ++ complement row ∷ []) that) (settles path row) is)
+      new rest (sym begins)
 
 -- ---- the first claim that is left
 
@@ -221,31 +225,59 @@ on_one this that neither t side is = subst (λ s. (on_side s this that neither �
 on_other : {A : Type 0} (this that neither t : A) (side : Option Bool) → side ≡ Some false → (on_side side this that neither ≡ t) ↔ (that ≡ t)
 on_other this that neither t side is = subst (λ s. (on_side s this that neither ≡ t) ↔ (that ≡ t)) (sym is) (λ it. it, λ it. it)
 
-pub first_carried : (path : List Row) (rest new : Plan AffineRank) → beginning path rest ≡ beginning path new → first_left path rest ≡ first_left path new
+pub first_carried : {R : Type 0} (path : List Row) (rest new : Plan R) → beginning path rest ≡ beginning path new → first_left path rest ≡ first_left path new
 first_carried path rest new begins = carried path (λ t. first_left path t ≡ first_left path new)
     (λ row this that is. on_one (first_left path this) (first_left path that) (first_of (first_left (path ++ row ∷ []) this) (first_left (path ++ complement row ∷ []) that)) (first_left path new) (settles path row) is)
     (λ row this that is. on_other (first_left path this) (first_left path that) (first_of (first_left (path ++ row ∷ []) this) (first_left (path ++ complement row ∷ []) that)) (first_left path new) (settles path row) is)
     new rest (sym begins) refl
 
-pub grown_carried : (above : Plan AffineRank) (holds : Bool) (path : List Row) (rest new : Plan AffineRank) → beginning path rest ≡ beginning path new
-    → grown above holds path rest ≡ grown above holds path new
-grown_carried bottom holds path rest new begins = refl
-grown_carried (top cause) holds path rest new begins = refl
-grown_carried (leaf why rank) holds path rest new begins = refl
-grown_carried (branch row this that) true path rest new begins = ap (λ t. extrapolated row (first_claim that) t) (first_carried path rest new begins)
-grown_carried (branch row this that) false path rest new begins = ap (λ t. extrapolated (complement row) (first_claim this) t) (first_carried path rest new begins)
+module _ {R : Type 0} (raised : Row → R → R → R) where
+  pub grown_carried : (above : Plan R) (holds : Bool) (path : List Row) (rest new : Plan R) → beginning path rest ≡ beginning path new
+      → grown raised above holds path rest ≡ grown raised above holds path new
+  grown_carried bottom holds path rest new begins = refl
+  grown_carried (top cause) holds path rest new begins = refl
+  grown_carried (leaf why rank) holds path rest new begins = refl
+  grown_carried (branch row this that) true path rest new begins = ap (λ t. extrapolated raised row (first_claim that) t) (first_carried path rest new begins)
+  grown_carried (branch row this that) false path rest new begins = ap (λ t. extrapolated raised (complement row) (first_claim this) t) (first_carried path rest new begins)
 
-pub growing_carried : (above : Plan AffineRank) (holds : Bool) (path : List Row) (rest new : Plan AffineRank) → beginning path rest ≡ beginning path new
-    → GrownFits above holds path new → GrownFits above holds path rest
-growing_carried bottom holds path rest new begins fit = fit
-growing_carried (top cause) holds path rest new begins fit = fit
-growing_carried (leaf why rank) holds path rest new begins fit = fit
-growing_carried (branch row this that) true path rest new begins fit = (
-  fits_carried (λ end. Unit {0}) path rest new begins fit.0,
-  subst (λ t. ExtrapolatedFits row (first_claim that) t) (sym (first_carried path rest new begins)) fit.1,
-)
-growing_carried (branch row this that) false path rest new begins fit = (
-  fits_carried (λ end. Unit {0}) path rest new begins fit.0,
-  fit.1,
-  subst (λ t. ExtrapolatedFits (complement row) (first_claim this) t) (sym (first_carried path rest new begins)) fit.2,
-)
+module _ {R : Type 0} (same : R → R → Bool) (raised_fits : Row → R → R → Type 0) where
+  pub growing_carried : (above : Plan R) (holds : Bool) (path : List Row) (rest new : Plan R) → beginning path rest ≡ beginning path new
+      → GrownFits same raised_fits above holds path new → GrownFits same raised_fits above holds path rest
+  growing_carried bottom holds path rest new begins fit = fit
+  growing_carried (top cause) holds path rest new begins fit = fit
+  growing_carried (leaf why rank) holds path rest new begins fit = fit
+  growing_carried (branch row this that) true path rest new begins fit = (
+    fits_carried same (λ end. Unit {0}) path rest new begins fit.0,
+    subst (λ t. ExtrapolatedFits raised_fits row (first_claim that) t) (sym (first_carried path rest new begins)) fit.1,
+  )
+  growing_carried (branch row this that) false path rest new begins fit = (
+    fits_carried same (λ end. Unit {0}) path rest new begins fit.0,
+    fit.1,
+    subst (λ t. ExtrapolatedFits raised_fits (complement row) (first_claim this) t) (sym (first_carried path rest new begins)) fit.2,
+  )
+
+-- of a row that a path leaves open the complement fits, where each that may be formed does
+pub turned : {R : Type 0} (same : R → R → Bool) (Fits : Plan R → Type 0) (path : List Row) (row : Row) (this that : Plan R)
+    → settles path row ≡ None → TrimWithFits same Fits path (branch row this that) → NumbersFit (complement_of row.affine)
+turned same Fits path row this that is fit =
+    (subst (λ side. OnSide side (TrimWithFits same Fits path this) (TrimWithFits same Fits path that)
+    (TrimWithFits same Fits (path ++ row ∷ []) this × NumbersFit (complement_of row.affine) × TrimWithFits same Fits (path ++ complement row ∷ []) that)) is fit).1
+
+-- what stands in any case stands of an error
+pub in_any_case : {T E : Type 0} (r : Result T E) (P : Type 0) → P → OnErr r P
+in_any_case (Ok value) P holds = tt
+in_any_case (Err error) P holds = holds
+
+-- ---- on the no side of a node
+
+module _ {R : Type 0} (above : Plan R) (row : Row) (this that : Plan R) (holds : Bool) (path : List Row) (new : Plan R)
+    (is : above ≡ branch row this that) (fails : holds ≡ false) where
+  pub grown_beside : (raised : Row → R → R → R)
+      → grown raised above holds path new ≡ extrapolated raised (complement row) (first_claim this) (first_left path new)
+  grown_beside raised = ap (λ t. grown raised t holds path new) is ∙ ap (λ t. grown raised (branch row this that) t path new) fails
+
+  pub growing_beside : (same : R → R → Bool) (raised_fits : Row → R → R → Type 0) → GrownFits same raised_fits above holds path new
+      → ExtrapolatedFits raised_fits (complement row) (first_claim this) (first_left path new)
+  growing_beside same raised_fits fit =
+      (subst (λ t. GrownFits same raised_fits (branch row this that) t path new) fails
+      (subst (λ t. GrownFits same raised_fits t holds path new) is fit)).2

@@ -1,33 +1,45 @@
 -- What the calls below a widening answer.
-use Rattle.std.specs.Prelude.{◌<ℤ◌, ℤ, Bool, true, false, List, Option, None, Some}
-use Rattle.linear_cons.specs.Functions.{value_at}
-use Rattle.linear_cons.specs.Rows.{MeetsAll, row_kind_of}
+use Rattle.std.specs.Prelude.{ℤ, Bool, true, false, List, Option, None, Some}
+use Rattle.linear_cons.specs.Rows.{MeetsAll}
 use Rattle.linear_cons.specs.declared.row.Row.{Row}
+use Rattle.linear_cons.specs.declared.row.RowKind.{RowKind}
 use Rattle.linear_solve.specs.Answers.{HasNoStore}
-use Rattle.decision_tree.specs.AffineRanks.{excess_of}
+use Rattle.decision_tree.specs.Alternatives.{MeetsEach, MeetsOneOf}
 use Rattle.decision_tree.specs.Plans.{Plan, bottom, leaf}
-use Rattle.decision_tree.specs.declared.affine_rank.AffineRank.{AffineRank}
+use Rattle.decision_tree.specs.declared.rank.Rank.{Ghosts as Ranks}
 use Rattle.tree_widening.specs.declared.extrapolation.Claim.{Claim}
 use Rattle.tree_widening.specs.Leaves.{AtEach, AtOne}
-use Rattle.tree_widening.specs.Widening.{BearsOut, IsAgainst, MayBeMet, MayBeMetWith}
+use Rattle.tree_widening.specs.Meeting.{MayBeMet, MayBeMetWith, MayBeMetWithOne}
+use Rattle.tree_widening.specs.Widening.{BearsOut, IsAgainst}
 
 -- a point may meet the rows, or no store does
 abbrev pub IsDecided : List Row → Bool → Type 0
 IsDecided rows true = MayBeMet rows
 IsDecided rows false = HasNoStore rows
 
--- the newer rank may exceed the rank at a point of the path, or it does so at no store there
-abbrev pub IsLeafJudged : AffineRank → List Row → AffineRank → Bool → Type 0
-IsLeafJudged rank path next true = MayBeMetWith path (row_kind_of (excess_of next.value rank.value))
-IsLeafJudged rank path next false =
-    (store : List ℤ) → MeetsAll store path → value_at rank.value store <ℤ value_at next.value store → ⊥
+-- a point may meet the path's rows and each constraint, or no store does
+abbrev pub IsEachDecided : List Row → List (Option RowKind) → Bool → Type 0
+IsEachDecided path kinds true = MayBeMetWith path kinds
+IsEachDecided path kinds false = (store : List ℤ) → MeetsAll store path → MeetsEach store kinds → ⊥
 
--- a leaf of the newer tree on the path tells against a claim of the rank, or each one bears it out
-abbrev pub IsJudged : AffineRank → List Row → Plan AffineRank → Bool → Type 0
-IsJudged rank path new true = AtOne (IsAgainst rank) path new
-IsJudged rank path new false = AtEach (BearsOut rank) path new
+-- a point may meet the path's rows and one of the alternatives, or no store does
+abbrev pub IsOneDecided : List Row → List (Option (List (Option RowKind))) → Bool → Type 0
+IsOneDecided path list true = MayBeMetWithOne path list
+IsOneDecided path list false = (store : List ℤ) → MeetsAll store path → MeetsOneOf store list → ⊥
+
+module _ {R : Type 0} (ranks : Ranks R) where
+  -- the newer rank may exceed the rank at a point of the path, or it does so at no store there
+  abbrev pub IsLeafJudged : R → List Row → R → Bool → Type 0
+  IsLeafJudged rank path next true = MayBeMetWithOne path (ranks.where_greater next rank).list
+  IsLeafJudged rank path next false =
+      (store : List ℤ) → MeetsAll store path → ranks.exceeds (ranks.rank_value next store) (ranks.rank_value rank store) → ⊥
+
+  -- a leaf of the newer tree on the path tells against a claim of the rank, or each one bears it out
+  abbrev pub IsJudged : R → List Row → Plan R → Bool → Type 0
+  IsJudged rank path new true = AtOne (IsAgainst ranks rank) path new
+  IsJudged rank path new false = AtEach (BearsOut ranks rank) path new
 
 -- a claim as the leaf that makes it; without one the leaf that makes none
-abbrev pub claim_of : Option Claim → Plan AffineRank
+abbrev pub claim_of : {R : Type 0} → Option (Claim R) → Plan R
 claim_of None = bottom
 claim_of (Some claim) = leaf claim.why.now claim.rank.now

@@ -1,10 +1,10 @@
 -- Where a store stands in a tree, and what a claim there says of a newer tree.
-use Rattle.std.specs.Prelude.{◌<ℤ◌, ℤ, pos, int_le, List, [], ◌∷◌, if◌then◌else◌}
+use Rattle.std.specs.Prelude.{ℤ, pos, int_le, List, [], ◌∷◌, if◌then◌else◌}
 use Rattle.linear_cons.specs.Functions.{value_at}
 use Rattle.linear_cons.specs.Rows.{complement}
 use Rattle.linear_cons.specs.declared.row.Row.{Row}
 use Rattle.decision_tree.specs.Plans.{Plan, branch, leaf}
-use Rattle.decision_tree.specs.declared.affine_rank.AffineRank.{AffineRank}
+use Rattle.decision_tree.specs.declared.rank.Rank.{Ghosts as Ranks}
 
 -- the rows on the store's way to its leaf: a node's own row on its yes side, the complement on its no side
 abbrev pub rows_to : {R : Type 0} → Plan R → List ℤ → List Row
@@ -13,6 +13,6 @@ rows_to (branch row this that) store =
 rows_to end store = []
 
 -- the leaf makes a claim, whose rank doesn't exceed the other at the store
-abbrev pub IsAtMost : AffineRank → List ℤ → Plan AffineRank → Type 0
-IsAtMost rank store (leaf why next) = value_at rank.value store <ℤ value_at next.value store → ⊥
-IsAtMost rank store end = ⊥
+abbrev pub IsAtMost : {R : Type 0} → Ranks R → R → List ℤ → Plan R → Type 0
+IsAtMost ranks rank store (leaf why next) = ranks.exceeds (ranks.rank_value next store) (ranks.rank_value rank store) → ⊥
+IsAtMost ranks rank store end = ⊥

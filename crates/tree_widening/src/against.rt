@@ -1,34 +1,32 @@
 //! Whether a newer tree tells against a claim.
-ghost use Rattle.std.specs.Prelude.{◌≡◌, [], ◌∷◌, ◌++◌, Err, IfErr, IfOk, OnErr, OnOk};
+ghost use Rattle.std.specs.Prelude.{◌≡◌, IfOk, OnErr, OnOk};
 ghost use Rattle.linear_cons.specs.Exact.{IsOutside};
 ghost use Rattle.linear_cons.specs.declared.exact.Wide.{Wide};
-ghost use Rattle.linear_cons.specs.Rows.{row_kind_of};
-ghost use Rattle.decision_tree.specs.AffineRanks.{ExcessFits, excess_of};
 ghost use Rattle.decision_tree.specs.Plans.{plan_of};
 ghost use Rattle.decision_tree.specs.declared.path.PathFault.TheVariants.{Wide as TooWide};
 ghost use Rattle.tree_unify.specs.Shapes.{TrimWithFits};
-ghost use Rattle.tree_widening.specs.Judging.{IsDecided, IsJudged, IsLeafJudged};
-ghost use Rattle.tree_widening.specs.Widening.{ExceedFits, same_rank};
+ghost use Rattle.tree_widening.specs.Judging.{IsDecided, IsEachDecided, IsJudged, IsLeafJudged, IsOneDecided};
+ghost use Rattle.tree_widening.specs.Widening.{ExceedFits};
 
 use crate::walk::{Stopped, Walk};
-use decision_tree::{AffineRank, PathFault, Trail, Tree};
-use linear_cons::{Affine, MOST_ROWS, Row, RowKind, Wide};
+use decision_tree::{PathFault, Rank, Trail, Tree};
+use linear_cons::{MOST_ROWS, RowKind};
 use linear_solve::{Answer, decide_tightest};
 use std::alloc::{AllocError, Global};
 
 /// Whether a leaf of the newer tree on the way of the walk tells against a claim of the rank: one
 /// without a claim, or one whose rank exceeds it at a point that the solver finds, or where the solver
 /// doesn't decide. The walk is where it was.
-pub(crate) fn tells_against(
+pub(crate) fn tells_against<R: Rank>(
     alloc: Global,
     walk: &mut Walk,
-    rank: &AffineRank,
-    new: &Tree<AffineRank>,
+    rank: &R,
+    new: &Tree<R>,
 ) -> Result<bool, Stopped>
-    ensures judged { IfOk result (λ against. IsJudged rank.now walk.old.trail (plan_of new.now) against) }
+    ensures judged { IfOk result (λ against. IsJudged R.Rank.own rank.now walk.old.trail (plan_of new.now) against) }
     ensures trail { OnOk result (walk.new.trail ≡ walk.old.trail) }
     ensures wide { OnErr result ((w : Wide) → walk.new.fault ≡ TooWide w
-        → TrimWithFits same_rank (ExceedFits rank.now) walk.old.trail (plan_of new.now) → ⊥) }
+        → TrimWithFits R.eq (ExceedFits R.greater_fits rank.now) walk.old.trail (plan_of new.now) → ⊥) }
     ensures operands { OnErr result ((w : Wide) → walk.new.fault ≡ TooWide w → IsOutside w) }
 {
     match new {
@@ -52,52 +50,70 @@ pub(crate) fn tells_against(
     }
 }
 
-/// Whether the newer rank may exceed the rank at a point on the way of the walk. The solver is asked only
-/// where no row of the way is opposed to the row that says so. The walk is where it was.
+/// Whether the newer rank may exceed the rank at a point on the way of the walk. The walk is where it was.
 #[inline(never)]
-fn exceeds(
-    alloc: Global,
-    walk: &mut Walk,
-    next: &AffineRank,
-    rank: &AffineRank,
-) -> Result<bool, Stopped>
-    ensures judged { IfOk result (λ exceeds. IsLeafJudged rank.now walk.old.trail next.now exceeds) }
+fn exceeds<R: Rank>(alloc: Global, walk: &mut Walk, next: &R, rank: &R) -> Result<bool, Stopped>
+    ensures judged { IfOk result (λ exceeds. IsLeafJudged R.Rank.own rank.now walk.old.trail next.now exceeds) }
     ensures trail { OnOk result (walk.new.trail ≡ walk.old.trail) }
-    ensures wide { OnErr result ((w : Wide) → walk.new.fault ≡ TooWide w → ExcessFits next.now.value rank.now.value → ⊥) }
+    ensures wide { OnErr result ((w : Wide) → walk.new.fault ≡ TooWide w → R.greater_fits next.now rank.now → ⊥) }
     ensures operands { OnErr result ((w : Wide) → walk.new.fault ≡ TooWide w → IsOutside w) }
 {
-    match excess(&next.value, &rank.value) {
-        Ok(RowKind::Always) => walk.may_be_met(alloc),
-        Ok(RowKind::Never) => Ok(false),
-        Ok(RowKind::Row(row)) => may_meet(alloc, walk, &row),
+    match next.greater(rank) {
+        Ok(alternatives) => one_may_be_met(alloc, walk, &alternatives.list),
         Err(wide) => Err(walk.stop(PathFault::Wide(wide))),
     }
 }
 
-/// Where the one function exceeds the other.
-fn excess(next: &Affine, function: &Affine) -> Result<RowKind, Wide>
-    ensures kind { IfOk result (λ kind. kind ≡ row_kind_of (excess_of next.now function.now)) }
-    ensures wide { (w : Wide) → result ≡ Err w → ExcessFits next.now function.now → ⊥ }
-    ensures operands { IfErr result IsOutside }
-{
-    let difference = next.sub(function)?;
-    let excess = difference.plus(-1)?;
-    Ok(Row::of(excess))
-}
-
-/// Whether a point on the way of the walk may meet the row too.
-fn may_meet(alloc: Global, walk: &mut Walk, row: &Row) -> Result<bool, Stopped>
-    ensures decided { IfOk result (λ met. IsDecided (walk.old.trail ++ row.now ∷ []) met) }
+/// Whether a point on the way of the walk may meet one of the alternatives. The walk is where it was.
+fn one_may_be_met(
+    alloc: Global,
+    walk: &mut Walk,
+    alternatives: &[Option<[Option<RowKind>; 3]>],
+) -> Result<bool, Stopped>
+    ensures decided { IfOk result (λ met. IsOneDecided walk.old.trail alternatives.now met) }
     ensures trail { OnOk result (walk.new.trail ≡ walk.old.trail) }
     ensures wide { OnErr result ((w : Wide) → walk.new.fault ≡ TooWide w → ⊥) }
 {
-    if let Some(false) = walk.trail.settles(row) {
+    let Some((first, rest)) = alternatives.split_first() else {
         return Ok(false);
+    };
+    let Some(kinds) = first else {
+        return one_may_be_met(alloc, walk, rest);
+    };
+    if each_may_be_met(alloc, walk, kinds)? {
+        return Ok(true);
     }
-    walk.down(row)?;
-    let met = walk.may_be_met(alloc)?;
-    walk.trail.up();
-    Ok(met)
+    one_may_be_met(alloc, walk, rest)
+}
+
+/// Whether a point on the way of the walk may meet each of the constraints. The solver is asked only where
+/// no row of the way is opposed to one of theirs. The walk is where it was.
+fn each_may_be_met(
+    alloc: Global,
+    walk: &mut Walk,
+    kinds: &[Option<RowKind>],
+) -> Result<bool, Stopped>
+    ensures decided { IfOk result (λ met. IsEachDecided walk.old.trail kinds.now met) }
+    ensures trail { OnOk result (walk.new.trail ≡ walk.old.trail) }
+    ensures wide { OnErr result ((w : Wide) → walk.new.fault ≡ TooWide w → ⊥) }
+{
+    let Some((first, rest)) = kinds.split_first() else {
+        return walk.may_be_met(alloc);
+    };
+    match first {
+        None => each_may_be_met(alloc, walk, rest),
+        Some(RowKind::Always) => each_may_be_met(alloc, walk, rest),
+        Some(RowKind::Never) => Ok(false),
+        Some(RowKind::Row(row)) => {
+            if let Some(false) = walk.trail.settles(row) {
+                return Ok(false);
+            }
+            walk.down(row)?;
+            let met = each_may_be_met(alloc, walk, rest)?;
+            walk.trail.up();
+            Ok(met)
+        }
+    }
 }
 
 impl Walk {

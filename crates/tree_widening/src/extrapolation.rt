@@ -6,34 +6,35 @@ ghost use Rattle.decision_tree.specs.Plans.{plan_of};
 ghost use Rattle.decision_tree.specs.declared.path.PathFault.TheVariants.{Wide as TooWide};
 ghost use Rattle.tree_widening.specs.Judging.{claim_of};
 ghost use Rattle.tree_widening.specs.Leaves.{first_claim, first_left};
-ghost use Rattle.tree_widening.specs.Widening.{BesideFits, ExtrapolatedFits, GrownFits, LeftFits, RaisedFits, extrapolated, grown, raised, raised_beside};
+ghost use Rattle.tree_widening.specs.Widening.{BesideFits, ExtrapolatedFits, GrownFits, LeftFits, extrapolated, grown, raised_beside};
 
+use crate::extrapolates::Extrapolates;
 use crate::walk::{Stopped, Walk};
-use decision_tree::{AffineRank, PathFault, Tree, Why};
-use linear_cons::{Row, RowKind, Wide};
+use decision_tree::{PathFault, Rank, Tree, Why};
+use linear_cons::{Row, Wide};
 use std::alloc::Global;
 
 /// What a leaf claims, with its reason.
 #[derive(Clone, Copy)]
-pub(crate) struct Claim<'a> {
+pub(crate) struct Claim<'a, R: Rank> {
     pub(crate) why: &'a Why,
-    pub(crate) rank: &'a AffineRank,
+    pub(crate) rank: &'a R,
 }
 
 /// What stands in place of a leaf without a claim on the side of the node above it, or where the whole
 /// tree is that leaf. The walk is where it was.
 #[inline(never)]
-pub(crate) fn grow(
+pub(crate) fn grow<R: Extrapolates>(
     alloc: Global,
     walk: &mut Walk,
-    above: &Tree<AffineRank>,
+    above: &Tree<R>,
     holds: bool,
-    new: &Tree<AffineRank>,
-) -> Result<Box<Tree<AffineRank>>, Stopped>
-    ensures tree { IfOk result (λ made. plan_of made.value ≡ grown (plan_of above.now) holds walk.old.trail (plan_of new.now)) }
+    new: &Tree<R>,
+) -> Result<Box<Tree<R>>, Stopped>
+    ensures tree { IfOk result (λ made. plan_of made.value ≡ grown R.raised (plan_of above.now) holds walk.old.trail (plan_of new.now)) }
     ensures trail { OnOk result (walk.new.trail ≡ walk.old.trail) }
     ensures wide { OnErr result ((w : Wide) → walk.new.fault ≡ TooWide w
-        → GrownFits (plan_of above.now) holds walk.old.trail (plan_of new.now) → ⊥) }
+        → GrownFits R.eq R.raised_fits (plan_of above.now) holds walk.old.trail (plan_of new.now) → ⊥) }
     ensures operands { OnErr result ((w : Wide) → walk.new.fault ≡ TooWide w → IsOutside w) }
 {
     match above {
@@ -53,10 +54,13 @@ pub(crate) fn grow(
 }
 
 /// The first claim of the newer tree on the way of the walk. The walk is where it was.
-fn first_left<'a>(walk: &mut Walk, new: &'a Tree<AffineRank>) -> Result<Option<Claim<'a>>, Stopped>
+fn first_left<'a, R: Rank>(
+    walk: &mut Walk,
+    new: &'a Tree<R>,
+) -> Result<Option<Claim<'a, R>>, Stopped>
     ensures first { IfOk result (λ first. claim_of first ≡ first_left walk.old.trail (plan_of new.now)) }
     ensures trail { OnOk result (walk.new.trail ≡ walk.old.trail) }
-    ensures wide { OnErr result ((w : Wide) → walk.new.fault ≡ TooWide w → LeftFits walk.old.trail (plan_of new.now) → ⊥) }
+    ensures wide { OnErr result ((w : Wide) → walk.new.fault ≡ TooWide w → LeftFits R.eq walk.old.trail (plan_of new.now) → ⊥) }
     ensures operands { OnErr result ((w : Wide) → walk.new.fault ≡ TooWide w → IsOutside w) }
 {
     match new {
@@ -81,7 +85,7 @@ fn first_left<'a>(walk: &mut Walk, new: &'a Tree<AffineRank>) -> Result<Option<C
 }
 
 /// The first claim of the tree.
-fn first_claim<'a>(tree: &'a Tree<AffineRank>) -> Option<Claim<'a>>
+fn first_claim<'a, R: Rank>(tree: &'a Tree<R>) -> Option<Claim<'a, R>>
     ensures { claim_of result ≡ first_claim (plan_of tree.now) }
 {
     match tree {
@@ -96,17 +100,17 @@ fn first_claim<'a>(tree: &'a Tree<AffineRank>) -> Option<Claim<'a>>
 
 /// The newer claim, extrapolated along the row from the first claim of the tree beside it.
 #[inline(never)]
-fn extrapolate(
+fn extrapolate<R: Extrapolates>(
     alloc: Global,
     walk: &mut Walk,
     row: &Row,
-    beside: &Tree<AffineRank>,
-    first: Option<Claim>,
-) -> Result<Box<Tree<AffineRank>>, Stopped>
-    ensures tree { IfOk result (λ made. plan_of made.value ≡ extrapolated row.now (first_claim (plan_of beside.now)) (claim_of first.entry)) }
+    beside: &Tree<R>,
+    first: Option<Claim<R>>,
+) -> Result<Box<Tree<R>>, Stopped>
+    ensures tree { IfOk result (λ made. plan_of made.value ≡ extrapolated R.raised row.now (first_claim (plan_of beside.now)) (claim_of first.entry)) }
     ensures trail { walk.new.trail ≡ walk.old.trail }
     ensures wide { OnErr result ((w : Wide) → walk.new.fault ≡ TooWide w
-        → ExtrapolatedFits row.now (first_claim (plan_of beside.now)) (claim_of first.entry) → ⊥) }
+        → ExtrapolatedFits R.raised_fits row.now (first_claim (plan_of beside.now)) (claim_of first.entry) → ⊥) }
     ensures operands { OnErr result ((w : Wide) → walk.new.fault ≡ TooWide w → IsOutside w) }
 {
     let Some(claim) = first else {
@@ -119,29 +123,12 @@ fn extrapolate(
 }
 
 /// The rank, raised along the row from the claim beside it, where there is one.
-fn raised_beside(row: &Row, beside: Option<Claim>, rank: &AffineRank) -> Result<AffineRank, Wide>
-    ensures exact { OkIff result (BesideFits row.now (claim_of beside.entry) rank.now) (raised_beside row.now (claim_of beside.entry) rank.now) }
+fn raised_beside<R: Extrapolates>(row: &Row, beside: Option<Claim<R>>, rank: &R) -> Result<R, Wide>
+    ensures exact { OkIff result (BesideFits R.raised_fits row.now (claim_of beside.entry) rank.now) (raised_beside R.raised row.now (claim_of beside.entry) rank.now) }
     ensures wide { IfErr result IsOutside }
 {
     match beside {
-        Some(below) => raised(row, below.rank, rank),
+        Some(below) => rank.raise(row, below.rank),
         None => Ok(*rank),
-    }
-}
-
-/// The rank plus d times the row's function where it is the one below plus a constant d of at least 0, else
-/// the rank.
-fn raised(row: &Row, below: &AffineRank, rank: &AffineRank) -> Result<AffineRank, Wide>
-    ensures exact { OkIff result (RaisedFits row.now below.now rank.now) (raised row.now below.now rank.now) }
-    ensures wide { IfErr result IsOutside }
-{
-    let difference = rank.value.sub(&below.value)?;
-    match Row::of(difference) {
-        RowKind::Always => {
-            let rise = row.affine.scale(difference.constant)?;
-            let value = rank.value.add(&rise)?;
-            Ok(AffineRank { value })
-        }
-        RowKind::Never | RowKind::Row(_) => Ok(*rank),
     }
 }

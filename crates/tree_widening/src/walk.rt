@@ -8,9 +8,8 @@ ghost use Rattle.linear_cons.specs.declared.row.Row.{Row};
 ghost use Rattle.decision_tree.specs.Nodes.{node};
 ghost use Rattle.decision_tree.specs.Plans.{bottom, leaf, plan_of, top};
 ghost use Rattle.decision_tree.specs.declared.path.PathFault.TheVariants.{Wide as TooWide};
-ghost use Rattle.tree_widening.specs.Widening.{same_rank};
 
-use decision_tree::{AffineRank, Cause, PathFault, Trail, Tree, Why};
+use decision_tree::{Cause, PathFault, Rank, Trail, Tree, Why};
 use linear_cons::Row;
 use std::alloc::{AllocError, Global};
 
@@ -76,12 +75,12 @@ impl Walk {
 
     /// A claim, with its reason and its rank.
     #[inline(never)]
-    pub(crate) fn claim(
+    pub(crate) fn claim<R: Rank>(
         &mut self,
         alloc: Global,
         why: &Why,
-        rank: &AffineRank,
-    ) -> Result<Box<Tree<AffineRank>>, Stopped>
+        rank: &R,
+    ) -> Result<Box<Tree<R>>, Stopped>
         ensures tree { IfOk result (λ made. plan_of made.value ≡ leaf why.now rank.now) }
         ensures trail { self.new.trail ≡ self.old.trail }
         ensures wide { OnErr result ((w : Wide) → self.new.fault ≡ TooWide w → ⊥) }
@@ -94,7 +93,7 @@ impl Walk {
 
     /// No claim.
     #[inline(never)]
-    pub(crate) fn nothing(&mut self, alloc: Global) -> Result<Box<Tree<AffineRank>>, Stopped>
+    pub(crate) fn nothing<R: Rank>(&mut self, alloc: Global) -> Result<Box<Tree<R>>, Stopped>
         ensures tree { IfOk result (λ made. plan_of made.value ≡ bottom) }
         ensures trail { self.new.trail ≡ self.old.trail }
         ensures wide { OnErr result ((w : Wide) → self.new.fault ≡ TooWide w → ⊥) }
@@ -107,11 +106,11 @@ impl Walk {
 
     /// No claim, given up for the cause.
     #[inline(never)]
-    pub(crate) fn given_up(
+    pub(crate) fn given_up<R: Rank>(
         &mut self,
         alloc: Global,
         cause: &Cause,
-    ) -> Result<Box<Tree<AffineRank>>, Stopped>
+    ) -> Result<Box<Tree<R>>, Stopped>
         ensures tree { IfOk result (λ made. plan_of made.value ≡ top cause.now) }
         ensures trail { self.new.trail ≡ self.old.trail }
         ensures wide { OnErr result ((w : Wide) → self.new.fault ≡ TooWide w → ⊥) }
@@ -124,14 +123,14 @@ impl Walk {
 
     /// The yes side where both sides are equal, else the tree with the row at its root.
     #[inline(never)]
-    pub(crate) fn join_sides(
+    pub(crate) fn join_sides<R: Rank>(
         &mut self,
         alloc: Global,
         row: &Row,
-        yes: Box<Tree<AffineRank>>,
-        no: Box<Tree<AffineRank>>,
-    ) -> Result<Box<Tree<AffineRank>>, Stopped>
-        ensures tree { IfOk result (λ made. plan_of made.value ≡ node same_rank row.now (plan_of yes.value) (plan_of no.value)) }
+        yes: Box<Tree<R>>,
+        no: Box<Tree<R>>,
+    ) -> Result<Box<Tree<R>>, Stopped>
+        ensures tree { IfOk result (λ made. plan_of made.value ≡ node R.eq row.now (plan_of yes.value) (plan_of no.value)) }
         ensures trail { self.new.trail ≡ self.old.trail }
         ensures wide { OnErr result ((w : Wide) → self.new.fault ≡ TooWide w → ⊥) }
     {

@@ -5,4 +5,4 @@ use Rattle.tree_widening.proofs.newer.beginning.Given as goal
 
 -- the part that is left begins where the whole tree does
 abbrev pub invariant-loop-at : goal.invariant-loop-at
-invariant-loop-at l = beginning l.trail (plan_of l.at) ≡ beginning l.trail (plan_of l.tree)
+invariant-loop-at g l = beginning l.trail (plan_of l.at) ≡ beginning l.trail (plan_of l.tree)
