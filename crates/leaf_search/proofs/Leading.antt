@@ -1,5 +1,5 @@
 -- Parts of trees to which rows lead: a search of the part is one of the whole tree.
-use Rattle.std.proofs.Common.{◌≡◌, ℕ, ◌<◌, ℤ, pos, neg_ℤ, ◌+ℤ◌, ◌*ℤ◌, inl, inr, Bool, true, false, ◌||◌, cond, eqb, List, [], ◌∷◌, ◌++◌, length, take, drop, All, Contains, Option, None, Some, Ok, IfSome, refl, sym, ap, subst, ◌∙◌, arith}
+use Rattle.std.proofs.Common.{◌≡◌, ℕ, ◌<◌, ◌≤◌, ℤ, pos, neg_ℤ, ◌+ℤ◌, ◌*ℤ◌, inl, inr, Bool, true, false, ◌||◌, cond, eqb, List, [], ◌∷◌, ◌++◌, length, take, drop, All, Contains, Option, None, Some, Ok, IfSome, refl, sym, ap, subst, ◌∙◌, arith}
 use Rattle.std.proofs.lemmas.Int.{ints}
 use Rattle.std.proofs.lemmas.Bool.{false≢true}
 use Rattle.std.proofs.lemmas.List.{take-append-drop}
@@ -19,7 +19,7 @@ use Rattle.linear_cons.proofs.Ring.{mul_neg}
 use Rattle.linear_solve.proofs.Lists.{all_of, member_of}
 use Rattle.linear_forms.proofs.DualLists.{AreComplements, complement_kinds}
 use Rattle.decision_tree.specs.declared.rank.Rank.{Ghosts as Ranks}
-use Rattle.decision_tree.specs.Plans.{Plan, bottom, branch, leaf, top}
+use Rattle.decision_tree.specs.Plans.{Plan, bottom, branch, leaf, size_of, top}
 use Rattle.constraint_stack.specs.Claims.{HasNoStore}
 use Rattle.constraint_stack.specs.Forming.{Formed, exact}
 use Rattle.constraint_stack.specs.Stacks.{Forms, Held, all_asked, asked}
@@ -182,6 +182,15 @@ module _ {R : Type 0} (sets : Option (ℕ × Affine)) where
   leads_on rows bottom part further is next = subst (λ p. LeadsTo rows sets p further) is next
   leads_on rows (top cause) part further is next = subst (λ p. LeadsTo rows sets p further) is next
   leads_on rows (leaf why rank) part further is next = subst (λ p. LeadsTo rows sets p further) is next
+
+  -- the part is no greater
+  pub leads_size : (rows : List Row) (plan part : Plan R) → LeadsTo rows sets plan part → size_of part ≤ size_of plan
+  leads_size rows (branch row this that) part (inl is) = subst (λ p. size_of p ≤ size_of (branch row this that)) (sym is) (omega arith)
+  leads_size rows (branch row this that) part (inr (inl first)) = let low = leads_size rows this part first.1 in omega (arith, low)
+  leads_size rows (branch row this that) part (inr (inr first)) = let low = leads_size rows that part first.1 in omega (arith, low)
+  leads_size rows bottom part is = subst (λ p. size_of p ≤ 1) (sym is) (omega arith)
+  leads_size rows (top cause) part is = subst (λ p. size_of p ≤ 1) (sym is) (omega arith)
+  leads_size rows (leaf why rank) part is = subst (λ p. size_of p ≤ 1) (sym is) (omega arith)
 
   pub leads_side : (rows : List Row) (row : Row) (this that : Plan R) (holds : Bool) → IsSettled rows sets row.affine holds → LeadsTo rows sets (branch row this that) (cond holds this that)
   leads_side rows row this that true settles = inr (inl (settles, leads_here rows this))

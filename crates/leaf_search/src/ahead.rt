@@ -24,6 +24,13 @@ pub struct Ahead<'a, R: Rank> {
     pub(crate) second: Option<&'a Tree<R>>,
 }
 
+impl<'a, R: Rank> Ahead<'a, R> {
+    /// Whether one of the trees has rows that may lead further into it.
+    fn leads_on(&self) -> bool {
+        has_rows(self.kept) || has_rows(self.first) || has_rows(self.second)
+    }
+}
+
 impl<'a, R: Rank> Stand<'a, R> {
     /// The whole trees, into which any rows lead.
     pub fn ahead(&self) -> Ahead<'a, R>
@@ -77,6 +84,9 @@ impl<'a, R: Rank> Stand<'a, R> {
         requires { IsAhead self.now stack.now.rows ahead.now }
         ensures { IsAhead self.now stack.now.rows result }
     {
+        if !ahead.leads_on() {
+            return *ahead;
+        }
         let here = here();
         let step = self.step();
         Ahead {
@@ -105,6 +115,11 @@ impl<'a, R: Rank> Stand<'a, R> {
             limit: None,
         }
     }
+}
+
+/// Whether the tree that is told, if one is, has rows.
+fn has_rows<R: Rank>(tree: Option<&Tree<R>>) -> bool {
+    matches!(tree, Some(Tree::Node { .. }))
 }
 
 /// How a tree at the same label is looked at.

@@ -64,7 +64,7 @@ impl<R: Rank> Way<R> {
         Ok(refuted)
     }
 
-    /// The same by a walk, which adds those of the rows on the way to a leaf that aren't settled.
+    /// The same by a walk, which adds the tree's first row.
     #[cycle(walk)]
     fn refute(
         &self,
@@ -78,23 +78,13 @@ impl<R: Rank> Way<R> {
             IsSearched R.Rank.own (systems_behind self.now.edge self.now.sets self.now.limit (plan_of tree.now) asks) refuted found.new)) }
     {
         match tree {
-            Tree::Node { row, yes, no } => match self.settled(row, stack) {
-                Some(true) => {
-                    let refuted = self.refute(yes, stack, found)?;
-                    Ok(refuted)
+            Tree::Node { row, yes, no } => {
+                if self.refute_behind(row, true, yes, stack, found)? {
+                    return Ok(true);
                 }
-                Some(false) => {
-                    let refuted = self.refute(no, stack, found)?;
-                    Ok(refuted)
-                }
-                None => {
-                    if self.refute_behind(row, true, yes, stack, found)? {
-                        return Ok(true);
-                    }
-                    let refuted = self.refute_behind(row, false, no, stack, found)?;
-                    Ok(refuted)
-                }
-            },
+                let refuted = self.refute_behind(row, false, no, stack, found)?;
+                Ok(refuted)
+            }
             Tree::Leaf { why: _, rank } => self.refute_less(rank, stack, found),
             Tree::Bottom | Tree::Top(_) => {
                 let refuted = stack.check(self.edge, found)?;
@@ -103,7 +93,8 @@ impl<R: Rank> Way<R> {
         }
     }
 
-    /// Looks at the leaves of a side, behind the row where it holds and its complement where it doesn't.
+    /// Looks at the leaves of a side, behind the row where it holds and its complement where it doesn't. The walk goes on from the part to which these lead, so that no
+    /// row is added that is settled.
     #[cycle(walk)]
     fn refute_behind(
         &self,
@@ -123,7 +114,8 @@ impl<R: Rank> Way<R> {
         if !self.enter(row, holds, stack)? {
             return Ok(false);
         }
-        let refuted = self.refute(side, stack, found)?;
+        let part = self.led(side, stack);
+        let refuted = self.refute(part, stack, found)?;
         stack.restore(checkpoint);
         Ok(refuted)
     }

@@ -71,12 +71,14 @@ impl<'a, R: Rank> Survey<'a, R> {
         if !add_rows(rows, &mut stack)? {
             return Ok(refuted);
         }
+        let whole = self.stand.ahead();
+        let ahead = self.stand.led(&whole, &stack);
         let mut progress = Progress {
             passed: 0,
             stack,
             narrow,
             refuted,
-            ahead: self.stand.ahead(),
+            ahead,
         };
         if let Tree::Leaf { why, rank } = tree {
             self.refute_leaf(why, rank, &mut progress)?;
@@ -185,7 +187,7 @@ impl<'a, R: Rank> Survey<'a, R> {
     }
 
     /// Looks at the leaves of a side, behind the row where it holds and its complement where it doesn't. A side that is skipped is only
-    /// counted.
+    /// counted, and so is an undefined leaf, against which there is nothing.
     #[cycle(survey)]
     fn refute_behind(
         &self,
@@ -206,6 +208,10 @@ impl<'a, R: Rank> Survey<'a, R> {
             (asks ++ given (side_of row.now.affine holds) ∷ []) (within ++ given (side_of row.now.affine holds) ∷ [])
             progress.old.passed progress.old.refuted.items progress.new.refuted.items)))) }
     {
+        if let Tree::Bottom | Tree::Top(_) = side {
+            progress.passed += 1;
+            return Ok(());
+        }
         if self.skips(side, progress.passed, &progress.refuted) {
             progress.passed += side.leaves();
             return Ok(());

@@ -1,7 +1,7 @@
-use Rattle.std.proofs.Common.{map, refl, ⊎_elim, ◌++◌, ◌∷◌, [], arith}
+use Rattle.std.proofs.Common.{List, map, refl, ⊎_elim, ◌++◌, ◌∷◌, [], arith}
 use Rattle.std.proofs.lemmas.Grind.{common_steps}
 use Rattle.decision_tree.specs.Plans.{bottom, plan_of, top}
-use Rattle.constraint_stack.specs.Forming.{given}
+use Rattle.constraint_stack.specs.Forming.{Formed, given}
 use Rattle.tree_support.specs.Setting.{trees_in}
 use Rattle.constraint_stack.specs.Claims.{HasNoStore}
 use Rattle.tree_support.proofs.Lists.{all_none}
@@ -32,6 +32,15 @@ refute-returns-in-Bottom-clause-surveyed g t c at is_at asks held within narrowe
     ⊎_elim
     (λ is. rw is (surveyed_undefined g.R.Rank at (trees_in (map plan_of c.args.self.now.stand.family.now)) c.args.self.now.stand.label c.args.self.now.span bottom asks within c.args.progress.now.passed c.args.progress.now.refuted.items refl (all_none (HasNoStore g.R.Rank))))
     (λ is. rw is.1 (surveyed_undefined g.R.Rank at (trees_in (map plan_of c.args.self.now.stand.family.now)) c.args.self.now.stand.label c.args.self.now.span (top is.0) asks within c.args.progress.now.passed c.args.progress.now.refuted.items refl (all_none (HasNoStore g.R.Rank))))
+    c.in-Bottom.is
+
+pub refute_behind-returns-in-Bottom-clause-surveyed : goal.refute_behind-returns-in-Bottom-clause-surveyed
+refute_behind-returns-in-Bottom-clause-surveyed g t c at is_at asks held within narrowed =
+    let behind : List Formed = asks ++ given (side_of c.args.row.now.affine c.args.holds) ∷ [] in
+    let inside : List Formed = within ++ given (side_of c.args.row.now.affine c.args.holds) ∷ [] in
+    ⊎_elim
+    (λ is. rw is (surveyed_undefined g.R.Rank at (trees_in (map plan_of c.args.self.now.stand.family.now)) c.args.self.now.stand.label c.args.self.now.span bottom behind inside c.args.progress.now.passed c.args.progress.now.refuted.items refl (all_none (HasNoStore g.R.Rank))))
+    (λ is. rw is.1 (surveyed_undefined g.R.Rank at (trees_in (map plan_of c.args.self.now.stand.family.now)) c.args.self.now.stand.label c.args.self.now.span (top is.0) behind inside c.args.progress.now.passed c.args.progress.now.refuted.items refl (all_none (HasNoStore g.R.Rank))))
     c.in-Bottom.is
 
 pub refute_behind-returns-then-skips-clause-surveyed :

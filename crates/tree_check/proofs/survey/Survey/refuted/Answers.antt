@@ -45,8 +45,11 @@ returns-in-Leaf g c at is_at alive rows_are within narrowed =
     empty surveyed in
     reviewed g.R.Rank at family label c.args.self.now.span within c.refute_leaf.new.progress.refuted.items alive (rw (is, rows_are) from_none)
 
+pub led-ahead-requires : goal.led-ahead-requires
+led-ahead-requires g c = c.ahead-whole.ensures c.add_rows.new.stack.rows
+
 pub refute_leaf-requires : goal.refute_leaf-requires
-refute_leaf-requires g c = c.ahead.ensures c.add_rows.new.stack.rows
+refute_leaf-requires g c = c.led-ahead.ensures
 
 pub refute-requires : goal.refute-requires
 refute-requires g c = record {
@@ -55,5 +58,5 @@ refute-requires g c = record {
       tree_at c.args.self.now.stand.family.now c.args.self.now.stand.label c.in-Some.tree.now (ltb-true c.args.self.now.stand.label (length c.args.self.now.stand.family.now) (sym c.in-Some.ensures.lookup.0)) c.in-Some.ensures.lookup.1 in
       let few : leaves_of (plan_of c.in-Some.tree.now) < 2 ^ 64 - 1 = subst (λ plan. leaves_of plan < 2 ^ 64 - 1) is c.requires.few in
       omega (arith, few);
-  ahead = c.ahead.ensures c.add_rows.new.stack.rows;
+  ahead = c.led-ahead.ensures;
 }
