@@ -1,13 +1,15 @@
 #!/usr/bin/env python3
-"""Refuses the command its allocations in turn, one a run: each run ends with status 7 and nothing written, or with the report.
+"""Refuses the command its allocations in turn, one a run, and then all memory past a limit: each run ends with status 7 and nothing written, or with the report.
 
     python3 checks/memory.py [--command PATH] [PROGRAM ..]
 
 It is no part of the gate, and needs a C compiler. Without programs it takes five small ones with the reports that they are to have, and seven of the examples, three of them
-with their formula. It ends with 1 where a run ends otherwise.
+with their formula; and then three larger ones under limits on all memory, which count the stack too: 70 limits in steps of 0.1 MB around the least one that does. It ends with 1
+where a run ends otherwise.
 """
 import argparse
 import os
+import resource
 import subprocess
 import sys
 import tempfile
@@ -30,6 +32,15 @@ REPORTS = [
      "proved: / -x + 1 >= 0 and x - 1 >= 0: within 0 steps / -x >= 0: within 1 step / x - 2 >= 0: within 1 step / unknown: / verdict: all inputs"),
     ("int x; x = 1;", ["--ctl", "AX AX x == 1"], 0, "proved: / always: holds / unknown: / verdict: all inputs"),
 ]
+
+# Words and statements for the limits on all memory.
+LIMITED = [
+    ("1,023 skips", [], "; " * 1023),
+    ("100 tests in a row", ["--ctl", "AG x > 5"], " ".join(f"if (x > {k}) y = {k};" for k in range(100))),
+    ("a sum of 257", [], "x = x" + " + y" * 256 + ";"),
+]
+MEGABYTE = 2**20
+LIMITS = 70
 
 # In front of the C library's calls: the one with the number in REFUSE gives nothing, and at the end the number of calls goes to standard error.
 SHIM = r"""
@@ -79,6 +90,39 @@ def wrong(command, shim, name, words, text, wanted):
     print(f"{name}: {count} allocations, want of memory without {without} of them")
 
 
+def within(command, words, text, limit):
+    """The status and what was written of a run with so much memory, the stack's included."""
+    def set_limit():
+        resource.setrlimit(resource.RLIMIT_AS, (limit, limit))
+    ended = subprocess.run([command, *words], input=text, capture_output=True, check=False, preexec_fn=set_limit)
+    return ended.returncode, ended.stdout
+
+
+def least(command, words, text, report):
+    """The least limit with which the report comes, up to 0.1 MB."""
+    low, high = MEGABYTE, 4096 * MEGABYTE
+    while high - low > MEGABYTE // 10:
+        between = (low + high) // 2
+        low, high = (low, between) if within(command, words, text, between) == report else (between, high)
+    return high
+
+
+def wrong_within(command, name, words, text):
+    """A line for each limit around the least one at which the run ends otherwise. Limits are left out at which the system doesn't start the command."""
+    report = within(command, words, text, 4096 * MEGABYTE)
+    need = least(command, words, text, report)
+    tried = 0
+    for step in range(LIMITS):
+        limit = need + MEGABYTE // 20 - step * MEGABYTE // 10
+        if limit < MEGABYTE or within(command, ["--at"], b"", limit)[0] not in (2, 7):
+            break
+        tried += 1
+        answer = within(command, words, text, limit)
+        if answer not in ((7, b""), report):
+            yield f"{name}: with {limit / MEGABYTE:.2f} MB: status {answer[0]}, {len(answer[1])} bytes"
+    print(f"{name}: needs {need / MEGABYTE:.1f} MB, {tried} limits tried")
+
+
 def cases(programs):
     """A name, words, a text, and the status and the report that are wanted, for each case."""
     for statements, words, status, lines in [] if programs else REPORTS:
@@ -99,6 +143,8 @@ def main():
         source.write_text(SHIM)
         subprocess.run(["cc", "-O1", "-shared", "-fPIC", "-o", shim, source], check=True)
         found = [line for case in cases(asked.programs) for line in wrong(asked.command, str(shim), *case)]
+    for name, words, statements in [] if asked.programs else LIMITED:
+        found += wrong_within(asked.command, name, words, f"int main() {{ int x, y; {statements} }}".encode())
     print("\n".join(found), end="\n" if found else "")
     return 1 if found else 0
 

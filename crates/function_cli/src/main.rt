@@ -10,12 +10,45 @@ use std::alloc::AllocError;
 use std::process::ExitCode;
 use std::{env, io};
 
+/// How many levels of `touched` take a megabyte of stack: each holds 4 bytes for each of 128 places, and what a call takes besides.
+const LEVELS: u32 = 2048;
+
+/// Twice as much, in bytes.
+const ROOM: usize = 2 << 20;
+
 fn main(rt: HostRuntime) -> ExitCode {
+    if take_stack(&rt).is_err() {
+        return ExitCode::from(Status::NoMemory as u8);
+    }
     let words = match words(&rt) {
         Ok(words) => words,
         Err(_) => return ExitCode::from(Status::NoMemory as u8),
     };
     ExitCode::from(status_of(&rt, &words) as u8)
+}
+
+// Takes the stack that a run mostly needs, while there is memory: a limit on all memory counts the stack too, and where it met the stack's growth the run would end by
+// a signal. Whether there is so much is seen by an allocation, which is given back. The error is want of memory.
+fn take_stack(rt: &HostRuntime) -> Result<(), AllocError> {
+    let mut room: Vec<u32> = Vec::with_capacity(rt.alloc(), ROOM / 4)?;
+    room.push(LEVELS)?;
+    let levels = room.pop().unwrap_or(0);
+    drop(room);
+    if touched(levels) == levels {
+        Ok(())
+    } else {
+        Err(AllocError)
+    }
+}
+
+// The number of levels, as each of them reads it from where it wrote it before it called the next. So none can be left out.
+fn touched(levels: u32) -> u32 {
+    let marks = [levels; 128];
+    if levels == 0 {
+        return 0;
+    }
+    let below = touched(levels - 1);
+    marks[below as usize % 128]
 }
 
 // The words of the command line, where a word that is no text stands as one that no option has.
