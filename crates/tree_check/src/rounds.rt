@@ -31,6 +31,9 @@ use tree_support::Dropped;
 /// A tree that has so many leaves for each drop is rather looked at behind the drops, one by one, than surveyed.
 const LEAVES_TO_A_DROP: u64 = 8;
 
+/// Of more drops than these a label is never told one by one, since for each the trees of both labels are walked over.
+const MOST_TOLD: usize = 64;
+
 /// What the leaves of a family are held against: a graph with its invariants and what is done at its labels over them, a formula, and the
 /// families of its operands.
 #[derive(Drop)]
@@ -559,7 +562,7 @@ fn untold(alloc: Global, labels: u32) -> Result<Vec<Option<usize>>, AllocError>
 
 /// Whether to look behind so many drops one by one costs more than a survey of the tree.
 fn is_many<R: Rank>(drops: usize, tree: &Tree<R>) -> bool {
-    drops as u64 > tree.leaves() / LEAVES_TO_A_DROP
+    drops > MOST_TOLD || drops as u64 > tree.leaves() / LEAVES_TO_A_DROP
 }
 
 /// Whether the formula speaks of some successor.
