@@ -1,10 +1,13 @@
--- The tree at the entry of a program without loops.
-use Rattle.std.proofs.Common.{◌≡◌, ℕ, ◌+◌, ◌*◌, pos, List, [], ◌∷◌, Some, refl, sym, ap, subst}
+-- The trees of a program without loops: the one at the entry, and that none has a row.
+use Rattle.std.proofs.Common.{◌≡◌, ◌⊎◌, inl, inr, ℕ, zero, suc, ◌+◌, ◌*◌, pos, List, [], ◌∷◌, Some, map, refl, sym, ap, subst}
 use Rattle.linear_cons.specs.declared.row.Row.{Row}
 use Rattle.linear_cons.specs.Functions.{constant_of}
 use Rattle.control_flow.specs.Labels.{entry_of, stray}
 use Rattle.decision_tree.specs.declared.affine_rank.AffineRank.{AffineRank}
-use Rattle.decision_tree.specs.Plans.{Plan, rank_of}
+use Rattle.decision_tree.specs.declared.reason.Pick.TheVariants.{All as Every}
+use Rattle.decision_tree.specs.declared.reason.Why.{Why}
+use Rattle.decision_tree.specs.declared.reason.Why.TheVariants.{End, Step}
+use Rattle.decision_tree.specs.Plans.{Plan, bottom, leaf, rank_of}
 use Rattle.step_meaning.specs.declared.count.Count.{Count}
 use Rattle.step_meaning.specs.declared.countdown.Countdown.TheVariants.{Straight, Loop}
 use Rattle.step_meaning.specs.Counts.{HasNoLoop, none}
@@ -56,3 +59,20 @@ pub loopless_entry : (trees : List (Plan AffineRank)) (body : Statements) → Ha
 loopless_entry trees body free (Straight, counts, is) =
     subst (λ list. rank_of (trees_in list (entry_of body)) ≡ Some (ranked (constant_of (pos (last_steps body))))) (sym is) (entry_rank body free)
 loopless_entry trees body free (Loop row, counts, is) = absurd (no_loop_counted row 1 body free counts.0)
+
+-- the tree is one leaf
+abbrev pub IsAlone : Plan AffineRank → Type 0
+IsAlone plan = (plan ≡ bottom) ⊎ ((why : Why) × (rank : AffineRank) × (plan ≡ leaf why rank))
+
+each_alone : (counts : List Count) (label : ℕ) → IsAlone (trees_in (map most_within counts) label)
+each_alone [] label = inl refl
+each_alone (c ∷ more) zero = inr (Step Every, ranked (constant_of (pos c.most)), refl)
+each_alone (c ∷ more) (suc label) = each_alone more label
+
+pub loopless_alone : (trees : List (Plan AffineRank)) (body : Statements) → HasNoLoop body → IsCandidate trees body → (label : ℕ) → IsAlone (trees_in trees label)
+loopless_alone trees body free (Straight, counts, is) label = subst (λ list. IsAlone (trees_in list label)) (sym is) (own label)
+  where
+    own : (label : ℕ) → IsAlone (trees_in (candidate_without body) label)
+    own zero = inr (End, ranked (constant_of (pos 0)), refl)
+    own (suc label) = each_alone (counts_of (change_by nothing) body none) label
+loopless_alone trees body free (Loop row, counts, is) label = absurd (no_loop_counted row 1 body free counts.0)

@@ -1,5 +1,5 @@
 -- What is shown of a formula's operands is shown of its smaller parts.
-use Rattle.std.proofs.Common.{◌≡◌, ◌⊎◌, inl, inr, ℕ, zero, suc, ◌+◌, ◌-◌, ◌<◌, Bool, List, [], ◌∷◌, ◌++◌, All, drop, length, take, refl, sym, ap, subst, ◌∙◌, arith, length-append, append_assoc}
+use Rattle.std.proofs.Common.{◌≡◌, ◌⊎◌, inl, inr, ℕ, zero, suc, ◌+◌, ◌-◌, ◌<◌, ◌≤◌, Bool, List, [], ◌∷◌, ◌++◌, All, drop, length, take, refl, sym, ap, subst, ◌∙◌, arith, length-append, append_assoc}
 use Rattle.std.proofs.Math.Path.{fun_ext}
 use Rattle.std.proofs.lemmas.List.Elements.{All-append, All-cons, All-head, All-nil, All-push, All-tail}
 use Rattle.step_meaning.specs.Syntax.{Statements, statements}
@@ -14,7 +14,8 @@ use Rattle.tree_check.specs.Checking.{families_of}
 use Rattle.tree_support.specs.Certificates.{IsShown, ItselfIsShown, SmallerAreShown, operands_from}
 use Rattle.tree_support.specs.Setting.{Trees}
 use Rattle.control_flow.specs.Told.{Told}
-use Rattle.ctl_rounds.specs.Families.{AreNumberedFrom, IsExact, IsFamilyFor, IsNarrowFor, IsUncut, IsWithin, trees_of}
+use Rattle.formula_measures.specs.Measures.{ctl_growth}
+use Rattle.ctl_rounds.specs.Families.{AreNumberedFrom, HasRowsWithin, IsExact, IsFamilyFor, IsNarrowFor, IsUncut, IsWithin, trees_of}
 use Rattle.ctl_rounds.specs.Showing.{AreAt, AreOperandsOf, AreShown, AreSmaller, Shows, all_of, arity, in_order}
 use Rattle.ctl_rounds.specs.declared.smaller.Shown.{Shown}
 use Rattle.ctl_rounds.specs.declared.smaller.SmallerParts.{SmallerParts}
@@ -24,6 +25,7 @@ use Rattle.exact_families.specs.Completeness.{EachPart, IsComplete, IsLoopless}
 use Rattle.exact_families.specs.Narrowness.{IsNarrowAndComplete}
 use Rattle.control_flow.specs.Labels.{all_labels}
 use Rattle.count_down.proofs.Leads.{all_weaken}
+use Rattle.ctl_rounds.proofs.Numbers.{growth_both, growth_either, growth_next, growth_until, growth_weak, more_rows, narrow_family}
 use Rattle.ctl_rounds.proofs.Within.{take_drop, within_both, within_either, within_next, within_until, within_weak}
 
 -- the trees of the operands by their places
@@ -154,6 +156,10 @@ module _ (program : Program) (told : Told) (count : ℕ) where
             exact loopless (below.complete loopless plain (subst (All IsUncut) is (All-front IsUncut found.smaller.items (found.whole ∷ []) uncut)))
             (All-head IsUncut found.whole [] (All-rest IsUncut found.smaller.items (found.whole ∷ []) uncut));
         narrow = λ loopless plain within. narrow loopless within (below.as_many, operand_labels smaller below counted) (below.narrow loopless plain within);
+        numbers = λ loopless plain within.
+            All-push (HasRowsWithin (ctl_growth body f)) found.smaller.items found.whole (subst (All (HasRowsWithin (ctl_growth body f))) (sym is) (below.numbers loopless plain within))
+            (narrow_family (length program.names) body f found.whole own.fits
+            (narrow loopless within (below.as_many, operand_labels smaller below counted) (below.narrow loopless plain within)));
       }
 
   -- ---- a formula with one operand
@@ -183,8 +189,10 @@ module _ (program : Program) (told : Told) (count : ℕ) where
         → number_from k h ≡ suc (number_from k f) → arity h ≡ 1 → (h ≡ af_exit → ⊥)
         → (IsLoopless body → HasNoNegation h → All IsUncut own → EachPart (IsComplete body) h (families_of (part.whole ∷ [])))
         → (IsLoopless body → HasNoNegation h → IsWithin (length program.names) body h
-        → EachPart (IsNarrowAndComplete (length program.names) body) h (families_of (part.whole ∷ []))) → AreSmaller program told count k h found
-    of_one h shown places behind unary other complete narrow =
+        → EachPart (IsNarrowAndComplete (length program.names) body) h (families_of (part.whole ∷ [])))
+        → (IsLoopless body → HasNoNegation h → IsWithin (length program.names) body h → All (HasRowsWithin (ctl_growth body h)) own)
+        → AreSmaller program told count k h found
+    of_one h shown places behind unary other complete narrow numbers =
         let long = length-append part.smaller.items (part.whole ∷ []) in
         let each = one.each_part in record {
           shown = λ families at. shown families (one.shown families (own_at families at));
@@ -201,16 +209,19 @@ module _ (program : Program) (told : Told) (count : ℕ) where
               subst (λ list. EachPart (IsComplete body) h (families_of list)) (sym operands) (complete loopless plain (subst (All IsUncut) all_are_own uncut));
           narrow = λ loopless plain within.
               subst (λ list. EachPart (IsNarrowAndComplete (length program.names) body) h (families_of list)) (sym operands) (narrow loopless plain within);
+          numbers = λ loopless plain within. subst (All (HasRowsWithin (ctl_growth body h))) (sym all_are_own) (numbers loopless plain within);
         }
 
     pub with_one : (h : Ctl) → HasOne h f → AreSmaller program told count k h found
     with_one h (inl is) = subst (λ formula. AreSmaller program told count k formula found) (sym is)
         (of_one (negation f) (λ families shown. shown) (λ families place. by_negation families k f f place) refl refl (λ is. absurd (cc)) (λ loopless plain uncut. absurd plain)
-        (λ loopless plain within. absurd plain))
+        (λ loopless plain within. absurd plain) (λ loopless plain within. absurd plain))
     with_one h (inr (all, is)) = subst (λ formula. AreSmaller program told count k formula found) (sym is)
         (of_one (next all f) (λ families shown. shown) (λ families place. by_next families k f f all place) refl refl (λ is. absurd (cc))
         (λ loopless plain uncut. one.complete loopless plain uncut)
-        (λ loopless plain within. one.narrow loopless plain (within_next (length program.names) body all f within)))
+        (λ loopless plain within. one.narrow loopless plain (within_next (length program.names) body all f within))
+        (λ loopless plain within. more_rows (ctl_growth body f) (ctl_growth body (next all f)) (growth_next body all f) own
+        (one.numbers loopless plain (within_next (length program.names) body all f within))))
 
   -- ---- a formula with two operands
 
@@ -276,8 +287,9 @@ module _ (program : Program) (told : Told) (count : ℕ) where
         → (IsLoopless body → HasNoNegation h → All IsUncut (left ++ right) → EachPart (IsComplete body) h (families_of (first.whole ∷ second.whole ∷ [])))
         → (IsLoopless body → HasNoNegation h → IsWithin (length program.names) body h
         → EachPart (IsNarrowAndComplete (length program.names) body) h (families_of (first.whole ∷ second.whole ∷ [])))
+        → (IsLoopless body → HasNoNegation h → IsWithin (length program.names) body h → All (HasRowsWithin (ctl_growth body h)) (left ++ right))
         → AreSmaller program told count k h found
-    of_two h shown places behind binary keep complete narrow =
+    of_two h shown places behind binary keep complete narrow numbers =
         let all_long = length-append left right in
         let long = left_long in
         let other = right_long in record {
@@ -300,6 +312,7 @@ module _ (program : Program) (told : Told) (count : ℕ) where
               subst (λ list. EachPart (IsComplete body) h (families_of list)) (sym operands) (complete loopless plain (subst (All IsUncut) all_are_both uncut));
           narrow = λ loopless plain within.
               subst (λ list. EachPart (IsNarrowAndComplete (length program.names) body) h (families_of list)) (sym operands) (narrow loopless plain within);
+          numbers = λ loopless plain within. subst (All (HasRowsWithin (ctl_growth body h))) (sym all_are_both) (numbers loopless plain within);
         }
 
     -- both operands' families are defined wherever the operands hold
@@ -313,16 +326,30 @@ module _ (program : Program) (told : Told) (count : ℕ) where
         → IsNarrowFor (length program.names) body f first.whole × IsNarrowFor (length program.names) body g second.whole
     both_narrow loopless plain within = (one.narrow loopless plain.0 within.0, two.narrow loopless plain.1 within.1)
 
+    both_numbers : (most : ℕ) → (ctl_growth body f ≤ most) × (ctl_growth body g ≤ most) → IsLoopless body → HasNoNegation f × HasNoNegation g
+        → IsWithin (length program.names) body f × IsWithin (length program.names) body g → All (HasRowsWithin most) (left ++ right)
+    both_numbers most less loopless plain within =
+        All-append (HasRowsWithin most) left right (more_rows (ctl_growth body f) most less.0 left (one.numbers loopless plain.0 within.0))
+        (more_rows (ctl_growth body g) most less.1 right (two.numbers loopless plain.1 within.1))
+
     pub with_two : (h : Ctl) → HasTwo h f g → AreSmaller program told count k h found
     with_two h (inl is) = subst (λ formula. AreSmaller program told count k formula found) (sym is)
         (of_two (both f g) (λ families shown. shown) (λ families place. by_both families k f g place) refl refl (λ is. absurd (cc)) both_complete
-        (λ loopless plain within. both_narrow loopless plain (within_both (length program.names) body f g within)))
+        (λ loopless plain within. both_narrow loopless plain (within_both (length program.names) body f g within))
+        (λ loopless plain within. both_numbers (ctl_growth body (both f g)) (growth_both body f g) loopless plain
+        (within_both (length program.names) body f g within)))
     with_two h (inr (inl is)) = subst (λ formula. AreSmaller program told count k formula found) (sym is)
         (of_two (either f g) (λ families shown. shown) (λ families place. by_either families k f g place) refl refl (λ is. absurd (cc)) both_complete
-        (λ loopless plain within. both_narrow loopless plain (within_either (length program.names) body f g within)))
+        (λ loopless plain within. both_narrow loopless plain (within_either (length program.names) body f g within))
+        (λ loopless plain within. both_numbers (ctl_growth body (either f g)) (growth_either body f g) loopless plain
+        (within_either (length program.names) body f g within)))
     with_two h (inr (inr (inl (all, is)))) = subst (λ formula. AreSmaller program told count k formula found) (sym is)
         (of_two (until all f g) (λ families shown. shown) (λ families place. by_until families k f g all place) refl refl (λ same. ap kept_by same) both_complete
-        (λ loopless plain within. both_narrow loopless plain (within_until (length program.names) body all f g within)))
+        (λ loopless plain within. both_narrow loopless plain (within_until (length program.names) body all f g within))
+        (λ loopless plain within. both_numbers (ctl_growth body (until all f g)) (growth_until body all f g) loopless plain
+        (within_until (length program.names) body all f g within)))
     with_two h (inr (inr (inr (all, is)))) = subst (λ formula. AreSmaller program told count k formula found) (sym is)
         (of_two (weak all f g) (λ families shown. shown) (λ families place. by_weak families k f g all place) refl refl (λ is. absurd (cc)) both_complete
-        (λ loopless plain within. both_narrow loopless plain (within_weak (length program.names) body all f g within)))
+        (λ loopless plain within. both_narrow loopless plain (within_weak (length program.names) body all f g within))
+        (λ loopless plain within. both_numbers (ctl_growth body (weak all f g)) (growth_weak body all f g) loopless plain
+        (within_weak (length program.names) body all f g within)))

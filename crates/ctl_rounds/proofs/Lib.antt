@@ -2,6 +2,7 @@ pub mod Kept
 pub mod Fit
 pub mod KnownShown
 pub mod Placing
+pub mod Numbers
 pub mod Combining
 pub mod CoverLaws
 pub mod Certifying

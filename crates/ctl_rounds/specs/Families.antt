@@ -10,6 +10,7 @@ use Rattle.tree_support.specs.Setting.{Trees, trees_in}
 use Rattle.exact_families.specs.Completeness.{IsComplete, NoneGivenUp}
 use Rattle.formula_measures.specs.Measures.{IsWithinMeasures}
 use Rattle.exact_families.specs.Narrowness.{IsNarrowAndComplete}
+use Rattle.unroll.specs.Levels.{RowsAtMost}
 use Rattle.normal_form.specs.Rows.{RowsAreOver}
 
 -- the trees of a family by their labels
@@ -39,6 +40,10 @@ IsWithin vars body formula = IsWithinMeasures body formula × RowsAreOver vars f
 -- the family is as small and narrow as these tell, and defined wherever the formula holds
 abbrev pub IsNarrowFor : ℕ → Statements → Ctl → Family AffineRank → Type 0
 IsNarrowFor vars body formula family = IsNarrowAndComplete vars body formula (trees_of family)
+
+-- no number in a row of the family's trees is above that in size
+abbrev pub HasRowsWithin : ℕ → Family AffineRank → Type 0
+HasRowsWithin most family = (label : ℕ) → RowsAtMost most (trees_of family label)
 
 -- where none was, the family is defined wherever the formula holds
 abbrev pub IsExact : Statements → Ctl → Family AffineRank → Type 0

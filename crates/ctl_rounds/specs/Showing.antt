@@ -14,7 +14,8 @@ use Rattle.decision_tree.specs.Plans.{Plan}
 use Rattle.tree_support.specs.Certificates.{affine_ranks, IsShown, ItselfIsShown, SmallerAreShown, operands_from}
 use Rattle.tree_support.specs.Setting.{Setting, Trees, trees_in}
 use Rattle.control_flow.specs.Told.{Told}
-use Rattle.ctl_rounds.specs.Families.{AreNumberedFrom, IsFamilyFor, IsNarrowFor, IsUncut, IsWithin, trees_of}
+use Rattle.formula_measures.specs.Measures.{ctl_growth}
+use Rattle.ctl_rounds.specs.Families.{AreNumberedFrom, HasRowsWithin, IsFamilyFor, IsNarrowFor, IsUncut, IsWithin, trees_of}
 use Rattle.ctl_rounds.specs.declared.smaller.Shown.{Shown}
 use Rattle.ctl_rounds.specs.declared.smaller.SmallerParts.{SmallerParts}
 use Rattle.normal_form.specs.Operators.{HasNoNegation}
@@ -60,7 +61,8 @@ all_of found = in_order found.of_first.items found.operands.items found.of_secon
 
 -- The families show the smaller parts of the formula, where the first of these has the number k, in a program with `count` labels. Where the
 -- formula is `AF exit` the family of the truth, its first operand, is defined at each label. In a plain program without loops each operand's family
--- is defined wherever the operand holds, if no leaf of any was given up, and so it is where the formula is within the measures of the program.
+-- is defined wherever the operand holds, if no leaf of any was given up, and so it is where the formula is within the measures of the program; then no number in a row of
+-- any family is above the formula's growth.
 pub record AreSmaller (program : Program) (told : Told) (count k : ℕ) (f : Ctl) (found : SmallerParts) : Type 0 where
   pub shown : (families : ℕ → Trees AffineRank) → AreAt families k (all_of found) → SmallerAreShown (statements program.body) told families k f
   pub operands : (families : ℕ → Trees AffineRank) → AreAt families k (all_of found) → families_of found.operands.items ≡ operands_from families k f
@@ -74,9 +76,12 @@ pub record AreSmaller (program : Program) (told : Told) (count k : ℕ) (f : Ctl
       → EachPart (IsComplete (statements program.body)) f (families_of found.operands.items)
   pub narrow : IsLoopless (statements program.body) → HasNoNegation f → IsWithin (length program.names) (statements program.body) f
       → EachPart (IsNarrowAndComplete (length program.names) (statements program.body)) f (families_of found.operands.items)
+  pub numbers : IsLoopless (statements program.body) → HasNoNegation f → IsWithin (length program.names) (statements program.body) f
+      → All (HasRowsWithin (ctl_growth (statements program.body) f)) (all_of found)
 
 -- The families show the formula and its smaller parts, where the first of these has the number k. That of the truth is defined at each label. In a plain
--- program without loops that of the formula is defined wherever it holds, if no leaf of any was given up, or it is within the measures.
+-- program without loops that of the formula is defined wherever it holds, if no leaf of any was given up, or it is within the measures; then no number in a row of any family is
+-- above the formula's growth.
 pub record AreShown (program : Program) (told : Told) (count k : ℕ) (f : Ctl) (found : Shown) : Type 0 where
   pub shown : (families : ℕ → Trees AffineRank) → AreAt families k (found.smaller.items ++ found.whole ∷ [])
       → SmallerAreShown (statements program.body) told families k f × ItselfIsShown (statements program.body) told families k f
@@ -89,6 +94,8 @@ pub record AreShown (program : Program) (told : Told) (count k : ℕ) (f : Ctl) 
       → IsComplete (statements program.body) f (trees_of found.whole)
   pub narrow : IsLoopless (statements program.body) → HasNoNegation f → IsWithin (length program.names) (statements program.body) f
       → IsNarrowFor (length program.names) (statements program.body) f found.whole
+  pub numbers : IsLoopless (statements program.body) → HasNoNegation f → IsWithin (length program.names) (statements program.body) f
+      → All (HasRowsWithin (ctl_growth (statements program.body) f)) (found.smaller.items ++ found.whole ∷ [])
 
 -- as many operands as the formula has, each with a tree for each of so many labels
 abbrev pub AreOperandsOf : Ctl → ℕ → List (Family AffineRank) → Type 0

@@ -1,5 +1,5 @@
 //! The analysis of a formula over a program.
-ghost use Rattle.std.specs.Prelude.{◌≡◌, ◌↔◌, ◌<◌, ◌≤◌, ◌⊎◌, ◌^◌, ℕ, All, IfNone, IfOk, IfSome, IsTrue, None, Some, length, option_map, pos};
+ghost use Rattle.std.specs.Prelude.{◌≡◌, ◌↔◌, ◌<◌, ◌≤◌, ◌⊎◌, ◌^◌, ◌++◌, ℕ, All, IfNone, IfOk, IfSome, IsTrue, None, Some, length, option_map, pos};
 ghost use Rattle.linear_cons.specs.Functions.{constant_of};
 ghost use Rattle.step_meaning.specs.Countdown.{IsCountdown};
 ghost use Rattle.step_meaning.specs.Counts.{HasNoLoop};
@@ -24,7 +24,7 @@ ghost use Rattle.ctl_rounds.specs.Certified.{Certifies};
 ghost use Rattle.ctl_rounds.specs.Covers.{Covers, IsCover, IsFitToBegin, at_entry, claims_of};
 ghost use Rattle.ctl_rounds.specs.Finding.{AreFoundSoFar, CoversExactly, FirstIs, IsSubject};
 ghost use Rattle.ctl_rounds.specs.Bounds.{CoversInputs, FindsInputs};
-ghost use Rattle.ctl_rounds.specs.Families.{IsUncut, IsWithin};
+ghost use Rattle.ctl_rounds.specs.Families.{HasRowsWithin, IsUncut, IsWithin};
 ghost use Rattle.exact_families.specs.Completeness.{IsLoopless};
 ghost use Rattle.formula_measures.specs.Measures.{ctl_growth};
 ghost use Rattle.normal_form.specs.Operators.{HasNoNegation};
@@ -44,6 +44,7 @@ use ctl_formula::Formula;
 use decision_tree::{AffineRank, Family};
 use fitting_ways::laws::ways_through_small_candidates_fit;
 use forward_inv::{Inv, transitions_of};
+use loop_moves::Search;
 use num_domain::NumDomain;
 use std::alloc::{AllocError, Global};
 
@@ -56,7 +57,8 @@ use std::alloc::{AllocError, Global};
 /// Nothing is assumed of who proposes: a family is there because the check left it so.
 ///
 /// In a plain program without loops each input from which the formula holds has a claim, where no leaf was given up and the first tree is small, and
-/// within the measures of the two; where the growth of these is at most 2^60 its way there is found within 128 bits, if its numbers are small.
+/// within the measures of the two; then no number in a row of a family is above the growth of these, and where that is at most 2^60 its way there is found within 128 bits,
+/// if its numbers are small.
 ///
 /// The invariants have each state that is reached. The only error is want of memory, as for a formula of
 /// more than 2^32 parts; the advisers may have been asked by then.
@@ -84,6 +86,9 @@ pub fn analyse<D: NumDomain>(
         → IsWithin (length graph.now.names) (statements graph.now.body) (ctl formula.now) → ctl_growth (statements graph.now.body) (ctl formula.now) ≤ 2 ^ 60
         → IfOk result (λ certificate. (cover : Plan AffineRank) → IsCover (statements graph.now.body) certificate.tops cover
         → FindsInputs (length graph.now.names) (statements graph.now.body) (ctl formula.now) cover) }
+    ensures numbers { IsLoopless (statements graph.now.body) → HasNoNegation (ctl formula.now)
+        → IsWithin (length graph.now.names) (statements graph.now.body) (ctl formula.now) → IfOk result (λ certificate.
+        All (HasRowsWithin (ctl_growth (statements graph.now.body) (ctl formula.now))) (certificate.parts ++ certificate.tops)) }
     ensures turns { IsAdvised (ctl formula.now) → IfOk result (λ certificate. (cover : Plan AffineRank)
         → IsCover (statements graph.now.body) certificate.tops cover → IsWhole cover ⊎ (certificate.turns ≡ 8)) }
     ensures unadvised { (IsAdvised (ctl formula.now) → ⊥) → IfOk result (λ certificate. certificate.turns ≡ 0) }
@@ -106,21 +111,32 @@ pub fn analyse<D: NumDomain>(
         transitions: &transitions,
         labels: graph.labels(),
         delay,
+        synthesises: synthesises(advisers.len(), delay),
     };
-    let smaller = premises.smaller_parts(formula, 0)?;
+    let mut search = Search::new(alloc);
+    let smaller = premises.smaller_parts(&mut search, formula, 0)?;
     let subject = Subject {
         premises: &premises,
         formula,
         smaller: &smaller,
     };
-    let found = subject.found(advisers)?;
+    let found = subject.found(&mut search, advisers)?;
     let parts = smaller.in_order()?;
     Ok(found.certificate(parts))
 }
 
+/// Whether linear programs may propose families: where there is an adviser, and more than one sweep comes before widening.
+pub fn synthesises(advisers: usize, delay: u32) -> bool {
+    advisers > 0 && delay > 1
+}
+
 impl<'a, D: NumDomain> Subject<'a, D> {
     /// What is found by the candidate of a countdown program, and of any other program or formula by proposals.
-    fn found(&self, advisers: &mut Vec<Box<dyn Adviser>>) -> Result<Found, AllocError>
+    fn found(
+        &self,
+        search: &mut Search,
+        advisers: &mut Vec<Box<dyn Adviser>>,
+    ) -> Result<Found, AllocError>
         requires subject { IsSubject D.NumDomain.own self.now }
         requires patient { All (λ adviser. asked_of adviser ≤ 2 ^ 32) advisers.old.items }
         ensures certified { IfOk result (λ found. Certifies (length self.now.premises.now.graph.now.names)
@@ -129,6 +145,10 @@ impl<'a, D: NumDomain> Subject<'a, D> {
         ensures covers { IfOk result (λ found. Covers None (at_entry (statements self.now.premises.now.graph.now.body) found.tops.items)
             (option_map plan_of found.cover)) }
         ensures exact { IfOk result (λ found. CoversExactly self.now found.tops.items (option_map plan_of found.cover)) }
+        ensures numbers { IsLoopless (statements self.now.premises.now.graph.now.body) → HasNoNegation (ctl self.now.formula.now)
+            → IsWithin (length self.now.premises.now.graph.now.names) (statements self.now.premises.now.graph.now.body) (ctl self.now.formula.now)
+            → IfOk result (λ found. All (HasRowsWithin (ctl_growth (statements self.now.premises.now.graph.now.body) (ctl self.now.formula.now)))
+            found.tops.items) }
         ensures turns { IsAdvised (ctl self.now.formula.now) → IfOk result (λ found.
             IsWhole (claims_of (option_map plan_of found.cover)) ⊎ (found.turns ≡ 8)) }
         ensures unadvised { (IsAdvised (ctl self.now.formula.now) → ⊥) → IfOk result (λ found. found.turns ≡ 0) }
@@ -147,7 +167,7 @@ impl<'a, D: NumDomain> Subject<'a, D> {
     {
         match self.candidate()? {
             Some(family) => Ok(self.counted(family)?),
-            None => Ok(self.sought(advisers)?),
+            None => Ok(self.sought(search, advisers)?),
         }
     }
 
@@ -182,6 +202,7 @@ impl<'a, D: NumDomain> Subject<'a, D> {
         ensures some { IfOk result (λ found. 0 < length found.tops.items) }
         ensures turns { IfOk result (λ found. found.turns ≡ 0) }
         ensures whole { IfOk result (λ found. IsWhole (claims_of (option_map plan_of found.cover))) }
+        ensures numbers { HasNoLoop (statements self.now.premises.now.graph.now.body) → IfOk result (λ found. All (HasRowsWithin 0) found.tops.items) }
         ensures loopless { HasNoLoop (statements self.now.premises.now.graph.now.body) → IfOk result (λ found.
             rank_of (claims_of (option_map plan_of found.cover))
             ≡ Some (ranked (constant_of (pos (last_steps (statements self.now.premises.now.graph.now.body)))))) }

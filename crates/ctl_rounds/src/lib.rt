@@ -15,6 +15,7 @@ mod certificate;
 mod covering;
 mod fitting;
 mod found;
+mod improving;
 mod known;
 pub mod laws;
 mod premises;
@@ -23,8 +24,9 @@ mod showing;
 mod smaller;
 mod subject;
 mod synthesis;
+mod until_kind;
 
-pub use analysis::analyse;
+pub use analysis::{analyse, synthesises};
 pub use certificate::Certificate;
 pub use covering::cover;
 pub use premises::Premises;

@@ -1,6 +1,7 @@
 //! What is known of a program, and the check of a family over it.
-ghost use Rattle.std.specs.Prelude.{◌≡◌, ℕ, List, All, IfOk, length};
+ghost use Rattle.std.specs.Prelude.{◌≡◌, ℕ, false, List, All, IfOk, length};
 ghost use Rattle.step_meaning.specs.Syntax.{statements};
+ghost use Rattle.control_flow.specs.Transitions.{HasNoHead, is_head};
 ghost use Rattle.ctl_formula.specs.Mirror.{ctl};
 ghost use Rattle.tree_check.specs.Checking.{families_of};
 ghost use Rattle.tree_support.specs.Certificates.{affine_ranks};
@@ -27,7 +28,7 @@ use tree_check::check_over;
 use tree_check::laws::eliminations_spare_places;
 
 /// What is known of a program whatever formula it is asked about: its graph with the number of labels, sets that have the states that are
-/// reached, and what is done at each label; and after how many sweeps those that propose trees widen them.
+/// reached, and what is done at each label; after how many sweeps those that propose trees widen them; and whether linear programs may propose some.
 #[derive(Drop)]
 pub struct Premises<'a, D: NumDomain> {
     pub alloc: Global,
@@ -36,6 +37,7 @@ pub struct Premises<'a, D: NumDomain> {
     pub transitions: &'a [Transition],
     pub labels: u32,
     pub delay: u32,
+    pub synthesises: bool,
 }
 
 impl<'a, D: NumDomain> Premises<'a, D> {
@@ -120,5 +122,30 @@ impl<'a, D: NumDomain> Premises<'a, D> {
             self.delay,
         )?;
         self.left_of(formula, smaller, trees)
+    }
+
+    /// Whether some label is the head of a loop.
+    pub(crate) fn has_loop(&self) -> bool
+        requires premises { ArePremises D.NumDomain.own self.now }
+        ensures { IsLoopless (statements self.now.graph.now.body) → result ≡ false }
+    {
+        has_head(self.transitions)
+    }
+}
+
+/// Whether some label is that of a loop's head.
+fn has_head(transitions: &[Transition]) -> bool
+    ensures { HasNoHead transitions.now → result ≡ false }
+{
+    transitions.iter().any(is_head)
+}
+
+/// Whether it is what is done at the head of a loop.
+fn is_head(transition: &Transition) -> bool
+    ensures { result ≡ is_head transition.now }
+{
+    match transition {
+        Transition::Test { is_head, .. } => *is_head,
+        _ => false,
     }
 }

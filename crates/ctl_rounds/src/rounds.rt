@@ -5,6 +5,8 @@ ghost use Rattle.decision_tree.specs.Extent.{IsWhole};
 ghost use Rattle.decision_tree.specs.Plans.{plan_of};
 ghost use Rattle.ctl_rounds.specs.Asked.{IsAdvised, RoseBy};
 ghost use Rattle.ctl_rounds.specs.Covers.{claims_of};
+ghost use Rattle.step_meaning.specs.Syntax.{statements};
+ghost use Rattle.exact_families.specs.Completeness.{IsLoopless};
 ghost use Rattle.ctl_rounds.specs.Finding.{AreFoundSoFar, BeginsExactly, IsSubject, IsTop};
 
 use crate::covering::{extended, tree_at_entry};
@@ -15,6 +17,7 @@ use backward_sweeps::Operands;
 use ctl_formula::Formula;
 use decision_tree::{AffineRank, Family};
 use loop_facts::{Facts, holds_under, proposal};
+use loop_moves::Search;
 use num_domain::NumDomain;
 use part_trees::Claims;
 use std::alloc::AllocError;
@@ -25,22 +28,27 @@ const TURNS: u32 = 8;
 impl<'a, D: NumDomain> Subject<'a, D> {
     /// What is found by proposals: a family; for an `A[f U g]` those of turns of advice; and, where there are advisers and more than one sweep comes
     /// before widening, those of linear programs. The only error is want of memory.
-    pub(crate) fn sought(&self, advisers: &mut Vec<Box<dyn Adviser>>) -> Result<Found, AllocError>
+    pub(crate) fn sought(
+        &self,
+        search: &mut Search,
+        advisers: &mut Vec<Box<dyn Adviser>>,
+    ) -> Result<Found, AllocError>
         requires subject { IsSubject D.NumDomain.own self.now }
         requires patient { All (λ adviser. asked_of adviser ≤ 2 ^ 32) advisers.old.items }
         ensures found { IfOk result (λ found. AreFoundSoFar D.NumDomain.own self.now found.tops.items (option_map plan_of found.cover)) }
         ensures some { IfOk result (λ found. 0 < length found.tops.items) }
         ensures exact { IfOk result (λ found. BeginsExactly self.now found.tops.items) }
+        ensures alone { IsLoopless (statements self.now.premises.now.graph.now.body) → IfOk result (λ found. length found.tops.items ≡ 1) }
         ensures turns { IsAdvised (ctl self.now.formula.now) → IfOk result (λ found.
             IsWhole (claims_of (option_map plan_of found.cover)) ⊎ (found.turns ≡ 8)) }
         ensures unadvised { (IsAdvised (ctl self.now.formula.now) → ⊥) → IfOk result (λ found. found.turns ≡ 0) }
         ensures asked { (times : ℕ) × (times ≤ 8) × RoseBy (λ adviser. asked_of adviser) times advisers.old.items advisers.new.items
             × IfOk result (λ found. found.turns ≡ times) }
     {
-        let synthesises = !advisers.is_empty() && self.premises.delay > 1;
+        let synthesises = self.premises.synthesises;
         let mut found = self.hinted(advisers)?;
         if synthesises && !found.is_whole() {
-            self.synthesise(&mut found)?;
+            self.synthesise(search, &mut found)?;
         }
         Ok(found)
     }
@@ -52,6 +60,7 @@ impl<'a, D: NumDomain> Subject<'a, D> {
         ensures found { IfOk result (λ found. AreFoundSoFar D.NumDomain.own self.now found.tops.items (option_map plan_of found.cover)) }
         ensures some { IfOk result (λ found. 0 < length found.tops.items) }
         ensures exact { IfOk result (λ found. BeginsExactly self.now found.tops.items) }
+        ensures alone { IsLoopless (statements self.now.premises.now.graph.now.body) → IfOk result (λ found. length found.tops.items ≡ 1) }
         ensures turns { IsAdvised (ctl self.now.formula.now) → IfOk result (λ found.
             IsWhole (claims_of (option_map plan_of found.cover)) ⊎ (found.turns ≡ 8)) }
         ensures unadvised { (IsAdvised (ctl self.now.formula.now) → ⊥) → IfOk result (λ found. found.turns ≡ 0) }
@@ -74,6 +83,7 @@ impl<'a, D: NumDomain> Subject<'a, D> {
         ensures found { IfOk result (λ found. AreFoundSoFar D.NumDomain.own self.now found.tops.items (option_map plan_of found.cover)) }
         ensures some { IfOk result (λ found. 0 < length found.tops.items) }
         ensures exact { IfOk result (λ found. BeginsExactly self.now found.tops.items) }
+        ensures alone { IsLoopless (statements self.now.premises.now.graph.now.body) → IfOk result (λ found. length found.tops.items ≡ 1) }
         ensures turns { IfOk result (λ found. IsWhole (claims_of (option_map plan_of found.cover)) ⊎ (found.turns ≡ 8)) }
         ensures asked { (times : ℕ) × (times ≤ 8) × RoseBy (λ adviser. asked_of adviser) times advisers.old.items advisers.new.items
             × IfOk result (λ found. found.turns ≡ times) }
@@ -117,6 +127,7 @@ impl<'a, D: NumDomain> Subject<'a, D> {
         ensures found { IfOk result (λ found. AreFoundSoFar D.NumDomain.own self.now found.tops.items (option_map plan_of found.cover)) }
         ensures some { IfOk result (λ found. 0 < length found.tops.items) }
         ensures exact { IfOk result (λ found. BeginsExactly self.now found.tops.items) }
+        ensures alone { IfOk result (λ found. length found.tops.items ≡ 1) }
         ensures turns { IfOk result (λ found. found.turns ≡ 0) }
     {
         let first = self.premises.found(self.formula, self.smaller)?;
@@ -125,7 +136,7 @@ impl<'a, D: NumDomain> Subject<'a, D> {
         Ok(found)
     }
 
-    /// Adds what the check leaves of the families that the hints propose, one after the other.
+    /// Adds what the check leaves of the families that the hints propose, one after the other; none of a program without loops.
     fn follow(
         &self,
         operands: &Operands<'_>,
@@ -137,7 +148,11 @@ impl<'a, D: NumDomain> Subject<'a, D> {
         ensures found { OnOk result (AreFoundSoFar D.NumDomain.own self.now found.new.tops.items (option_map plan_of found.new.cover)) }
         ensures some { 0 < length found.old.tops.items → OnOk result (0 < length found.new.tops.items) }
         ensures exact { BeginsExactly self.now found.old.tops.items → OnOk result (BeginsExactly self.now found.new.tops.items) }
+        ensures alone { IsLoopless (statements self.now.premises.now.graph.now.body) → OnOk result (found.new.tops.items ≡ found.old.tops.items) }
     {
+        if !self.premises.has_loop() {
+            return Ok(());
+        }
         for hint in hints {
             let Some(last) = found.tops.last() else {
                 return Ok(());

@@ -16,14 +16,20 @@ use crate::premises::Premises;
 use crate::smaller::{Shown, SmallerParts};
 use ctl_formula::Formula;
 use decision_tree::{AffineRank, Family};
+use loop_moves::Search;
 use num_domain::NumDomain;
 use std::alloc::AllocError;
 
 impl<'a, D: NumDomain> Premises<'a, D> {
     /// Families that show the smaller parts of the formula, where the first of these has the number `first`: of the truth and of `exit` those
-    /// that are known, of any other part what the check leaves of the trees that are proposed for it. The error is want of memory, as for more
-    /// than 2^32 parts.
-    pub fn smaller_parts(&self, formula: &Formula, first: u32) -> Result<SmallerParts, AllocError>
+    /// that are known, of any other part what the check leaves of the trees that are proposed for it, of an until or a weak until by linear
+    /// programs too. The error is want of memory, as for more than 2^32 parts.
+    pub fn smaller_parts(
+        &self,
+        search: &mut Search,
+        formula: &Formula,
+        first: u32,
+    ) -> Result<SmallerParts, AllocError>
         requires premises { ArePremises D.NumDomain.own self.now }
         ensures { IfOk result (AreSmaller self.now.graph.now (told_on D.NumDomain.own self.now) self.now.labels first (ctl formula.now)) }
     {
@@ -31,8 +37,8 @@ impl<'a, D: NumDomain> Premises<'a, D> {
             Formula::True | Formula::False | Formula::Exit | Formula::NotExit | Formula::Holds(_) =>
                 Ok(SmallerParts::none(self.alloc, first)),
             Formula::Not(part) | Formula::Next { all: _, part } => {
-                let below = self.smaller_parts(part, first)?;
-                let part = self.shown(part, below)?;
+                let below = self.smaller_parts(search, part, first)?;
+                let part = self.shown(search, part, below)?;
                 let found = SmallerParts::of_one(self.alloc, part)?;
                 Ok(found)
             }
@@ -48,11 +54,11 @@ impl<'a, D: NumDomain> Premises<'a, D> {
                 keep: left,
                 goal: right,
             } => {
-                let below = self.smaller_parts(left, first)?;
-                let left = self.shown(left, below)?;
+                let below = self.smaller_parts(search, left, first)?;
+                let left = self.shown(search, left, below)?;
                 let second = left.number_behind()?;
-                let below = self.smaller_parts(right, second)?;
-                let right = self.shown(right, below)?;
+                let below = self.smaller_parts(search, right, second)?;
+                let right = self.shown(search, right, below)?;
                 let found = SmallerParts::of_two(self.alloc, left, right)?;
                 Ok(found)
             }
@@ -60,12 +66,17 @@ impl<'a, D: NumDomain> Premises<'a, D> {
     }
 
     /// Families that show the formula and its smaller parts, where those of the latter are given. The only error is want of memory.
-    fn shown(&self, formula: &Formula, smaller: SmallerParts) -> Result<Shown, AllocError>
+    fn shown(
+        &self,
+        search: &mut Search,
+        formula: &Formula,
+        smaller: SmallerParts,
+    ) -> Result<Shown, AllocError>
         requires premises { ArePremises D.NumDomain.own self.now }
         ensures { (k : ℕ) → AreSmaller self.now.graph.now (told_on D.NumDomain.own self.now) self.now.labels k (ctl formula.now) smaller
             → IfOk result (AreShown self.now.graph.now (told_on D.NumDomain.own self.now) self.now.labels k (ctl formula.now)) }
     {
-        let whole = self.itself(formula, &smaller)?;
+        let whole = self.itself(search, formula, &smaller)?;
         let smaller = smaller.in_order()?;
         Ok(Shown { smaller, whole })
     }
@@ -74,6 +85,7 @@ impl<'a, D: NumDomain> Premises<'a, D> {
     /// proposed. The only error is want of memory.
     fn itself(
         &self,
+        search: &mut Search,
         formula: &Formula,
         smaller: &SmallerParts,
     ) -> Result<Family<AffineRank>, AllocError>
@@ -106,9 +118,15 @@ impl<'a, D: NumDomain> Premises<'a, D> {
             | Formula::Not(_)
             | Formula::And(_, _)
             | Formula::Or(_, _)
-            | Formula::Next { .. }
-            | Formula::Until { .. }
-            | Formula::Weak { .. } => self.found(formula, smaller),
+            | Formula::Next { .. } => self.found(formula, smaller),
+            Formula::Until { .. } | Formula::Weak { .. } => {
+                let found = self.found(formula, smaller)?;
+                if self.synthesises {
+                    self.improved(search, formula, smaller, found)
+                } else {
+                    Ok(found)
+                }
+            }
         }
     }
 }

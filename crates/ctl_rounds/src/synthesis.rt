@@ -1,50 +1,59 @@
 //! Families of ranks by linear programs.
 ghost use Rattle.std.specs.Prelude.{◌≡◌, ◌<◌, OnOk, length, option_map};
 ghost use Rattle.decision_tree.specs.Plans.{plan_of};
+ghost use Rattle.step_meaning.specs.Syntax.{statements};
+ghost use Rattle.exact_families.specs.Completeness.{IsLoopless};
 ghost use Rattle.ctl_rounds.specs.Finding.{AreFoundSoFar, BeginsExactly, IsSubject, IsTop};
 
 use crate::covering::{extended, tree_at_entry};
 use crate::found::Found;
 use crate::subject::Subject;
-use ctl_formula::Formula;
+use crate::until_kind::UntilKind;
 use decision_tree::{AffineRank, Family};
+use loop_moves::{Parting, Plan, Question, Search};
 use num_domain::NumDomain;
 use part_trees::Claims;
-use rank_synthesis::{Loops, Parting, Plan, Question, Search};
+use rank_synthesis::Synthesis;
 use std::alloc::AllocError;
 
 impl<'a, D: NumDomain> Subject<'a, D> {
-    /// Adds what the check leaves of families that linear programs propose for an until or a weak until, as long as some input has no claim. The
-    /// only error is want of memory.
-    pub(crate) fn synthesise(&self, found: &mut Found) -> Result<(), AllocError>
+    /// Adds what the check leaves of families that linear programs propose for an until or a weak until of a program with loops, as long as some input
+    /// has no claim. The only error is want of memory.
+    pub(crate) fn synthesise(
+        &self,
+        search: &mut Search,
+        found: &mut Found,
+    ) -> Result<(), AllocError>
         requires subject { IsSubject D.NumDomain.own self.now }
         requires found { AreFoundSoFar D.NumDomain.own self.now found.old.tops.items (option_map plan_of found.old.cover) }
         ensures found { OnOk result (AreFoundSoFar D.NumDomain.own self.now found.new.tops.items (option_map plan_of found.new.cover)) }
         ensures some { 0 < length found.old.tops.items → OnOk result (0 < length found.new.tops.items) }
         ensures exact { BeginsExactly self.now found.old.tops.items → OnOk result (BeginsExactly self.now found.new.tops.items) }
+        ensures alone { IsLoopless (statements self.now.premises.now.graph.now.body) → OnOk result (found.new.tops.items ≡ found.old.tops.items) }
         ensures turns { found.new.turns ≡ found.old.turns }
     {
+        if !self.premises.has_loop() {
+            return Ok(());
+        }
         let (Some(keep), Some(goal)) = (self.smaller.operands.first(), self.smaller.operands.get(1))
         else {
             return Ok(());
         };
-        let (all, is_weak) = match self.formula {
-            Formula::Until { all, .. } => (*all, false),
-            Formula::Weak { all, .. } => (*all, true),
-            _ => return Ok(()),
+        let Some(until) = UntilKind::of(self.formula) else {
+            return Ok(());
         };
         let premises = self.premises;
         let claims = Claims::of(premises.alloc, keep, goal)?;
-        let mut search = Search::new(premises.alloc);
-        for plan in Plan::tried(premises.alloc, premises.transitions, all)? {
+        for plan in Plan::tried(premises.alloc, premises.transitions, until.all)? {
             let question = Question {
                 transitions: premises.transitions,
-                operands: &claims.operands(all),
-                is_weak,
+                operands: &claims.operands(until.all),
+                is_weak: until.is_weak,
+                under: &[],
                 plan,
                 variables: premises.graph.program().names.items().len() as u32,
             };
-            self.answer(&mut search, &question, found)?;
+            self.answer(search, &question, found)?;
         }
         Ok(())
     }
@@ -64,10 +73,10 @@ impl<'a, D: NumDomain> Subject<'a, D> {
         ensures exact { BeginsExactly self.now found.old.tops.items → OnOk result (BeginsExactly self.now found.new.tops.items) }
         ensures turns { found.new.turns ≡ found.old.turns }
     {
-        let mut loops = Loops::of(search, self.premises.inv, question)?;
+        let mut synthesis = Synthesis::of(search, self.premises.inv, question)?;
         for parting in Parting::ALL {
             if !found.is_whole() {
-                self.propose(search, question, &mut loops, parting, found)?;
+                self.propose(search, question, &mut synthesis, parting, found)?;
             }
         }
         Ok(())
@@ -78,7 +87,7 @@ impl<'a, D: NumDomain> Subject<'a, D> {
         &self,
         search: &mut Search,
         question: &Question<'_>,
-        loops: &mut Loops,
+        synthesis: &mut Synthesis,
         parting: Parting,
         found: &mut Found,
     ) -> Result<(), AllocError>
@@ -90,7 +99,7 @@ impl<'a, D: NumDomain> Subject<'a, D> {
         ensures exact { BeginsExactly self.now found.old.tops.items → OnOk result (BeginsExactly self.now found.new.tops.items) }
         ensures turns { found.new.turns ≡ found.old.turns }
     {
-        let Some(trees) = loops.proposed(search, question, parting)? else {
+        let Some(trees) = synthesis.proposed(search, question, parting)? else {
             return Ok(());
         };
         let family = self.premises.left_of(self.formula, self.smaller, trees)?;

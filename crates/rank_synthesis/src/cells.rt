@@ -1,9 +1,7 @@
 //! Cells of the stores at the heads of loops, and the links between them.
-use crate::loops::{Head, Loops};
-use crate::moves::{Move, Target, add_through};
-use crate::search::Search;
-use crate::stop::{Stop, unless_given_up};
+use crate::synthesis::Synthesis;
 use linear_cons::{Affine, Row};
+use loop_moves::{Head, Move, Search, Stop, Target, add_through, unless_given_up};
 use std::alloc::AllocError;
 
 /// The most cells at one head.
@@ -56,11 +54,11 @@ impl Cell {
     }
 }
 
-impl Loops {
+impl Synthesis {
     /// The cells that the rows part the stores at the heads into, with their links. A cell whose links would be too many leads astray.
     pub(crate) fn cells(&self, search: &mut Search, rows: &[Vec<Row>]) -> Result<Vec<Cell>, Stop> {
         let mut cells = Vec::new(search.alloc);
-        for (index, head) in self.heads.iter().enumerate() {
+        for (index, head) in self.loops.heads.iter().enumerate() {
             if let Some(splits) = rows.get(index) {
                 for part in parted(search, head, splits)? {
                     cells.push(Cell {
@@ -72,7 +70,7 @@ impl Loops {
                 }
             }
         }
-        for index in 0..self.heads.len() {
+        for index in 0..self.loops.heads.len() {
             self.link(search, &mut cells, index)?;
         }
         Ok(cells)
@@ -110,7 +108,7 @@ impl Loops {
         let Some(cell) = cells.get(index) else {
             return Ok(links);
         };
-        let Some(head) = self.heads.get(cell.head) else {
+        let Some(head) = self.loops.heads.get(cell.head) else {
             return Ok(links);
         };
         for (one, way) in head.moves.iter().enumerate() {
@@ -142,10 +140,10 @@ impl Loops {
         rows: &[Row],
         links: &mut Vec<Link>,
     ) -> Result<(), Stop> {
-        let Some(next) = self.index(label) else {
+        let Some(next) = self.loops.index(label) else {
             return Ok(());
         };
-        let Some(head) = self.heads.get(next) else {
+        let Some(head) = self.loops.heads.get(next) else {
             return Ok(());
         };
         for (index, cell) in cells.iter().enumerate() {

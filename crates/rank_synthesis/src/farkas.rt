@@ -1,16 +1,19 @@
 //! Ranks of cells by a linear program: a function is at least 0 wherever rows are met, if it is a sum of multiples of them and of 1, none of them
 //! negative.
-use crate::cells::{Cell, End, Found, Link};
-use crate::loops::{Head, Loops};
-use crate::moves::{Move, through, unchanged};
-use crate::search::Search;
-use crate::stop::{Stop, unless_given_up};
+ghost use Rattle.std.specs.Prelude.{◌<◌};
+
+use crate::cells::{Cell, Link};
+use crate::synthesis::Synthesis;
 use linear_cons::{Affine, PLACES, Row, common_divisor, floor_quotient};
-use linear_program::{Program, Solution, Term};
+use linear_program::{Program, Solution, Term, minimised};
+use loop_moves::{Head, Move, Search, Stop, through, unchanged};
 use std::alloc::{AllocError, Global};
 
 /// The most links of a component.
 const MOST_LINKS: usize = 48;
+
+/// The most exchanges of one linear program, so that one alone doesn't take long.
+const MOST_EXCHANGES: u32 = 500;
 
 /// What 1 in a coefficient costs: so ranks speak of few variables.
 const COEFFICIENT_COST: i128 = 50;
@@ -18,15 +21,46 @@ const COEFFICIENT_COST: i128 = 50;
 /// What 1 in a constant costs where it is above 0, and where it is below: so bounds are low.
 const CONSTANT_COSTS: [i128; 2] = [4, 1];
 
+/// What 1 of a fall costs of a link along which a rank may fall: so ranks fall along as many as can be.
+const FALL_COST: i128 = -100_000;
+
 /// The rank behind a link.
 #[derive(Clone, Copy)]
-enum Behind<'a> {
-    /// That of a cell of the component, whose first column this is.
-    Open(usize),
+pub(crate) enum Behind {
+    /// That of the cell with the index, of the same component.
+    Cell(usize),
     /// One that is known.
-    Fixed(&'a Affine),
+    Fixed(Affine),
     /// 0.
     Nothing,
+}
+
+/// How a rank changes along a link.
+#[derive(Clone, Copy)]
+pub(crate) enum Change {
+    /// It falls by the number at least.
+    Falls(i128),
+    /// It doesn't rise, and falls by up to 1.
+    MayFall,
+}
+
+/// What is asked of ranks along a link of the cell with the index.
+#[derive(Clone, Copy)]
+pub(crate) struct Along<'a> {
+    pub(crate) cell: usize,
+    pub(crate) link: &'a Link,
+    pub(crate) one: &'a Move,
+    pub(crate) behind: Behind,
+    pub(crate) change: Change,
+}
+
+/// Ranks of a component's cells, in order; the number by which the solution was divided for them; and for each link along which they may fall, in
+/// order, by how much they do, times that number.
+#[derive(Drop)]
+pub(crate) struct Solved {
+    pub(crate) ranks: Vec<Affine>,
+    pub(crate) divisor: u128,
+    pub(crate) falls: Vec<i128>,
 }
 
 /// The ranks of a component as columns: for each variable of each cell, and for its constant, two columns whose difference it is.
@@ -38,48 +72,29 @@ struct Ranks {
     variables: u32,
     /// The first column of each cell that is of the component.
     first: Vec<Option<usize>>,
+    /// The columns of the falls along links that need not be.
+    falls: Vec<usize>,
 }
 
-impl Loops {
-    /// Gives the component's cells ranks over those that are known, or says of all of them that there are none.
-    pub(crate) fn rank(
-        &self,
-        search: &mut Search,
-        cells: &mut Vec<Cell>,
-        component: &[usize],
-    ) -> Result<(), AllocError> {
-        let ranks = unless_given_up(self.ranks(search, cells, component))?.flatten();
-        for (place, index) in component.iter().enumerate() {
-            let rank = match &ranks {
-                Some(ranks) => ranks.get(place).copied(),
-                None => None,
-            };
-            if let Some(cell) = cells.get_mut(*index) {
-                cell.found = match rank {
-                    Some(rank) => Found::Rank(rank),
-                    None => Found::Nothing,
-                };
-            }
-        }
-        Ok(())
-    }
-
-    /// Ranks of the component's cells, in order, where there are such.
-    fn ranks(
+impl Synthesis {
+    /// Ranks of the component's cells that change along the links as is asked, where there are such; none where the links are too many.
+    pub(crate) fn solved(
         &self,
         search: &mut Search,
         cells: &[Cell],
         component: &[usize],
-    ) -> Result<Option<Vec<Affine>>, Stop> {
-        if !may_have_ranks(cells, component) {
+        asked: &[Along<'_>],
+    ) -> Result<Option<Solved>, Stop> {
+        if asked.len() > MOST_LINKS {
             return Ok(None);
         }
         let mut ranks = Ranks {
             alloc: search.alloc,
             program: Program::new(search.alloc),
             costs: Vec::new(search.alloc),
-            variables: self.variables,
+            variables: self.loops.variables,
             first: vec![in search.alloc; None; cells.len()]?,
+            falls: Vec::new(search.alloc),
         };
         for index in component {
             let first = ranks.add_function()?;
@@ -89,32 +104,21 @@ impl Loops {
         }
         for index in component {
             if let Some(cell) = cells.get(*index) {
-                if let Some(head) = self.heads.get(cell.head) {
-                    if !ranks.add_cell(cells, *index, cell, head)? {
-                        return Ok(None);
-                    }
+                if let Some(head) = self.loops.heads.get(cell.head) {
+                    ranks.add_cell(*index, cell, head)?;
+                }
+            }
+            for along in asked {
+                if along.cell == *index {
+                    ranks.add_along(along)?;
                 }
             }
         }
-        match search.solved(&ranks.program, &ranks.costs)? {
+        match ranks.solution(search)? {
             Some(solution) => Ok(Some(ranks.read(component, &solution)?)),
             None => Ok(None),
         }
     }
-}
-
-/// Whether the component has few links, and none leads astray.
-fn may_have_ranks(cells: &[Cell], component: &[usize]) -> bool {
-    let mut count = 0usize;
-    for index in component {
-        if let Some(cell) = cells.get(*index) {
-            if cell.leads_astray() {
-                return false;
-            }
-            count = count.saturating_add(cell.links.len());
-        }
-    }
-    count <= MOST_LINKS
 }
 
 impl Ranks {
@@ -137,81 +141,69 @@ impl Ranks {
         Ok(())
     }
 
-    /// Adds what is asked of the rank of a cell; false where a link leads to a cell without one.
-    fn add_cell(
-        &mut self,
-        cells: &[Cell],
-        index: usize,
-        cell: &Cell,
-        head: &Head,
-    ) -> Result<bool, Stop> {
-        let Some(own) = self.first_of(index) else {
-            return Ok(false);
-        };
+    /// Adds that the rank of the cell is at least 0 in it.
+    fn add_cell(&mut self, index: usize, cell: &Cell, head: &Head) -> Result<(), Stop> {
         let mut known = head.known.to_vec(self.alloc)?;
         known.extend_from_slice(&cell.rows)?;
         let still = unchanged(self.alloc, self.variables)?;
-        self.add_fall(own, Behind::Nothing, &still, &known, 0)?;
-        for link in &cell.links {
-            let Some(one) = head.moves.get(link.one) else {
-                return Ok(false);
-            };
-            if !self.add_link(cells, own, link, one)? {
-                return Ok(false);
+        self.add_fall(index, Behind::Nothing, &still, &known, 0, None)
+    }
+
+    /// Adds what is asked along a link.
+    fn add_along(&mut self, along: &Along<'_>) -> Result<(), Stop> {
+        let (after, rows) = (&along.one.after, &along.link.rows);
+        match along.change {
+            Change::Falls(least) => {
+                self.add_fall(along.cell, along.behind, after, rows, least, None)
+            }
+            Change::MayFall => {
+                let fall = self.add_free_fall()?;
+                self.add_fall(along.cell, along.behind, after, rows, 0, Some(fall))
             }
         }
-        Ok(true)
     }
 
-    /// Adds what is asked along a link; false where it leads to a cell without a rank.
-    fn add_link(
-        &mut self,
-        cells: &[Cell],
-        own: usize,
-        link: &Link,
-        one: &Move,
-    ) -> Result<bool, Stop> {
-        let behind = match link.to {
-            End::Goal => Behind::Nothing,
-            End::Fault => return Ok(false),
-            End::Cell(next) => match self.first_of(next) {
-                Some(first) => Behind::Open(first),
-                None => match cells.get(next) {
-                    Some(
-                        Cell {
-                            found: Found::Rank(rank),
-                            ..
-                        },
-                    ) => Behind::Fixed(rank),
-                    _ => return Ok(false),
-                },
-            },
-        };
-        self.add_fall(own, behind, &one.after, &link.rows, i128::from(one.steps))?;
-        Ok(true)
+    /// The column of a fall of up to 1.
+    fn add_free_fall(&mut self) -> Result<usize, AllocError> {
+        let fall = self.program.add_column();
+        let rest = self.program.add_column();
+        let mut terms = Vec::with_capacity(self.alloc, 2)?;
+        for column in [fall, rest] {
+            terms.push(Term { column, number: 1 })?;
+        }
+        self.program.add_equation(terms, 1)?;
+        self.costs.push(Term {
+            column: fall,
+            number: FALL_COST,
+        })?;
+        self.falls.push(fall)?;
+        Ok(fall)
     }
 
-    /// The first column of the cell's rank, if it is of the component.
-    fn first_of(&self, cell: usize) -> Option<usize> {
-        self.first.get(cell).copied().flatten()
+    /// The first column of the cell's rank. Given up where it isn't of the component.
+    fn first_of(&self, cell: usize) -> Result<usize, Stop> {
+        self.first.get(cell).copied().flatten().ok_or(Stop::GivenUp)
     }
 
-    /// Adds that the rank is above the one behind by at least the number, wherever the rows are met: an equation for the numbers at each place.
+    /// Adds that the cell's rank is above the one behind by at least the number, and what the column has if one is given, wherever the rows are met:
+    /// an equation for the numbers at each place.
     fn add_fall(
         &mut self,
-        own: usize,
-        behind: Behind<'_>,
+        cell: usize,
+        behind: Behind,
         after: &[Affine],
         rows: &[Row],
         least: i128,
+        fall: Option<usize>,
     ) -> Result<(), Stop> {
+        let own = self.first_of(cell)?;
         let multiples = self.program.columns();
         for _ in 0..=rows.len() {
             self.program.add_column();
         }
         let fixed = match behind {
-            Behind::Fixed(rank) => through(rank, after)?,
-            Behind::Open(_) | Behind::Nothing => Affine::constant(0),
+            Behind::Fixed(rank) => through(&rank, after)?,
+            Behind::Cell(_) | Behind::Nothing => Affine::constant(0),
         };
         for index in 0..=PLACES {
             let mut terms = Vec::new(self.alloc);
@@ -220,11 +212,15 @@ impl Ranks {
                 self.put(&mut terms, own, self.variables as usize, 1)?;
                 let column = multiples.saturating_add(rows.len());
                 terms.push(Term { column, number: -1 })?;
+                if let Some(column) = fall {
+                    terms.push(Term { column, number: -1 })?;
+                }
                 right = right.checked_add(least).ok_or(Stop::GivenUp)?;
             } else if index < self.variables as usize {
                 self.put(&mut terms, own, index, 1)?;
             }
-            if let Behind::Open(first) = behind {
+            if let Behind::Cell(next) = behind {
+                let first = self.first_of(next)?;
                 self.put_behind(&mut terms, first, after, index)?;
             }
             put_multiples(&mut terms, multiples, rows, index)?;
@@ -275,8 +271,18 @@ impl Ranks {
         Ok(())
     }
 
+    /// A solution with small costs, by exchanges that are left to the search.
+    fn solution(&self, search: &mut Search) -> Result<Option<Solution>, Stop> {
+        let given = search.exchanges.min(MOST_EXCHANGES);
+        let mut left = given;
+        let found = minimised(self.alloc, &self.program, &self.costs, &mut left)?;
+        let done = given.saturating_sub(left);
+        search.exchanges = search.exchanges.saturating_sub(done);
+        Ok(found)
+    }
+
     /// The functions of the component's cells, times what makes all their numbers whole, and no more.
-    fn read(&self, component: &[usize], solution: &Solution) -> Result<Vec<Affine>, Stop> {
+    fn read(&self, component: &[usize], solution: &Solution) -> Result<Solved, Stop> {
         let mut divisor = solution.den.unsigned_abs();
         for index in component {
             for place in 0..=self.variables as usize {
@@ -289,33 +295,47 @@ impl Ranks {
         }
         let mut ranks = Vec::with_capacity(self.alloc, component.len())?;
         for index in component {
-            let constant = self.value(*index, self.variables as usize, solution)?;
-            let mut rank = Affine::constant(floor_quotient(constant, divisor));
-            for place in 0..self.variables as usize {
-                let number = self.value(*index, place, solution)?;
-                if let Some(own) = rank.coef.get_mut(place) {
-                    *own = floor_quotient(number, divisor);
-                }
-            }
-            ranks.push(rank)?;
+            ranks.push(self.function(*index, solution, divisor)?)?;
         }
-        Ok(ranks)
+        let mut falls = Vec::with_capacity(self.alloc, self.falls.len())?;
+        for column in &self.falls {
+            falls.push(numerator(solution, *column))?;
+        }
+        Ok(Solved {
+            ranks,
+            divisor,
+            falls,
+        })
+    }
+
+    /// The cell's function, divided by the number, which divides all its numerators.
+    fn function(&self, index: usize, solution: &Solution, divisor: u128) -> Result<Affine, Stop>
+        requires { 0 < divisor }
+    {
+        let constant = self.value(index, self.variables as usize, solution)?;
+        let mut rank = Affine::constant(floor_quotient(constant, divisor));
+        for place in 0..self.variables as usize {
+            let number = self.value(index, place, solution)?;
+            if let Some(own) = rank.coef.get_mut(place) {
+                *own = floor_quotient(number, divisor);
+            }
+        }
+        Ok(rank)
     }
 
     /// The numerator of a number of a cell's function.
     fn value(&self, index: usize, place: usize, solution: &Solution) -> Result<i128, Stop> {
-        let Some(first) = self.first_of(index) else {
-            return Err(Stop::GivenUp);
-        };
+        let first = self.first_of(index)?;
         let column = first.saturating_add(place.saturating_mul(2));
-        let above = solution.numerators.get(column).copied().unwrap_or(0);
-        let below = solution
-            .numerators
-            .get(column.saturating_add(1))
-            .copied()
-            .unwrap_or(0);
+        let above = numerator(solution, column);
+        let below = numerator(solution, column.saturating_add(1));
         above.checked_sub(below).ok_or(Stop::GivenUp)
     }
+}
+
+/// The numerator of the column's value.
+fn numerator(solution: &Solution, column: usize) -> i128 {
+    solution.numerators.get(column).copied().unwrap_or(0)
 }
 
 /// Takes off the multiples of the rows at the index, whose columns begin at the first.

@@ -1,4 +1,5 @@
 use Rattle.std.proofs.Common.{◌≡◌, inl, inr, All, length, option_map, rules, subst, ap, sym, ◌∙◌, arith}
+use Rattle.std.proofs.lemmas.List.Elements.{All-append}
 use Rattle.step_meaning.specs.Syntax.{statements}
 use Rattle.decision_tree.specs.Extent.{IsWhole}
 use Rattle.decision_tree.specs.Plans.{plan_of, rank_of}
@@ -6,8 +7,10 @@ use Rattle.ctl_formula.specs.Mirror.{ctl}
 use Rattle.fitting_ways.specs.Ways.{SmallWaysFit}
 use Rattle.ctl_rounds.specs.Bounds.{CoversInputs, FindsInputs}
 use Rattle.ctl_rounds.specs.Covers.{IsCover, IsFitToBegin, claims_of}
-use Rattle.ctl_rounds.specs.Families.{IsUncut}
+use Rattle.formula_measures.specs.Measures.{ctl_growth}
+use Rattle.ctl_rounds.specs.Families.{HasRowsWithin, IsUncut}
 use Rattle.ctl_rounds.specs.Finding.{FirstIs}
+use Rattle.ctl_rounds.specs.Showing.{all_of}
 use Rattle.ctl_rounds.proofs.Asking.{unasked}
 use Rattle.ctl_rounds.proofs.CoverLaws.{is_the_cover}
 use Rattle.ctl_rounds.proofs.analysis.analyse.Goals as goal
@@ -96,3 +99,10 @@ returns-clause-narrow_ways g c = λ loopless free within growth cover is.
     (is_the_cover body found.tops.items (option_map plan_of found.cover) cover c.in_ok-found.ensures.covers
     (subst (λ tops. IsCover body tops cover) c.certificate.ensures.tops is))
     ((c.in_ok-found.ensures.exact loopless free).2 within growth)
+
+pub returns-clause-numbers : goal.returns-clause-numbers
+returns-clause-numbers g c = λ loopless free within.
+    let IsSuch = HasRowsWithin (ctl_growth (statements c.args.graph.now.body) (ctl c.args.formula.now)) in
+    rw (c.certificate.ensures.parts, c.certificate.ensures.tops, c.in_ok-parts.ensures)
+    (All-append IsSuch (all_of c.in_ok-smaller.smaller) c.in_ok-found.found.tops.items (c.in_ok-smaller.ensures.numbers loopless free within)
+    (c.in_ok-found.ensures.numbers loopless free within))

@@ -1,4 +1,4 @@
-use Rattle.std.proofs.Common.{◌+◌, rules, arith}
+use Rattle.std.proofs.Common.{◌+◌, length, ap, ◌∙◌, rules, arith}
 use Rattle.std.proofs.lemmas.Grind.{common_steps}
 use Rattle.ctl_rounds.proofs.Asking.{asked_again, can_be_asked, unasked}
 use Rattle.ctl_rounds.proofs.subject.Subject.advised.Goals as goal
@@ -22,6 +22,7 @@ loop-turns-init g c = (
   omega (arith),
   unasked (λ a. (goal.Adviser-dyn g (a.vtable, a.value)).asked_of a.value) c.args.advisers.now.items,
   c.in_ok-found.ensures.exact,
+  (λ loopless. c.in_ok-found.ensures.alone),
 )
 
 pub consult-requires : goal.consult-requires
@@ -48,6 +49,7 @@ loop-turns-preserved g c =
       asked_again (λ a. (goal.Adviser-dyn g (a.vtable, a.value)).asked_of a.value) c.loop-turns.turns c.args.advisers.now.items
           c.loop-turns.advisers.items c.consult.new.advisers.items c.loop-turns.invariant.3 c.in_ok-hints.ensures.asked,
       c.in_ok-follow.ensures.exact c.loop-turns.invariant.4,
+      (λ loopless. ap length (c.in_ok-follow.ensures.alone loopless) ∙ c.loop-turns.invariant.5 loopless),
     )
 
 pub index-requires : goal.index-requires

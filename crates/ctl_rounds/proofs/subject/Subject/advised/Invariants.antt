@@ -1,5 +1,7 @@
-use Rattle.std.proofs.Common.{◌≤◌, ◌<◌, ◌-◌, length, option_map}
+use Rattle.std.proofs.Common.{◌≡◌, ◌≤◌, ◌<◌, ◌-◌, length, option_map}
+use Rattle.step_meaning.specs.Syntax.{statements}
 use Rattle.decision_tree.specs.Plans.{plan_of}
+use Rattle.exact_families.specs.Completeness.{IsLoopless}
 use Rattle.ctl_rounds.specs.Asked.{RoseBy}
 use Rattle.ctl_rounds.specs.Finding.{AreFoundSoFar, BeginsExactly}
 use Rattle.ctl_rounds.proofs.subject.Subject.advised.Given as goal
@@ -11,6 +13,7 @@ invariant-loop-turns g l =
     × (l.turns ≤ 8)
     × RoseBy (λ a. (goal.Adviser-dyn g (a.vtable, a.value)).asked_of a.value) l.turns l.initial.advisers.items l.advisers.items
     × BeginsExactly l.self l.found.tops.items
+    × (IsLoopless (statements l.self.premises.now.graph.now.body) → length l.found.tops.items ≡ 1)
 
 abbrev pub decreases-loop-turns : goal.decreases-loop-turns
 decreases-loop-turns g l = 8 - l.turns

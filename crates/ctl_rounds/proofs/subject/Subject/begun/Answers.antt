@@ -26,3 +26,8 @@ returns-clause-exact g c loopless free =
           )
           (c.requires.subject.smaller.narrow loopless free within))),
     )
+
+pub returns-clause-alone : goal.returns-clause-alone
+returns-clause-alone g c =
+    ap length
+    (◌∙◌ {A = List (Family AffineRank)} c.in_ok-keep.ensures.tops (ap (λ (tops : List (Family AffineRank)). tops ++ c.in_ok-first.first ∷ []) c.none-found.ensures.tops))

@@ -1,5 +1,8 @@
-use Rattle.std.proofs.Common.{◌≡◌, ◌<◌, None, List, [], ◌∷◌, ◌++◌, length, option_map, ap, subst, sym, ◌∙◌, arith}
+use Rattle.std.proofs.Common.{◌≡◌, ◌<◌, ℕ, All, None, List, [], ◌∷◌, ◌++◌, length, option_map, ap, subst, sym, ◌∙◌, arith}
+use Rattle.std.proofs.lemmas.List.Elements.{All-cons, All-nil}
 use Rattle.step_meaning.specs.Syntax.{statements}
+use Rattle.count_down.proofs.Entering.{loopless_alone}
+use Rattle.unroll.specs.Levels.{RowsAtMost}
 use Rattle.control_flow.specs.Labels.{entry_of}
 use Rattle.ctl_formula.specs.Formulas.{af_exit}
 use Rattle.decision_tree.specs.Extent.{IsWhole}
@@ -13,8 +16,10 @@ use Rattle.fitting_ways.specs.Ways.{SmallWaysFit}
 use Rattle.ctl_rounds.specs.Knowing.{told_on}
 use Rattle.ctl_rounds.proofs.Fit.{all_fit}
 use Rattle.ctl_rounds.specs.Covers.{Covers, MayBegin, at_entry, claims_of}
+use Rattle.ctl_rounds.specs.Families.{HasRowsWithin}
 use Rattle.ctl_rounds.proofs.Certifying.{grounded, short, unchanged}
 use Rattle.ctl_rounds.proofs.CoverLaws.{begins, nodes_of}
+use Rattle.ctl_rounds.proofs.Numbers.{alone_rows}
 use Rattle.ctl_rounds.proofs.subject.Subject.counted.Given as given
 use Rattle.ctl_rounds.proofs.subject.Subject.counted.Goals as goal
 
@@ -38,16 +43,13 @@ checked-requires-clause-fit g c =
 tops_are : (g : given.Over) (c : goal.In_ok-keep g) → c.keep.new.found.tops.items ≡ c.in_ok-family.family ∷ []
 tops_are g c = c.in_ok-keep.ensures.tops ∙ ap (λ list. list ++ c.in_ok-family.family ∷ []) c.none-found.ensures.tops
 
--- what it claims is the tree at the entry, of which nothing was dropped
-claims_are : (g : given.Over) (c : goal.In_ok-keep g)
-    → claims_of (option_map plan_of c.keep.new.found.cover)
-    ≡ trees_in c.args.family.trees (entry_of (statements c.args.self.now.premises.now.graph.now.body))
-claims_are g c =
+-- nothing of it was dropped
+trees_are : (g : given.Over) (c : goal.In_ok-keep g) (label : ℕ) → trees_in c.in_ok-family.family.trees label ≡ trees_in c.args.family.trees label
+trees_are g c label =
     let subject = c.args.self.now in
     let program = subject.premises.now.graph.now in
     let body = statements program.body in
     let vars = length program.names in
-    let valid = program.valid in
     let told = told_on g.D.NumDomain subject.premises.now in
     let operands = subject.smaller.now.operands.items in
     let families = families_of operands in
@@ -61,7 +63,22 @@ claims_are g c =
     let ground = grounded program operands subject.premises.now.labels (c.requires.subject.smaller.keeps c.requires.formula) premises.labels premises.few in
     let kept : drops ≡ [] =
     c.candidates_are_kept.ensures.kept vars program.body told families old ground c.requires.candidate drops (trees_in new) legal in
-    let same = unchanged (setting_of body told af_exit families) old new drops kept legal (entry_of body) in
+    unchanged (setting_of body told af_exit families) old new drops kept legal label
+
+-- what it claims is the tree at the entry
+claims_are : (g : given.Over) (c : goal.In_ok-keep g)
+    → claims_of (option_map plan_of c.keep.new.found.cover)
+    ≡ trees_in c.args.family.trees (entry_of (statements c.args.self.now.premises.now.graph.now.body))
+claims_are g c =
+    let subject = c.args.self.now in
+    let program = subject.premises.now.graph.now in
+    let body = statements program.body in
+    let vars = length program.names in
+    let valid = program.valid in
+    let old = c.args.family.trees in
+    let new = c.in_ok-family.family.trees in
+    let premises = c.requires.subject.premises in
+    let same = trees_are g c (entry_of body) in
     let few_labels = short body subject.premises.now.labels premises.labels premises.few in
     let law = c.candidates_are_over_the_variables.ensures in
     let leaves = law.leaves vars body old valid.few valid.well_sorted few_labels c.requires.candidate (entry_of body) in
@@ -90,3 +107,12 @@ returns-clause-ways g c = λ little.
 
 pub returns-clause-some : goal.returns-clause-some
 returns-clause-some g c = subst (λ list. 0 < length list) (sym (tops_are g c)) (omega arith)
+
+pub returns-clause-numbers : goal.returns-clause-numbers
+returns-clause-numbers g c = λ free.
+    let body = statements c.args.self.now.premises.now.graph.now.body in
+    subst (All (HasRowsWithin 0)) (sym (tops_are g c))
+    (All-cons (HasRowsWithin 0) c.in_ok-family.family []
+    (λ label. subst (RowsAtMost 0) (sym (trees_are g c label))
+    (alone_rows (trees_in c.args.family.trees label) (loopless_alone c.args.family.trees body free c.requires.candidate label)))
+    (All-nil (HasRowsWithin 0)))

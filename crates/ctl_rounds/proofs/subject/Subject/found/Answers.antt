@@ -8,7 +8,10 @@ use Rattle.ctl_rounds.specs.Covers.{claims_of}
 use Rattle.ctl_rounds.specs.Families.{IsFamilyFor}
 use Rattle.ctl_rounds.specs.Finding.{IsTop}
 use Rattle.ctl_rounds.proofs.Exactly.{first_covers, first_covers_narrowly, first_finds_narrowly, first_of, whole_defined}
+use Rattle.count_down.proofs.Leads.{all_weaken}
+use Rattle.formula_measures.specs.Measures.{ctl_growth}
 use Rattle.ctl_rounds.proofs.Certifying.{certified}
+use Rattle.ctl_rounds.proofs.Numbers.{more_rows, only_rows}
 use Rattle.ctl_rounds.proofs.subject.Subject.found.Goals as goal
 
 pub returns-in_err-family-clause-asked : goal.returns-in_err-family-clause-asked
@@ -75,3 +78,19 @@ pub returns-in_ok-sought-in-None-clause-ways : goal.returns-in_ok-sought-in-None
 returns-in_ok-sought-in-None-clause-ways g c = λ formula counted little.
     let none = rw c.in-None.is at c.in_ok-family.ensures.none in
     absurd (none formula counted)
+
+pub returns-in_ok-counted-in-Some-clause-numbers : goal.returns-in_ok-counted-in-Some-clause-numbers
+returns-in_ok-counted-in-Some-clause-numbers g c loopless free within =
+    let subject = c.args.self.now in
+    more_rows 0 (ctl_growth (statements subject.premises.now.graph.now.body) (ctl subject.formula.now)) (omega arith)
+    c.in_ok-counted-in-Some.field-0.tops.items (c.in_ok-counted-in-Some.ensures.numbers loopless.free)
+
+pub returns-in_ok-sought-in-None-clause-numbers : goal.returns-in_ok-sought-in-None-clause-numbers
+returns-in_ok-sought-in-None-clause-numbers g c loopless free within =
+    let subject = c.args.self.now in
+    let program = subject.premises.now.graph.now in
+    let found = c.in_ok-sought-in-None.field-0 in
+    only_rows (length program.names) (statements program.body) (ctl subject.formula.now) found.tops.items (c.in_ok-sought-in-None.ensures.alone loopless)
+    (all_weaken (IsTop g.D.NumDomain subject) (IsFamilyFor (length program.names) (statements program.body)) found.tops.items (λ family top. top.fits)
+    c.in_ok-sought-in-None.ensures.found.families)
+    ((c.in_ok-sought-in-None.ensures.exact loopless free).1 within)

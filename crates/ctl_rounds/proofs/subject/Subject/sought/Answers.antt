@@ -1,4 +1,4 @@
-use Rattle.std.proofs.Common.{◌∙◌}
+use Rattle.std.proofs.Common.{length, ap, ◌∙◌}
 use Rattle.ctl_rounds.proofs.subject.Subject.sought.Goals.{then-synthesises+then-not-is_whole+in_ok-synthesise, else-synthesises}
 use Rattle.ctl_rounds.proofs.subject.Subject.sought.Goals as goal
 
@@ -18,3 +18,10 @@ returns-clause-asked g c = let asked = c.in_ok-found.ensures.asked in (
     | else-synthesises w ↦ rw w.found-is asked.3
   ],
 )
+
+pub returns-clause-alone : goal.returns-clause-alone
+returns-clause-alone g c = elim c.if-synthesises.branch [
+  | then-synthesises+then-not-is_whole+in_ok-synthesise w ↦ rw w.found-is
+      (λ loopless. ap length (w.in_ok-synthesise.ensures.alone loopless) ∙ c.in_ok-found.ensures.alone loopless)
+  | else-synthesises w ↦ rw w.found-is c.in_ok-found.ensures.alone
+]

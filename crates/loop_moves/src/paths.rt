@@ -4,7 +4,7 @@ use crate::moves::{Move, Target, add, add_through, through, unchanged};
 use crate::search::Search;
 use crate::stop::Stop;
 use backward_sweeps::tree_at;
-use control_flow::Transition;
+use control_flow::{Choice, Transition};
 use decision_tree::{AffineRank, Tree};
 use linear_cons::{Affine, Linear, PLACES, Row, Rows};
 use std::alloc::{AllocError, Global};
@@ -24,6 +24,8 @@ struct Stand {
     at: u32,
     after: Vec<Affine>,
     steps: u32,
+    /// How many of the steps choose among numbers without a bound.
+    jumps: u32,
     /// The next place for a number that is chosen.
     free: u8,
 }
@@ -44,9 +46,9 @@ struct Paths {
 
 /// Rows under which a tree has one leaf.
 #[derive(Drop)]
-struct Region {
-    rows: Vec<Row>,
-    is_claimed: bool,
+pub(crate) struct Region {
+    pub(crate) rows: Vec<Row>,
+    pub(crate) is_claimed: bool,
 }
 
 impl Stand {
@@ -56,6 +58,7 @@ impl Stand {
             at: self.at,
             after: self.after.to_vec(alloc)?,
             steps: self.steps,
+            jumps: self.jumps,
             free: self.free,
         })
     }
@@ -77,6 +80,7 @@ impl Paths {
             rows,
             after: stand.after,
             steps: stand.steps,
+            jumps: stand.jumps,
         })?;
         Ok(())
     }
@@ -105,6 +109,7 @@ impl<'a> Question<'a> {
             at: head,
             after: unchanged(alloc, self.variables)?,
             steps: 0,
+            jumps: 0,
             free: self.variables.min(16) as u8,
         };
         paths.go_on(rows.to_vec(alloc)?, stand)?;
@@ -204,7 +209,12 @@ impl<'a> Question<'a> {
                 let mut stand = stand.next(alloc, *to)?;
                 let chosen = match self.picked_end(*choice) {
                     Some(end) => Affine::constant(i128::from(end)),
-                    None => choose(&mut rows, &mut stand, range)?,
+                    None => {
+                        if has_no_bound(*choice) {
+                            stand.jumps = stand.jumps.saturating_add(1);
+                        }
+                        choose(&mut rows, &mut stand, range)?
+                    }
                 };
                 put(&mut stand.after, place.number, chosen);
                 paths.go_on(rows, stand)
@@ -261,7 +271,7 @@ fn branch(
 }
 
 /// The rows parted by the leaves of the tree, which is over the store behind.
-fn regions(
+pub(crate) fn regions(
     search: &mut Search,
     tree: &Tree<AffineRank>,
     after: &[Affine],
@@ -317,6 +327,14 @@ fn side(
         }
     }
     Ok(())
+}
+
+/// Whether it is a choice among the numbers of a range without a least or a greatest one.
+fn has_no_bound(choice: Choice) -> bool {
+    matches!(
+        choice,
+        Choice::Range { lo: None, .. } | Choice::Range { hi: None, .. }
+    )
 }
 
 /// Gives the variable at the place the value.

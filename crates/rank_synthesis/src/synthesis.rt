@@ -5,18 +5,41 @@ ghost use Rattle.control_flow.specs.Transitions.{AreOnward};
 use crate::cells::{Cell, Found};
 use crate::closing::close;
 use crate::components::components;
-use crate::loops::{Loops, Question};
-use crate::parting::Parting;
-use crate::search::Search;
-use crate::stop::{Stop, unless_given_up};
 use backward_sweeps::{begun, given_up, taken_over, tree_at};
 use control_flow::Transition;
 use decision_tree::{AffineRank, Pick, Tree, TreeList, Why};
+use forward_inv::Inv;
 use linear_cons::Row;
+use loop_moves::{Loops, Move, Parting, Question, Search, Stop, unless_given_up};
+use num_domain::NumDomain;
 use std::alloc::{AllocError, Global};
 use tree_unify::{TreeFault, both, either, trim};
 
-impl Loops {
+/// The loops of a program, of whose cells ranks are looked for.
+#[derive(Drop)]
+pub struct Synthesis {
+    pub(crate) loops: Loops,
+    /// The rows of each head in the partings that were tried.
+    tried: Vec<Vec<Vec<Row>>>,
+}
+
+impl Synthesis {
+    /// That of the question's loops. The only error is want of memory.
+    pub fn of<D: NumDomain>(
+        search: &mut Search,
+        inv: &Inv<D>,
+        question: &Question<'_>,
+    ) -> Result<Synthesis, AllocError>
+        requires states { length inv.now ≡ length question.now.transitions.now }
+        requires few { length question.now.transitions.now ≤ 1024 }
+    {
+        let loops = Loops::of(search, inv, question)?;
+        Ok(Synthesis {
+            loops,
+            tried: Vec::new(search.alloc),
+        })
+    }
+
     /// The trees that are proposed for the question, one for each label: at the heads ranks of the cells of the parting, and elsewhere what
     /// follows from these; a label whose tree can't be made claims nothing. None where there is no loop, the parting's rows are those of one that was tried, a number lies outside `i128`, or
     /// no work is left to the search. The only error is want of memory.
@@ -41,19 +64,10 @@ impl Loops {
 
     /// The cells of the parting with their ranks. None where the rows were tried.
     fn ranked(&mut self, search: &mut Search, parting: Parting) -> Result<Option<Vec<Cell>>, Stop> {
-        if self.heads.is_empty() {
+        let Some(mut cells) = self.parted(search, parting)? else {
             return Ok(None);
-        }
-        let mut rows = Vec::with_capacity(search.alloc, self.heads.len())?;
-        for head in &self.heads {
-            rows.push(self.rows(search.alloc, head, parting)?)?;
-        }
-        if self.tried.contains(&rows) {
-            return Ok(None);
-        }
-        let mut cells = self.cells(search, &rows)?;
-        self.tried.push(rows)?;
-        if self.is_weak {
+        };
+        if self.loops.is_weak {
             close(&mut cells);
         } else {
             for component in components(search.alloc, &cells)? {
@@ -61,6 +75,29 @@ impl Loops {
             }
         }
         Ok(Some(cells))
+    }
+
+    /// The cells of the parting, with their links. None where the rows were tried.
+    pub(crate) fn parted(
+        &mut self,
+        search: &mut Search,
+        parting: Parting,
+    ) -> Result<Option<Vec<Cell>>, Stop> {
+        let rows = rows_of(search.alloc, &self.loops, parting)?;
+        if rows.is_empty() || self.tried.contains(&rows) {
+            return Ok(None);
+        }
+        let cells = self.cells(search, &rows)?;
+        self.tried.push(rows)?;
+        Ok(Some(cells))
+    }
+
+    /// The move of the cell's head with the index.
+    pub(crate) fn move_of(&self, cell: &Cell, one: usize) -> Option<&Move> {
+        match self.loops.heads.get(cell.head) {
+            Some(head) => head.moves.get(one),
+            None => None,
+        }
     }
 
     /// The trees that follow from the cells' ranks.
@@ -94,7 +131,7 @@ impl Loops {
     {
         let mut heads = Vec::with_capacity(alloc, question.transitions.len())?;
         for label in 0..question.transitions.len() as u32 {
-            let tree = match self.index(label) {
+            let tree = match self.loops.index(label) {
                 Some(index) => match at_head(alloc, question, cells, index, label) {
                     Ok(tree) => tree,
                     Err(fault) => given_up(fault)?,
@@ -105,6 +142,15 @@ impl Loops {
         }
         Ok(heads)
     }
+}
+
+/// For each head the rows of the parting.
+fn rows_of(alloc: Global, loops: &Loops, parting: Parting) -> Result<Vec<Vec<Row>>, AllocError> {
+    let mut rows = Vec::with_capacity(alloc, loops.heads.len())?;
+    for head in &loops.heads {
+        rows.push(loops.rows(alloc, head, parting)?)?;
+    }
+    Ok(rows)
 }
 
 /// Lets what is to be kept be claimed at the end of the program, where the goal isn't.
@@ -152,6 +198,7 @@ fn at_head(
         }
     }
     let none = Tree::Bottom;
+    let tree = either(alloc, &tree, tree_at(question.under, label, &none))?;
     let kept = both(alloc, tree_at(question.operands.keep, label, &none), &tree)?;
     let made = either(alloc, tree_at(question.operands.goal, label, &none), &kept)?;
     trim(alloc, &made, &[])

@@ -13,11 +13,7 @@ use tree_unify::{TreeFault, both, either};
 impl<'a> Question<'a> {
     /// Makes the trees of the labels anew but those of heads and where nothing is done, the greatest label first, by the choices of the plan. One that
     /// can't be made claims nothing. The only error is want of memory.
-    pub(crate) fn follow(
-        &self,
-        alloc: Global,
-        trees: &mut Vec<Tree<AffineRank>>,
-    ) -> Result<(), AllocError>
+    pub fn follow(&self, alloc: Global, trees: &mut Vec<Tree<AffineRank>>) -> Result<(), AllocError>
         requires few { length self.now.transitions.now ≤ 1024 }
         requires onward { AreOnward self.now.transitions.now }
         requires labels { length trees.old.items ≡ length self.now.transitions.now }
@@ -93,7 +89,7 @@ impl<'a> Question<'a> {
     }
 
     /// The reason for which a claim at the head at the label stands.
-    pub(crate) fn why(&self, label: u32) -> Why {
+    pub fn why(&self, label: u32) -> Why {
         let outcome = match self.transitions.get(label as usize) {
             Some(transition) => self.picked_outcome(transition.choice()),
             None => None,

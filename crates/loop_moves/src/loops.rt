@@ -20,6 +20,8 @@ pub struct Question<'a> {
     pub operands: &'a Operands<'a>,
     /// Whether it is a weak until, which holds as well where what is to be kept is kept for ever.
     pub is_weak: bool,
+    /// Claims that stand at the heads where no rank is found; a label past the end has none.
+    pub under: &'a [Tree<AffineRank>],
     /// The choices that are made, if the formula is about some run.
     pub plan: Option<Plan>,
     /// How many variables the program has.
@@ -28,25 +30,23 @@ pub struct Question<'a> {
 
 /// The head of a loop.
 #[derive(Drop)]
-pub(crate) struct Head {
-    pub(crate) label: u32,
+pub struct Head {
+    pub label: u32,
     /// Rows that its stores meet.
-    pub(crate) known: Vec<Row>,
+    pub known: Vec<Row>,
     /// The rows of its test where that holds, each once.
-    pub(crate) guards: Vec<Row>,
+    pub guards: Vec<Row>,
     /// The rows of the goal's tree there.
-    pub(crate) goals: Vec<Row>,
-    pub(crate) moves: Vec<Move>,
+    pub goals: Vec<Row>,
+    pub moves: Vec<Move>,
 }
 
-/// The loops of a program that are reached, for a question.
+/// The loops of a program that are reached, for a question, with how many variables it has and whether it is about a weak until.
 #[derive(Drop)]
 pub struct Loops {
-    pub(crate) heads: Vec<Head>,
-    pub(crate) variables: u32,
-    pub(crate) is_weak: bool,
-    /// The rows of each head in the partings that were tried.
-    pub(crate) tried: Vec<Vec<Vec<Row>>>,
+    pub heads: Vec<Head>,
+    pub variables: u32,
+    pub is_weak: bool,
 }
 
 impl Loops {
@@ -79,12 +79,11 @@ impl Loops {
             heads,
             variables: question.variables,
             is_weak: question.is_weak,
-            tried: Vec::new(search.alloc),
         })
     }
 
     /// The index of the head at the label.
-    pub(crate) fn index(&self, label: u32) -> Option<usize> {
+    pub fn index(&self, label: u32) -> Option<usize> {
         self.heads.iter().position(|head| head.label == label)
     }
 
@@ -194,6 +193,7 @@ impl<'a> Question<'a> {
             rows: Vec::new(alloc),
             after: unchanged(alloc, self.variables)?,
             steps: 0,
+            jumps: 0,
         })?;
         Ok(moves)
     }

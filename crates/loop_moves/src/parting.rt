@@ -164,8 +164,8 @@ impl Splits {
 }
 
 impl Loops {
-    /// The rows that part the stores at the head.
-    pub(crate) fn rows(
+    /// The rows that part the stores at the head. The only error is want of memory.
+    pub fn rows(
         &self,
         alloc: Global,
         head: &Head,

@@ -1,7 +1,6 @@
 //! The work that is left to a search.
 use crate::stop::Stop;
 use linear_cons::Row;
-use linear_program::{Program, Solution, Term, minimised};
 use linear_solve::{Answer, decide_tightest, tightest};
 use std::alloc::Global;
 
@@ -11,18 +10,15 @@ const MOST_TESTS: u32 = 65_536;
 /// The most exchanges of all linear programs.
 const MOST_EXCHANGES: u32 = 40_000;
 
-/// The most exchanges of one linear program, so that one alone doesn't take long.
-const MOST_OF_ONE: u32 = 500;
-
 /// The most rows that are tested. More count as met.
 const MOST_ROWS: usize = 200;
 
-/// Where a search has its memory from, and what work is left to it.
+/// Where a search has its memory from, and what work is left to it: tests whether rows are met, and exchanges of linear programs.
 #[derive(Drop)]
 pub struct Search {
-    pub(crate) alloc: Global,
-    tests: u32,
-    exchanges: u32,
+    pub alloc: Global,
+    pub tests: u32,
+    pub exchanges: u32,
 }
 
 impl Search {
@@ -35,8 +31,8 @@ impl Search {
         }
     }
 
-    /// The tightest of the rows, or none where they are seen to be met nowhere.
-    pub(crate) fn met(&mut self, rows: Vec<Row>) -> Result<Option<Vec<Row>>, Stop> {
+    /// The tightest of the rows, or none where they are seen to be met nowhere. Given up where no test is left; the other error is want of memory.
+    pub fn met(&mut self, rows: Vec<Row>) -> Result<Option<Vec<Row>>, Stop> {
         if self.tests == 0 {
             return Err(Stop::GivenUp);
         }
@@ -49,19 +45,5 @@ impl Search {
             Answer::Empty => Ok(None),
             _ => Ok(Some(rows)),
         }
-    }
-
-    /// A solution of the linear program with small costs.
-    pub(crate) fn solved(
-        &mut self,
-        program: &Program,
-        costs: &[Term],
-    ) -> Result<Option<Solution>, Stop> {
-        let given = self.exchanges.min(MOST_OF_ONE);
-        let mut left = given;
-        let found = minimised(self.alloc, program, costs, &mut left)?;
-        let done = given.saturating_sub(left);
-        self.exchanges = self.exchanges.saturating_sub(done);
-        Ok(found)
     }
 }

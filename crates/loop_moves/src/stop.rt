@@ -4,14 +4,14 @@ use std::alloc::{AllocError, AllocFailed};
 
 /// Why a search stops.
 #[derive(Drop)]
-pub(crate) enum Stop {
+pub enum Stop {
     Memory(AllocError),
     /// A number lies outside `i128`, there are too many paths or moves, or no work is left to the search.
     GivenUp,
 }
 
 /// What was found, or nothing where the search for it was given up. The only error is want of memory.
-pub(crate) fn unless_given_up<T: Drop>(found: Result<T, Stop>) -> Result<Option<T>, AllocError> {
+pub fn unless_given_up<T: Drop>(found: Result<T, Stop>) -> Result<Option<T>, AllocError> {
     match found {
         Ok(found) => Ok(Some(found)),
         Err(Stop::GivenUp) => Ok(None),

@@ -5,7 +5,7 @@ use std::alloc::{AllocError, Global};
 
 /// Where a path ends.
 #[derive(Clone, Copy, PartialEq, Eq, Debug)]
-pub(crate) enum Target {
+pub enum Target {
     /// At the head of a loop.
     Head(u32),
     /// Where the goal holds, or for a weak until at the end of the program.
@@ -17,16 +17,20 @@ pub(crate) enum Target {
 /// What a path from the head of a loop does: where it is taken, and what it makes of the store. At places past the variables stand the numbers
 /// that are chosen on the way.
 #[derive(Drop)]
-pub(crate) struct Move {
-    pub(crate) to: Target,
-    pub(crate) rows: Vec<Row>,
+pub struct Move {
+    pub to: Target,
+    /// What the stores meet from which it is taken.
+    pub rows: Vec<Row>,
     /// For each variable its value behind the path.
-    pub(crate) after: Vec<Affine>,
-    pub(crate) steps: u32,
+    pub after: Vec<Affine>,
+    /// How many steps it takes.
+    pub steps: u32,
+    /// How many of them choose among numbers without a bound.
+    pub jumps: u32,
 }
 
-/// The values of the variables where nothing was done.
-pub(crate) fn unchanged(alloc: Global, variables: u32) -> Result<Vec<Affine>, AllocError> {
+/// The values of the variables where nothing was done: at each place its variable. The only error is want of memory.
+pub fn unchanged(alloc: Global, variables: u32) -> Result<Vec<Affine>, AllocError> {
     let mut values = Vec::with_capacity(alloc, variables as usize)?;
     for place in 0..variables.min(16) {
         values.push(Affine::var(place as u8))?;
@@ -34,8 +38,9 @@ pub(crate) fn unchanged(alloc: Global, variables: u32) -> Result<Vec<Affine>, Al
     Ok(values)
 }
 
-/// What the function of the store behind is of the store before.
-pub(crate) fn through(function: &Affine, after: &[Affine]) -> Result<Affine, Wide> {
+/// What the function of the store behind is of the store before, where the values of the variables behind are those. `Wide` where a number of it lies outside
+/// `i128`.
+pub fn through(function: &Affine, after: &[Affine]) -> Result<Affine, Wide> {
     let mut sum = *function;
     for number in sum.coef.iter_mut().take(after.len()) {
         *number = 0;
@@ -60,12 +65,8 @@ pub(crate) fn add(rows: &mut Vec<Row>, function: &Affine) -> Result<bool, Stop> 
     }
 }
 
-/// Adds the rows as they are of the store before; false where one is met nowhere.
-pub(crate) fn add_through(
-    rows: &mut Vec<Row>,
-    more: &[Row],
-    after: &[Affine],
-) -> Result<bool, Stop> {
+/// Adds the rows of the store behind as they are of the store before; false where one is met nowhere. Given up where a number lies outside `i128`.
+pub fn add_through(rows: &mut Vec<Row>, more: &[Row], after: &[Affine]) -> Result<bool, Stop> {
     for row in more {
         if !add(rows, &through(&row.affine, after)?)? {
             return Ok(false);
