@@ -28,7 +28,7 @@ SHOWN_ROOTS = 6
 
 # What a reader asks, with the crates whose definitions answer it.
 QUESTIONS = {
-    "What is claimed of a program": ("function_top", "ctl_formula", "step_meaning"),
+    "What is claimed of a program": ("function_top", "ctl_formula", "ordinal_rank", "step_meaning"),
     "What a line of a report says": ("claim_line", "report_text", "line_text", "linear_cons"),
     "Which text is which program": ("source_parse", "elaboration", "source_syntax", "concrete_syntax", "derivation", "source_lex"),
     "Which text is which formula": ("formula_parse", "normal_form", "formula_syntax", "linear_forms"),

@@ -5,8 +5,8 @@
 
 It is no part of the gate. Texts are made at random from a seed: programs, of which every third is damaged by a byte or two, rows of words of the language, bytes, and long
 programs up to the limits and past them. Of the words of the command line some are none, and some have a formula, which may be damaged or long too. Each answer comes within
-60 seconds and 8 MB of stack, with nothing on standard error; it has a status with its text; a report has, for each of some inputs, exactly one line of `proved` and `unknown`
-together and at most one of the exact part; and, of a program without a formula, some runs from the input, with what they choose made at random, end within each bound that
+60 seconds and 8 MB of stack, with nothing on standard error; it has a status with its text; a report has, for each of some inputs, exactly one line of `proved`, `ranked` and
+`unknown` together and at most one of the exact part; and, of a program without a formula, some runs from the input, with what they choose made at random, end within each bound that
 its lines claim. A second run of the command gives the same bytes. It ends with 1 where something fell short. What formulas mean is looked at by `formulas.py`.
 """
 import argparse
@@ -270,10 +270,10 @@ def affine(text, store):
 
 
 def sections(report):
-    """The lines of the exact part, and those of the other two sections together."""
+    """The lines of the exact part, and those of the other sections together."""
     lines = report.split("\n")
     proved, unknown = lines.index("proved:"), lines.index("unknown:")
-    return lines[1:proved], lines[proved + 1:unknown] + lines[unknown + 1:-2]
+    return lines[1:proved], [line for line in lines[proved + 1:unknown] if line != "ranked:"] + lines[unknown + 1:-2]
 
 
 def met(lines, store):
@@ -310,7 +310,8 @@ def broken(report, dice, maker, block):
         for claim in first + second:
             bound = re.fullmatch(r"(?:exactly|within) (.*) steps?", claim)
             most = affine(bound.group(1), store) if bound else -1
-            if bound and most < 0:
+            ranks = re.fullmatch(r"ends, rank w\*\((.*)\) \+ (.*)", claim)
+            if bound and most < 0 or ranks and any(affine(part, store) < 0 for part in ranks.groups()):
                 return f"{dict(store)}: {claim} is below 0"
             if bound and block is not None and most <= LONGEST_RUN and not all(Run(dice, numbers, most).ends(block) for _ in range(4)):
                 return f"{dict(store)}: a run takes more than {most} steps"

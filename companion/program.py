@@ -48,8 +48,13 @@ def say_result(result, read):
             say_picture(result, read)
     if result.trouble:
         say(f"{result.name}: {result.trouble}", sys.stderr)
-    elif result.left and not read.inputs and (chosen := chosen_first(result.text)):
+    elif lacks_bound(result) and not read.inputs and (chosen := chosen_first(result.text)):
         say(f"{result.name}: main chooses {', '.join(chosen)} first, and no bound can speak of that; --inputs takes {'it as an input' if len(chosen) == 1 else 'them as inputs'}", sys.stderr)
+
+
+def lacks_bound(result):
+    """Whether an input is left without a bound: something is unknown, or ends by a rank."""
+    return bool(result.left or (result.report and result.report.lines("ranked")))
 
 
 def say_picture(result, read):

@@ -40,9 +40,9 @@ class OneFile(InFolder):
         self.assertEqual(self.run_here("f.c"), (1, "f.c: ends from some inputs, never ends (every run) from all others\n  x <= 0: within 1 step\n  x >= 1: never ends (every run)\n", ""))
 
     def test_runs_of_every_length_are_not_runs_for_ever(self):
-        # each run ends, so `never ends` would be false, though there are runs of every length
+        # each run ends, though there are runs of every length
         self.write("f.c", CHOSEN)
-        self.assertEqual(self.run_here("f.c"), (1, "f.c: unknown\n  always: unknown\n", "f.c: main chooses x first, and no bound can speak of that; --inputs takes it as an input\n"))
+        self.assertEqual(self.run_here("f.c"), (0, "f.c: ends from all inputs\n  always: ends, rank w*(1) + 1\n", "f.c: main chooses x first, and no bound can speak of that; --inputs takes it as an input\n"))
 
     def test_the_second_question_can_be_left_out(self):
         self.write("f.c", FOR_EVER)

@@ -129,9 +129,9 @@ class Shown(InFolder):
         status, out, err = self.run_here("f.c", "--inputs")
         self.assertEqual((out.splitlines()[0], err), ("f.c: ends from all inputs", "f.c: 2 places of the text were changed, of which 1 took a step that isn't counted now (--show-text shows them)\n"))
 
-    def test_without_the_word_the_bound_is_unknown(self):
+    def test_without_the_word_no_bound_is_known(self):
         self.write("f.c", f"int main() {{\n  int x;\n  x = {CHOICE};\n  while (x > 0) x = x - 1;\n}}\n")
-        self.assertEqual(self.run_here("f.c"), (1, "f.c: unknown\n  always: unknown\n", "f.c: main chooses x first, and no bound can speak of that; --inputs takes it as an input\n"))
+        self.assertEqual(self.run_here("f.c"), (0, "f.c: ends from all inputs\n  always: ends, rank w*(1) + 1\n", "f.c: main chooses x first, and no bound can speak of that; --inputs takes it as an input\n"))
         self.write("f.c", f"int main() {{\n  int y, x = {CHOICE};\n  y = {CHOICE};\n  while (x > y) x = x - 1;\n}}\n")
         self.assertEqual(self.run_here("f.c")[2], "f.c: main chooses x, y first, and no bound can speak of that; --inputs takes them as inputs\n")
 
@@ -197,9 +197,9 @@ class Families(unittest.TestCase):
                 self.assertIn(hint, told.hint)
 
     def test_the_command_reads_them_so_only_with_the_changes(self):
-        # 3 of them need no change but that of their inputs; without it no bound by the input can be told
+        # 3 of them need no change but that of their inputs; without it they end by a rank, with no bound by the input
         result = answer(path(), Question({}, as_is=True), "counts_down", (FAMILIES / "counts_down.c").read_text())
-        self.assertEqual([str(line.claim) for line in result.left], ["unknown"])
+        self.assertEqual(([line.claim.kind for line in result.report.lines("ranked")], result.left), (["ends"], []))
         self.assertEqual(ask(path(), [], (FAMILIES / "two_flags.c").read_text(), Deadline()).status, 3)
         self.assertTrue(re.match(r"program: \d+ at \d+", ask(path(), [], (FAMILIES / "includes.c").read_text(), Deadline()).text))
 

@@ -18,6 +18,8 @@ use Rattle.report_text.specs.declared.line.Line.{Line}
 use Rattle.report_text.specs.declared.line.Top.{Top}
 use Rattle.report_text.specs.declared.line.Top.TheVariants.{Bound, Exact as Counted, Plain}
 use Rattle.report_text.specs.declared.report.Report.{Report}
+use Rattle.ordinal_rank.specs.declared.ordinal.OrdinalRank.{OrdinalRank}
+use Rattle.report_text.specs.Ranked.{AreRefined, done, more}
 use Rattle.report_text.specs.Leaves.{AreLines, AreLinesOf, claim_of, claiming_nothing, is_unknown, leaves_below, none, skipped, stands}
 use Rattle.function_top.specs.declared.status.Status.{Status}
 use Rattle.function_top.specs.declared.status.Status.TheVariants.{AllInputs, SomeInputs, Words, Program, Formula}
@@ -45,29 +47,39 @@ claims_something Bound rank = refl
 claims_something Plain rank = refl
 
 -- a tree without an undefined leaf claims something at each leaf
-all_claim : (claims : Top) (above : List Affine) (tree : Plan AffineRank) → IsWhole tree → All Claims (leaves_below claims above tree)
+all_claim : (claims : Top) (above : List Affine) (tree : Plan AffineRank) → IsWhole tree → All Claims (leaves_below (claim_of claims) above tree)
 all_claim claims above bottom whole = absurd whole
 all_claim claims above (top cause) whole = absurd whole
 all_claim claims above (leaf why rank) whole = All-cons Claims (above, claim_of claims rank) [] (claims_something claims rank) (All-nil Claims)
 all_claim claims above (branch row this that) whole =
-    All-append Claims (leaves_below claims (above ++ row.affine ∷ []) this) (leaves_below claims (above ++ complement_of row.affine ∷ []) that)
+    All-append Claims (leaves_below (claim_of claims) (above ++ row.affine ∷ []) this) (leaves_below (claim_of claims) (above ++ complement_of row.affine ∷ []) that)
     (all_claim claims (above ++ row.affine ∷ []) this whole.0) (all_claim claims (above ++ complement_of row.affine ∷ []) that whole.1)
 
 none_unknown : {leaves : List (List Affine × Claim)} {lines : List Line} → AreLines leaves lines → All Claims leaves → claiming_nothing lines ≡ []
 none_unknown none all = refl
-none_unknown (skipped {path} {claim} {leaves} nowhere more) all = none_unknown more (All-tail Claims (path, claim) leaves all)
-none_unknown (stands {path} {claim} {line} {leaves} {lines} is more) all =
+none_unknown (skipped {path} {claim} {leaves} nowhere rest) all = none_unknown rest (All-tail Claims (path, claim) leaves all)
+none_unknown (stands {path} {claim} {line} {leaves} {lines} is rest) all =
     let claims : is_unknown line.claim ≡ false = ap is_unknown is.claims ∙ All-head Claims (path, claim) leaves all in
-    rw claims (none_unknown more (All-tail Claims (path, claim) leaves all))
+    rw claims (none_unknown rest (All-tail Claims (path, claim) leaves all))
 
 -- a tree without an undefined leaf leaves no input without a claim
-pub whole_claims : (claims : Top) (tree : Plan AffineRank) (lines : List Line) → AreLinesOf claims tree lines → IsWhole tree → claiming_nothing lines ≡ []
+whole_claims : (claims : Top) (tree : Plan AffineRank) (lines : List Line) → AreLinesOf claims tree lines → IsWhole tree → claiming_nothing lines ≡ []
 whole_claims claims tree lines are whole = none_unknown are (all_claim claims [] tree whole)
+
+-- nothing stands for no lines
+nothing_refined : {ranked : Plan OrdinalRank} {lines others : List Line} → AreRefined ranked lines others → lines ≡ [] → others ≡ []
+nothing_refined done empty = refl
+nothing_refined (more here there) empty = absurd (cc)
+
+-- so no line is unknown where the cover is whole
+pub whole_known : (found : Found) (report : Report) → Shows found report → IsWhole (plan_of found.cover) → report.unknown ≡ []
+whole_known found report shows whole =
+    shows.unknown ∙ ap claiming_nothing (nothing_refined shows.others_of (whole_claims found.claims (plan_of found.cover) shows.lines shows.lines_of whole))
 
 pub covered : (task : Task) (subject : Subject) (found : Found) (report : Report) → IsFound task subject found → Shows found report
     → normal subject.formula ≡ af_exit → IsCountdown subject.body → report.unknown ≡ []
 covered task subject found report finds shows ends counts =
-    shows.unknown ∙ whole_claims found.claims (plan_of found.cover) shows.lines shows.lines_of (finds.countdown ends counts)
+    whole_known found report shows (finds.countdown ends counts)
 
 -- nothing is left unknown of a countdown program, nor is one input of one where the factors are small
 module _ (known : KnownTexts) (task : Task) (text : Bytes) (subject : Subject) (is : IsSubject task text subject) (ends : normal subject.formula ≡ af_exit)
@@ -83,7 +95,7 @@ module _ (known : KnownTexts) (task : Task) (text : Bytes) (subject : Subject) (
   told_claims : HasSmallFactors subject.body → (asked : Bytes) (input : Store) (status : Status) (turns : ℕ) (bytes : Bytes)
       → (on : IsAnswerOn task text asked subject input status turns bytes) → IsToldOf on.found input status on.claim → status ≢ SomeInputs
   told_claims little asked input status turns bytes on (inl (all, claimed)) some = let clash : AllInputs ≡ SomeInputs = sym all ∙ some in cc
-  told_claims little asked input status turns bytes on (inr (is_lacking, nowhere, lacks, unknown)) some =
+  told_claims little asked input status turns bytes on (inr (is_lacking, inexact, lacks, nowhere, unknown)) some =
       let way = leads little asked input status turns bytes on in lacks way.0 way.1
 
   pub due_covers : (task.input ≡ None) ⊎ HasSmallFactors subject.body → (status : Status) (advisers turns : ℕ) (bytes : Bytes)

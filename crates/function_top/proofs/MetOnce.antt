@@ -13,11 +13,12 @@ use Rattle.report_text.specs.Leaves.{NoneOf, OneOf}
 use Rattle.report_text.specs.declared.report.Header.{Header}
 use Rattle.report_text.specs.declared.report.Header.TheVariants.{Absent, Partial, Stopped, Whole}
 use Rattle.report_text.specs.declared.report.Report.{Report}
-use Rattle.report_text.specs.Printed.{AreExactTexts, AreTextsOf, IsReportText, IsLineText, proved_head, unknown_head}
+use Rattle.report_text.specs.Printed.{AreExactTexts, AreTextsOf, Head, IsReportText, IsLineText, lines_under, proved_head, ranked_head, unknown_head}
 use Rattle.report_text.specs.Sections.{exact_line, section_line}
 use Rattle.report_text.proofs.Cutting.{KnownTexts, report_sections}
 use Rattle.function_top.specs.declared.found.Found.{Found}
 use Rattle.function_top.specs.Exact.{MeetsAtMostOneLine}
+use Rattle.function_top.specs.Found.{claim_found}
 use Rattle.function_top.specs.Shown.{Shows}
 use Rattle.function_top.specs.Meeting.{AreMetOnce, AreUnmet, IsMet, MeetsOne}
 use Rattle.function_top.proofs.Conditions.{condition_met, rows_met}
@@ -89,14 +90,23 @@ module _ (names : List Bytes) (known : KnownLines names) (input : Store) where
   zipped_both (line ∷ lines) more [] rest first second = absurd first
   zipped_both (line ∷ lines) more (text ∷ texts) rest first second = (first.0, zipped_both lines more texts rest first.1 second)
 
-  pub one_of_both : (Is : Line → Type 0) (lines more : List Line) (texts rest : List Bytes) → AreTextsOf names lines texts → AreTextsOf names more rest
-      → OneOf Met Is (lines ++ more) → MeetsOne names input (texts ++ rest)
-  one_of_both Is lines more texts rest first second one =
-      reordered (first.unsorted ++ second.unsorted) (texts ++ rest)
-      (IsPermutation-append first.unsorted texts second.unsorted rest first.same second.same)
-      (one_met Is (lines ++ more) (first.unsorted ++ second.unsorted) (zipped_both lines more first.unsorted second.unsorted first.each second.each) one)
+  -- texts of the lines, in some order
+  pub record AreSome (lines : List Line) (texts : List Bytes) : Type 0 where
+    pub unsorted : List Bytes
+    pub each : AllZip (λ line text. IsLineText names line text) lines unsorted
+    pub same : IsPermutation unsorted texts
 
-  pub one_of : (Is : Line → Type 0) (lines : List Line) (texts : List Bytes) → AreTextsOf names lines texts → OneOf Met Is lines → MeetsOne names input texts
+  pub some_of : (lines : List Line) (texts : List Bytes) → AreTextsOf names lines texts → AreSome lines texts
+  some_of lines texts are = record { unsorted = are.unsorted; each = are.each; same = are.same }
+
+  pub both_of : (lines more : List Line) (texts rest : List Bytes) → AreSome lines texts → AreSome more rest → AreSome (lines ++ more) (texts ++ rest)
+  both_of lines more texts rest first second = record {
+    unsorted = first.unsorted ++ second.unsorted;
+    each = zipped_both lines more first.unsorted second.unsorted first.each second.each;
+    same = IsPermutation-append first.unsorted texts second.unsorted rest first.same second.same;
+  }
+
+  pub one_of : (Is : Line → Type 0) (lines : List Line) (texts : List Bytes) → AreSome lines texts → OneOf Met Is lines → MeetsOne names input texts
   one_of Is lines texts are one = reordered are.unsorted texts are.same (one_met Is lines are.unsorted are.each one)
 
   pub none_of : (lines : List Line) (texts : List Bytes) → AreTextsOf names lines texts → NoneOf Met lines → AreUnmet names input texts
@@ -108,9 +118,9 @@ module _ (names : List Bytes) (known : KnownLines names) (opening : OpenAsLines)
   exact_texts : (input : Store) (header : Header) (lines : List Line) (texts : List Bytes) → AreExactTexts names header lines texts
       → MeetsAtMostOneLine input lines → AreUnmet names input texts ⊎ MeetsOne names input texts
   exact_texts input (Whole tests) lines texts are (inl none) = inl (none_of names known input lines texts are none)
-  exact_texts input (Whole tests) lines texts are (inr one) = inr (one_of names known input (λ line. line.claim ≡ one.0) lines texts are one.1)
+  exact_texts input (Whole tests) lines texts are (inr one) = inr (one_of names known input (λ line. line.claim ≡ one.0) lines texts (some_of names known input lines texts are) one.1)
   exact_texts input (Partial tests stop) lines texts are (inl none) = inl (none_of names known input lines texts are none)
-  exact_texts input (Partial tests stop) lines texts are (inr one) = inr (one_of names known input (λ line. line.claim ≡ one.0) lines texts are one.1)
+  exact_texts input (Partial tests stop) lines texts are (inr one) = inr (one_of names known input (λ line. line.claim ≡ one.0) lines texts (some_of names known input lines texts are) one.1)
   exact_texts input Absent lines texts are met = subst (λ ts. AreUnmet names input ts ⊎ MeetsOne names input ts) (sym are) (inl (All-nil (λ text. ¬ IsMet names input text)))
   exact_texts input (Stopped stop) lines texts are met =
       subst (λ ts. AreUnmet names input ts ⊎ MeetsOne names input ts) (sym are) (inl (All-nil (λ text. ¬ IsMet names input text)))
@@ -124,10 +134,15 @@ module _ (names : List Bytes) (known : KnownLines names) (opening : OpenAsLines)
       let cut = report_sections texts report text printed in
       record {
         together = λ input.
-            let one = one_line found report shows input in
-            rw (cut (section_line proved_head), cut (section_line unknown_head))
-            (one_of_both names known input (λ line. line.claim ≡ one.0) report.proved report.unknown (printed.texts proved_head) (printed.texts unknown_head)
-            (printed.are proved_head) (printed.are unknown_head) one.1);
+            let some : (head : Head) → AreSome names known input (lines_under head report) (printed.texts head) =
+            λ head. some_of names known input (lines_under head report) (printed.texts head) (printed.are head) in
+            let last = both_of names known input report.ranked report.unknown (printed.texts ranked_head) (printed.texts unknown_head)
+            (some ranked_head) (some unknown_head) in
+            let all = both_of names known input report.proved (report.ranked ++ report.unknown) (printed.texts proved_head)
+            (printed.texts ranked_head ++ printed.texts unknown_head) (some proved_head) last in
+            rw (cut (section_line proved_head), cut (section_line ranked_head), cut (section_line unknown_head))
+            (one_of names known input (λ line. line.claim ≡ claim_found found input) (report.proved ++ (report.ranked ++ report.unknown))
+            (printed.texts proved_head ++ (printed.texts ranked_head ++ printed.texts unknown_head)) all (one_line found report shows input));
         exact = λ input.
             subst (λ (lines : List Bytes). AreUnmet names input lines ⊎ MeetsOne names input lines) (sym (cut exact_line))
             (exact_texts input report.header report.exact printed.exact printed.exact_are (at_most_one found report shows input));

@@ -9,14 +9,16 @@ use Rattle.linear_cons.proofs.Forms.{value_constant}
 use Rattle.ctl_formula.specs.Satisfaction.{SatWithin}
 use Rattle.decision_tree.specs.declared.affine_rank.AffineRank.{AffineRank}
 use Rattle.decision_tree.specs.Plans.{Plan, plan_of}
+use Rattle.ordinal_rank.specs.Ends.{EndsBy}
 use Rattle.line_text.specs.declared.claim.Claim.{Claim}
-use Rattle.line_text.specs.declared.claim.Claim.TheVariants.{Exactly, Holds, Unknown, Within}
+use Rattle.line_text.specs.declared.claim.Claim.TheVariants.{Exactly, Holds, Ranked, Unknown, Within}
 use Rattle.line_text.specs.Numeral.{numeral}
 use Rattle.line_text.specs.Spells.{Spells}
 use Rattle.claim_line.specs.Tells.{Tells}
 use Rattle.report_text.specs.declared.line.Top.{Top}
 use Rattle.report_text.specs.declared.line.Top.TheVariants.{Exact as Counted}
 use Rattle.report_text.specs.Leaves.{claim_at, claim_of}
+use Rattle.report_text.specs.Ranked.{ordinal_claim}
 use Rattle.command_words.specs.Order.{Task}
 use Rattle.function_top.specs.declared.found.Exact.{Exact}
 use Rattle.function_top.specs.declared.found.Exact.TheVariants.{Made, Unasked, Unmade}
@@ -24,7 +26,7 @@ use Rattle.function_top.specs.declared.found.Found.{Found}
 use Rattle.function_top.specs.declared.status.Status.{Status}
 use Rattle.function_top.specs.Exact.{IsExact}
 use Rattle.function_top.specs.Found.{IsExactPart, IsFound, IsTrueTree}
-use Rattle.function_top.specs.OneInput.{IsTold, IsToldOf, LeadsExactly, LeadsTo}
+use Rattle.function_top.specs.OneInput.{IsTold, IsToldAs, IsToldOf, LeadsExactly, LeadsTo}
 use Rattle.function_top.specs.Refusals.{fault_line}
 use Rattle.function_top.specs.Subject.{Subject}
 use Rattle.function_top.specs.TrueLine.{IsTrueOf}
@@ -49,13 +51,19 @@ TellsTrue subject input line = (claim : Claim) → Tells subject.names line clai
 
 -- ---- what is told is true
 
--- a claim that is told by its value at an input says the same of it
+-- a function that is told by its value at an input has it there
+told_value : (bound told : Affine) (input : Store) → IsToldAs bound input told → value_at bound input ≡ value_at told input
+told_value bound told input (inl (fits, same)) = sym (ap (λ f. value_at f input) same ∙ value_constant (value_at bound input) input)
+told_value bound told input (inr (wide, same)) = ap (λ f. value_at f input) (sym same)
+
+-- so a claim that is told so says the same of it
 told_true : (subject : Subject) (input : Store) (claim told : Claim) → IsTold claim input told → IsTrueOf subject claim input → IsTrueOf subject told input
-told_true subject input (Within bound) told (function, inl (fits, same), is) truth =
-    let value : value_at function input ≡ value_at bound input = ap (λ f. value_at f input) same ∙ value_constant (value_at bound input) input in
-    subst (λ claim. IsTrueOf subject claim input) (sym is) (subst (λ v. SatWithin v subject.formula (start subject.body input)) (sym value) truth)
-told_true subject input (Within bound) told (function, inr (wide, same), is) truth =
-    subst (λ claim. IsTrueOf subject claim input) (sym is) (subst (λ f. IsTrueOf subject (Within f) input) (sym same) truth)
+told_true subject input (Within bound) told (function, as_told, is) truth =
+    subst (λ claim. IsTrueOf subject claim input) (sym is)
+    (subst (λ v. SatWithin v subject.formula (start subject.body input)) (told_value bound function input as_told) truth)
+told_true subject input (Ranked high low) told (first, second, as_told, other, is) truth =
+    subst (λ claim. IsTrueOf subject claim input) (sym is)
+    (subst (λ v. EndsBy v (start subject.body input)) (told_value high first input as_told) truth)
 told_true subject input (Exactly number) told is truth = subst (λ claim. IsTrueOf subject claim input) (sym is) truth
 told_true subject input Holds told is truth = subst (λ claim. IsTrueOf subject claim input) (sym is) truth
 told_true subject input Unknown told is truth = subst (λ claim. IsTrueOf subject claim input) (sym is) truth
@@ -84,10 +92,12 @@ module _ (subject : Subject) (opening : OpenAsLines) (input : Store) (is_input :
       → Holds_of claim
   told_is_true task found status claim finds (inl (all, inl (rank, leads, is))) =
       subst Holds_of (sym is) (part_true task.formula task.delay found.exact rank finds.exact leads)
-  told_is_true task found status claim finds (inl (all, inr (none, (rank, leads, told)))) =
+  told_is_true task found status claim finds (inl (all, inr (none, inl (rank, leads, told)))) =
       told_true subject input (claim_of found.claims rank) claim told
       (leaf_true found.claims (plan_of found.cover) rank finds.holds leads)
-  told_is_true task found status claim finds (inr (some, none, lacks, is)) = subst Holds_of (sym is) tt
+  told_is_true task found status claim finds (inl (all, inr (none, inr (lacks, (rank, leads, told))))) =
+      told_true subject input (ordinal_claim rank) claim told (finds.ends input leads.why rank is_input leads.is)
+  told_is_true task found status claim finds (inr (some, none, lacks, nowhere, is)) = subst Holds_of (sym is) tt
 
 -- ---- the other lines tell nothing
 

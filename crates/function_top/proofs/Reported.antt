@@ -8,7 +8,6 @@ use Rattle.control_flow.specs.Faults.{wide_offsets}
 use Rattle.ctl_formula.specs.Formulas.{Ctl, normal}
 use Rattle.normal_form.specs.Operators.{operators}
 use Rattle.ctl_rounds.specs.Asked.{IsAdvised}
-use Rattle.decision_tree.specs.Plans.{plan_of}
 use Rattle.line_text.specs.declared.claim.Claim.{Claim}
 use Rattle.claim_line.specs.Tells.{Tells}
 use Rattle.input_text.specs.Input.{IsInputText}
@@ -24,7 +23,7 @@ use Rattle.command_words.specs.Order.{Task}
 use Rattle.function_top.specs.OneInput.{IsToldOf}
 use Rattle.function_top.specs.Shown.{Shows}
 use Rattle.function_top.specs.Subject.{IsFormulaAsked, subject_of}
-use Rattle.function_top.proofs.Certain.{whole_claims}
+use Rattle.function_top.proofs.Certain.{whole_known}
 
 -- a text that is a program within the limits has a graph
 pub graph_of : (text : List ℕ) (program : Parsed) → length text ≤ 65536 → Derives text program → size_of (statements program.body) < 1024
@@ -47,7 +46,7 @@ module _ (task : Task) (text : List ℕ) (program : Parsed) (meant : Ctl) (found
   -- where a line is unknown the advisers that may help were asked eight times
   eight : report.unknown ≢ [] → IsAdvised (normal meant) → turns ≡ 8
   eight some advised = ⊎_elim
-      (λ whole. absurd (some (shows.unknown ∙ whole_claims found.claims (plan_of found.cover) shows.lines shows.lines_of whole)))
+      (λ whole. absurd (some (whole_known found report shows whole)))
       (λ times. asked ∙ times)
       (finds.insists advised)
 

@@ -1,15 +1,19 @@
 -- Something is told of one input of a program without loops exactly where its start satisfies the formula, where the measures of the two are small.
-use Rattle.std.proofs.Common.{◌≡◌, ◌↔◌, ◌∙◌, ℕ, true, inl, inr, length, Option, None, Some, refl, sym, ap, subst}
+use Rattle.std.proofs.Common.{◌≡◌, ◌⊎◌, ◌↔◌, ◌∙◌, ℕ, true, inl, inr, length, Option, None, Some, refl, sym, ap, subst}
+use Rattle.std.specs.Prelude.{IsSome}
 use Rattle.step_meaning.specs.Outcome.{Store}
 use Rattle.step_meaning.specs.Run.{IsInput, start}
-use Rattle.ctl_formula.specs.Formulas.{normal}
+use Rattle.ctl_formula.specs.Formulas.{af_exit, normal}
 use Rattle.ctl_formula.specs.Satisfaction.{Sat}
 use Rattle.decision_tree.specs.declared.affine_rank.AffineRank.{AffineRank}
 use Rattle.decision_tree.specs.Evaluation.{eval}
+use Rattle.decision_tree.specs.Extent.{IsWhole}
 use Rattle.decision_tree.specs.Plans.{Plan, bottom, branch, is_defined, leaf, plan_of, rank_of, top}
 use Rattle.fitting_ways.specs.Ways.{HasSmallNumbers}
 use Rattle.exact_families.proofs.Making.{which_leaf}
+use Rattle.ctl_rounds.proofs.Exactly.{whole_defined}
 use Rattle.line_text.specs.declared.claim.Claim.{Claim}
+use Rattle.ordinal_rank.specs.declared.ordinal.OrdinalRank.{OrdinalRank}
 use Rattle.command_words.specs.Order.{Task}
 use Rattle.function_top.specs.declared.status.Status.{Status}
 use Rattle.function_top.specs.declared.status.Status.TheVariants.{AllInputs, SomeInputs}
@@ -23,12 +27,12 @@ use Rattle.report_text.proofs.Frame.{Bytes}
 
 -- ---- what was found
 
--- a tree that is one leaf is defined everywhere
-ranked_defined : {rank : AffineRank} (tree : Plan AffineRank) (input : Store) → rank_of tree ≡ Some rank → is_defined (eval tree input) ≡ true
-ranked_defined bottom input is = absurd (cc)
-ranked_defined (top cause) input is = absurd (cc)
-ranked_defined (leaf why rank) input is = refl
-ranked_defined (branch row this that) input is = absurd (cc)
+-- a tree that is one leaf has no undefined one
+one_whole : {rank : AffineRank} (tree : Plan AffineRank) → rank_of tree ≡ Some rank → IsWhole tree
+one_whole bottom is = absurd (cc)
+one_whole (top cause) is = absurd (cc)
+one_whole (leaf why rank) is = tt
+one_whole (branch row this that) is = absurd (cc)
 
 module _ (task : Task) (subject : Subject) (found : Found) (finds : IsFound task subject found)
     (formula : IsFormulaAsked subject.names task.formula subject.formula) (small : HasSmallMeasures subject) (input : Store)
@@ -39,13 +43,25 @@ module _ (task : Task) (subject : Subject) (found : Found) (finds : IsFound task
   claimed : (is_defined (eval (plan_of found.cover) input) ≡ true) ↔ IsSatisfied
   claimed = finds.exactly small.loopless small.within input is_input
 
+  -- where no formula is asked about the cover is one leaf
+  is_whole : subject.formula ≡ af_exit → IsWhole (plan_of found.cover)
+  is_whole ends = one_whole (plan_of found.cover) (finds.loopless (ap normal ends) small.loopless.free)
+
+  asked_or_whole : (asked : Option Bytes) → IsFormulaAsked subject.names asked subject.formula → IsSome asked ⊎ IsWhole (plan_of found.cover)
+  asked_or_whole None ends = inr (is_whole ends)
+  asked_or_whole (Some text) meant = inl refl
+
   by_cover : (rank : AffineRank) → LeadsTo (plan_of found.cover) input rank → IsSatisfied
   by_cover rank way = claimed.0 (ap is_defined way.is)
 
-  -- where no formula is asked about the cover is one leaf
+  by_rank : (rank : OrdinalRank) → LeadsTo (plan_of found.ranked) input rank → IsSatisfied
+  by_rank rank way =
+      let none = finds.unranked (asked_or_whole task.formula formula) in
+      let here : bottom ≡ leaf way.why rank = sym (ap (λ tree. eval tree input) none) ∙ way.is in absurd (cc)
+
   by_exact : (asked : Option Bytes) → IsFormulaAsked subject.names asked subject.formula → IsExactPart asked subject task.delay found.exact
       → (rank : AffineRank) → LeadsExactly found.exact input rank → IsSatisfied
-  by_exact None ends exact rank way = claimed.0 (ranked_defined (plan_of found.cover) input (finds.loopless (ap normal ends) small.loopless.free))
+  by_exact None ends exact rank way = claimed.0 (whole_defined input (plan_of found.cover) (is_whole ends))
   by_exact (Some text) meant exact rank way = absurd (subst (λ e. LeadsExactly e input rank) exact way)
 
   leads : IsSatisfied → (rank : AffineRank) × LeadsTo (plan_of found.cover) input rank
@@ -55,8 +71,9 @@ module _ (task : Task) (subject : Subject) (found : Found) (finds : IsFound task
 
   pub told_of_satisfied : (status : Status) (claim : Claim) → IsToldOf found input status claim → (status ≡ AllInputs) ↔ IsSatisfied
   told_of_satisfied status claim (inl (all, inl (rank, way, is))) = ((λ same. by_exact task.formula formula finds.exact rank way), (λ sat. all))
-  told_of_satisfied status claim (inl (all, inr (none, (rank, way, told)))) = ((λ same. by_cover rank way), (λ sat. all))
-  told_of_satisfied status claim (inr (some, none, lacks, is)) = (
+  told_of_satisfied status claim (inl (all, inr (none, inl (rank, way, told)))) = ((λ same. by_cover rank way), (λ sat. all))
+  told_of_satisfied status claim (inl (all, inr (none, inr (lacks, (rank, way, told))))) = ((λ same. by_rank rank way), (λ sat. all))
+  told_of_satisfied status claim (inr (some, none, lacks, nowhere, is)) = (
     (λ all. absurd (let clash : SomeInputs ≡ AllInputs = sym some ∙ all in cc)),
     (λ sat. let way = leads sat in absurd (lacks way.0 way.1)),
   )

@@ -22,7 +22,9 @@ use Rattle.report_text.specs.declared.line.Top.{Top}
 use Rattle.report_text.specs.declared.line.Top.TheVariants.{Bound, Exact as Counted, Plain}
 use Rattle.report_text.specs.declared.report.Stop.{Stop}
 use Rattle.report_text.specs.declared.report.Stop.TheVariants.{NotPlain, TooManyNodes, WideNumbers}
+use Rattle.ordinal_rank.specs.declared.ordinal.OrdinalRank.{OrdinalRank}
 use Rattle.report_text.specs.Leaves.{claim_at, claim_of}
+use Rattle.report_text.specs.Ranked.{ordinal_claim}
 use Rattle.report_text.specs.Sections.{IsWholeLine, whole_lines}
 use Rattle.report_text.proofs.Cutting.{whole_lines_are}
 use Rattle.claim_line.specs.Tells.{Tells}
@@ -91,6 +93,10 @@ exactly_told Counted rank input claim n other told is = other refl
 exactly_told Bound rank input claim n other told is = let told_is = told.2 in cc
 exactly_told Plain rank input claim n other told is = cc
 
+-- nor is it where the tree of ordinal ranks claims
+ordinal_told : (rank : OrdinalRank) (input : Store) (claim : Claim) (n : ℕ) → IsTold (ordinal_claim rank) input claim → claim ≡ Exactly (pos n) → ⊥
+ordinal_told rank input claim n told is = let told_is = told.4 in cc
+
 module _ (vars : ℕ) (body : Statements) (tests : ℕ) (stop : Option Stop) (tree : Tree AffineRank) (level : IsExactTree vars body tests (plan_of tree))
     (growth : growth_of body tests ≤ 2 ^ 60) (input : Store) (is_input : IsInput vars input) (numbers : HasSmallNumbers input) (n : ℕ) where
   leads : EndsExactly body tests input n → LeadsTo (plan_of tree) input (counted n)
@@ -118,9 +124,11 @@ module _ (vars : ℕ) (body : Statements) (tests : ℕ) (stop : Option Stop) (tr
     pub told_exactly : (status : Status) (claim : Claim) → IsToldOf found input status claim → (claim ≡ Exactly (pos n)) ↔ EndsExactly body tests input n
     told_exactly status claim (inl (all, inl (rank, way, is))) =
         ((λ says. of_leaf rank claim (way_of rank way) is says), (λ ends. to_leaf rank claim (way_of rank way) is ends))
-    told_exactly status claim (inl (all, inr (none, (rank, way, told)))) =
+    told_exactly status claim (inl (all, inr (none, inl (rank, way, told)))) =
         ((λ says. absurd (exactly_told found.claims rank input claim n claims told says)), (λ ends. absurd (none (counted n) (way_to (counted n) (leads ends)))))
-    told_exactly status claim (inr (some, none, lacks, is)) =
+    told_exactly status claim (inl (all, inr (none, inr (lacks, (rank, way, told))))) =
+        ((λ says. absurd (ordinal_told rank input claim n told says)), (λ ends. absurd (none (counted n) (way_to (counted n) (leads ends)))))
+    told_exactly status claim (inr (some, none, lacks, nowhere, is)) =
         ((λ says. absurd (let unknown = is in cc)), (λ ends. absurd (none (counted n) (way_to (counted n) (leads ends)))))
 
 -- ---- what a text tells

@@ -1,6 +1,6 @@
 -- What the command writes is true, line by line.
 use Rattle.std.proofs.Common.{◌≡◌, ℕ, ◌+◌, not, List, [], ◌∷◌, ◌++◌, length, All, Contains, Option, None, Some, codes, refl, sym, ap, ◌∙◌, subst, arith}
-use Rattle.std.proofs.lemmas.List.Elements.{All-filter, All-nil}
+use Rattle.std.proofs.lemmas.List.Elements.{All-filter, All-nil, Contains-append_left, Contains-append_right}
 use Rattle.step_meaning.specs.Outcome.{Store}
 use Rattle.step_meaning.specs.Run.{IsInput}
 use Rattle.linear_cons.specs.declared.affine.Affine.{Affine}
@@ -9,6 +9,8 @@ use Rattle.linear_solve.proofs.Lists.{all_of, member_of}
 use Rattle.decision_tree.specs.declared.affine_rank.AffineRank.{AffineRank}
 use Rattle.decision_tree.specs.Evaluation.{eval}
 use Rattle.decision_tree.specs.Plans.{Plan, bottom, branch, leaf, plan_of, top}
+use Rattle.ordinal_rank.specs.declared.ordinal.OrdinalRank.{OrdinalRank}
+use Rattle.ordinal_rank.specs.Families.{BoundsEnds}
 use Rattle.line_text.specs.declared.claim.Claim.{Claim}
 use Rattle.line_text.specs.LineText.{functions_of}
 use Rattle.line_text.specs.Numeral.{numeral}
@@ -19,14 +21,15 @@ use Rattle.report_text.specs.declared.line.Top.{Top}
 use Rattle.report_text.specs.declared.line.Top.TheVariants.{Exact as Counted}
 use Rattle.report_text.specs.declared.report.Header.{Header}
 use Rattle.report_text.specs.declared.report.Report.{Report}
-use Rattle.report_text.specs.Leaves.{AreLinesOf, claim_at, is_unknown}
-use Rattle.report_text.specs.Printed.{Head, IsReportText, lines_under, proved_head, unknown_head}
+use Rattle.report_text.specs.Leaves.{MeetsOneLine, claim_at, claim_by, is_unknown}
+use Rattle.report_text.specs.Printed.{Head, IsReportText, lines_under, proved_head, ranked_head, unknown_head}
+use Rattle.report_text.specs.Ranked.{claim_else, ordinal_claim}
 use Rattle.report_text.proofs.Standing.{one_line_met}
 use Rattle.function_top.specs.declared.found.Exact.{Exact}
 use Rattle.function_top.specs.declared.found.Exact.TheVariants.{Made, Unasked, Unmade}
 use Rattle.function_top.specs.declared.found.Found.{Found}
 use Rattle.function_top.specs.Exact.{IsExact, IsExactTree}
-use Rattle.function_top.specs.Found.{IsExactPart, IsFound, IsTrueTree}
+use Rattle.function_top.specs.Found.{IsExactPart, IsFound, IsTrueTree, claim_found}
 use Rattle.command_words.specs.Order.{Task}
 use Rattle.function_top.specs.Refusals.{fault_line, usage_line}
 use Rattle.function_top.specs.Shown.{Shows, ShowsExact}
@@ -35,6 +38,7 @@ use Rattle.function_top.specs.TrueLine.{IsTrueOf, TrueLine}
 use Rattle.unroll.specs.Levels.{RanksCount}
 use Rattle.function_top.proofs.Conditions.{condition_met}
 use Rattle.function_top.proofs.ExactLines.{ranks_at}
+use Rattle.function_top.proofs.Once.{one_line}
 use Rattle.function_top.proofs.OnlyMet.{met_is_one}
 use Rattle.report_text.proofs.Frame.{Bytes, IsFree, IsSilent, Lacks, both_free, digits_free, free_lacks, says_nothing, tested}
 use Rattle.function_top.proofs.Written.{EachWhole, Frames, Prints, one_good, report_holds, silent_frames}
@@ -95,27 +99,43 @@ module _ (subject : Subject) (opening : OpenAsLines) where
   exact_true tests tree level input is_input =
       counted_true tests tree level input is_input (eval tree input) (ranks_at tree input level.ranks) refl
 
-  -- the claim of a line that an input meets is that of the leaf where the input stands
-  claim_is : (claims : Top) (tree : Plan AffineRank) (lines : List Line) (line : Line) (input : Store) → AreLinesOf claims tree lines
-      → Contains lines line → MeetsAll input line.rows → line.claim ≡ claim_at claims (eval tree input)
-  claim_is claims tree lines line input are member met =
-      let Is : Line → Type 0 = λ (line : Line). line.claim ≡ claim_at claims (eval tree input) in
-      member_of (λ (line : Line). MeetsAll input line.rows → Is line) lines line
-      (met_is_one (λ (line : Line). MeetsAll input line.rows) Is lines (one_line_met claims input tree lines are)) member met
+  -- what the trees that were found claim is true
+  ordinal_true : (ranked : Plan OrdinalRank) → BoundsEnds (length subject.names) subject.body ranked → (input : Store) → IsInput (length subject.names) input
+      → (end : Plan OrdinalRank) → eval ranked input ≡ end → IsTrueOf subject (claim_by ordinal_claim end) input
+  ordinal_true ranked ends input is_input bottom is = tt
+  ordinal_true ranked ends input is_input (top cause) is = tt
+  ordinal_true ranked ends input is_input (branch row this that) is = tt
+  ordinal_true ranked ends input is_input (leaf why rank) is = ends input why rank is_input is
+
+  else_true : (claims : Top) (input : Store) (end : Plan AffineRank) (other : Claim) → IsTrueOf subject (claim_at claims end) input
+      → IsTrueOf subject other input → IsTrueOf subject (claim_else claims end other) input
+  else_true claims input bottom other own beyond = beyond
+  else_true claims input (top cause) other own beyond = beyond
+  else_true claims input (branch row this that) other own beyond = beyond
+  else_true claims input (leaf why rank) other own beyond = own
+
+  pub found_true : (task : Task) (found : Found) → IsFound task subject found → (input : Store) → IsInput (length subject.names) input
+      → IsTrueOf subject (claim_found found input) input
+  found_true task found finds input is_input =
+      else_true found.claims input (eval (plan_of found.cover) input) (claim_by ordinal_claim (eval (plan_of found.ranked) input))
+      (finds.holds input is_input) (ordinal_true (plan_of found.ranked) finds.ends input is_input (eval (plan_of found.ranked) input) refl)
 
   module _ (known : KnownLines subject.names) where
-    -- a line of a tree whose claims are true is true
-    line_true : (claims : Top) (tree : Plan AffineRank) (lines : List Line) → IsTrueTree subject claims tree → AreLinesOf claims tree lines → (line : Line)
+    -- of lines of which each input meets exactly one each is true, where the claim of that one is
+    line_true : (claim : Store → Claim) (lines : List Line) → ((input : Store) → MeetsOneLine input (claim input) lines)
+        → ((input : Store) → IsInput (length subject.names) input → IsTrueOf subject (claim input) input) → (line : Line)
         → Contains lines line → Prints (SaysTrue subject) frames subject.names known.newline line
-    line_true claims tree lines truth are line member text is condition claim s =
-        let same = known.one text (functions_of is.condition) condition line.claim claim is.spells s in
-        subst (λ k. TrueLine subject k claim) same.0
+    line_true claim lines one truth line member text is condition says s =
+        let same = known.one text (functions_of is.condition) condition line.claim says is.spells s in
+        subst (λ k. TrueLine subject k says) same.0
         (subst (λ k. TrueLine subject (functions_of is.condition) k) same.1
         (record {
           holds = λ input is_input met.
-              subst (λ k. IsTrueOf subject k input)
-              (sym (claim_is claims tree lines line input are member (condition_met line.rows is.condition input is.same met)))
-              (truth input is_input);
+              let Is : Line → Type 0 = λ (line : Line). line.claim ≡ claim input in
+              let own = member_of (λ (line : Line). MeetsAll input line.rows → Is line) lines line
+              (met_is_one (λ (line : Line). MeetsAll input line.rows) Is lines (one input)) member
+              (condition_met line.rows is.condition input is.same met) in
+              subst (λ k. IsTrueOf subject k input) (sym own) (truth input is_input);
         }))
 
     -- of each line of a report
@@ -130,7 +150,8 @@ module _ (subject : Subject) (opening : OpenAsLines) where
         let all = shows.1.0 in
         subst (All Printed) (sym shows.1.2)
         (All-filter (λ line. not (is_unknown line.claim)) Printed all
-        (all_of Printed all (line_true Counted (plan_of tree) all (exact_true tests (plan_of tree) is.2) shows.1.1)))
+        (all_of Printed all (line_true (λ input. claim_at Counted (eval (plan_of tree) input)) all
+        (λ input. one_line_met Counted input (plan_of tree) all shows.1.1) (exact_true tests (plan_of tree) is.2))))
 
     part_lines_true : (asked : Option Bytes) (delay : ℕ) (exact : Exact) (header : Header) (lines : List Line) → IsExactPart asked subject delay exact
         → ShowsExact exact header lines → All Printed lines
@@ -138,18 +159,21 @@ module _ (subject : Subject) (opening : OpenAsLines) where
     part_lines_true (Some text) delay exact header lines is shows =
         subst (All Printed) (sym (subst (λ e. ShowsExact e header lines) is shows).1) (All-nil Printed)
 
-    under_true : (report : Report) → All Printed report.proved → All Printed report.unknown → (head : Head)
-        → All Printed (lines_under head report)
-    under_true report proved unknown proved_head = proved
-    under_true report proved unknown unknown_head = unknown
+    -- the lines under a head are among those of which each input meets one
+    among : (report : Report) (head : Head) (line : Line) → Contains (lines_under head report) line
+        → Contains (report.proved ++ (report.ranked ++ report.unknown)) line
+    among report proved_head line member = Contains-append_left report.proved (report.ranked ++ report.unknown) line member
+    among report ranked_head line member =
+        Contains-append_right report.proved (report.ranked ++ report.unknown) line (Contains-append_left report.ranked report.unknown line member)
+    among report unknown_head line member =
+        Contains-append_right report.proved (report.ranked ++ report.unknown) line (Contains-append_right report.ranked report.unknown line member)
 
     pub report_true : (task : Task) (found : Found) (report : Report) (text : Bytes) → IsFound task subject found → Shows found report
         → IsReportText subject.names report text → EachWhole (SaysTrue subject) text
     report_true task found report text finds shows printed =
-        let all = all_of Printed shows.lines (line_true found.claims (plan_of found.cover) shows.lines finds.holds shows.lines_of) in
         report_holds (SaysTrue subject) frames subject.names known.newline report text
         (part_lines_true task.formula task.delay found.exact report.header report.exact finds.exact shows.exact)
-        (under_true report
-        (subst (All Printed) (sym shows.proved) (All-filter (λ line. not (is_unknown line.claim)) Printed shows.lines all))
-        (subst (All Printed) (sym shows.unknown) (All-filter (λ line. is_unknown line.claim) Printed shows.lines all)))
+        (λ head. all_of Printed (lines_under head report) (λ line member.
+        line_true (λ input. claim_found found input) (report.proved ++ (report.ranked ++ report.unknown)) (one_line found report shows)
+        (found_true task found finds) line (among report head line member)))
         printed

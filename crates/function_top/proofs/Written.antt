@@ -14,7 +14,7 @@ use Rattle.report_text.specs.declared.report.Explain.{Explain}
 use Rattle.report_text.specs.declared.report.Header.{Header}
 use Rattle.report_text.specs.declared.report.Header.TheVariants.{Absent, Partial, Stopped, Whole}
 use Rattle.report_text.specs.declared.report.Report.{Report}
-use Rattle.report_text.specs.Printed.{AreExactTexts, AreTextsOf, Head, IsLineText, IsReportText, ended_lines, exact_part, explain_part, head_text, heads, lines_under, report_lines, section_lines, unknown_head, verdict_line}
+use Rattle.report_text.specs.Printed.{AreExactTexts, AreTextsOf, Head, IsLineText, IsReportText, ended_lines, exact_part, explain_part, head_text, heads_for, lines_under, ranked_head, report_lines, section_lines, unknown_head, verdict_line}
 use Rattle.report_text.specs.Sections.{IsWholeLine, lines_after, whole_lines}
 use Rattle.function_top.specs.Demo.{summary_lines}
 use Rattle.report_text.proofs.Cutting.{whole_lines_are}
@@ -143,10 +143,10 @@ module _ (P : Bytes → Type 0) where
     good_lines header exact texts explain front good =
         let last = verdict_line (texts unknown_head) in
         let behind = explain_part explain ++ last ∷ [] in
-        All-append IsGood (exact_part header exact) (section_lines heads texts behind) front
+        All-append IsGood (exact_part header exact) (section_lines (heads_for (texts ranked_head)) texts behind) front
         (good_sections texts good behind
         (All-append IsGood (explain_part explain) (last ∷ []) (good_explanation explain) (All-cons IsGood last [] (good_verdict (texts unknown_head)) (All-nil IsGood)))
-        heads)
+        (heads_for (texts ranked_head)))
 
     good_zipped : (lines : List Line) (texts : List Bytes) → All Prints lines → AllZip (λ line text. IsLineText names line text) lines texts
         → All IsGood texts

@@ -1,5 +1,5 @@
 -- What the analysis finds of a subject, before any of it is text.
-use Rattle.std.specs.Prelude.{◌≡◌, ◌⊎◌, ◌↔◌, ◌≤◌, ◌^◌, ℕ, pos, true, List, length, Option, None, Some}
+use Rattle.std.specs.Prelude.{◌≡◌, ◌⊎◌, ◌↔◌, ◌≤◌, ◌^◌, ℕ, pos, true, List, length, Option, None, Some, IsSome}
 use Rattle.step_meaning.specs.Outcome.{Store}
 use Rattle.step_meaning.specs.Run.{IsInput, start}
 use Rattle.step_meaning.specs.Countdown.{IsCountdown}
@@ -8,7 +8,7 @@ use Rattle.linear_cons.specs.Functions.{constant_of}
 use Rattle.decision_tree.specs.declared.affine_rank.AffineRank.{AffineRank}
 use Rattle.decision_tree.specs.Evaluation.{eval}
 use Rattle.decision_tree.specs.Extent.{IsWhole}
-use Rattle.decision_tree.specs.Plans.{Plan, is_defined, plan_of, rank_of}
+use Rattle.decision_tree.specs.Plans.{Plan, bottom, is_defined, plan_of, rank_of}
 use Rattle.count_down.specs.Candidates.{last_steps}
 use Rattle.count_down.specs.Trees.{ranked}
 use Rattle.ctl_formula.specs.Formulas.{Ctl, truth, falsity, exit, not_exit, always, never, least, negation, both, either, next, until, weak, af_exit, normal}
@@ -19,9 +19,12 @@ use Rattle.fitting_ways.specs.Factors.{HasSmallFactors}
 use Rattle.fitting_ways.specs.Ways.{SmallWaysFit}
 use Rattle.ctl_rounds.specs.Asked.{IsAdvised}
 use Rattle.ctl_rounds.specs.Bounds.{FindsInputs}
+use Rattle.ordinal_rank.specs.Families.{BoundsEnds}
 use Rattle.report_text.specs.declared.line.Top.{Top}
 use Rattle.report_text.specs.declared.line.Top.TheVariants.{Bound, Plain}
 use Rattle.report_text.specs.Leaves.{claim_at}
+use Rattle.report_text.specs.Ranked.{claim_of_both}
+use Rattle.line_text.specs.declared.claim.Claim.{Claim}
 use Rattle.function_top.specs.declared.found.Exact.{Exact}
 use Rattle.function_top.specs.declared.found.Exact.TheVariants.{Unasked}
 use Rattle.function_top.specs.declared.found.Found.{Found}
@@ -51,6 +54,10 @@ abbrev pub IsTrueTree : Subject → Top → Plan AffineRank → Type 0
 IsTrueTree subject claims tree =
     (input : Store) → IsInput (length subject.names) input → IsTrueOf subject (claim_at claims (eval tree input)) input
 
+-- what is claimed of an input: what the cover claims where it stands, or where its leaf is undefined what the tree of ordinal ranks does
+abbrev pub claim_found : Found → Store → Claim
+claim_found found input = claim_of_both found.claims (plan_of found.cover) (plan_of found.ranked) input
+
 -- Where no formula is asked about this is known exactly of the subject's program, for as many tests as the delay; and where one is, nothing is
 -- known exactly.
 abbrev pub IsExactPart : Option (List ℕ) → Subject → ℕ → Exact → Type 0
@@ -68,7 +75,8 @@ pub record HasSmallMeasures (subject : Subject) : Type 0 where
   pub within : IsWithinMeasures subject.body (normal subject.formula)
   pub growth : ctl_growth subject.body (normal subject.formula) ≤ 2 ^ 60
 
--- Truth: what the trees claim is true. Exactness: in a plain program without loops, whose numbers fit, and within its measures for the normal form,
+-- Truth: what the trees claim is true, and where one of ordinal ranks makes a claim every run ends as it says; there is none where a formula is asked about or
+-- the cover leaves no input open. Exactness: in a plain program without loops, whose numbers fit, and within its measures for the normal form,
 -- no satisfied input is left without a claim; and where the growth is small too, the way of one of small numbers through the cover is found within
 -- 128 bits. Strength: where the normal form of the formula is a whole `A[f U g]` the advisers are asked as long as a
 -- leaf of the cover is undefined, eight times at most, and else never. Where it is `AF exit`, the cover of a countdown program has no undefined
@@ -78,6 +86,8 @@ pub record IsFound (task : Task) (subject : Subject) (found : Found) : Type 0 wh
   pub exact : IsExactPart task.formula subject task.delay found.exact
   pub claims : found.claims ≡ claims_for (normal subject.formula)
   pub holds : IsTrueTree subject found.claims (plan_of found.cover)
+  pub ends : BoundsEnds (length subject.names) subject.body (plan_of found.ranked)
+  pub unranked : IsSome task.formula ⊎ IsWhole (plan_of found.cover) → plan_of found.ranked ≡ bottom
   pub exactly : IsLoopless subject.body → IsWithinMeasures subject.body (normal subject.formula) → ClaimsExactly subject (plan_of found.cover)
   pub narrow_ways : HasSmallMeasures subject → FindsInputs (length subject.names) subject.body subject.formula (plan_of found.cover)
   pub countdown : normal subject.formula ≡ af_exit → IsCountdown subject.body → IsWhole (plan_of found.cover)

@@ -9,7 +9,7 @@ use Rattle.line_text.specs.declared.claim.Claim.TheVariants.{Exactly}
 use Rattle.line_text.specs.Spells.{MeetsCondition, Spells}
 use Rattle.claim_line.specs.Tells.{Tells}
 use Rattle.report_text.specs.declared.report.Stop.{Stop}
-use Rattle.report_text.specs.Printed.{proved_head, unknown_head}
+use Rattle.report_text.specs.Printed.{proved_head, ranked_head, unknown_head}
 use Rattle.report_text.specs.Sections.{IsWholeLine, exact_head, exact_line, header_lines, lines_in, section_line}
 use Rattle.function_top.specs.Exact.{EndsExactly}
 use Rattle.function_top.specs.Shown.{header_of}
@@ -34,9 +34,10 @@ pub record MeetsOne (names : List (List ℕ)) (input : Store) (lines : List (Lis
   pub met : IsMet names input line
   pub unmet : AreUnmet names input others
 
--- of the text of a report each input meets exactly one line of the proved and unknown sections together, and at most one of the exact part
+-- of the text of a report each input meets exactly one line of the sections below the exact part together, and at most one of that part
 pub record AreMetOnce (names : List (List ℕ)) (text : List ℕ) : Type 0 where
-  pub together : (input : Store) → MeetsOne names input (lines_in (section_line proved_head) text ++ lines_in (section_line unknown_head) text)
+  pub together : (input : Store) → MeetsOne names input (lines_in (section_line proved_head) text
+      ++ (lines_in (section_line ranked_head) text ++ lines_in (section_line unknown_head) text))
   pub exact : (input : Store) → AreUnmet names input (lines_in exact_line text) ⊎ MeetsOne names input (lines_in exact_line text)
 
 -- one of the lines says the claim over the names under a condition that the input meets

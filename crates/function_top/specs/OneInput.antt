@@ -8,9 +8,11 @@ use Rattle.decision_tree.specs.declared.reason.Why.{Why}
 use Rattle.decision_tree.specs.Evaluation.{WayFits, eval}
 use Rattle.decision_tree.specs.Plans.{Plan, leaf, plan_of}
 use Rattle.line_text.specs.declared.claim.Claim.{Claim}
-use Rattle.line_text.specs.declared.claim.Claim.TheVariants.{Exactly, Within, Holds, Unknown}
+use Rattle.line_text.specs.declared.claim.Claim.TheVariants.{Exactly, Within, Holds, Ranked, Unknown}
 use Rattle.report_text.specs.declared.line.Top.TheVariants.{Exact as Counted}
+use Rattle.ordinal_rank.specs.declared.ordinal.OrdinalRank.{OrdinalRank}
 use Rattle.report_text.specs.Leaves.{claim_of}
+use Rattle.report_text.specs.Ranked.{ordinal_claim}
 use Rattle.function_top.specs.declared.found.Exact.{Exact}
 use Rattle.function_top.specs.declared.found.Exact.TheVariants.{Made, Unasked, Unmade}
 use Rattle.function_top.specs.declared.found.Found.{Found}
@@ -18,7 +20,7 @@ use Rattle.function_top.specs.declared.status.Status.{Status}
 use Rattle.function_top.specs.declared.status.Status.TheVariants.{AllInputs, SomeInputs}
 
 -- the input's way through the tree is found within 128 bits, and leads to a leaf of this rank
-pub record LeadsTo (tree : Plan AffineRank) (input : Store) (rank : AffineRank) : Type 0 where
+pub record LeadsTo {R : Type 0} (tree : Plan R) (input : Store) (rank : R) : Type 0 where
   pub fits : WayFits tree input
   pub why : Why
   pub is : eval tree input ≡ leaf why rank
@@ -38,6 +40,8 @@ abbrev pub IsTold : Claim → Store → Claim → Type 0
 IsTold (Within bound) input claim = (told : Affine) × IsToldAs bound input told × (claim ≡ Within told)
 IsTold (Exactly number) input claim = claim ≡ Exactly number
 IsTold Holds input claim = claim ≡ Holds
+IsTold (Ranked high low) input claim =
+    (first second : Affine) × IsToldAs high input first × IsToldAs low input second × (claim ≡ Ranked first second)
 IsTold Unknown input claim = claim ≡ Unknown
 
 -- the exact part claims this of the input
@@ -48,13 +52,24 @@ IsToldExactly found input claim = (rank : AffineRank) × LeadsExactly found.exac
 abbrev pub IsNotToldExactly : Found → Store → Type 0
 IsNotToldExactly found input = (rank : AffineRank) → ¬ LeadsExactly found.exact input rank
 
--- the cover claims this
+-- the cover claims this, and so does the tree of ordinal ranks
 abbrev pub IsToldByCover : Found → Store → Claim → Type 0
 IsToldByCover found input claim = (rank : AffineRank) × LeadsTo (plan_of found.cover) input rank × IsTold (claim_of found.claims rank) input claim
 
+abbrev pub IsToldByRank : Found → Store → Claim → Type 0
+IsToldByRank found input claim = (rank : OrdinalRank) × LeadsTo (plan_of found.ranked) input rank × IsTold (ordinal_claim rank) input claim
+
+-- neither claims anything of it
+abbrev pub IsNotToldByCover : Found → Store → Type 0
+IsNotToldByCover found input = (rank : AffineRank) → ¬ LeadsTo (plan_of found.cover) input rank
+
+abbrev pub IsNotToldByRank : Found → Store → Type 0
+IsNotToldByRank found input = (rank : OrdinalRank) → ¬ LeadsTo (plan_of found.ranked) input rank
+
 -- By what was found this is told of the input, and the status says whether anything is claimed: what the exact part claims of it, else what the
--- cover does, else that it is unknown.
+-- cover does, else what the tree of ordinal ranks does, else that it is unknown.
 abbrev pub IsToldOf : Found → Store → Status → Claim → Type 0
 IsToldOf found input status claim =
-    ((status ≡ AllInputs) × (IsToldExactly found input claim ⊎ (IsNotToldExactly found input × IsToldByCover found input claim)))
-    ⊎ ((status ≡ SomeInputs) × IsNotToldExactly found input × ((rank : AffineRank) → ¬ LeadsTo (plan_of found.cover) input rank) × (claim ≡ Unknown))
+    ((status ≡ AllInputs) × (IsToldExactly found input claim ⊎ (IsNotToldExactly found input
+    × (IsToldByCover found input claim ⊎ (IsNotToldByCover found input × IsToldByRank found input claim)))))
+    ⊎ ((status ≡ SomeInputs) × IsNotToldExactly found input × IsNotToldByCover found input × IsNotToldByRank found input × (claim ≡ Unknown))

@@ -8,6 +8,7 @@ use Rattle.report_text.specs.declared.report.Header.TheVariants.{Absent, Partial
 use Rattle.report_text.specs.declared.report.Report.{Report}
 use Rattle.report_text.specs.declared.report.Stop.{Stop}
 use Rattle.report_text.specs.Leaves.{AreLinesOf, claiming, claiming_nothing}
+use Rattle.report_text.specs.Ranked.{AreRefined}
 use Rattle.function_top.specs.declared.found.Exact.{Exact}
 use Rattle.function_top.specs.declared.found.Exact.TheVariants.{Made, Unasked, Unmade}
 use Rattle.function_top.specs.declared.found.Found.{Found}
@@ -25,10 +26,14 @@ ShowsExact (Unmade stop) header lines = (header ≡ Stopped stop) × (lines ≡ 
 ShowsExact (Made tests stop tree) header lines =
     (header ≡ header_of tests stop) × ((all : List Line) × AreLinesOf Counted (plan_of tree) all × (lines ≡ claiming all))
 
--- The lines of the cover's leaves: what claims something is proved, and the rest is unknown.
+-- The lines of the cover's leaves: what claims something is proved. For the rest the lines of the ordinal tree's leaves stand: what claims something ends by a
+-- rank, and the rest is unknown.
 pub record Shows (found : Found) (report : Report) : Type 0 where
   pub exact : ShowsExact found.exact report.header report.exact
   pub lines : List Line
   pub lines_of : AreLinesOf found.claims (plan_of found.cover) lines
   pub proved : report.proved ≡ claiming lines
-  pub unknown : report.unknown ≡ claiming_nothing lines
+  pub others : List Line
+  pub others_of : AreRefined (plan_of found.ranked) (claiming_nothing lines) others
+  pub ranked : report.ranked ≡ claiming others
+  pub unknown : report.unknown ≡ claiming_nothing others

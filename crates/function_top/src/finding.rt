@@ -1,6 +1,6 @@
 //! From a program and a formula to what is found of them.
 
-ghost use Rattle.std.specs.Prelude.{◌≡◌, ◌≤◌, ◌^◌, ◌⊎◌, ℕ, Bool, All, IfOk, Some, length, pos};
+ghost use Rattle.std.specs.Prelude.{◌≡◌, ◌≤◌, ◌^◌, ◌⊎◌, ◌↔◌, ℕ, Bool, All, IfOk, IsSome, IsTrue, Some, length, pos};
 ghost use Rattle.step_meaning.specs.Countdown.{IsCountdown};
 ghost use Rattle.step_meaning.specs.Counts.{HasNoLoop};
 ghost use Rattle.step_meaning.specs.Syntax.{statements};
@@ -10,7 +10,9 @@ ghost use Rattle.count_down.specs.Trees.{ranked};
 ghost use Rattle.ctl_formula.specs.Formulas.{Ctl, af_exit, normal, until};
 ghost use Rattle.ctl_formula.specs.Mirror.{ctl};
 ghost use Rattle.decision_tree.specs.Extent.{IsWhole};
-ghost use Rattle.decision_tree.specs.Plans.{plan_of, rank_of};
+ghost use Rattle.decision_tree.specs.Plans.{bottom, plan_of, rank_of};
+ghost use Rattle.control_flow.specs.Invariants.{AreInvariants};
+ghost use Rattle.ordinal_rank.specs.Families.{BoundsEnds, IsFit};
 ghost use Rattle.fitting_ways.specs.Factors.{HasSmallFactors};
 ghost use Rattle.fitting_ways.specs.Ways.{SmallWaysFit};
 ghost use Rattle.ctl_rounds.specs.Asked.{IsAdvised, RoseBy};
@@ -32,10 +34,11 @@ use command_words::Query;
 use control_flow::Graph;
 use ctl_formula::{Formula, normal_forms_mean_the_same};
 use ctl_rounds::laws::{covers_can_be_printed, covers_hold};
-use ctl_rounds::{analyse, cover};
+use ctl_rounds::{analyse, cover, synthesises};
 use decision_tree::{AffineRank, Tree};
 use forward_inv::{Inv, invariants};
 use num_domain::NumDomain;
+use ordinal_rank::{OrdinalRank, ranked};
 use report_text::Top;
 use std::alloc::{AllocError, Global};
 use tree_support::laws::invariants_tell_the_truth;
@@ -59,11 +62,12 @@ pub(crate) fn find<D: NumDomain>(
 {
     normal_forms_mean_the_same();
     let exact = exact_part(alloc, query, graph)?;
-    let (cover, turns, families) = covered::<D>(alloc, query.delay, formula, graph, advisers)?;
+    let (cover, turns, families, ranked) = covered::<D>(alloc, query, formula, graph, advisers)?;
     Ok(Found {
         exact,
         claims: claims_for(formula),
         cover,
+        ranked,
         families,
         turns,
     })
@@ -91,14 +95,15 @@ fn claims_for(formula: &Formula) -> Top
     }
 }
 
-/// The cover of a certificate of the formula, over one kind of sets, how often each adviser was asked for it, and how many families it was joined from.
+/// The cover of a certificate of the formula, over one kind of sets, how often each adviser was asked for it, and how many families it was joined from;
+/// and what ordinal ranks say of inputs that it leaves open.
 fn covered<D: NumDomain>(
     alloc: Global,
-    delay: u32,
+    query: &Query,
     formula: &Formula,
     graph: &Graph,
     advisers: &mut Vec<Box<dyn Adviser>>,
-) -> Result<(Tree<AffineRank>, u32, u32), AllocError>
+) -> Result<(Tree<AffineRank>, u32, u32, Tree<OrdinalRank>), AllocError>
     requires patient { All (λ adviser. asked_of adviser ≤ 2 ^ 32) advisers.old.items }
     ensures satisfied { IfOk result (λ covered. SatisfiesInputs (length graph.now.names) (statements graph.now.body) (ctl formula.now)
         (plan_of covered.0)) }
@@ -111,6 +116,9 @@ fn covered<D: NumDomain>(
         → IsWithin (length graph.now.names) (statements graph.now.body) (ctl formula.now) → ctl_growth (statements graph.now.body) (ctl formula.now) ≤ 2 ^ 60
         → IfOk result (λ covered. FindsInputs (length graph.now.names) (statements graph.now.body) (ctl formula.now) (plan_of covered.0)) }
     ensures printable { IfOk result (λ covered. IsPrintable (length graph.now.names) (plan_of covered.0)) }
+    ensures ends { IfOk result (λ covered. BoundsEnds (length graph.now.names) (statements graph.now.body) (plan_of covered.3)) }
+    ensures fit { IfOk result (λ covered. IsFit (length graph.now.names) (plan_of covered.3)) }
+    ensures unranked { IfOk result (λ covered. IsSome (task_of query.now).formula ⊎ IsWhole (plan_of covered.0) → plan_of covered.3 ≡ bottom) }
     ensures asked { (times : ℕ) × (times ≤ 8) × RoseBy (λ adviser. asked_of adviser) times advisers.old.items advisers.new.items
         × IfOk result (λ covered. covered.1 ≡ times) }
     ensures insists { IsAdvised (ctl formula.now) → IfOk result (λ covered. IsWhole (plan_of covered.0) ⊎ (covered.1 ≡ 8)) }
@@ -122,13 +130,48 @@ fn covered<D: NumDomain>(
         → IfOk result (λ covered. SmallWaysFit (plan_of covered.0)) }
 {
     let inv: Inv<D> = invariants(alloc, graph)?;
-    let certificate = analyse(alloc, graph, &inv, formula, advisers, delay)?;
+    let certificate = analyse(alloc, graph, &inv, formula, advisers, query.delay)?;
     invariants_tell_the_truth::<D>();
     covers_hold();
     covers_can_be_printed();
     let cover = cover(alloc, &certificate, graph)?;
     let families = counted(certificate.tops.items().len());
-    Ok((cover, certificate.turns, families))
+    let may = synthesises(advisers.len(), query.delay);
+    let ranked = ranked_beyond(alloc, query, graph, &inv, &cover, may)?;
+    Ok((cover, certificate.turns, families, ranked))
+}
+
+/// The tree of ordinal ranks at the entry of the program, where no formula is asked about and the cover leaves some input open, and else one that makes no
+/// claim.
+fn ranked_beyond<D: NumDomain>(
+    alloc: Global,
+    query: &Query,
+    graph: &Graph,
+    inv: &Inv<D>,
+    cover: &Tree<AffineRank>,
+    synthesises: bool,
+) -> Result<Tree<OrdinalRank>, AllocError>
+    requires { AreInvariants D.has (length graph.now.names) (statements graph.now.body) inv.now }
+    ensures ends { IfOk result (λ tree. BoundsEnds (length graph.now.names) (statements graph.now.body) (plan_of tree)) }
+    ensures fit { IfOk result (λ tree. IsFit (length graph.now.names) (plan_of tree)) }
+    ensures unranked { IfOk result (λ tree. IsSome (task_of query.now).formula ⊎ IsWhole (plan_of cover.now) → plan_of tree ≡ bottom) }
+{
+    if query.formula.is_some() || is_whole(cover) {
+        return Ok(Tree::Bottom);
+    }
+    let tree = ranked(alloc, graph, inv, cover, query.delay, synthesises)?;
+    Ok(tree)
+}
+
+/// Whether no leaf of the tree is undefined.
+fn is_whole(tree: &Tree<AffineRank>) -> bool
+    ensures { IsTrue result ↔ IsWhole (plan_of tree.now) }
+{
+    match tree {
+        Tree::Bottom | Tree::Top(_) => false,
+        Tree::Leaf { .. } => true,
+        Tree::Node { row: _, yes, no } => is_whole(yes) && is_whole(no),
+    }
 }
 
 /// A number of families; for more than the type has room for its last value stands.

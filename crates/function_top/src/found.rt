@@ -1,6 +1,7 @@
 //! What the analysis finds of a program and a formula.
 
 use decision_tree::{AffineRank, Tree};
+use ordinal_rank::OrdinalRank;
 use report_text::{Stop, Top};
 
 /// What is known exactly of a program.
@@ -27,7 +28,9 @@ pub(crate) struct Found {
     pub claims: Top,
     /// What the families of a certificate say at the entry, joined.
     pub cover: Tree<AffineRank>,
-    /// How many families of the whole formula it was joined from.
+    /// Where no formula is asked about, what ordinal ranks say at the entry of inputs of which the cover says nothing.
+    pub ranked: Tree<OrdinalRank>,
+    /// How many families of the whole formula the cover was joined from.
     pub families: u32,
     /// How often each adviser was asked for it.
     pub turns: u32,

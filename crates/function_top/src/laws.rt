@@ -9,7 +9,6 @@ ghost use Rattle.exact_families.specs.Completeness.{IsLoopless};
 ghost use Rattle.formula_measures.specs.Measures.{IsWithinMeasures};
 ghost use Rattle.decision_tree.specs.declared.affine_rank.AffineRank.{AffineRank};
 ghost use Rattle.decision_tree.specs.declared.tree.Tree.{Tree};
-ghost use Rattle.line_text.specs.declared.claim.Claim.{Claim};
 ghost use Rattle.line_text.specs.declared.claim.Claim.TheVariants.{Exactly};
 ghost use Rattle.report_text.specs.declared.report.Report.{Report};
 ghost use Rattle.report_text.specs.declared.report.Stop.{Stop};
@@ -17,15 +16,16 @@ ghost use Rattle.report_text.specs.Leaves.{MeetsOneLine};
 ghost use Rattle.function_top.specs.declared.found.Exact.TheVariants.{Made};
 ghost use Rattle.function_top.specs.declared.found.Found.{Found};
 ghost use Rattle.function_top.specs.Exact.{EndsExactly, MeetsAtMostOneLine, MeetsLine, MeetsSomeLine};
-ghost use Rattle.function_top.specs.Found.{IsFound};
+ghost use Rattle.function_top.specs.Found.{IsFound, claim_found};
 ghost use Rattle.command_words.specs.Order.{Task};
 ghost use Rattle.function_top.specs.Shown.{Shows};
 ghost use Rattle.function_top.specs.Subject.{Subject};
 
-/// A law: each input of a program meets exactly one of the proved and the unknown lines of its report together.
+/// A law: each input of a program meets exactly one line of the sections of its report below the exact part, which claims what the trees that were found
+/// do.
 pub fn each_input_meets_one_line()
     ensures { (found : Found) (report : Report) → Shows found report → (input : Store)
-        → (claim : Claim) × MeetsOneLine input claim (report.proved ++ report.unknown) }
+        → MeetsOneLine input (claim_found found input) (report.proved ++ (report.ranked ++ report.unknown)) }
 {}
 
 /// A law: each input of a program meets at most one line of the exact part of its report.

@@ -4,7 +4,6 @@ ghost use Rattle.std.specs.Prelude.{◌≡◌, ◌≤◌, ◌∷◌, ◌++◌, �
 ghost use Rattle.decision_tree.specs.declared.affine_rank.AffineRank.{AffineRank};
 ghost use Rattle.decision_tree.specs.Plans.{plan_of};
 ghost use Rattle.line_text.specs.declared.claim.Claim.{Claim};
-ghost use Rattle.report_text.specs.Leaves.{claim_of};
 ghost use Rattle.claim_line.specs.Tells.{Tells};
 ghost use Rattle.function_top.specs.OneInput.{IsTold, IsToldAs, IsToldOf, LeadsExactly, LeadsTo};
 ghost use Rattle.function_top.specs.Printable.{IsFoundPrintable};
@@ -12,10 +11,9 @@ ghost use Rattle.function_top.specs.Printable.{IsFoundPrintable};
 use crate::found::{Exact, Found};
 use crate::output::Output;
 use crate::status::Status;
-use decision_tree::{AffineRank, Tree};
+use decision_tree::{AffineRank, Rank, Tree};
 use line_text::{Claim, push_claim};
 use linear_cons::Affine;
-use report_text::Top;
 use std::alloc::{AllocError, Global};
 use step_meaning::Names;
 
@@ -51,20 +49,27 @@ fn told(found: &Found, input: &[i128; 16]) -> (Claim, Status)
     if let Some(rank) = exact_rank(&found.exact, input) {
         return (Claim::Exactly(rank.value.constant), Status::AllInputs);
     }
-    match rank_at(&found.cover, input) {
-        Some(rank) => (claim_told(found.claims, rank, input), Status::AllInputs),
+    if let Some(rank) = rank_at(&found.cover, input) {
+        let claim = found.claims.claim(rank);
+        return (claim_told(&claim, input), Status::AllInputs);
+    }
+    match rank_at(&found.ranked, input) {
+        Some(rank) => {
+            let claim = Claim::Ranked(rank.high, rank.low);
+            (claim_told(&claim, input), Status::AllInputs)
+        }
         None => (Claim::Unknown, Status::SomeInputs),
     }
 }
 
-/// What a leaf of the rank claims, as it is told of the input.
-fn claim_told(claims: Top, rank: &AffineRank, input: &[i128; 16]) -> Claim
-    ensures { IsTold (claim_of claims rank.now) input.now result }
+/// What a leaf claims, as it is told of the input.
+fn claim_told(claim: &Claim, input: &[i128; 16]) -> Claim
+    ensures { IsTold claim.now input.now result }
 {
-    match claims {
-        Top::Exact => Claim::Exactly(rank.value.constant),
-        Top::Bound => Claim::Within(bound_told(&rank.value, input)),
-        Top::Plain => Claim::Holds,
+    match claim {
+        Claim::Within(bound) => Claim::Within(bound_told(bound, input)),
+        Claim::Ranked(high, low) => Claim::Ranked(bound_told(high, input), bound_told(low, input)),
+        Claim::Exactly(_) | Claim::Holds | Claim::Unknown => *claim,
     }
 }
 
@@ -90,9 +95,9 @@ fn exact_rank<'e>(exact: &'e Exact, input: &[i128; 16]) -> Option<&'e AffineRank
 }
 
 /// The rank at the leaf of the tree where the input stands, if it is defined and found within 128 bits.
-fn rank_at<'t>(tree: &'t Tree<AffineRank>, input: &[i128; 16]) -> Option<&'t AffineRank>
+fn rank_at<'t, R: Rank>(tree: &'t Tree<R>, input: &[i128; 16]) -> Option<&'t R>
     ensures some { IfSome result (λ rank. LeadsTo (plan_of tree.now) input.now rank.now) }
-    ensures none { IfNone result ((rank : AffineRank) → ¬ LeadsTo (plan_of tree.now) input.now rank) }
+    ensures none { IfNone result ((rank : R) → ¬ LeadsTo (plan_of tree.now) input.now rank) }
 {
     match tree.leaf_at(input) {
         Ok(Tree::Leaf { rank, .. }) => Some(rank),

@@ -12,7 +12,7 @@ use crate::found::{Exact, Found};
 use crate::output::Output;
 use crate::status::Status;
 use line_text::push_numeral;
-use report_text::{Explain, Header, Lines, Report, Stop, Top, lines, print};
+use report_text::{Explain, Header, Lines, Report, Stop, Top, lines, print, refined};
 use std::alloc::{AllocError, Global};
 use step_meaning::Names;
 
@@ -60,11 +60,13 @@ pub(crate) fn shown(
     ensures explain { IfOk result (λ report. report.explain ≡ explain) }
 {
     let (header, exact) = exact_part(alloc, &found.exact)?;
-    let (proved, unknown) = lines(alloc, &found.cover, found.claims)?.parted(alloc)?;
+    let (proved, open) = lines(alloc, &found.cover, found.claims)?.parted(alloc)?;
+    let (ranked, unknown) = refined(alloc, &open, &found.ranked)?.parted(alloc)?;
     Ok(Report {
         header,
         exact,
         proved,
+        ranked,
         unknown,
         explain,
     })

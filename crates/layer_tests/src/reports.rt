@@ -46,6 +46,7 @@ type Root = (Numbers, Side, Side);
 enum Said {
     Exactly(i128),
     Within(Numbers),
+    Ranked(Numbers, Numbers),
     Holds,
     Unknown,
 }
@@ -53,8 +54,8 @@ enum Said {
 /// A line: the functions that are at least 0, and what it says where they are.
 type Stated = (&'static [Numbers], Said);
 
-/// The exact lines of a report, the proved and the unknown ones.
-type Sections = [&'static [Stated]; 3];
+/// The exact lines of a report, the proved ones, those of what ends by a rank, and the unknown ones.
+type Sections = [&'static [Stated]; 4];
 
 /// What a report explains: the number of labels, that of families, and how often each adviser was asked.
 type Explained = Option<(u32, u32, &'static [u64])>;
@@ -197,6 +198,7 @@ fn tree_of(alloc: Global, root: &Root) -> Result<Tree<AffineRank>, Fail>
 fn claim_of(said: &Said) -> Claim {
     match *said {
         Exactly(steps) => Claim::Exactly(steps),
+        Ranked(high, low) => Claim::Ranked(function(high), function(low)),
         Within(numbers) => Claim::Within(function(numbers)),
         Holds => Claim::Holds,
         Unknown => Claim::Unknown,
@@ -330,6 +332,7 @@ const DISORDERED: Sections = [
         (&[[1, 0, -2]], Within([2, 0, 1])),
         (&[[0, 1, 0], [1, 1, -1]], Within([0, 0, 1])),
     ],
+    &[],
     &[(&[[-1, 0, -1]], Unknown)],
 ];
 
@@ -338,7 +341,7 @@ const ORDERED: &str =
     "proved:\n-x + 1 >= 0 and x - 1 >= 0: within 3 steps\nx + y - 1 >= 0 and y >= 0: within 1 step\nx - 2 >= 0: within 2*x + 1 steps\nunknown:\n-x - 1 >= 0: unknown\nverdict: some inputs\n";
 
 /// Headers, the lines of reports, what these explain, the texts of the exact parts and what follows them.
-const REPORTS: [(Header, Sections, Explained, &str, &str); 7] = [
+const REPORTS: [(Header, Sections, Explained, &str, &str); 8] = [
     (Header::Absent, DISORDERED, None, "", ORDERED),
     (
         Header::Whole { tests: 2 },
@@ -378,14 +381,32 @@ const REPORTS: [(Header, Sections, Explained, &str, &str); 7] = [
     // Nothing is unknown.
     (
         Header::Absent,
-        [&[], &[(&[], Holds)], &[]],
+        [&[], &[(&[], Holds)], &[], &[]],
         None,
         "",
         "proved:\nalways: holds\nunknown:\nverdict: all inputs\n",
     ),
+    // Something ends by a rank.
+    (
+        Header::Stopped {
+            cause: Stop::NotPlain,
+        },
+        [
+            &[],
+            &[],
+            &[
+                (&[[1, 0, -1]], Ranked([0, 0, 1], [2, 0, 2])),
+                (&[[-1, 0, 0]], Ranked([0, 0, 1], [0, 0, 2])),
+            ],
+            &[],
+        ],
+        None,
+        "exact: not a plain program\n",
+        "proved:\nranked:\n-x >= 0: ends, rank w*(1) + 2\nx - 1 >= 0: ends, rank w*(1) + 2*x + 2\nunknown:\nverdict: all inputs\n",
+    ),
     (
         Header::Absent,
-        [&[], &[], &[]],
+        [&[], &[], &[], &[]],
         Some((3, 1, &[8, 0])),
         "",
         "proved:\nunknown:\nexplain:\nlabels 3\nfamilies 1\nadviser 1 asked 8\nadviser 2 asked 0\nverdict: all inputs\n",
@@ -431,6 +452,7 @@ fn text_of(alloc: Global, report: &Report) -> Result<Vec<u8>, Fail> {
     let names = names(alloc)?;
     if lines_are_over(report.exact.items(), &names)
         && lines_are_over(report.proved.items(), &names)
+        && lines_are_over(report.ranked.items(), &names)
         && lines_are_over(report.unknown.items(), &names)
     {
         let text = print(alloc, report, &names)?;
@@ -454,17 +476,19 @@ fn explain_of(alloc: Global, explained: &Explained) -> Result<Option<Explain>, A
 fn report_of(
     alloc: Global,
     header: Header,
-    [exact, proved, unknown]: Sections,
+    [exact, proved, ranked, unknown]: Sections,
     explained: &Explained,
 ) -> Result<Report, Fail> {
     let exact = lines_of(alloc, exact)?;
     let proved = lines_of(alloc, proved)?;
+    let ranked = lines_of(alloc, ranked)?;
     let unknown = lines_of(alloc, unknown)?;
     let explain = explain_of(alloc, explained)?;
     Ok(Report {
         header,
         exact,
         proved,
+        ranked,
         unknown,
         explain,
     })
@@ -502,7 +526,7 @@ fn many_lines(alloc: Global, count: u32) -> Result<Lines, AllocError> {
 
 #[test]
 fn text_of_many_lines(rt: HostRuntime) -> Result<(), Fail> {
-    let mut report = report_of(rt.alloc(), Header::Absent, [&[], &[], &[]], &None)?;
+    let mut report = report_of(rt.alloc(), Header::Absent, [&[], &[], &[], &[]], &None)?;
     report.proved = many_lines(rt.alloc(), 65_536)?;
     let text = text_of(rt.alloc(), &report)?;
     // Lines of 23 bytes beside their digits, of which there are 316,570, but 22 where `step` stands; and 37 bytes around them.

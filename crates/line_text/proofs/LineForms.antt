@@ -6,7 +6,7 @@ use Rattle.std.proofs.lemmas.Bool.Decides.{nat_tests}
 use Rattle.std.proofs.lemmas.List.Elements.{Contains-append_left, Contains-append_right}
 use Rattle.linear_cons.specs.declared.affine.Affine.{Affine}
 use Rattle.line_text.specs.declared.claim.Claim.{Claim}
-use Rattle.line_text.specs.declared.claim.Claim.TheVariants.{Exactly, Within, Holds, Unknown}
+use Rattle.line_text.specs.declared.claim.Claim.TheVariants.{Exactly, Within, Holds, Ranked, Unknown}
 use Rattle.line_text.specs.AffineText.{Term, affine_text, front_sign, joining_sign, later_text, number_text, product_text, sum_text, terms_of}
 use Rattle.line_text.specs.LineText.{claim_text, condition_text, is_one, more_joined, row_text, row_texts, steps_word}
 use Rattle.line_text.specs.Names.{AreNames}
@@ -101,6 +101,11 @@ claim_clean names (Within bound) are =
     clean_append (codes "within ") _ (refl, (refl, (refl, (refl, (refl, (refl, (refl, tt)))))))
     (clean_append (affine_text names bound) _ (affine_clean names bound are) (steps_clean (is_one bound)))
 claim_clean names Holds are = (refl, (refl, (refl, (refl, (refl, tt)))))
+claim_clean names (Ranked high low) are =
+    clean_append (codes "ends, rank w*(") _
+    (refl, (refl, (refl, (refl, (refl, (refl, (refl, (refl, (refl, (refl, (refl, (refl, (refl, (refl, tt))))))))))))))
+    (clean_append (affine_text names high) _ (affine_clean names high are)
+    (clean_append (codes ") + ") _ (refl, (refl, (refl, (refl, tt)))) (affine_clean names low are)))
 claim_clean names Unknown are = (refl, (refl, (refl, (refl, (refl, (refl, (refl, tt)))))))
 
 -- ---- a line has the colon behind its condition, but no newline byte

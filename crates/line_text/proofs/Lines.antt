@@ -1,9 +1,9 @@
 -- A line is read back: its condition row by row, and its claim.
-use Rattle.std.proofs.Common.{◌≡◌, ℕ, suc, Bool, true, false, ℤ, pos, List, [], ◌∷◌, ◌++◌, All, sym, refl, ap, ◌∙◌, arith, append_assoc, unsigned_abs, codes, None}
+use Rattle.std.proofs.Common.{◌≡◌, ℕ, suc, Bool, true, false, eqb, ℤ, pos, List, [], ◌∷◌, ◌++◌, All, sym, refl, ap, ◌∙◌, arith, append_assoc, unsigned_abs, codes, None}
 use Rattle.std.specs.Ordering.{int_eq}
 use Rattle.linear_cons.specs.declared.affine.Affine.{Affine}
 use Rattle.line_text.specs.declared.claim.Claim.{Claim}
-use Rattle.line_text.specs.declared.claim.Claim.TheVariants.{Exactly, Within, Holds, Unknown}
+use Rattle.line_text.specs.declared.claim.Claim.TheVariants.{Exactly, Within, Holds, Ranked, Unknown}
 use Rattle.line_text.specs.AffineText.{affine_text, front_sign, number_text, terms_of}
 use Rattle.line_text.specs.LineText.{claim_text, condition_text, is_one, more_joined, row_text, row_texts, steps_word}
 use Rattle.line_text.specs.Names.{AreNames, IsOver}
@@ -11,7 +11,7 @@ use Rattle.line_text.specs.Numeral.{numeral}
 use Rattle.line_text.specs.Spells.{IsClaimOver, Spells}
 use Rattle.line_text.proofs.Cuts.{heads_differ, word_cut, BeginsStopped}
 use Rattle.line_text.proofs.Products.{front_cut, number_back, product_first}
-use Rattle.line_text.proofs.Sums.{always_apart}
+use Rattle.line_text.proofs.Sums.{Ends, always_apart, blank_ends, closing_ends}
 use Rattle.line_text.proofs.Terms.{AreDistinct, affine_cut, distinct_names, terms_proper}
 use Rattle.line_text.proofs.Words.{numeral_injective, numeral_is_word}
 
@@ -24,47 +24,67 @@ number_cut y z u v p q e =
     number_back y z cut.0 (numeral_injective _ _ (word_cut (numeral (unsigned_abs y)) (numeral (unsigned_abs z)) u v (numeral_is_word _)
     (numeral_is_word _) p q cut.1).0)
 
--- the word behind a number of steps, without its first two bytes
-word_tail : Bool → List ℕ
-word_tail true = codes "tep"
-word_tail false = codes "teps"
-
-word_parts : (one : Bool) → steps_word one ≡ 32 ∷ 115 ∷ word_tail one
-unfolding word_tail
-word_parts true = refl
-word_parts false = refl
-
 word_stops : (one : Bool) → BeginsStopped (steps_word one)
 word_stops true = refl
 word_stops false = refl
+
+word_ends : (one : Bool) → Ends (steps_word one)
+word_ends true = blank_ends 115 (codes "tep") refl
+word_ends false = blank_ends 115 (codes "teps") refl
 
 bound_cut :
     (names : List (List ℕ)) (a b : Affine) → AreDistinct names → IsOver names a → IsOver names b
     → affine_text names a ++ steps_word (is_one a) ≡ affine_text names b ++ steps_word (is_one b) → a ≡ b
 bound_cut names a b are over over' e =
-    (affine_cut names a b 115 115 (word_tail (is_one a)) (word_tail (is_one b)) are over over' refl refl
-    (ap (λ t. affine_text names a ++ t) (sym (word_parts (is_one a)))
-    ∙ (e ∙ ap (λ t. affine_text names b ++ t) (word_parts (is_one b))))).0
+    (affine_cut names a b (steps_word (is_one a)) (steps_word (is_one b)) are over over' (word_ends (is_one a)) (word_ends (is_one b)) e).0
+
+-- functions with one text are one, whatever follows
+text_cut :
+    (names : List (List ℕ)) (a b : Affine) → AreDistinct names → IsOver names a → IsOver names b → affine_text names a ≡ affine_text names b → a ≡ b
+text_cut names a b are over over' e =
+    (affine_cut names a b (41 ∷ []) (41 ∷ []) are over over' (closing_ends []) (closing_ends []) (ap (λ t. t ++ 41 ∷ []) e)).0
+
+rank_cut :
+    (names : List (List ℕ)) (p q r s : Affine) → AreDistinct names → IsOver names p × IsOver names q → IsOver names r × IsOver names s
+    → affine_text names p ++ (codes ") + " ++ affine_text names q) ≡ affine_text names r ++ (codes ") + " ++ affine_text names s)
+    → Ranked p q ≡ Ranked r s
+rank_cut names p q r s are over over' e =
+    let cut = affine_cut names p r (codes ") + " ++ affine_text names q) (codes ") + " ++ affine_text names s) are over.0 over'.0
+    (closing_ends (32 ∷ 43 ∷ 32 ∷ affine_text names q)) (closing_ends (32 ∷ 43 ∷ 32 ∷ affine_text names s)) e in
+    let low : affine_text names q ≡ affine_text names s = let f = cut.1 in cc in
+    cc (cut.0, text_cut names q s are over.1 over'.1 low)
+
+-- texts with different second bytes differ
+seconds_differ : (a b c : ℕ) (x y : List ℕ) → eqb b c ≡ false → a ∷ b ∷ x ≡ a ∷ c ∷ y → ⊥
+seconds_differ a b c x y apart e = heads_differ b c x y apart (let f = e in cc)
 
 claim_cut :
     (names : List (List ℕ)) (c d : Claim) → AreDistinct names → IsClaimOver names c → IsClaimOver names d
     → claim_text names c ≡ claim_text names d → c ≡ d
-claim_cut names (Exactly y) (Exactly z) are over over' e =
-    ap Exactly (number_cut y z (steps_word (int_eq y (pos 1))) (steps_word (int_eq z (pos 1))) (word_stops _) (word_stops _) cc)
+claim_cut names (Exactly y) (Exactly z) are over over' e = ap Exactly (number_cut y z (steps_word (int_eq y (pos 1))) (steps_word (int_eq z (pos 1))) (word_stops _) (word_stops _) cc)
 claim_cut names (Exactly y) (Within b) are over over' e = absurd (heads_differ 101 119 _ _ refl e)
 claim_cut names (Exactly y) Holds are over over' e = absurd (heads_differ 101 104 _ _ refl e)
+claim_cut names (Exactly y) (Ranked r s) are over over' e = absurd (seconds_differ 101 120 110 _ _ refl e)
 claim_cut names (Exactly y) Unknown are over over' e = absurd (heads_differ 101 117 _ _ refl e)
 claim_cut names (Within a) (Exactly z) are over over' e = absurd (heads_differ 119 101 _ _ refl e)
 claim_cut names (Within a) (Within b) are over over' e = ap Within (bound_cut names a b are over over' cc)
 claim_cut names (Within a) Holds are over over' e = absurd (heads_differ 119 104 _ _ refl e)
+claim_cut names (Within a) (Ranked r s) are over over' e = absurd (heads_differ 119 101 _ _ refl e)
 claim_cut names (Within a) Unknown are over over' e = absurd (heads_differ 119 117 _ _ refl e)
 claim_cut names Holds (Exactly z) are over over' e = absurd (heads_differ 104 101 _ _ refl e)
 claim_cut names Holds (Within b) are over over' e = absurd (heads_differ 104 119 _ _ refl e)
 claim_cut names Holds Holds are over over' e = refl
+claim_cut names Holds (Ranked r s) are over over' e = absurd (heads_differ 104 101 _ _ refl e)
 claim_cut names Holds Unknown are over over' e = absurd (heads_differ 104 117 _ _ refl e)
+claim_cut names (Ranked p q) (Exactly z) are over over' e = absurd (seconds_differ 101 110 120 _ _ refl e)
+claim_cut names (Ranked p q) (Within b) are over over' e = absurd (heads_differ 101 119 _ _ refl e)
+claim_cut names (Ranked p q) Holds are over over' e = absurd (heads_differ 101 104 _ _ refl e)
+claim_cut names (Ranked p q) (Ranked r s) are over over' e = rank_cut names p q r s are over over' cc
+claim_cut names (Ranked p q) Unknown are over over' e = absurd (heads_differ 101 117 _ _ refl e)
 claim_cut names Unknown (Exactly z) are over over' e = absurd (heads_differ 117 101 _ _ refl e)
 claim_cut names Unknown (Within b) are over over' e = absurd (heads_differ 117 119 _ _ refl e)
 claim_cut names Unknown Holds are over over' e = absurd (heads_differ 117 104 _ _ refl e)
+claim_cut names Unknown (Ranked r s) are over over' e = absurd (heads_differ 117 101 _ _ refl e)
 claim_cut names Unknown Unknown are over over' e = refl
 
 -- a row and what follows, by parts
@@ -77,7 +97,8 @@ row_cut :
     (names : List (List ℕ)) (a b : Affine) (x y : List ℕ) → AreDistinct names → IsOver names a → IsOver names b
     → affine_text names a ++ (codes " >= 0" ++ x) ≡ affine_text names b ++ (codes " >= 0" ++ y) → (a ≡ b) × (x ≡ y)
 row_cut names a b x y are over over' e =
-    let cut = affine_cut names a b 62 62 (61 ∷ 32 ∷ 48 ∷ x) (61 ∷ 32 ∷ 48 ∷ y) are over over' refl refl e in
+    let cut = affine_cut names a b (codes " >= 0" ++ x) (codes " >= 0" ++ y) are over over' (blank_ends 62 (61 ∷ 32 ∷ 48 ∷ x) refl)
+    (blank_ends 62 (61 ∷ 32 ∷ 48 ∷ y) refl) e in
     (cut.0, let f = cut.1 in cc)
 
 all_first : (names : List (List ℕ)) (row : Affine) (more : List Affine) → All (IsOver names) (row ∷ more) → IsOver names row

@@ -1,4 +1,4 @@
--- A term is read back from its text, where a blank or a colon follows.
+-- A term is read back from its text, where a blank, a colon or `)` follows.
 use Rattle.std.proofs.Common.{◌≡◌, ◌≢◌, ℕ, Bool, true, false, ◌||◌, eqb, ◌⊎◌, inl, inr, ⊎_elim, ℤ, pos, negsuc, List, [], ◌∷◌, ◌++◌, Option, None, Some, sym, refl, ap, ◌∙◌, arith, append_assoc, unsigned_abs}
 use Rattle.std.specs.Prelude.{⊤}
 use Rattle.std.proofs.lemmas.Bool.Decides.{eqb_tells, nat_tests}
@@ -7,9 +7,9 @@ use Rattle.line_text.specs.Numeral.{numeral}
 use Rattle.line_text.proofs.Cuts.{is_stop, word_cut, BeginsStopped, BeginsWord, IsWord}
 use Rattle.line_text.proofs.Words.{BeginsAbove, BeginsDigit, numeral_begins, numeral_injective, numeral_is_word}
 
--- a blank or a colon, which is all that may follow a term
+-- a blank, a colon or `)`, which is all that may follow a term
 abbrev pub is_end : ℕ → Bool
-is_end byte = eqb byte 32 || eqb byte 58
+is_end byte = eqb byte 32 || eqb byte 58 || eqb byte 41
 
 abbrev pub BeginsEnded : List ℕ → Type 0
 BeginsEnded [] = ⊥

@@ -1,5 +1,5 @@
 -- A function over distinct names is read back from its terms.
-use Rattle.std.proofs.Common.{◌≡◌, ◌≢◌, ℕ, zero, suc, ◌<◌, ◌≤◌, false, ◌⊎◌, inl, inr, ⊎_elim, ℤ, pos, negsuc, List, [], ◌∷◌, ◌++◌, length, get_or, Option, None, Some, All, AllPairs, sym, refl, ap, ◌∙◌, arith}
+use Rattle.std.proofs.Common.{◌≡◌, ◌≢◌, ℕ, zero, suc, ◌<◌, ◌≤◌, ◌⊎◌, inl, inr, ⊎_elim, ℤ, pos, negsuc, List, [], ◌∷◌, ◌++◌, length, get_or, Option, None, Some, All, AllPairs, sym, refl, ap, ◌∙◌, arith}
 use Rattle.std.specs.Prelude.{⊤}
 use Rattle.std.proofs.lemmas.Bool.{cases_lt}
 use Rattle.linear_cons.proofs.Places.{places-ext}
@@ -8,7 +8,7 @@ use Rattle.linear_cons.specs.Numbers.{number_at}
 use Rattle.line_text.specs.AffineText.{Term, affine_text, term_of, terms_of, variable_terms}
 use Rattle.line_text.specs.Names.{AreNames, IsName, IsOver}
 use Rattle.line_text.proofs.Products.{IsNamed}
-use Rattle.line_text.proofs.Sums.{AllProper, is_sign, sum_cut}
+use Rattle.line_text.proofs.Sums.{AllProper, Ends, sum_cut}
 use Rattle.line_text.proofs.Words.{name_begins, name_is_word}
 
 -- the name isn't among the names
@@ -178,12 +178,11 @@ terms_back names a b are over over' e =
     (λ (past : length names ≤ i). over.past i past ∙ sym (over'.past i past))
     (cases_lt i (length names)))) back.1
 
--- two functions with the same text, where a blank and a byte that is no sign follow, are one
+-- two functions with the same text, where what follows ends it, are one
 pub affine_cut :
-    (names : List (List ℕ)) (a b : Affine) (c d : ℕ) (x y : List ℕ) → AreDistinct names → IsOver names a → IsOver names b
-    → is_sign c ≡ false → is_sign d ≡ false → affine_text names a ++ 32 ∷ c ∷ x ≡ affine_text names b ++ 32 ∷ d ∷ y
-    → (a ≡ b) × (c ∷ x ≡ d ∷ y)
-affine_cut names a b c d x y are over over' m n e =
-    let cut = sum_cut (terms_of names a) (terms_of names b) c d x y (terms_proper names a.coef a.constant are)
+    (names : List (List ℕ)) (a b : Affine) (x y : List ℕ) → AreDistinct names → IsOver names a → IsOver names b → Ends x → Ends y
+    → affine_text names a ++ x ≡ affine_text names b ++ y → (a ≡ b) × (x ≡ y)
+affine_cut names a b x y are over over' m n e =
+    let cut = sum_cut (terms_of names a) (terms_of names b) x y (terms_proper names a.coef a.constant are)
     (terms_proper names b.coef b.constant are) m n e in
     (terms_back names a b are over over' cut.0, cut.1)

@@ -3,13 +3,14 @@ use Rattle.std.specs.Prelude.{◌≡◌, ◌⊎◌, ℕ, ℤ, pos, ◌≤ℤ◌,
 use Rattle.linear_cons.specs.declared.affine.Affine.{Affine}
 use Rattle.linear_cons.specs.Functions.{value_at}
 use Rattle.line_text.specs.declared.claim.Claim.{Claim}
-use Rattle.line_text.specs.declared.claim.Claim.TheVariants.{Exactly, Within, Holds, Unknown}
+use Rattle.line_text.specs.declared.claim.Claim.TheVariants.{Exactly, Within, Holds, Ranked, Unknown}
 use Rattle.line_text.specs.Names.{IsOver}
 use Rattle.line_text.specs.LineText.{line_text}
 
 -- the claim speaks of no variable past the names
 abbrev pub IsClaimOver : List (List ℕ) → Claim → Type 0
 IsClaimOver names (Within bound) = IsOver names bound
+IsClaimOver names (Ranked high low) = IsOver names high × IsOver names low
 IsClaimOver names (Exactly number) = ⊤
 IsClaimOver names Holds = ⊤
 IsClaimOver names Unknown = ⊤

@@ -11,6 +11,9 @@ pub enum Claim {
     Within(Affine),
     /// The formula holds.
     Holds,
+    /// Every run ends: what bounds its steps gives way to a new bound at most as often as the first function's value at the input says. The
+    /// second function is the low part of the rank that shows it.
+    Ranked(Affine, Affine),
     /// Nothing is claimed.
     Unknown,
 }

@@ -1,5 +1,6 @@
 //! The text of lines, rows and claims.
 ghost use Rattle.std.specs.Prelude.{◌≡◌, ◌++◌, OnOk, codes};
+ghost use Rattle.line_text.specs.AffineText.{affine_text};
 ghost use Rattle.line_text.specs.Buffer.{BeginsWith, bytes_in};
 ghost use Rattle.line_text.specs.LineText.{claim_text, is_one, joined, row_text, steps_word};
 ghost use Rattle.line_text.specs.Names.{IsOver};
@@ -74,8 +75,30 @@ pub fn push_claim(text: &mut Vec<u8>, claim: &Claim, names: &Names) -> Result<()
             push_steps(text, is_one(bound))
         }
         Claim::Holds => text.extend_from_slice(b"holds"),
+        Claim::Ranked(high, low) => {
+            text.extend_from_slice(b"ends, rank w*(")?;
+            push_rank(text, high, low, names)
+        }
         Claim::Unknown => text.extend_from_slice(b"unknown"),
     }
+}
+
+/// Appends both functions of a rank behind its `(`.
+fn push_rank(
+    text: &mut Vec<u8>,
+    high: &Affine,
+    low: &Affine,
+    names: &Names,
+) -> Result<(), AllocError>
+    requires high { IsOver names.now high.now }
+    requires low { IsOver names.now low.now }
+    ensures text { OnOk result (text.new.items ≡ text.old.items
+        ++ (affine_text names.now high.now ++ (codes ") + " ++ affine_text names.now low.now))) }
+    ensures kept { BeginsWith text.new.items text.old.items }
+{
+    push_affine(text, high, names)?;
+    text.extend_from_slice(b") + ")?;
+    push_affine(text, low, names)
 }
 
 /// True exactly where the function is the constant 1.

@@ -5,3 +5,4 @@ pub mod Phases
 pub mod Jumping
 pub mod Fit
 pub mod Lists
+pub mod Joined

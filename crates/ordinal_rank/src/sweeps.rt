@@ -55,7 +55,7 @@ fn begun(alloc: Global, transitions: &[Transition]) -> Result<Vec<Tree<OrdinalRa
 }
 
 /// The tree of a label at which this is done, before the first sweep.
-fn begun_at(transition: &Transition) -> Tree<OrdinalRank> {
+pub(crate) fn begun_at(transition: &Transition) -> Tree<OrdinalRank> {
     match transition {
         Transition::End => at_once(Why::Now),
         Transition::Dead => at_once(Why::Dead),
@@ -117,7 +117,7 @@ fn remake<D: NumDomain>(
 
 /// The tree before what is done, for every next state. Before the assignment of a value that is chosen from a range without an end a run may
 /// begin anew.
-fn before(
+pub(crate) fn before(
     alloc: Global,
     transition: &Transition,
     trees: &[Tree<OrdinalRank>],
@@ -185,7 +185,7 @@ fn widened<D: NumDomain>(
 }
 
 /// The tree, or what the label has for one that can't be made. The only error is want of memory.
-fn or_given_up(
+pub(crate) fn or_given_up(
     made: Result<Tree<OrdinalRank>, TreeFault>,
 ) -> Result<Tree<OrdinalRank>, AllocError> {
     match made {

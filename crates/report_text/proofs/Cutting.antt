@@ -16,8 +16,8 @@ use Rattle.report_text.specs.declared.report.Header.TheVariants.{Absent, Whole, 
 use Rattle.report_text.specs.declared.report.Report.{Report}
 use Rattle.linear_cons.specs.declared.affine.Affine.{Affine}
 use Rattle.line_text.specs.declared.claim.Claim.{Claim}
-use Rattle.report_text.specs.Printed.{AreExactTexts, AreTextsOf, Head, IsReportText, IsLineText, adviser_lines, cause_text, ended_lines, exact_part, explain_part, explained, head_text, heads, lines_under, proved_head, report_lines, section_lines, unknown_head, verdict_line}
-use Rattle.report_text.specs.Sections.{Role, start, exact_head, exact_line, section_head, section_line, explain_head, explain_line, verdict, goes_on, role_of, is_role, lines_after, lines_in, lines_printed, lines_with, whole_lines, IsFrontOf, IsTextAmong, SaysOnly, explained_head, explained_lines, header_lines}
+use Rattle.report_text.specs.Printed.{AreExactTexts, AreTextsOf, Head, IsReportText, IsLineText, adviser_lines, cause_text, ended_lines, exact_part, explain_part, explained, head_text, heads_for, lines_under, proved_head, ranked_head, report_lines, section_lines, unknown_head, verdict_line}
+use Rattle.report_text.specs.Sections.{Role, start, exact_head, exact_line, section_head, section_line, explain_head, explain_line, verdict, goes_on, role_of, is_head, is_role, lines_after, lines_in, lines_printed, lines_with, whole_lines, IsFrontOf, IsTextAmong, SaysOnly, explained_head, explained_lines, head_among, header_lines}
 use Rattle.report_text.proofs.Frame.{IsSilent, Lacks, explanation_silent, head_silent, partial_line, partial_silent, silent_lacks, stopped_line, stopped_silent, verdict_silent, whole_line, whole_silent}
 
 -- ---- whole lines
@@ -118,10 +118,10 @@ other_text line fixed apart = by_cases (bytes_eq line fixed) refl
     by_cases true is = absurd (apart ((bytes_eq-Decides line fixed).0 is))
     by_cases false is = is
 
-opens_nothing : (line : List ℕ) → line ≢ codes "proved:" → line ≢ codes "unknown:" → line ≢ codes "explain:" →
+opens_nothing : (line : List ℕ) → line ≢ codes "proved:" → line ≢ codes "ranked:" → line ≢ codes "unknown:" → line ≢ codes "explain:" →
     line ≢ codes "verdict: all inputs" → line ≢ codes "verdict: some inputs" → OpensNothing line
 unfolding role_of
-opens_nothing line a b c d e before = rw (other_text line (codes "proved:") a, other_text line (codes "unknown:") b, other_text line (codes "explain:") c, other_text line (codes "verdict: all inputs") d, other_text line (codes "verdict: some inputs") e) refl
+opens_nothing line a r b c d e before = rw (other_text line (codes "proved:") a, other_text line (codes "ranked:") r, other_text line (codes "unknown:") b, other_text line (codes "explain:") c, other_text line (codes "verdict: all inputs") d, other_text line (codes "verdict: some inputs") e) refl
 
 -- the byte `>`, code 62, isn't among the bytes
 is_free : List ℕ → Bool
@@ -146,8 +146,8 @@ apart_from line fixed free has same = free_lacks fixed free (subst (λ l. Contai
 signed_plain : (line : List ℕ) → Contains line 62 → OpensNothing line
 unfolding is_free
 signed_plain line has =
-    opens_nothing line (apart_from line (codes "proved:") refl has) (apart_from line (codes "unknown:") refl has)
-    (apart_from line (codes "explain:") refl has) (apart_from line (codes "verdict: all inputs") refl has)
+    opens_nothing line (apart_from line (codes "proved:") refl has) (apart_from line (codes "ranked:") refl has)
+    (apart_from line (codes "unknown:") refl has) (apart_from line (codes "explain:") refl has) (apart_from line (codes "verdict: all inputs") refl has)
     (apart_from line (codes "verdict: some inputs") refl has)
 
 always_plain : (n : List ℕ) → OpensNothing (codes "always: " ++ n)
@@ -184,6 +184,7 @@ explained_plain explain =
 head_opens : (head : Head) (before : Role) → role_of before (head_text head) ≡ section_head head
 unfolding role_of
 head_opens proved_head before = refl
+head_opens ranked_head before = refl
 head_opens unknown_head before = refl
 
 explain_opens : (before : Role) → role_of before (codes "explain:") ≡ explain_head
@@ -275,7 +276,7 @@ exact_cut wanted (Stopped cause) exact tail result plain behind =
 -- what is cut from a whole report
 abbrev report_result : Role → Header → (exact : List (List ℕ)) → (Head → List (List ℕ)) → Option Explain → List (List ℕ)
 report_result wanted header exact texts explain =
-    exact_result wanted header exact (sections_result wanted heads texts
+    exact_result wanted header exact (sections_result wanted (heads_for (texts ranked_head)) texts
     (explain_result wanted explain (cond (is_role wanted verdict) (verdict_line (texts unknown_head) ∷ []) [])))
 
 report_cut : (wanted : Role) (header : Header) (exact : List (List ℕ)) (texts : Head → List (List ℕ)) (explain : Option Explain) → All OpensNothing exact →
@@ -283,8 +284,8 @@ report_cut : (wanted : Role) (header : Header) (exact : List (List ℕ)) (texts 
     lines_with wanted start (report_lines header exact texts explain) ≡ report_result wanted header exact texts explain
 report_cut wanted header exact texts explain plain_exact plain =
     let last = verdict_line (texts unknown_head) ∷ [] in
-    exact_cut wanted header exact (section_lines heads texts (explain_part explain ++ last)) _ plain_exact
-    (sections_cut wanted texts (explain_part explain ++ last) _ plain (explain_cut wanted explain last _ (verdict_cut wanted (texts unknown_head))) heads)
+    exact_cut wanted header exact (section_lines (heads_for (texts ranked_head)) texts (explain_part explain ++ last)) _ plain_exact
+    (sections_cut wanted texts (explain_part explain ++ last) _ plain (explain_cut wanted explain last _ (verdict_cut wanted (texts unknown_head))) (heads_for (texts ranked_head)))
 
 -- ---- the lines with each role
 
@@ -327,30 +328,59 @@ exact_printed names (Partial tests cause) lines exact are = append-nil exact
 exact_printed names Absent lines exact are = sym are
 exact_printed names (Stopped cause) lines exact are = sym are
 
+-- with a role of no section nothing is cut from the sections
+abbrev IsOfNone : Role → Type 0
+IsOfNone wanted = (head : Head) → (is_role wanted (section_head head) ≡ false) × (is_role wanted (section_line head) ≡ false)
+
+no_sections : (wanted : Role) (texts : Head → List (List ℕ)) (result : List (List ℕ)) (under : List Head) → IsOfNone wanted →
+    sections_result wanted under texts result ≡ result
+no_sections wanted texts result [] is = refl
+no_sections wanted texts result (head ∷ more) is = rw ((is head).0, (is head).1) (no_sections wanted texts result more is)
+
+-- with that of a head the head is, where it is there, and with that of its lines these are
+head_cut : (wanted : Head) (texts : Head → List (List ℕ)) (under : List Head) →
+    sections_result (section_head wanted) under texts [] ≡ head_among wanted under
+head_cut wanted texts [] = refl
+head_cut wanted texts (head ∷ more) = ap (λ t. cond (is_head wanted head) (head_text head ∷ []) [] ++ t) (head_cut wanted texts more)
+
+lines_cut : (wanted : Head) (texts : Head → List (List ℕ)) (ranked : List (List ℕ)) → texts ranked_head ≡ ranked →
+    sections_result (section_line wanted) (heads_for ranked) texts [] ≡ texts wanted
+lines_cut proved_head texts [] is = append-nil (texts proved_head)
+lines_cut ranked_head texts [] is = sym is
+lines_cut unknown_head texts [] is = append-nil (texts unknown_head)
+lines_cut proved_head texts (line ∷ more) is = append-nil (texts proved_head)
+lines_cut ranked_head texts (line ∷ more) is = append-nil (texts ranked_head)
+lines_cut unknown_head texts (line ∷ more) is = append-nil (texts unknown_head)
+
 role_cut : (wanted : Role) (names : List (List ℕ)) (header : Header) (lines : List Line) (exact : List (List ℕ)) (texts : Head → List (List ℕ))
     (explain : Option Explain) → AreExactTexts names header lines exact →
     report_result wanted header exact texts explain ≡ lines_printed wanted header exact texts explain
-role_cut start names header lines exact texts explain are = no_exact start header exact _ (refl, refl) ∙ no_explanation start explain [] (refl, refl)
+role_cut start names header lines exact texts explain are =
+    no_exact start header exact _ (refl, refl) ∙ no_sections start texts _ (heads_for (texts ranked_head)) (λ head. (refl, refl))
+    ∙ no_explanation start explain [] (refl, refl)
 role_cut exact_head names header lines exact texts explain are =
-    ap (exact_result exact_head header exact) (no_explanation exact_head explain [] (refl, refl)) ∙ header_cut header exact
+    ap (exact_result exact_head header exact) (no_sections exact_head texts _ (heads_for (texts ranked_head)) (λ head. (refl, refl))
+    ∙ no_explanation exact_head explain [] (refl, refl)) ∙ header_cut header exact
 role_cut exact_line names header lines exact texts explain are =
-    ap (exact_result exact_line header exact) (no_explanation exact_line explain [] (refl, refl)) ∙ exact_printed names header lines exact are
-role_cut (section_head proved_head) names header lines exact texts explain are =
-    no_exact (section_head proved_head) header exact _ (refl, refl)
-    ∙ ap (λ t. codes "proved:" ∷ t) (no_explanation (section_head proved_head) explain [] (refl, refl))
-role_cut (section_head unknown_head) names header lines exact texts explain are =
-    no_exact (section_head unknown_head) header exact _ (refl, refl)
-    ∙ ap (λ t. codes "unknown:" ∷ t) (no_explanation (section_head unknown_head) explain [] (refl, refl))
-role_cut (section_line proved_head) names header lines exact texts explain are =
-    no_exact (section_line proved_head) header exact _ (refl, refl)
-    ∙ ap (λ t. texts proved_head ++ t) (no_explanation (section_line proved_head) explain [] (refl, refl)) ∙ append-nil (texts proved_head)
-role_cut (section_line unknown_head) names header lines exact texts explain are =
-    no_exact (section_line unknown_head) header exact _ (refl, refl)
-    ∙ ap (λ t. texts unknown_head ++ t) (no_explanation (section_line unknown_head) explain [] (refl, refl)) ∙ append-nil (texts unknown_head)
-role_cut explain_head names header lines exact texts explain are = no_exact explain_head header exact _ (refl, refl) ∙ explanation_head_cut explain
-role_cut explain_line names header lines exact texts explain are = no_exact explain_line header exact _ (refl, refl) ∙ explanation_cut explain
+    ap (exact_result exact_line header exact) (no_sections exact_line texts _ (heads_for (texts ranked_head)) (λ head. (refl, refl))
+    ∙ no_explanation exact_line explain [] (refl, refl)) ∙ exact_printed names header lines exact are
+role_cut (section_head head) names header lines exact texts explain are =
+    no_exact (section_head head) header exact _ (refl, refl)
+    ∙ ap (λ t. sections_result (section_head head) (heads_for (texts ranked_head)) texts t) (no_explanation (section_head head) explain [] (refl, refl))
+    ∙ head_cut head texts (heads_for (texts ranked_head))
+role_cut (section_line head) names header lines exact texts explain are =
+    no_exact (section_line head) header exact _ (refl, refl)
+    ∙ ap (λ t. sections_result (section_line head) (heads_for (texts ranked_head)) texts t) (no_explanation (section_line head) explain [] (refl, refl))
+    ∙ lines_cut head texts (texts ranked_head) refl
+role_cut explain_head names header lines exact texts explain are =
+    no_exact explain_head header exact _ (refl, refl) ∙ no_sections explain_head texts _ (heads_for (texts ranked_head)) (λ head. (refl, refl))
+    ∙ explanation_head_cut explain
+role_cut explain_line names header lines exact texts explain are =
+    no_exact explain_line header exact _ (refl, refl) ∙ no_sections explain_line texts _ (heads_for (texts ranked_head)) (λ head. (refl, refl))
+    ∙ explanation_cut explain
 role_cut verdict names header lines exact texts explain are =
-    no_exact verdict header exact _ (refl, refl) ∙ no_explanation verdict explain (verdict_line (texts unknown_head) ∷ []) (refl, refl)
+    no_exact verdict header exact _ (refl, refl) ∙ no_sections verdict texts _ (heads_for (texts ranked_head)) (λ head. (refl, refl))
+    ∙ no_explanation verdict explain (verdict_line (texts unknown_head) ∷ []) (refl, refl)
 
 -- ---- lines without a newline byte
 
@@ -377,9 +407,9 @@ report_lacks : (header : Header) (exact : List (List ℕ)) (texts : Head → Lis
 report_lacks header exact texts explain first each =
     let last = verdict_line (texts unknown_head) in
     let behind = explain_part explain ++ last ∷ [] in
-    All-append Lacks (exact_part header exact) (section_lines heads texts behind) (exact_lacks header exact first)
+    All-append Lacks (exact_part header exact) (section_lines (heads_for (texts ranked_head)) texts behind) (exact_lacks header exact first)
     (sections_lack texts behind each (All-append Lacks (explain_part explain) (last ∷ []) (explain_lacks explain)
-    (All-cons Lacks last [] (silent_lacks last (verdict_silent (texts unknown_head))) (All-nil Lacks))) heads)
+    (All-cons Lacks last [] (silent_lacks last (verdict_silent (texts unknown_head))) (All-nil Lacks))) (heads_for (texts ranked_head)))
 
 -- what is known of the texts over the names
 pub record KnownTexts (names : List (List ℕ)) : Type 0 where

@@ -12,7 +12,7 @@ use Rattle.report_text.specs.declared.report.Header.{Header}
 use Rattle.report_text.specs.declared.report.Header.TheVariants.{Absent, Partial, Stopped, Whole}
 use Rattle.report_text.specs.declared.report.Stop.{Stop}
 use Rattle.report_text.specs.declared.report.Stop.TheVariants.{NotPlain, TooManyNodes, WideNumbers}
-use Rattle.report_text.specs.Printed.{Head, adviser_lines, cause_text, exact_part, explain_part, explained, head_text, proved_head, unknown_head, verdict_line}
+use Rattle.report_text.specs.Printed.{Head, adviser_lines, cause_text, exact_part, explain_part, explained, head_text, proved_head, ranked_head, unknown_head, verdict_line}
 
 abbrev pub Bytes : Type 0
 Bytes = List ℕ
@@ -147,6 +147,7 @@ explanation_silent explain =
 
 pub head_silent : (head : Head) → IsSilent (head_text head)
 head_silent proved_head = record { free = tested (codes "proved:") refl; second = λ e. omega arith }
+head_silent ranked_head = record { free = tested (codes "ranked:") refl; second = λ e. omega arith }
 head_silent unknown_head = record { free = tested (codes "unknown:") refl; second = λ e. omega arith }
 
 pub verdict_silent : {A : Type 0} (unknown : List A) → IsSilent (verdict_line unknown)

@@ -1,6 +1,9 @@
 pub mod Tightening
 pub mod Walking
-pub mod Standing
 pub mod Spelling
+pub mod Standing
 pub mod Frame
 pub mod Cutting
+pub mod Trimming
+pub mod StandIns
+pub mod Over

@@ -1,11 +1,12 @@
 -- The texts of lines and of a report, as they are appended.
-use Rattle.std.proofs.Common.{◌≡◌, ℕ, suc, ◌+◌, ◌<◌, List, [], ◌∷◌, ◌++◌, length, map, set, take, get_or, refl, sym, ap, subst, ◌∙◌, arith, All, codes}
+use Rattle.std.proofs.lemmas.Bool.Decides.{Decides-eqb}
+use Rattle.std.proofs.Common.{◌≡◌, ◌≢◌, ◌==◌, Bool, true, false, ℕ, suc, ◌+◌, ◌<◌, List, [], ◌∷◌, ◌++◌, length, map, set, take, get_or, refl, sym, ap, subst, ◌∙◌, arith, All, codes}
 use Rattle.std.specs.Global.{Vec}
 use Rattle.std.specs.List.{AllZip, swap}
 use Rattle.std.specs.List.Sorted.{IsPermutation, IsSorted}
 use Rattle.std.specs.Cmp.Lexicographic.{slice_cmp}
 use Rattle.std.specs.Ordering.{nat_cmp}
-use Rattle.std.proofs.lemmas.List.{append_assoc, get_or-map, length-map, map-append, map-set, length-take-le}
+use Rattle.std.proofs.lemmas.List.{append-nil, append_assoc, get_or-map, length-map, map-append, map-set, length-take-le}
 use Rattle.std.proofs.Math.ListN.{get_or-map as mapped}
 use Rattle.std.proofs.lemmas.List.Sorted.{All-permutation, IsPermutation-keeps, IsPermutation-map, IsPermutation-refl, IsPermutation-swap, IsPermutation-trans, length_permutation}
 use Rattle.linear_cons.specs.declared.row.Row.{Row}
@@ -19,7 +20,7 @@ use Rattle.report_text.specs.declared.report.Header.{Header}
 use Rattle.report_text.specs.declared.report.Header.TheVariants.{Whole, Partial}
 use Rattle.report_text.specs.declared.report.Stop.{Stop}
 use Rattle.report_text.specs.declared.report.Report.{Report}
-use Rattle.report_text.specs.Printed.{AreInOrder, AreRowTexts, AreTextsOf, Head, IsExactAdded, IsLineOver, IsReportText, IsSectionAdded, IsLineText, adviser_lines, cause_text, ended_lines, exact_part, explain_part, lines_under, proved_head, row_texts, unknown_head, verdict_line}
+use Rattle.report_text.specs.Printed.{AreInOrder, AreRowTexts, AreTextsOf, Head, IsExactAdded, IsHeadedAdded, IsLineOver, IsReportText, IsSectionAdded, IsLineText, adviser_lines, cause_text, ended_lines, exact_part, explain_part, head_text, headed_if_any, heads_for, lines_under, proved_head, ranked_head, row_texts, section_lines, unknown_head, verdict_line}
 use Rattle.line_text.proofs.Joined.{bytes_more}
 
 -- ---- ended lines
@@ -157,6 +158,10 @@ lines_sorted names lines made sorted each moved rises = record {
   sorted = in_order sorted rises;
 }
 
+no_elements : {X : Type 0} (xs : List X) → length xs ≡ 0 → xs ≡ []
+no_elements [] none = refl
+no_elements (x ∷ xs) none = absurd (omega arith)
+
 -- a section has as many texts as lines
 zip_length : {X Y : Type 0} (R : X → Y → Type 0) (xs : List X) (ys : List Y) → AllZip R xs ys → length xs ≡ length ys
 zip_length R [] [] all = refl
@@ -206,20 +211,60 @@ advisers_more asked i times old text words number next low is so_far first secon
 
 -- ---- the whole report
 
+-- lines behind lines
+ended_more : (old new : List ℕ) (lines more : List (List ℕ)) → old ≡ ended_lines lines → new ≡ old ++ ended_lines more → new ≡ ended_lines (lines ++ more)
+ended_more old new lines more before added = added ∙ ap (λ t. t ++ ended_lines more) before ∙ sym (ended_append lines more)
+
+regrouped : {X : Type 0} (a b c d e f : List X) → (((((a ++ b) ++ c) ++ d) ++ e) ++ f) ≡ a ++ (b ++ (c ++ (d ++ (e ++ f))))
+regrouped a b c d e f = simp append_assoc refl
+
 -- the lines of the parts one after the other are those of the whole
-parts_ended : (exact proved unknown explain : List (List ℕ)) (verdict : List ℕ) →
-    ((((((ended_lines exact ++ ended_lines (codes "proved:" ∷ [])) ++ ended_lines proved) ++ ended_lines (codes "unknown:" ∷ [])) ++ ended_lines unknown) ++ ended_lines explain) ++ ended_lines (verdict ∷ [])) ≡ ended_lines (exact ++ (codes "proved:" ∷ (proved ++ (codes "unknown:" ∷ (unknown ++ (explain ++ verdict ∷ []))))))
-parts_ended exact proved unknown explain verdict =
-    let tail = explain ++ verdict ∷ [] in
-    simp append_assoc (sym (ended_append exact (codes "proved:" ∷ (proved ++ (codes "unknown:" ∷ (unknown ++ tail))))
-    ∙ ap (λ t. ended_lines exact ++ (codes "proved:" ++ (10 ∷ t))) (ended_append proved (codes "unknown:" ∷ (unknown ++ tail)))
-    ∙ ap (λ t. ended_lines exact ++ (codes "proved:" ++ (10 ∷ (ended_lines proved ++ (codes "unknown:" ++ (10 ∷ t)))))) (ended_append unknown tail ∙ ap (λ t. ended_lines unknown ++ t) (ended_append explain (verdict ∷ [])))))
+parts_are : (exact proved unknown explain : List (List ℕ)) (verdict : List ℕ) (texts : Head → List (List ℕ)) (ranked : List (List ℕ)) →
+    texts proved_head ≡ proved → texts ranked_head ≡ ranked → texts unknown_head ≡ unknown →
+    (((((exact ++ (head_text proved_head ∷ proved)) ++ headed_if_any ranked_head ranked) ++ (head_text unknown_head ∷ unknown)) ++ explain) ++ verdict ∷ [])
+    ≡ exact ++ section_lines (heads_for ranked) texts (explain ++ verdict ∷ [])
+parts_are exact proved unknown explain verdict texts [] p r u =
+    rw (p, u) (regrouped exact (head_text proved_head ∷ proved) [] (head_text unknown_head ∷ unknown) explain (verdict ∷ []))
+parts_are exact proved unknown explain verdict texts (line ∷ more) p r u =
+    rw (p, r, u) (regrouped exact (head_text proved_head ∷ proved) (head_text ranked_head ∷ line ∷ more) (head_text unknown_head ∷ unknown) explain (verdict ∷ []))
 
 -- a header line and the lines of a section
 under_header : (old between new header : List ℕ) (texts : List (List ℕ)) → between ≡ old ++ (header ++ 10 ∷ []) →
     new ≡ between ++ ended_lines texts → new ≡ old ++ ended_lines (header ∷ texts)
 under_header old between new header texts head lines =
     lines ∙ ap (λ t. t ++ ended_lines texts) head ∙ append_assoc old (header ++ 10 ∷ []) (ended_lines texts) ∙ ap (λ t. old ++ t) (append_assoc header (10 ∷ []) (ended_lines texts))
+
+-- a section is appended under its head, and one without a line isn't appended
+pub headed_added : (names : List (List ℕ)) (head old between new : List ℕ) (lines : List Line) → between ≡ old ++ (head ++ 10 ∷ []) →
+    IsSectionAdded names lines between new → IsHeadedAdded names (λ texts. head ∷ texts) lines old new
+headed_added names head old between new lines opened section =
+    record { texts = section.texts; are = section.are; appended = under_header old between new head section.texts opened section.appended }
+
+pub is_none : (lines : List Line) (t : Bool) → t ≡ (length lines == 0) → t ≡ true → lines ≡ []
+is_none lines t is empty = no_elements lines ((Decides-eqb (length lines) 0).0 (sym is ∙ empty))
+
+pub is_some : (lines : List Line) (t : Bool) → t ≡ (length lines == 0) → t ≡ false → lines ≢ []
+is_some lines t is filled none = absurd (let all = (Decides-eqb (length lines) 0).1 (ap length none) in let clash : true ≡ false = sym all ∙ sym is ∙ filled in cc)
+
+pub none_headed : (names : List (List ℕ)) (old : List ℕ) (lines : List Line) → lines ≡ [] → IsHeadedAdded names (λ texts. headed_if_any ranked_head texts) lines old old
+none_headed names old lines none = rw none (record {
+  texts = [];
+  are = record { unsorted = []; each = tt; same = IsPermutation-refl []; sorted = λ k d low less. absurd (omega arith) };
+  appended = sym (append-nil old);
+})
+
+pub some_headed : (names : List (List ℕ)) (old new : List ℕ) (lines : List Line) → lines ≢ [] → IsHeadedAdded names (λ texts. head_text ranked_head ∷ texts) lines old new
+    → IsHeadedAdded names (λ texts. headed_if_any ranked_head texts) lines old new
+some_headed names old new lines some added = by_texts added.texts refl
+  where
+    by_texts : (texts : List (List ℕ)) → added.texts ≡ texts → IsHeadedAdded names (λ texts. headed_if_any ranked_head texts) lines old new
+    by_texts [] none = absurd (some (no_elements lines (zip_length (λ line text. IsLineText names line text) lines added.are.unsorted added.are.each
+        ∙ sym (length_permutation added.are.unsorted added.texts added.are.same) ∙ ap length none)))
+    by_texts (text ∷ texts) is = record {
+      texts = text ∷ texts;
+      are = subst (AreTextsOf names lines) is added.are;
+      appended = added.appended ∙ ap (λ ts. old ++ ended_lines (head_text ranked_head ∷ ts)) is;
+    }
 
 pub whole_added : (names : List (List ℕ)) (header : Header) (tests : ℕ) (lines : List Line) (old between new : List ℕ) →
     header ≡ Whole tests → between ≡ old ++ ((codes "exact, " ++ (numeral tests ++ codes " tests:")) ++ 10 ∷ []) →
@@ -235,44 +280,48 @@ partial_added names header tests cause lines old between new is head section =
     rw is (record { texts = section.texts; are = section.are; appended = under_header old between new (codes "exact, " ++ (numeral tests ++ (codes " tests, then " ++ (cause_text cause ++ codes ":")))) section.texts head section.appended })
 
 -- what was appended, part by part
-pub record Appended (names : List (List ℕ)) (report : Report) (t0 t1 t2 t3 t4 t5 t6 t7 : List ℕ) : Type 0 where
+pub record Appended (names : List (List ℕ)) (report : Report) (t0 t1 t2 t3 t4 t5 t6 : List ℕ) : Type 0 where
   pub empty : t0 ≡ []
   pub exact : IsExactAdded names report.header report.exact t0 t1
-  pub proved_opened : t2 ≡ t1 ++ ended_lines (codes "proved:" ∷ [])
-  pub proved : IsSectionAdded names report.proved t2 t3
-  pub unknown_opened : t4 ≡ t3 ++ ended_lines (codes "unknown:" ∷ [])
-  pub unknown : IsSectionAdded names report.unknown t4 t5
-  pub explain : t6 ≡ t5 ++ ended_lines (explain_part report.explain)
-  pub verdict : t7 ≡ t6 ++ ended_lines (verdict_line report.unknown ∷ [])
+  pub proved : IsHeadedAdded names (λ texts. head_text proved_head ∷ texts) report.proved t1 t2
+  pub ranked : IsHeadedAdded names (λ texts. headed_if_any ranked_head texts) report.ranked t2 t3
+  pub unknown : IsHeadedAdded names (λ texts. head_text unknown_head ∷ texts) report.unknown t3 t4
+  pub explain : t5 ≡ t4 ++ ended_lines (explain_part report.explain)
+  pub verdict : t6 ≡ t5 ++ ended_lines (verdict_line report.unknown ∷ [])
 
--- the texts of both sections, by their heads
-abbrev by_head : (proved unknown : List (List ℕ)) → Head → List (List ℕ)
-by_head proved unknown proved_head = proved
-by_head proved unknown unknown_head = unknown
+-- the texts of the sections, by their heads
+abbrev by_head : (proved ranked unknown : List (List ℕ)) → Head → List (List ℕ)
+by_head proved ranked unknown proved_head = proved
+by_head proved ranked unknown ranked_head = ranked
+by_head proved ranked unknown unknown_head = unknown
 
-are_by_head : (names : List (List ℕ)) (report : Report) (proved unknown : List (List ℕ)) → AreTextsOf names report.proved proved →
-    AreTextsOf names report.unknown unknown → (head : Head) → AreTextsOf names (lines_under head report) (by_head proved unknown head)
-are_by_head names report proved unknown first second proved_head = first
-are_by_head names report proved unknown first second unknown_head = second
+are_by_head : (names : List (List ℕ)) (report : Report) (proved ranked unknown : List (List ℕ)) → AreTextsOf names report.proved proved →
+    AreTextsOf names report.ranked ranked → AreTextsOf names report.unknown unknown → (head : Head) →
+    AreTextsOf names (lines_under head report) (by_head proved ranked unknown head)
+are_by_head names report proved ranked unknown first second third proved_head = first
+are_by_head names report proved ranked unknown first second third ranked_head = second
+are_by_head names report proved ranked unknown first second third unknown_head = third
 
-pub report_printed : (names : List (List ℕ)) (report : Report) (t0 t1 t2 t3 t4 t5 t6 t7 : List ℕ) →
-    Appended names report t0 t1 t2 t3 t4 t5 t6 t7 → IsReportText names report t7
-report_printed names report t0 t1 t2 t3 t4 t5 t6 t7 is = record {
+pub report_printed : (names : List (List ℕ)) (report : Report) (t0 t1 t2 t3 t4 t5 t6 : List ℕ) →
+    Appended names report t0 t1 t2 t3 t4 t5 t6 → IsReportText names report t6
+report_printed names report t0 t1 t2 t3 t4 t5 t6 is = record {
   exact = is.exact.texts;
-  texts = by_head is.proved.texts is.unknown.texts;
+  texts = by_head is.proved.texts is.ranked.texts is.unknown.texts;
   exact_are = is.exact.are;
-  are = are_by_head names report is.proved.texts is.unknown.texts is.proved.are is.unknown.are;
+  are = are_by_head names report is.proved.texts is.ranked.texts is.unknown.texts is.proved.are is.ranked.are is.unknown.are;
   is =
-      let exact = ended_lines (exact_part report.header is.exact.texts) in
-      let proved = ended_lines is.proved.texts in
-      let unknown = ended_lines is.unknown.texts in
-      let explain = ended_lines (explain_part report.explain) in
-      let proved_opened = ended_lines (codes "proved:" ∷ []) in
-      let unknown_opened = ended_lines (codes "unknown:" ∷ []) in
-      let at1 : t1 ≡ exact = is.exact.appended ∙ ap (λ t. t ++ exact) is.empty in
-      let at3 : t3 ≡ (exact ++ proved_opened) ++ proved = is.proved.appended ∙ ap (λ t. t ++ proved) (is.proved_opened ∙ ap (λ t. t ++ proved_opened) at1) in
-      let at5 : t5 ≡ (((exact ++ proved_opened) ++ proved) ++ unknown_opened) ++ unknown = is.unknown.appended ∙ ap (λ t. t ++ unknown) (is.unknown_opened ∙ ap (λ t. t ++ unknown_opened) at3) in
-      is.verdict ∙ ap (λ t. t ++ ended_lines (verdict_line report.unknown ∷ [])) (is.explain ∙ ap (λ t. t ++ explain) at5)
-      ∙ ap (λ v. (((((exact ++ proved_opened) ++ proved) ++ unknown_opened) ++ unknown) ++ explain) ++ ended_lines (v ∷ [])) (verdict_is names report.unknown is.unknown.texts is.unknown.are)
-      ∙ parts_ended (exact_part report.header is.exact.texts) is.proved.texts is.unknown.texts (explain_part report.explain) (verdict_line is.unknown.texts);
+      let exact = exact_part report.header is.exact.texts in
+      let proved = head_text proved_head ∷ is.proved.texts in
+      let ranked = headed_if_any ranked_head is.ranked.texts in
+      let unknown = head_text unknown_head ∷ is.unknown.texts in
+      let explain = explain_part report.explain in
+      let at1 : t1 ≡ ended_lines exact = is.exact.appended ∙ ap (λ t. t ++ ended_lines exact) is.empty in
+      let at2 = ended_more t1 t2 exact proved at1 is.proved.appended in
+      let at3 = ended_more t2 t3 (exact ++ proved) ranked at2 is.ranked.appended in
+      let at4 = ended_more t3 t4 ((exact ++ proved) ++ ranked) unknown at3 is.unknown.appended in
+      let at5 = ended_more t4 t5 (((exact ++ proved) ++ ranked) ++ unknown) explain at4 is.explain in
+      ended_more t5 t6 ((((exact ++ proved) ++ ranked) ++ unknown) ++ explain) (verdict_line is.unknown.texts ∷ []) at5
+      (is.verdict ∙ ap (λ v. t5 ++ ended_lines (v ∷ [])) (verdict_is names report.unknown is.unknown.texts is.unknown.are))
+      ∙ ap ended_lines (parts_are exact is.proved.texts is.unknown.texts explain (verdict_line is.unknown.texts)
+      (by_head is.proved.texts is.ranked.texts is.unknown.texts) is.ranked.texts refl refl refl);
 }

@@ -15,7 +15,7 @@ use Rattle.decision_tree.specs.Paths.{MeetsPath}
 use Rattle.line_text.specs.declared.claim.Claim.{Claim}
 use Rattle.report_text.specs.declared.line.Line.{Line}
 use Rattle.report_text.specs.declared.line.Top.{Top}
-use Rattle.report_text.specs.Leaves.{AreLines, AreLinesOf, MeetsOneLine, NoneOf, OneOf, claim_at, claiming, claiming_nothing, is_unknown, leaves_below, none, skipped, stands}
+use Rattle.report_text.specs.Leaves.{AreLines, AreLinesOf, MeetsOneLine, NoneOf, OneOf, claim_at, claim_by, claim_of, leaves_below, none, skipped, stands}
 use Rattle.report_text.proofs.Tightening.{tightest_met}
 
 -- ---- one of a list
@@ -59,7 +59,7 @@ module _ {X : Type 0} (Met Is : X → Type 0) where
     none_at_front true x xs ys unmet rest = none_between x xs ys unmet rest
     none_at_front false x xs ys unmet rest = (unmet, rest)
 
-    none_of_parts : (xs : List X) → NoneOf Met xs → NoneOf Met (parts xs)
+    pub none_of_parts : (xs : List X) → NoneOf Met xs → NoneOf Met (parts xs)
     none_of_parts [] h = h
     none_of_parts (x ∷ xs) h =
         none_at_front (test x) x (filter (λ y. not (test y)) xs) (filter test xs) h.0 (none_of_parts xs h.1)
@@ -73,7 +73,7 @@ module _ {X : Type 0} (Met Is : X → Type 0) where
 
 -- ---- the leaf at which a store stands
 
-module _ (claims : Top) (store : List ℤ) where
+module _ {R : Type 0} (claims : R → Claim) (store : List ℤ) where
   abbrev LeafMet : List Affine × Claim → Type 0
   LeafMet leaf_found = MeetsPath store leaf_found.0
 
@@ -84,7 +84,7 @@ module _ (claims : Top) (store : List ℤ) where
       (All-cons (λ c. pos 0 ≤ℤ value_at c store) b above (met 0 b (omega arith)) later.0, later.1)
 
   -- where the path above isn't met no leaf is
-  none_below : (above : List Affine) (plan : Plan AffineRank) → ¬ MeetsPath store above → NoneOf LeafMet (leaves_below claims above plan)
+  none_below : (above : List Affine) (plan : Plan R) → ¬ MeetsPath store above → NoneOf LeafMet (leaves_below claims above plan)
   none_below above bottom unmet = (unmet, tt)
   none_below above (top cause) unmet = (unmet, tt)
   none_below above (leaf why rank) unmet = (unmet, tt)
@@ -95,11 +95,11 @@ module _ (claims : Top) (store : List ℤ) where
       (none_below (above ++ complement_of row.affine ∷ []) that (λ met. unmet (front_met above (complement_of row.affine) met).0))
 
   -- the leaf claims what this one does
-  abbrev ClaimsWhat : Plan AffineRank → List Affine × Claim → Type 0
-  ClaimsWhat found leaf_found = leaf_found.1 ≡ claim_at claims found
+  abbrev ClaimsWhat : Plan R → List Affine × Claim → Type 0
+  ClaimsWhat found leaf_found = leaf_found.1 ≡ claim_by claims found
 
   -- at a branch only the leaves of the store's side may be met
-  at_branch : (above : List Affine) (row : Row) (this that : Plan AffineRank) (t : Bool) → int_le (pos 0) (value_at row.affine store) ≡ t
+  at_branch : (above : List Affine) (row : Row) (this that : Plan R) (t : Bool) → int_le (pos 0) (value_at row.affine store) ≡ t
       → MeetsPath store above
       → (MeetsPath store (above ++ row.affine ∷ []) → OneOf LeafMet (ClaimsWhat (eval this store)) (leaves_below claims (above ++ row.affine ∷ []) this))
       → (MeetsPath store (above ++ complement_of row.affine ∷ [])
@@ -120,7 +120,7 @@ module _ (claims : Top) (store : List ℤ) where
       (there (All-push (λ a. pos 0 ≤ℤ value_at a store) above (complement_of row.affine) met ((complement_met row.affine store).1 fails)))
 
   -- where it is met, one leaf is: the one at which the store stands
-  one_below : (above : List Affine) (plan : Plan AffineRank) → MeetsPath store above
+  one_below : (above : List Affine) (plan : Plan R) → MeetsPath store above
       → OneOf LeafMet (ClaimsWhat (eval plan store)) (leaves_below claims above plan)
   one_below above bottom met = inl (met, refl, tt)
   one_below above (top cause) met = inl (met, refl, tt)
@@ -140,8 +140,8 @@ module _ (claims : Top) (store : List ℤ) where
   no_line (stands {path} {claim} {line} is more) h =
       ((λ met. h.0 ((tightest_met path line.rows store is.rows).0 met)), no_line more h.1)
 
-  one_line : (found : Plan AffineRank) {leaves : List (List Affine × Claim)} {lines : List Line} → AreLines leaves lines
-      → OneOf LeafMet (ClaimsWhat found) leaves → OneOf LineMet (λ line. line.claim ≡ claim_at claims found) lines
+  one_line : (found : Plan R) {leaves : List (List Affine × Claim)} {lines : List Line} → AreLines leaves lines
+      → OneOf LeafMet (ClaimsWhat found) leaves → OneOf LineMet (λ line. line.claim ≡ claim_by claims found) lines
   one_line found none h = absurd h
   one_line found (skipped nowhere more) (inl met) = absurd (nowhere store met.0)
   one_line found (skipped nowhere more) (inr later) = one_line found more later.1
@@ -150,12 +150,15 @@ module _ (claims : Top) (store : List ℤ) where
   one_line found (stands {path} {claim} {line} is more) (inr later) =
       inr ((λ met. later.0 ((tightest_met path line.rows store is.rows).0 met)), one_line found more later.1)
 
-  pub one_line_met : (plan : Plan AffineRank) (lines : List Line) → AreLinesOf claims plan lines
-      → MeetsOneLine store (claim_at claims (eval plan store)) lines
-  one_line_met plan lines are = one_line (eval plan store) are (one_below [] plan (λ k d low. absurd (omega arith)))
+  -- of the lines of all leaves below a path that is met exactly one is met, and none of those below one that isn't
+  pub one_line_below : (above : List Affine) (plan : Plan R) (lines : List Line) → AreLines (leaves_below claims above plan) lines → MeetsPath store above
+      → MeetsOneLine store (claim_by claims (eval plan store)) lines
+  one_line_below above plan lines are met = one_line (eval plan store) are (one_below above plan met)
 
--- of the lines in their two parts exactly one is met where exactly one of all is
-pub parted_line_met : (store : List ℤ) (claim : Claim) (lines : List Line) → MeetsOneLine store claim lines
-    → MeetsOneLine store claim (claiming lines ++ claiming_nothing lines)
-parted_line_met store claim lines one =
-    one_of_parts (λ line. MeetsAll store line.rows) (λ line. line.claim ≡ claim) (λ line. is_unknown line.claim) lines one
+  pub no_line_below : (above : List Affine) (plan : Plan R) (lines : List Line) → AreLines (leaves_below claims above plan) lines → ¬ MeetsPath store above
+      → NoneOf LineMet lines
+  no_line_below above plan lines are unmet = no_line are (none_below above plan unmet)
+
+pub one_line_met : (claims : Top) (store : List ℤ) (plan : Plan AffineRank) (lines : List Line) → AreLinesOf claims plan lines
+    → MeetsOneLine store (claim_at claims (eval plan store)) lines
+one_line_met claims store plan lines are = one_line_below (claim_of claims) store [] plan lines are (λ k d low. absurd (omega arith))

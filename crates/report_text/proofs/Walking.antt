@@ -14,7 +14,7 @@ use Rattle.report_text.specs.declared.line.Line.{Line}
 use Rattle.report_text.specs.declared.line.Top.{Top}
 use Rattle.linear_cons.specs.Tightest.{AreTightest}
 use Rattle.report_text.proofs.Tightening.{tightest_met}
-use Rattle.report_text.specs.Leaves.{AreLines, AreLinesOf, IsLineOf, leaves_below, none, skipped, stands}
+use Rattle.report_text.specs.Leaves.{AreLines, AreLinesOf, IsLineOf, claim_of, leaves_below, none, skipped, stands}
 use Rattle.report_text.specs.Walk.{AreAdded}
 use Rattle.decision_tree.specs.Trails.{IsShortened, IsTurned}
 
@@ -62,7 +62,7 @@ with_last : (old : List Row) (row : Row) (rows : List Row) → rows ≡ old ++ r
 with_last old row rows is = ap (λ t. functions_of t) is ∙ map-append (λ (r : Row). r.affine) old (row ∷ [])
 
 -- down the yes side, over to the no side
-pub node_lines : (claims : Top) (old down between turned : List Row) (row : Row) (this that : Plan AffineRank) (first second third : List Line)
+pub node_lines : {R : Type 0} (claims : R → Claim) (old down between turned : List Row) (row : Row) (this that : Plan R) (first second third : List Line)
     → down ≡ old ++ row ∷ [] → between ≡ down → IsTurned between turned → AreAdded (leaves_below claims (functions_of down) this) first second
     → AreAdded (leaves_below claims (functions_of turned) that) second third
     → AreAdded (leaves_below claims (functions_of old) (branch row this that)) first third
@@ -82,7 +82,7 @@ came_back old down between turned after new row is kept turns stayed up =
 
 -- the lines of the whole tree
 pub all_lines : (claims : Top) (plan : Plan AffineRank) (path : List Row) (nothing lines : List Line) → path ≡ [] → nothing ≡ []
-    → AreAdded (leaves_below claims (functions_of path) plan) nothing lines → AreLinesOf claims plan lines
+    → AreAdded (leaves_below (claim_of claims) (functions_of path) plan) nothing lines → AreLinesOf claims plan lines
 all_lines claims plan path nothing lines empty is added =
-    let from : AreAdded (leaves_below claims [] plan) [] lines = rw (empty, is) at added in
-    subst (λ t. AreLines (leaves_below claims [] plan) t) (sym from.appended) from.lines
+    let from : AreAdded (leaves_below (claim_of claims) [] plan) [] lines = rw (empty, is) at added in
+    subst (λ t. AreLines (leaves_below (claim_of claims) [] plan) t) (sym from.appended) from.lines

@@ -22,12 +22,15 @@ claim_of Exact rank = Exactly rank.value.constant
 claim_of Bound rank = Within rank.value
 claim_of Plain rank = Holds
 
--- what a leaf claims: an undefined one nothing
+-- what a leaf claims, by what one of a rank does: an undefined one nothing
+abbrev pub claim_by : {R : Type 0} → (R → Claim) → Plan R → Claim
+claim_by claims bottom = Unknown
+claim_by claims (top cause) = Unknown
+claim_by claims (leaf why rank) = claims rank
+claim_by claims (branch row this that) = Unknown
+
 abbrev pub claim_at : Top → Plan AffineRank → Claim
-claim_at claims bottom = Unknown
-claim_at claims (top cause) = Unknown
-claim_at claims (leaf why rank) = claim_of claims rank
-claim_at claims (branch row this that) = Unknown
+claim_at claims end = claim_by (claim_of claims) end
 
 -- nothing is claimed
 abbrev pub is_unknown : Claim → Bool
@@ -62,10 +65,10 @@ pub record IsLineOf (path : List Affine) (claim : Claim) (line : Line) : Type 0 
   pub stands : MayStand line.rows
 
 -- the leaves of a tree below the functions of a path, in their order: each with the functions of its own path and with what it claims
-abbrev pub leaves_below : Top → List Affine → Plan AffineRank → List (List Affine × Claim)
+abbrev pub leaves_below : {R : Type 0} → (R → Claim) → List Affine → Plan R → List (List Affine × Claim)
 leaves_below claims above bottom = (above, Unknown) ∷ []
 leaves_below claims above (top cause) = (above, Unknown) ∷ []
-leaves_below claims above (leaf why rank) = (above, claim_of claims rank) ∷ []
+leaves_below claims above (leaf why rank) = (above, claims rank) ∷ []
 leaves_below claims above (branch row this that) =
     leaves_below claims (above ++ row.affine ∷ []) this ++ leaves_below claims (above ++ complement_of row.affine ∷ []) that
 
@@ -79,7 +82,7 @@ pub data AreLines : List (List Affine × Claim) → List Line → Type 0 where
 
 -- the lines of all leaves of the tree
 abbrev pub AreLinesOf : Top → Plan AffineRank → List Line → Type 0
-AreLinesOf claims plan lines = AreLines (leaves_below claims [] plan) lines
+AreLinesOf claims plan lines = AreLines (leaves_below (claim_of claims) [] plan) lines
 
 -- each rank is a constant, which is asked where a number of steps is to be exact
 abbrev pub HasConstantRanks : Plan AffineRank → Type 0

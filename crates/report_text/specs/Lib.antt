@@ -1,4 +1,5 @@
 pub mod Leaves
+pub mod Ranked
 pub mod Walk
 pub mod Printed
 pub mod Sections

@@ -46,24 +46,32 @@ abbrev pub explain_part : Option Explain → List (List ℕ)
 explain_part None = []
 explain_part (Some explain) = codes "explain:" ∷ explained explain
 
--- the sections below the exact part, each under a head of its own: what is proved, and what isn't known
+-- the sections below the exact part, each under a head of its own: what is proved, what ends by a rank, and what isn't known
 pub data Head : Type 0 where
   proved_head : Head
+  ranked_head : Head
   unknown_head : Head
 
 abbrev pub head_text : Head → List ℕ
 head_text proved_head = codes "proved:"
+head_text ranked_head = codes "ranked:"
 head_text unknown_head = codes "unknown:"
 
 -- What follows has no part in the headline.
 
 -- the heads in their order, and the lines of a report under a head
 abbrev pub heads : List Head
-heads = proved_head ∷ unknown_head ∷ []
+heads = proved_head ∷ ranked_head ∷ unknown_head ∷ []
 
 abbrev pub lines_under : Head → Report → List Line
 lines_under proved_head report = report.proved
+lines_under ranked_head report = report.ranked
 lines_under unknown_head report = report.unknown
+
+-- those that a report has: no section is there for what ends by a rank where it would have no line
+abbrev pub heads_for : {A : Type 0} → List A → List Head
+heads_for [] = proved_head ∷ unknown_head ∷ []
+heads_for (line ∷ more) = heads
 
 -- the texts stand in the order of their bytes
 abbrev pub AreInOrder : List (List ℕ) → Type 0
@@ -87,7 +95,7 @@ pub record AreTextsOf (names : List (List ℕ)) (lines : List Line) (texts : Lis
   pub same : IsPermutation unsorted texts
   pub sorted : AreInOrder texts
 
--- every input meets a proved line exactly where no line is unknown
+-- something is claimed of every input exactly where no line is unknown
 abbrev pub verdict_line : {A : Type 0} → List A → List ℕ
 verdict_line [] = codes "verdict: all inputs"
 verdict_line (line ∷ more) = codes "verdict: some inputs"
@@ -100,7 +108,7 @@ section_lines (head ∷ more) texts behind = head_text head ∷ (texts head ++ s
 -- the lines of a report
 abbrev pub report_lines : Header → (exact : List (List ℕ)) → (Head → List (List ℕ)) → Option Explain → List (List ℕ)
 report_lines header exact texts explain =
-    exact_part header exact ++ section_lines heads texts (explain_part explain ++ verdict_line (texts unknown_head) ∷ [])
+    exact_part header exact ++ section_lines (heads_for (texts ranked_head)) texts (explain_part explain ++ verdict_line (texts unknown_head) ∷ [])
 
 -- the lines one after the other, each ended by a newline byte
 abbrev pub ended_lines : List (List ℕ) → List ℕ
@@ -131,6 +139,7 @@ pub record IsLineOver (names : List (List ℕ)) (line : Line) : Type 0 where
 pub record IsReportOver (names : List (List ℕ)) (report : Report) : Type 0 where
   pub exact : All (IsLineOver names) report.exact
   pub proved : All (IsLineOver names) report.proved
+  pub ranked : All (IsLineOver names) report.ranked
   pub unknown : All (IsLineOver names) report.unknown
 
 -- ---- what the calls that print it append
@@ -142,7 +151,7 @@ pub record AreRowTexts (names : List (List ℕ)) (rows : List Row) (texts : List
   pub sorted : AreInOrder texts
   pub are : texts ≡ row_texts names condition
 
--- the lines of a section were appended
+-- the lines of the section were appended, with its head or not
 pub record IsSectionAdded (names : List (List ℕ)) (lines : List Line) (old new : List ℕ) : Type 0 where
   pub texts : List (List ℕ)
   pub are : AreTextsOf names lines texts
@@ -153,3 +162,14 @@ pub record IsExactAdded (names : List (List ℕ)) (header : Header) (lines : Lis
   pub texts : List (List ℕ)
   pub are : AreExactTexts names header lines texts
   pub appended : new ≡ old ++ ended_lines (exact_part header texts)
+
+-- the lines behind the head, where there is one
+abbrev pub headed_if_any : Head → List (List ℕ) → List (List ℕ)
+headed_if_any head [] = []
+headed_if_any head (text ∷ texts) = head_text head ∷ text ∷ texts
+
+-- the lines of a section were appended in this shape
+pub record IsHeadedAdded (names : List (List ℕ)) (shape : List (List ℕ) → List (List ℕ)) (lines : List Line) (old new : List ℕ) : Type 0 where
+  pub texts : List (List ℕ)
+  pub are : AreTextsOf names lines texts
+  pub appended : new ≡ old ++ ended_lines (shape texts)

@@ -6,7 +6,7 @@ use Rattle.report_text.specs.declared.line.Line.{Line}
 use Rattle.report_text.specs.declared.report.Explain.{Explain}
 use Rattle.report_text.specs.declared.report.Header.{Header}
 use Rattle.report_text.specs.declared.report.Report.{Report}
-use Rattle.report_text.specs.Printed.{Head, IsLineText, exact_part, explained, head_text, heads, lines_under, proved_head, unknown_head, verdict_line}
+use Rattle.report_text.specs.Printed.{Head, IsLineText, exact_part, explained, head_text, heads, heads_for, lines_under, proved_head, ranked_head, unknown_head, verdict_line}
 
 -- The whole lines of a text that goes on behind `begun`, the front of a line: each ends with a newline byte, which isn't a part of it.
 -- What stands behind the last newline byte is no whole line.
@@ -64,6 +64,7 @@ role_of before line =
 -- whether a head, and a role, is the wanted one
 abbrev pub is_head : Head → Head → Bool
 is_head proved_head proved_head = true
+is_head ranked_head ranked_head = true
 is_head unknown_head unknown_head = true
 is_head wanted head = false
 
@@ -108,12 +109,17 @@ abbrev pub explained_head : Option Explain → List (List ℕ)
 explained_head None = []
 explained_head (Some explain) = codes "explain:" ∷ []
 
+-- the head, where it is one of these
+abbrev pub head_among : Head → List Head → List (List ℕ)
+head_among wanted [] = []
+head_among wanted (head ∷ more) = (if is_head wanted head then head_text head ∷ [] else []) ++ head_among wanted more
+
 -- the lines that were printed with a role
 abbrev pub lines_printed : Role → Header → (exact : List (List ℕ)) → (Head → List (List ℕ)) → Option Explain → List (List ℕ)
 lines_printed start header exact texts explain = []
 lines_printed exact_head header exact texts explain = header_lines header
 lines_printed exact_line header exact texts explain = exact
-lines_printed (section_head head) header exact texts explain = head_text head ∷ []
+lines_printed (section_head head) header exact texts explain = head_among head (heads_for (texts ranked_head))
 lines_printed (section_line head) header exact texts explain = texts head
 lines_printed explain_head header exact texts explain = explained_head explain
 lines_printed explain_line header exact texts explain = explained_lines explain

@@ -11,7 +11,8 @@ ghost use Rattle.decision_tree.specs.declared.affine_rank.AffineRank.{AffineRank
 ghost use Rattle.report_text.specs.declared.line.Line.{Line};
 ghost use Rattle.report_text.specs.declared.line.Top.{Top};
 ghost use Rattle.report_text.specs.Leaves.{AreLinesOf, MeetsOneLine, claim_at, claiming, claiming_nothing};
-ghost use Rattle.line_text.specs.declared.claim.Claim.{Claim};
+ghost use Rattle.report_text.specs.Ranked.{AreRefined, claim_of_both};
+ghost use Rattle.ordinal_rank.specs.declared.ordinal.OrdinalRank.{OrdinalRank};
 ghost use Rattle.report_text.specs.Sections.{IsFrontOf, Role, SaysOnly, lines_in, lines_printed};
 ghost use Rattle.report_text.specs.Printed.{IsReportText};
 ghost use Rattle.report_text.specs.declared.report.Report.{Report};
@@ -30,10 +31,12 @@ pub fn each_store_meets_one_line()
         → MeetsOneLine store (claim_at claims (eval plan store)) lines }
 {}
 
-/// A store that meets exactly one of some lines meets exactly one of those that claim something and those that claim nothing together.
-pub fn parted_lines_are_met_once()
-    ensures { (store : List ℤ) (claim : Claim) (lines : List Line) → MeetsOneLine store claim lines
-        → MeetsOneLine store claim (claiming lines ++ claiming_nothing lines) }
+/// Where lines of a tree of ordinal ranks stand for those of a tree that claim nothing, each store meets exactly one still: it has the claim of
+/// the first tree's leaf at which the store stands, or where that is undefined of the other's.
+pub fn refined_lines_are_met_once()
+    ensures { (claims : Top) (first : Plan AffineRank) (ranked : Plan OrdinalRank) (store : List ℤ) (lines refined : List Line)
+        → AreLinesOf claims first lines → AreRefined ranked (claiming_nothing lines) refined
+        → MeetsOneLine store (claim_of_both claims first ranked store) (claiming lines ++ (claiming refined ++ claiming_nothing refined)) }
 {}
 
 /// A front of a text, as a write that failed half way leaves it, is cut into fronts of what the text is cut

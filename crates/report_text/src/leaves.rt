@@ -1,4 +1,4 @@
-//! The lines of a tree's leaves.
+//! The lines of a tree's leaves, and those behind a line of which nothing is claimed.
 ghost use Rattle.std.specs.Prelude.{◌≡◌, List, [], ◌∷◌, ◌++◌, IfOk, OnOk, MatchBool};
 ghost use Rattle.linear_cons.specs.Functions.{NumbersFit, complement_of};
 ghost use Rattle.linear_solve.specs.Answers.{HasNoStore};
@@ -13,6 +13,7 @@ ghost use Rattle.line_text.specs.LineText.{functions_of};
 ghost use Rattle.line_text.specs.declared.claim.Claim.TheVariants.{Unknown as Unclaimed};
 ghost use Rattle.linear_cons.specs.declared.row.Row.{Row};
 
+use crate::claims::Claims;
 use crate::line::{Line, Top};
 use crate::line_list::Lines;
 use decision_tree::{AffineRank, PathFault, Trail, Tree};
@@ -38,16 +39,16 @@ pub fn lines(alloc: Global, tree: &Tree<AffineRank>, top: Top) -> Result<Lines, 
 // The recursion holds references alone, and each row and line is made in a call of its own: so a
 // level takes a few words of stack.
 /// Appends the lines of the tree's leaves behind the rows of the trail, and comes back to where it was.
-fn add_lines(
+pub(crate) fn add_lines<R: Claims>(
     alloc: Global,
-    tree: &Tree<AffineRank>,
+    tree: &Tree<R>,
     top: &Top,
     trail: &mut Trail,
     lines: &mut Vec<Line>,
 ) -> Result<(), AllocError>
     requires { ComplementsFit (plan_of tree.now) }
     ensures trail { OnOk result (trail.new ≡ trail.old) }
-    ensures added { OnOk result (AreAdded (leaves_below top.now (functions_of trail.old) (plan_of tree.now))
+    ensures added { OnOk result (AreAdded (leaves_below (R.claim_of top.now) (functions_of trail.old) (plan_of tree.now))
         lines.old.items lines.new.items) }
 {
     match tree {
@@ -80,21 +81,16 @@ fn turn(trail: &mut Trail) -> Result<(), AllocError>
 
 /// Appends the line of a defined leaf, where its condition may have stores.
 #[inline(never)]
-fn add_defined(
+fn add_defined<R: Claims>(
     alloc: Global,
     trail: &Trail,
-    rank: &AffineRank,
+    rank: &R,
     top: &Top,
     lines: &mut Vec<Line>,
 ) -> Result<(), AllocError>
-    ensures { OnOk result (AreAdded ((functions_of trail.now, claim_of top.now rank.now) ∷ []) lines.old.items lines.new.items) }
+    ensures { OnOk result (AreAdded ((functions_of trail.now, R.claim_of top.now rank.now) ∷ []) lines.old.items lines.new.items) }
 {
-    let claim = match top {
-        Top::Exact => Claim::Exactly(rank.value.constant),
-        Top::Bound => Claim::Within(rank.value),
-        Top::Plain => Claim::Holds,
-    };
-    add_line(alloc, trail, claim, lines)
+    add_line(alloc, trail, rank.claim(top), lines)
 }
 
 /// Appends the line of an undefined leaf, where its condition may have stores.

@@ -7,15 +7,18 @@
 //! printed.
 #![tactic(auto)]
 
+mod claims;
 pub mod laws;
 mod leaves;
 mod line;
 mod line_list;
 mod printing;
+mod refining;
 mod report;
 
 pub use leaves::lines;
 pub use line::{Line, Top};
 pub use line_list::Lines;
 pub use printing::print;
+pub use refining::refined;
 pub use report::{Counts, Explain, Header, Report, Stop};

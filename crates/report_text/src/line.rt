@@ -1,4 +1,5 @@
 //! Lines of a report: a condition and what is claimed of the inputs that meet it.
+use decision_tree::AffineRank;
 use line_text::Claim;
 use linear_cons::Rows;
 
@@ -11,6 +12,22 @@ pub enum Top {
     Bound,
     /// The formula holds.
     Plain,
+}
+
+impl Top {
+    ghost use Rattle.std.specs.Prelude.{◌≡◌};
+    ghost use Rattle.report_text.specs.Leaves.{claim_of};
+
+    /// What a defined leaf of the rank claims.
+    pub fn claim(&self, rank: &AffineRank) -> Claim
+        ensures { result ≡ claim_of self.now rank.now }
+    {
+        match self {
+            Top::Exact => Claim::Exactly(rank.value.constant),
+            Top::Bound => Claim::Within(rank.value),
+            Top::Plain => Claim::Holds,
+        }
+    }
 }
 
 /// One line: the claim on the stores that meet every row. No row says `always`.

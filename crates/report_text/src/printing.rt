@@ -4,8 +4,8 @@ ghost use Rattle.line_text.specs.Buffer.{bytes_in};
 ghost use Rattle.line_text.specs.LineText.{functions_of};
 ghost use Rattle.line_text.specs.Names.{IsOver};
 ghost use Rattle.line_text.specs.Numeral.{numeral};
-ghost use Rattle.report_text.specs.Printed.{AreRowTexts, AreTextsOf, IsExactAdded, IsLineOver, IsReportOver, IsReportText, IsSectionAdded};
-ghost use Rattle.report_text.specs.Printed.{IsLineText, adviser_lines, cause_text, ended_lines, explain_part, verdict_line};
+ghost use Rattle.report_text.specs.Printed.{AreRowTexts, AreTextsOf, IsExactAdded, IsHeadedAdded, IsLineOver, IsReportOver, IsReportText, IsSectionAdded};
+ghost use Rattle.report_text.specs.Printed.{IsLineText, adviser_lines, cause_text, ended_lines, explain_part, headed_if_any, ranked_head, verdict_line};
 
 use crate::line::Line;
 use crate::line_list::Lines;
@@ -15,8 +15,8 @@ use linear_cons::Row;
 use std::alloc::{AllocError, Global};
 use step_meaning::Names;
 
-/// The text of the report: the exact part, the proved and the unknown lines, the explanation and the
-/// verdict, each line ended by a newline byte. The rows of a condition and the lines of a section stand
+/// The text of the report: the exact part, the proved lines, those that end by a rank, where there is one, and the unknown ones, the
+/// explanation and the verdict, each line ended by a newline byte. The rows of a condition and the lines of a section stand
 /// in the order of their bytes. The only error is want of memory.
 pub fn print(alloc: Global, report: &Report, names: &Names) -> Result<Vec<u8>, AllocError>
     requires { IsReportOver names.now report.now }
@@ -24,10 +24,9 @@ pub fn print(alloc: Global, report: &Report, names: &Names) -> Result<Vec<u8>, A
 {
     let mut text = Vec::new(alloc);
     push_exact(alloc, &mut text, &report.header, &report.exact, names)?;
-    push_ended(&mut text, b"proved:")?;
-    push_section(alloc, &mut text, &report.proved, names)?;
-    push_ended(&mut text, b"unknown:")?;
-    push_section(alloc, &mut text, &report.unknown, names)?;
+    push_headed(alloc, &mut text, b"proved:", &report.proved, names)?;
+    push_ranked(alloc, &mut text, &report.ranked, names)?;
+    push_headed(alloc, &mut text, b"unknown:", &report.unknown, names)?;
     push_explain(&mut text, &report.explain)?;
     push_verdict(&mut text, &report.unknown)?;
     Ok(text)
@@ -100,6 +99,37 @@ fn push_ended(text: &mut Vec<u8>, line: &[u8]) -> Result<(), AllocError>
     text.extend_from_slice(line)?;
     text.push(b'\n')?;
     Ok(())
+}
+
+/// Appends the head and the lines of a section.
+fn push_headed(
+    alloc: Global,
+    text: &mut Vec<u8>,
+    head: &[u8],
+    lines: &Lines,
+    names: &Names,
+) -> Result<(), AllocError>
+    requires { All (IsLineOver names.now) lines.now }
+    ensures { OnOk result (IsHeadedAdded names.now (λ texts. head.now ∷ texts) lines.now text.old.items text.new.items) }
+{
+    push_ended(text, head)?;
+    push_section(alloc, text, lines, names)
+}
+
+/// Appends the section of what ends by a rank, where it has a line.
+fn push_ranked(
+    alloc: Global,
+    text: &mut Vec<u8>,
+    lines: &Lines,
+    names: &Names,
+) -> Result<(), AllocError>
+    requires { All (IsLineOver names.now) lines.now }
+    ensures { OnOk result (IsHeadedAdded names.now (λ texts. headed_if_any ranked_head texts) lines.now text.old.items text.new.items) }
+{
+    if lines.items().is_empty() {
+        return Ok(());
+    }
+    push_headed(alloc, text, b"ranked:", lines, names)
 }
 
 /// Appends the lines in the order of their bytes.
@@ -203,7 +233,7 @@ fn push_advisers(text: &mut Vec<u8>, asked: &[u64]) -> Result<(), AllocError>
     Ok(())
 }
 
-/// Appends the verdict: all inputs meet a proved line exactly where no line is unknown.
+/// Appends the verdict: something is claimed of all inputs exactly where no line is unknown.
 fn push_verdict(text: &mut Vec<u8>, unknown: &Lines) -> Result<(), AllocError>
     ensures { OnOk result (text.new.items ≡ text.old.items ++ ended_lines (verdict_line unknown.now ∷ [])) }
 {

@@ -67,13 +67,14 @@ pub struct Explain {
     pub asked: Counts,
 }
 
-/// A report: the exact lines under their header, what is proved, and what is not. The exact lines of a
+/// A report: the exact lines under their header, what is proved, what ends by a rank, and what isn't known. The exact lines of a
 /// report with the header `Absent` or `Stopped` aren't printed.
 #[derive(Drop)]
 pub struct Report {
     pub header: Header,
     pub exact: Lines,
     pub proved: Lines,
+    pub ranked: Lines,
     pub unknown: Lines,
     pub explain: Option<Explain>,
 }

@@ -43,6 +43,11 @@ fn read_claim(words: &mut Words<'_>) -> Claim {
         "holds" => Claim::Holds,
         "exactly" => Claim::Exactly(words.number()),
         "within" => Claim::Within(read_function(words)),
+        "ranked" => {
+            let high = read_function(words);
+            words.expect("and");
+            Claim::Ranked(high, read_function(words))
+        }
         "unknown" => Claim::Unknown,
         _ => {
             words.fail("no claim");

@@ -141,12 +141,16 @@ module _ {R : Type 0} (ranks : Ranks R) {IsFree : R → Type 0} (lawful : AreLaw
       let own = subst (λ v. ranks.exceeds (ranks.rank_value (ranks.one_more (moved_rank ranks arc.sets lower.1)) before) v → ⊥) unchanged fewer in
       let other_same : ranks.rank_value lower.1 after.store ≡ ranks.rank_value lower.1 behind =
       ap (ranks.rank_value lower.1) leads.after
-      ∙ lawful.spared lower.1 (spared_rank IsFree 15 (family arc.target) after.store lower.0 lower.1 (spared arc.target) lower.2) behind (number_at store 15) long_behind in
-      (lower.0, lower.1, lower.2, lawful.chains _ _ _ (λ more.
-      let at_behind = (lawful.keeps_order lower.1 lower.1 after.store behind).0 more in
-      let same = subst (λ v. ranks.exceeds v (ranks.rank_value lower.1 behind)) other_same at_behind in
-      lawful.one_way _ _ same same)
-      (lawful.chains _ _ _ (moved_at_least ranks lawful arc.sets before leads.variable (long leads.chosen) lower.1) own))
+      ∙ lawful.spared lower.1 (spared_rank IsFree 15 (family arc.target) after.store lower.0 lower.1 (spared arc.target) lower.2) behind (number_at store 15) long_behind in (
+        lower.0,
+        lower.1,
+        lower.2,
+        lawful.chains _ _ _ (λ more.
+            let at_behind = (lawful.keeps_order lower.1 lower.1 after.store behind).0 more in
+            let same = subst (λ v. ranks.exceeds v (ranks.rank_value lower.1 behind)) other_same at_behind in
+            lawful.one_way _ _ same same)
+            (lawful.chains _ _ _ (moved_at_least ranks lawful arc.sets before leads.variable (long leads.chosen) lower.1) own),
+      )
 
   -- ---- a step by its pick
 

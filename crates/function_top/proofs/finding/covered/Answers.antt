@@ -17,6 +17,12 @@ pub returns-in_err-inv-clause-asked : goal.returns-in_err-inv-clause-asked
 returns-in_err-inv-clause-asked g c =
     (0, omega (arith), unasked (λ a. (goal.Adviser-dyn g (a.vtable, a.value)).asked_of a.value) c.args.advisers.now.items, search rules)
 
+pub returns-in_err-cover-clause-asked : goal.returns-in_err-cover-clause-asked
+returns-in_err-cover-clause-asked g c = let asked = c.in_ok-certificate.ensures.asked in (asked.0, asked.1, asked.2, search rules)
+
+pub returns-in_err-ranked-clause-asked : goal.returns-in_err-ranked-clause-asked
+returns-in_err-ranked-clause-asked g c = let asked = c.in_ok-certificate.ensures.asked in (asked.0, asked.1, asked.2, search rules)
+
 pub cover-requires : goal.cover-requires
 cover-requires g c =
     let program = c.args.graph.now in

@@ -29,6 +29,8 @@ returns-clause-finds g c = λ meant is.
       holds = subst (λ claims. IsTrueTree subject claims (plan_of c.in_ok-cover.cover)) (sym c.claims_for.ensures)
           (claims_true c.normal_forms_mean_the_same.ensures subject (plan_of c.in_ok-cover.cover) f is c.in_ok-cover.ensures.satisfied
           c.in_ok-cover.ensures.bounded);
+      ends = c.in_ok-cover.ensures.ends;
+      unranked = c.in_ok-cover.ensures.unranked;
       exactly = λ loopless within.
           claims_exactly c.normal_forms_mean_the_same.ensures subject (plan_of c.in_ok-cover.cover)
           (subst (λ f. SatisfiesInputs (length subject.names) subject.body f (plan_of c.in_ok-cover.cover)) is c.in_ok-cover.ensures.satisfied)
@@ -53,4 +55,5 @@ returns-clause-printable g c = record {
   exact = c.in_ok-exact.ensures.printable;
   claims = subst (λ claims. claims ≢ Counted) (sym c.claims_for.ensures) (no_exact_number (ctl c.args.formula.now));
   cover = c.in_ok-cover.ensures.printable;
+  ranked = c.in_ok-cover.ensures.fit;
 }

@@ -1,0 +1,103 @@
+//! Trees that follow from ranks of cells.
+ghost use Rattle.std.specs.Prelude.{◌≡◌, ◌≤◌, IfOk, length};
+ghost use Rattle.control_flow.specs.Transitions.{AreOnward};
+
+use crate::ordinal::OrdinalRank;
+use crate::sweeps::{before, begun_at, or_given_up};
+use control_flow::Transition;
+use decision_tree::{Pick, Tree, Why};
+use rank_synthesis::RankedCell;
+use std::alloc::{AllocError, Global};
+use tree_unify::{TreeFault, either, trim};
+
+/// Trees for the labels, at which this is done, that follow from ranks of cells at the heads of loops: each label's tree is made from those of its
+/// successors, the greatest label first. One that can't be made claims nothing. Nothing is promised of them: the check decides. The only error is
+/// want of memory.
+pub(crate) fn followed(
+    alloc: Global,
+    transitions: &[Transition],
+    cells: &[RankedCell],
+) -> Result<Vec<Tree<OrdinalRank>>, AllocError>
+    requires few { length transitions.now ≤ 1024 }
+    requires onward { AreOnward transitions.now }
+    ensures labels { IfOk result (λ trees. length trees.items ≡ length transitions.now) }
+{
+    let mut trees = given(alloc, transitions, cells)?;
+    for label in (0..transitions.len() as u32).rev() {
+        let transition = &transitions[label as usize];
+        if !is_given(transition) {
+            let made = or_given_up(before(alloc, transition, &trees))?;
+            trees[label as usize] = made;
+        }
+    }
+    Ok(trees)
+}
+
+/// The trees before the pass: at the heads of loops what the cells claim, and elsewhere what is known without a step.
+fn given(
+    alloc: Global,
+    transitions: &[Transition],
+    cells: &[RankedCell],
+) -> Result<Vec<Tree<OrdinalRank>>, AllocError>
+    requires few { length transitions.now ≤ 1024 }
+    ensures { IfOk result (λ trees. length trees.items ≡ length transitions.now) }
+{
+    let mut trees = Vec::with_capacity(alloc, transitions.len())?;
+    for label in 0..transitions.len() as u32 {
+        let tree = given_at(alloc, &transitions[label as usize], label, cells)?;
+        trees.push(tree)?;
+    }
+    Ok(trees)
+}
+
+/// The tree of the label, at which this is done, before the pass.
+fn given_at(
+    alloc: Global,
+    transition: &Transition,
+    label: u32,
+    cells: &[RankedCell],
+) -> Result<Tree<OrdinalRank>, AllocError> {
+    match transition {
+        Transition::Test { is_head: true, .. } => or_given_up(at_head(alloc, label, cells)),
+        _ => Ok(begun_at(transition)),
+    }
+}
+
+/// Whether the tree isn't made of those behind it: nothing is done, or it is the head of a loop.
+fn is_given(transition: &Transition) -> bool {
+    matches!(
+        transition,
+        Transition::End | Transition::Dead | Transition::Test { is_head: true, .. }
+    )
+}
+
+/// What the cells of the head at the label claim.
+fn at_head(
+    alloc: Global,
+    label: u32,
+    cells: &[RankedCell],
+) -> Result<Tree<OrdinalRank>, TreeFault> {
+    let mut tree = Tree::Bottom;
+    for cell in cells {
+        if cell.label == label {
+            let part = of_cell(alloc, cell)?;
+            let next = either(alloc, &tree, &part)?;
+            tree = next;
+        }
+    }
+    trim(alloc, &tree, &[])
+}
+
+/// The cell's rank where its rows are met.
+fn of_cell(alloc: Global, cell: &RankedCell) -> Result<Tree<OrdinalRank>, AllocError> {
+    let rank = OrdinalRank {
+        high: cell.high,
+        low: cell.low,
+    };
+    let mut tree = Tree::boxed_leaf(alloc, &Why::Step(Pick::All), &rank)?;
+    for row in cell.rows.iter().rev() {
+        let none = Tree::boxed_bottom(alloc)?;
+        tree = Tree::boxed_branch(alloc, row, tree, none)?;
+    }
+    Ok(Box::into_inner(tree))
+}
