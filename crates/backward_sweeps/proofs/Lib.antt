@@ -1,4 +1,5 @@
 pub mod Passing
+mod Staying
 mod Reading
 mod Trimming
 mod Stepping

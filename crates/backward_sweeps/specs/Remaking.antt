@@ -1,8 +1,8 @@
 -- The tree of a label by those of the labels that follow, for an until and a weak until.
-use Rattle.std.specs.Prelude.{◌≡◌, ◌⊎◌, ℕ, ◌<◌, ◌≤◌, Bool, true, false, List, length}
+use Rattle.std.specs.Prelude.{◌≡◌, ◌⊎◌, ℕ, ◌<◌, ◌≤◌, Bool, true, false, List, length, ⊤}
 use Rattle.linear_cons.specs.Exact.{IsOutside}
 use Rattle.linear_cons.specs.declared.exact.Wide.{Wide}
-use Rattle.decision_tree.specs.Plans.{Plan, size_of, top}
+use Rattle.decision_tree.specs.Plans.{Plan, bottom, branch, leaf, size_of, top}
 use Rattle.decision_tree.specs.declared.affine_rank.AffineRank.{AffineRank}
 use Rattle.decision_tree.specs.declared.reason.Cause.TheVariants.{Nodes, Wide as TooWide}
 use Rattle.decision_tree.specs.declared.reason.Pick.TheVariants.{All as EveryState}
@@ -47,6 +47,13 @@ both_of this that = joined same_rank affine_ranks.where_greater affine_ranks.gre
 
 abbrev pub BothFit : Plan AffineRank → Plan AffineRank → Type 0
 BothFit this that = JoinedFits same_rank affine_ranks.where_greater affine_ranks.greater_fits Both this that
+
+-- no leaf of the tree has a cause
+abbrev pub HasNoCause : Plan AffineRank → Type 0
+HasNoCause (branch row this that) = HasNoCause this × HasNoCause that
+HasNoCause (top cause) = ⊥
+HasNoCause bottom = ⊤
+HasNoCause (leaf why rank) = ⊤
 
 -- what is claimed now, or else what a step claims where it is to be kept
 abbrev pub made : Plan AffineRank → Plan AffineRank → Plan AffineRank → Plan AffineRank

@@ -1,5 +1,5 @@
 //! The tree of a label by those of the labels that follow.
-ghost use Rattle.std.specs.Prelude.{◌≡◌, ℕ, Err, IfOk, length};
+ghost use Rattle.std.specs.Prelude.{◌≡◌, ℕ, Err, IfOk, length, true};
 ghost use Rattle.linear_cons.specs.Exact.{IsOutside};
 ghost use Rattle.linear_cons.specs.declared.exact.Wide.{Wide};
 ghost use Rattle.decision_tree.specs.Plans.{bottom, plan_of, top};
@@ -7,7 +7,7 @@ ghost use Rattle.decision_tree.specs.declared.reason.Cause.TheVariants.{Nodes, W
 ghost use Rattle.tree_unify.specs.declared.fault.TreeFault.TheVariants.{Full as TooFull, Memory, Wide as TooWide};
 ghost use Rattle.backward_transfer.specs.AffineShapes.{cut, plans, tree_at};
 ghost use Rattle.control_flow.specs.Transitions.{LeadsWithin, first_target, second_target};
-ghost use Rattle.backward_sweeps.specs.Remaking.{IsMade, IsMadeSmall, IsRemadeSmall, MadeFits, RemadeFits, made, parts_of};
+ghost use Rattle.backward_sweeps.specs.Remaking.{HasNoCause, IsMade, IsMadeSmall, IsRemadeSmall, MadeFits, RemadeFits, made, parts_of};
 
 use crate::moving::moved_back;
 use crate::operands::Operands;
@@ -37,13 +37,36 @@ pub(crate) fn remade(
     ensures operands { (w : Wide) → result ≡ Err (TooWide w) → IsOutside w }
 {
     let none = Tree::Bottom;
+    let goal = tree_at(operands.goal, label, &none);
+    let keep = tree_at(operands.keep, label, &none);
     let moved = moved_back(alloc, operands.all, transition, trees)?;
-    made(
-        alloc,
-        tree_at(operands.goal, label, &none),
-        tree_at(operands.keep, label, &none),
-        &moved,
-    )
+    if stays(goal, keep, &moved) {
+        return Ok(moved);
+    }
+    made(alloc, goal, keep, &moved)
+}
+
+/// Whether it is seen that the step's tree is what is made: nothing is claimed now, one leaf keeps everywhere, and no leaf of the tree has a cause, which would be lost.
+fn stays(now: &Tree<AffineRank>, keep: &Tree<AffineRank>, step: &Tree<AffineRank>) -> bool
+    ensures { result ≡ true → cut (plan_of step.now) ≡ plan_of step.now → made (plan_of now.now) (plan_of keep.now) (plan_of step.now) ≡ plan_of step.now }
+{
+    if let Tree::Bottom = now {
+        if let Tree::Leaf { .. } = keep {
+            return has_no_cause(step);
+        }
+    }
+    false
+}
+
+/// Whether no leaf of the tree has a cause.
+fn has_no_cause(tree: &Tree<AffineRank>) -> bool
+    ensures { result ≡ true → HasNoCause (plan_of tree.now) }
+{
+    match tree {
+        Tree::Top(_) => false,
+        Tree::Bottom | Tree::Leaf { .. } => true,
+        Tree::Node { row: _, yes, no } => has_no_cause(yes) && has_no_cause(no),
+    }
 }
 
 /// What is claimed now, or else what a step claims where it is to be kept. A tree that one leaf keeps everywhere is only trimmed by that, and
