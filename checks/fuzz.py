@@ -5,7 +5,7 @@
 
 It is no part of the gate. Texts are made at random from a seed: programs, of which every third is damaged by a byte or two, rows of words of the language, bytes, and long
 programs up to the limits and past them. Of the words of the command line some are none, and some have a formula, which may be damaged or long too. Each answer comes within
-60 seconds and 8 MB of stack, with nothing on standard error; it has a status with its text; a report has, for each of some inputs, exactly one line of `proved`, `ranked` and
+60 seconds and 8 MB of stack, it has a status with its text, and on standard error nothing but words on a refusal, with its line and column; a report has, for each of some inputs, exactly one line of `proved`, `ranked` and
 `unknown` together and at most one of the exact part; and, of a program without a formula, some runs from the input, with what they choose made at random, end within each bound that
 its lines claim. A second run of the command gives the same bytes. It ends with 1 where something fell short. What formulas mean is looked at by `formulas.py`.
 """
@@ -356,7 +356,7 @@ def formula_in(words):
 def out_of_form(words, text, formula, ended):
     """What is wrong with a status and what was written for it, or None."""
     status, written = ended.returncode, ended.stdout
-    if ended.stderr:
+    if bool(ended.stderr) == (status in (0, 1)) or (ended.stderr and not ended.stderr.startswith(b"function: ")):
         return f"status {status}, and {ended.stderr[:60]!r} on standard error"
     if are_refused(words):
         return None if (status, written[:len(USAGE)], written[-1:]) == (2, USAGE, b"\n") else "refused words without the usage line"
@@ -369,7 +369,10 @@ def out_of_form(words, text, formula, ended):
     fault = re.fullmatch(kind + rb": (\d+) at (\d+)\n", written) if status in (3, 4 if formula is not None else 3) else None
     if not fault or int(fault.group(2)) > most:
         return f"status {status} with {written[:60]!r}"
-    return None
+    name, refused = (b"<stdin>", text) if status == 3 else (b"--ctl", formula)
+    before = refused[:int(fault.group(2))]
+    place = b"function: %s:%d:%d: " % (name, before.count(b"\n") + 1, len(before) - before.rfind(b"\n"))
+    return None if ended.stderr.startswith(place) else f"{place!r} isn't told on standard error: {ended.stderr[:60]!r}"
 
 
 def damaged(text, dice, pieces):

@@ -8,6 +8,7 @@
   examples/formulas/ with its formula too; README.md shows programs as the files have them.
 - README.md, docs/TERMINATES.md and the other pages with runs show what the command and its companion write, where a built command is at hand; else the tests of the companion see to it. Their runs name
   files that are there. The recipes of docs/REPORT.md are read by bash, and do there what the page says.
+- Of a fault the command and its companion say the same words.
 - Each row of the table of promises in docs/PROOFS.md names functions of the code, each with clauses at it or fields of a record in its contract, and files of specs/.
 - Behind the dash of each claim in docs/PROOFS.md stand functions and clauses: each function is one of the code, and each clause stands at a function that the claim
   names before it, or is a field of a record in that function's contract. Where a claim names no function, the clause is one of the heading's crates.
@@ -182,6 +183,21 @@ def run_recipe(recipe, program, command):
         return ended.returncode, ended.stdout
 
 
+def differing_words():
+    """What the command and its companion say otherwise of the same fault."""
+    sys.path.insert(0, str(TOP / "companion"))
+    import faults
+    source = (TOP / "crates/fault_words/src/refusal.rt").read_text()
+    bodies = {name: re.search(rf"fn {name}\(.*?\n}}\n", source, re.DOTALL)[0] for name in ("of_program", "of_formula")}
+    said = {name: {int(number): words for number, words in re.findall(r'(\d+) => "(.*)"', body)} for name, body in bodies.items()}
+    for number in map(int, re.search(r"([\d |]+) => of_program", bodies["of_formula"])[1].split("|")):
+        said["of_formula"][number] = said["of_program"][number]
+    for name, words in (("of_program", faults.OF_PROGRAMS), ("of_formula", faults.OF_FORMULAS)):
+        for number in sorted(words.keys() | said[name].keys()):
+            if words.get(number) != said[name].get(number):
+                yield f"fault_words and companion/faults.py differ: {name} {number}"
+
+
 def broken_recipes():
     """Recipes of docs/REPORT.md that bash doesn't read, or that do something else than the page says."""
     recipes = re.findall(r"```\n([^`]*\\function[^`]*)```\n", (TOP / "docs/REPORT.md").read_text())
@@ -272,7 +288,7 @@ def wrong_promises():
 
 
 def main():
-    faults = [*wrong_layers(), *wrong_rows(), *unknown_names(), *missing_examples(), *missing_formulas(), *stale_examples(), *stale_runs(), *broken_recipes(), *wrong_promises(), *missing_clauses()]
+    faults = [*wrong_layers(), *wrong_rows(), *unknown_names(), *missing_examples(), *missing_formulas(), *stale_examples(), *stale_runs(), *broken_recipes(), *differing_words(), *wrong_promises(), *missing_clauses()]
     for fault in faults:
         print(fault)
     return 1 if faults else 0

@@ -1,8 +1,13 @@
-//! The command: `function_top::run` over the words of the command line, standard input and standard output.
+//! The command: `function_top::run` over the words of the command line, standard input and standard output; and what is told of a refusal on standard error.
 #![tactic(auto)]
 
 ghost use Rattle.std.specs.Prelude.{◌≤◌, ◌^◌};
 
+mod keeping;
+mod telling;
+
+use crate::keeping::{KeepingSink, KeepingSource};
+use crate::telling::{Streams, tell};
 use advice::{Adviser, GuardAdviser, RangeAdviser};
 use function_top::{Status, run};
 use outside::{StreamSink, StreamSource};
@@ -95,10 +100,23 @@ fn run_with(
     requires first { asked_of first ≤ 2 ^ 32 }
     requires second { asked_of second ≤ 2 ^ 32 }
 {
-    let mut source = StreamSource::new(rt.stdin());
-    let mut sink = StreamSink::new(rt.stdout());
-    let mut advisers: Vec<Box<dyn Adviser>> = Vec::with_capacity(rt.alloc(), 2)?;
+    let alloc = rt.alloc();
+    let mut source = KeepingSource::new(alloc, StreamSource::new(rt.stdin()));
+    let mut sink = KeepingSink::new(alloc, StreamSink::new(rt.stdout()));
+    let mut advisers: Vec<Box<dyn Adviser>> = Vec::with_capacity(alloc, 2)?;
     advisers.push(first)?;
     advisers.push(second)?;
-    Ok(run(rt.alloc(), words, &mut source, &mut sink, &mut advisers))
+    let status = run(alloc, words, &mut source, &mut sink, &mut advisers);
+    let streams = Streams {
+        text: source.text(),
+        line: sink.line(),
+    };
+    tell(
+        alloc,
+        status,
+        words,
+        &streams,
+        &mut StreamSink::new(rt.stderr()),
+    );
+    Ok(status)
 }
