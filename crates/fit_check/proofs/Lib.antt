@@ -1,0 +1,9 @@
+pub mod Divisions
+pub mod Fitted
+pub mod Fronts
+pub mod Guarded
+pub mod Leads
+pub mod Nesting
+pub mod Rows
+pub mod Safe
+pub mod SafeLists

@@ -1,0 +1,22 @@
+//! Laws of the definitions, each the contract of a function that does nothing.
+ghost use Rattle.std.specs.Prelude.{◌↔◌, ℤ, Bool};
+ghost use Rattle.step_meaning.specs.Outcome.{Store};
+ghost use Rattle.step_meaning.specs.Run.{Reaches};
+ghost use Rattle.step_meaning.specs.Step.{Configuration, Step};
+ghost use Rattle.step_meaning.specs.Syntax.{Expression};
+ghost use Rattle.int_fit.specs.Fitting.{Fits};
+ghost use Rattle.int_fit.specs.Narrowing.{narrowed_number, narrowed_test};
+ghost use Rattle.int_fit.specs.Wrapping.{MayInt, MayTestInt, StepInt, ReachesInt};
+
+/// A law: where the runs from a configuration fit, each configuration on them has the same successors in whole numbers and in numbers of 32
+/// bits, and the runs in 32 bits are these runs.
+pub fn fitting_runs_are_the_same()
+    ensures steps { (c d : Configuration) → Fits c → Reaches c d → (e : Configuration) → Step d e ↔ StepInt d e }
+    ensures runs { (c d : Configuration) → Fits c → Reaches c d ↔ ReachesInt c d }
+{}
+
+/// A law: a `?` that is a number gives in 32 bits just what the range of 32 bits gives.
+pub fn narrowing_keeps_what_wraps()
+    ensures numbers { (e : Expression) (s : Store) (v : ℤ) → MayInt e s v ↔ MayInt (narrowed_number e) s v }
+    ensures tests { (c : Expression) (s : Store) (t : Bool) → MayTestInt c s t ↔ MayTestInt (narrowed_test c) s t }
+{}
