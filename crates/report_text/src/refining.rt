@@ -20,12 +20,16 @@ use tree_unify::{TreeFault, trim};
 /// What stands for lines of which nothing is claimed, by a tree of ordinal ranks. The tree is trimmed by the rows of each; where it makes
 /// a claim then, the lines of its leaves stand behind these rows, an undefined leaf's without a claim, and else the line stays. The
 /// only error is want of memory.
-pub fn refined(alloc: Global, open: &Lines, ranked: &Tree<OrdinalRank>) -> Result<Lines, AllocError>
+pub fn refined(
+    alloc: Global,
+    unclaimed: &Lines,
+    ranked: &Tree<OrdinalRank>,
+) -> Result<Lines, AllocError>
     requires { ComplementsFit (plan_of ranked.now) }
-    ensures { IfOk result (λ lines. AreRefined (plan_of ranked.now) open.now lines) }
+    ensures { IfOk result (λ lines. AreRefined (plan_of ranked.now) unclaimed.now lines) }
 {
     let mut lines = Vec::new(alloc);
-    for line in open.items() {
+    for line in unclaimed.items() {
         refine(alloc, line, ranked, &mut lines)?;
     }
     Ok(Lines::of(lines))

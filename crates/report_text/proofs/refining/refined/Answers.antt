@@ -16,5 +16,5 @@ loop-line-preserved c =
 
 pub returns : goal.returns
 returns c =
-    let all : take c.loop-line.line-index c.items-line-items.result.now ≡ c.args.open.now = take_all _ _ (omega arith) ∙ c.items-line-items.ensures in
+    let all : take c.loop-line.line-index c.items-line-items.result.now ≡ c.args.unclaimed.now = take_all _ _ (omega arith) ∙ c.items-line-items.ensures in
     rw c.of.ensures (subst (λ (t : List Line). AreRefined (plan_of c.args.ranked.now) t c.loop-line.lines.items) all c.loop-line.invariant)
