@@ -40,13 +40,16 @@ module _ (f g : Text → Option Text) (same : (name : Text) → IsOption name �
   }
 
   same_alone : IsAlone f → IsAlone g
-  same_alone is = record {
-    domain = sym (same (codes "domain") domain) ∙ is.domain;
-    delay = sym (same (codes "delay") delay) ∙ is.delay;
-    formula = sym (same (codes "ctl") ctl) ∙ is.formula;
-    input = sym (same (codes "at") at) ∙ is.input;
-    explain = flag false is.explain;
-  }
+  same_alone (without, unasked) = (
+    (
+      sym (same (codes "domain") domain) ∙ without.0,
+      (
+        sym (same (codes "delay") delay) ∙ without.1.0,
+        (sym (same (codes "ctl") ctl) ∙ without.1.1.0, (sym (same (codes "at") at) ∙ without.1.1.1.0, tt)),
+      ),
+    ),
+    flag false unasked,
+  )
 
   same_requests : (request : Request) → Requests f request → Requests g request
   same_requests (analysis task) is = (sym (same (codes "demo") demo) ∙ is.0, same_task task is.1)

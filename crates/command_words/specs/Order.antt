@@ -1,5 +1,5 @@
 -- What the words of a command line ask for.
-use Rattle.std.specs.Prelude.{◌≡◌, ℕ, ◌+◌, ◌≤◌, Bool, true, false, List, [], ◌∷◌, Option, None, Some, codes, option_map}
+use Rattle.std.specs.Prelude.{◌≡◌, ℕ, ◌+◌, ◌≤◌, Bool, true, false, List, [], ◌∷◌, Option, None, Some, codes, option_map, ⊤}
 use Rattle.clap.specs.Words.{Text}
 use Rattle.line_text.specs.Numeral.{numeral}
 use Rattle.command_words.specs.Command.{AreTaken, value_in}
@@ -52,13 +52,14 @@ pub record IsTask (value : Text → Option Text) (task : Task) : Type 0 where
   pub input : task.input ≡ value (codes "at")
   pub explain : IsGiven (value (codes "explain")) task.explain
 
+-- none of these options has a value
+abbrev pub Without : List Text → (Text → Option Text) → Type 0
+Without [] value = ⊤
+Without (name ∷ more) value = (value name ≡ None) × Without more value
+
 -- no option of an analysis is given
-pub record IsAlone (value : Text → Option Text) : Type 0 where
-  pub domain : value (codes "domain") ≡ None
-  pub delay : value (codes "delay") ≡ None
-  pub formula : value (codes "ctl") ≡ None
-  pub input : value (codes "at") ≡ None
-  pub explain : IsGiven (value (codes "explain")) false
+abbrev pub IsAlone : (Text → Option Text) → Type 0
+IsAlone value = Without (codes "domain" ∷ (codes "delay" ∷ (codes "ctl" ∷ (codes "at" ∷ [])))) value × IsGiven (value (codes "explain")) false
 
 -- the number of a demo program, from 1 to 1000, by its numeral
 pub record IsCount (text : Text) (number : ℕ) : Type 0 where
