@@ -22,17 +22,18 @@ use Rattle.ordinal_rank.specs.declared.ordinal.OrdinalRank.{OrdinalRank}
 use Rattle.report_text.specs.Ranked.{AreRefined, done, more}
 use Rattle.report_text.specs.Leaves.{AreLines, AreLinesOf, claim_of, claiming_nothing, is_unknown, leaves_below, none, skipped, stands}
 use Rattle.function_top.specs.declared.status.Status.{Status}
-use Rattle.function_top.specs.declared.status.Status.TheVariants.{AllInputs, SomeInputs, Words, Program, Formula}
+use Rattle.function_top.specs.declared.status.Status.TheVariants.{AllInputs, SomeInputs}
 use Rattle.function_top.specs.declared.found.Found.{Found}
-use Rattle.function_top.specs.Output.{IsAnswerOn, IsDueOn, answered, no_formula, no_input, no_program, reported}
+use Rattle.function_top.specs.Output.{IsAnswerOn, IsDueOn, answered, refused, reported}
 use Rattle.function_top.specs.Found.{IsFound}
+use Rattle.function_top.specs.Known.{KnownTexts}
 use Rattle.function_top.specs.OneInput.{IsToldOf, LeadsTo}
 use Rattle.command_words.specs.Order.{Task}
 use Rattle.function_top.specs.Shown.{Shows}
 use Rattle.function_top.specs.Subject.{IsSubject, Subject}
 use Rattle.function_top.proofs.ToldExactly.{numbers_small}
 use Rattle.report_text.proofs.Frame.{Bytes}
-use Rattle.function_top.proofs.Headline.{KnownTexts, none_some, own_answer, own_report}
+use Rattle.function_top.proofs.Headline.{none_some, own_answer, own_report, refused_otherwise}
 
 -- ---- countdown programs
 
@@ -79,36 +80,30 @@ whole_known found report shows whole =
 pub covered : (task : Task) (subject : Subject) (found : Found) (report : Report) → IsFound task subject found → Shows found report
     → normal subject.formula ≡ af_exit → IsCountdown subject.body → report.unknown ≡ []
 covered task subject found report finds shows ends counts =
-    whole_known found report shows (finds.countdown ends counts)
+    whole_known found report shows (finds.strength.countdown ends counts)
 
 -- nothing is left unknown of a countdown program, nor is one input of one where the factors are small
 module _ (known : KnownTexts) (task : Task) (text : Bytes) (subject : Subject) (is : IsSubject task text subject) (ends : normal subject.formula ≡ af_exit)
     (counts : IsCountdown subject.body) where
-  leads : HasSmallFactors subject.body → (asked : Bytes) (input : Store) (status : Status) (turns : ℕ) (bytes : Bytes)
+  leads : {asked : Bytes} {input : Store} {status : Status} {turns : ℕ} {bytes : Bytes} → HasSmallFactors subject.body
       → (on : IsAnswerOn task text asked subject input status turns bytes) → (rank : AffineRank) × LeadsTo (plan_of on.found.cover) input rank
-  leads little asked input status turns bytes on =
+  leads {asked} {input} little on =
       let cover = plan_of on.found.cover in
-      let there = which_leaf (eval cover input) (whole_defined input cover (on.finds.countdown ends counts)) in
-      let fits = on.finds.ways ends counts little input (numbers_small subject.names asked input on.input_is) in
+      let there = which_leaf (eval cover input) (whole_defined input cover (on.analysed.finds.strength.countdown ends counts)) in
+      let fits = on.analysed.finds.strength.ways ends counts little input (numbers_small subject.names asked input on.input_is) in
       (there.1, record { fits = fits; why = there.0; is = there.2 })
 
-  told_claims : HasSmallFactors subject.body → (asked : Bytes) (input : Store) (status : Status) (turns : ℕ) (bytes : Bytes)
+  told_claims : {asked : Bytes} {input : Store} {status : Status} {turns : ℕ} {bytes : Bytes} → HasSmallFactors subject.body
       → (on : IsAnswerOn task text asked subject input status turns bytes) → IsToldOf on.found input status on.claim → status ≢ SomeInputs
-  told_claims little asked input status turns bytes on (inl (all, claimed)) some = let clash : AllInputs ≡ SomeInputs = sym all ∙ some in cc
-  told_claims little asked input status turns bytes on (inr (is_lacking, inexact, lacks, nowhere, unknown)) some =
-      let way = leads little asked input status turns bytes on in lacks way.0 way.1
+  told_claims little on (inl (all, claimed)) some = let clash : AllInputs ≡ SomeInputs = sym all ∙ some in cc
+  told_claims little on (inr (is_lacking, inexact, lacks, nowhere, unknown)) some = let way = leads little on in lacks way.0 way.1
 
-  pub due_covers : (task.input ≡ None) ⊎ HasSmallFactors subject.body → (status : Status) (advisers turns : ℕ) (bytes : Bytes)
+  pub due_covers : (task.input ≡ None) ⊎ HasSmallFactors subject.body → {status : Status} {advisers turns : ℕ} {bytes : Bytes}
       → IsDueOn task text status advisers turns bytes → status ≢ SomeInputs
-  due_covers certain status advisers turns bytes (reported own report whole on (inl (all, covers))) some =
-      let clash : AllInputs ≡ SomeInputs = sym all ∙ some in cc
-  due_covers certain status advisers turns bytes (reported own report whole on (inr (is_lacking, lacks))) some =
-      let here = own_report known task text own subject is report advisers turns bytes on in
-      lacks (covered task subject here.found report here.finds here.shows ends counts)
-  due_covers (inl whole) status advisers turns bytes (answered asked own input one on) some = none_some task one whole
-  due_covers (inr little) status advisers turns bytes (answered asked own input one on) some =
-      let here = own_answer known task text asked own subject is input status turns bytes on in
-      told_claims little asked input status turns bytes here here.told some
-  due_covers certain status advisers turns bytes (no_program other unasked refused) some = let clash : Program ≡ SomeInputs = sym other ∙ some in cc
-  due_covers certain status advisers turns bytes (no_input other unasked refused) some = let clash : Words ≡ SomeInputs = sym other ∙ some in cc
-  due_covers certain status advisers turns bytes (no_formula other unasked refused) some = let clash : Formula ≡ SomeInputs = sym other ∙ some in cc
+  due_covers certain (reported own report whole on (inl (all, covers))) some = let clash : AllInputs ≡ SomeInputs = sym all ∙ some in cc
+  due_covers certain (reported own report whole on (inr (is_lacking, lacks))) some =
+      let here = own_report known task text subject is on in lacks (covered task subject here.found report here.analysed.finds here.shows ends counts)
+  due_covers (inl whole) (answered asked own input one on) some = none_some task one whole
+  due_covers (inr little) (answered asked own input one on) some =
+      let here = own_answer known task text subject is on in told_claims little here here.told some
+  due_covers certain {status} {advisers} {turns} {bytes} (refused refusal reason says unasked) some = refused_otherwise refusal status bytes says (inr some)

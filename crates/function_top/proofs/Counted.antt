@@ -32,7 +32,7 @@ use Rattle.function_top.specs.Shown.{Shows, ShowsExact, header_of}
 use Rattle.function_top.specs.Subject.{Subject}
 use Rattle.function_top.proofs.Conditions.{condition_met, rows_met}
 use Rattle.function_top.proofs.ExactLines.{met_by_runs}
-use Rattle.function_top.proofs.Truth.{OpenAsLines, KnownLines}
+use Rattle.function_top.specs.Known.{KnownLines, OpenAsLines}
 use Rattle.report_text.proofs.Frame.{Bytes, stopped_line}
 
 -- ---- the lines and their texts
@@ -170,5 +170,5 @@ counts_exactly subject known opening task found report text finds shows printed 
     } in
     let cut = report_sections texts report text printed in
     subst (λ (lines : List Bytes). MeetsClaim subject.names input (Exactly (pos n)) lines ↔ EndsExactly subject.body tests input n) (sym (cut exact_line))
-    (part_counted subject known task.delay tests allows.0 input is_input n printed.exact task.formula found.exact report.header report.exact finds.exact
+    (part_counted subject known task.delay tests allows.0 input is_input n printed.exact task.formula found.exact report.header report.exact finds.exactness.part
     shows.exact printed.exact_are (sym (cut exact_head) ∙ allows.1))

@@ -16,7 +16,8 @@ use Rattle.function_top.specs.Demo.{summary_lines}
 use Rattle.function_top.specs.Form.{IsKnown, exact_head, explanation, section, summary, all_verdict, some_verdict, words, program, formula}
 use Rattle.function_top.specs.Refusals.{fault_line, formula_text, program_text, usage_line, usage_text}
 use Rattle.function_top.specs.Shown.{Shows}
-use Rattle.function_top.proofs.Truth.{KnownLines, formula_silent, program_silent, usage_silent}
+use Rattle.function_top.specs.Known.{KnownLines}
+use Rattle.function_top.proofs.Truth.{formula_silent, program_silent, usage_silent}
 use Rattle.report_text.proofs.Frame.{Bytes, Lacks, free_lacks}
 use Rattle.function_top.proofs.Written.{EachWhole, Frames, Prints, each_good, one_good, report_holds, summary_lacks}
 

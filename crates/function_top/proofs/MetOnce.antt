@@ -23,7 +23,7 @@ use Rattle.function_top.specs.Shown.{Shows}
 use Rattle.function_top.specs.Meeting.{AreMetOnce, AreUnmet, IsMet, MeetsOne}
 use Rattle.function_top.proofs.Conditions.{condition_met, rows_met}
 use Rattle.function_top.proofs.Once.{at_most_one, one_line}
-use Rattle.function_top.proofs.Truth.{OpenAsLines, KnownLines}
+use Rattle.function_top.specs.Known.{KnownLines, OpenAsLines}
 use Rattle.report_text.proofs.Frame.{Bytes}
 
 module _ (names : List Bytes) (known : KnownLines names) (input : Store) where

@@ -1,5 +1,5 @@
 -- What is told of one input is true of it.
-use Rattle.std.proofs.Common.{◌≡◌, ◌≢◌, inl, inr, ◌∙◌, ℕ, List, [], ◌∷◌, ◌++◌, length, All, Contains, Option, None, Some, codes, refl, sym, ap, subst, arith}
+use Rattle.std.proofs.Common.{◌≡◌, ◌≢◌, inl, inr, ◌∙◌, ℕ, [], ◌∷◌, ◌++◌, length, Contains, Option, None, Some, codes, refl, sym, ap, subst, arith}
 use Rattle.std.proofs.lemmas.List.Elements.{All-contains, Contains-append_right}
 use Rattle.step_meaning.specs.Outcome.{Store}
 use Rattle.step_meaning.specs.Run.{IsInput, start}
@@ -13,7 +13,6 @@ use Rattle.ordinal_rank.specs.Ends.{EndsBy}
 use Rattle.line_text.specs.declared.claim.Claim.{Claim}
 use Rattle.line_text.specs.declared.claim.Claim.TheVariants.{Exactly, Holds, Ranked, Unknown, Within}
 use Rattle.line_text.specs.Numeral.{numeral}
-use Rattle.line_text.specs.Spells.{Spells}
 use Rattle.claim_line.specs.Tells.{Tells}
 use Rattle.report_text.specs.declared.line.Top.{Top}
 use Rattle.report_text.specs.declared.line.Top.TheVariants.{Exact as Counted}
@@ -26,24 +25,14 @@ use Rattle.function_top.specs.declared.found.Found.{Found}
 use Rattle.function_top.specs.declared.status.Status.{Status}
 use Rattle.function_top.specs.Exact.{IsExact}
 use Rattle.function_top.specs.Found.{IsExactPart, IsFound, IsTrueTree}
+use Rattle.function_top.specs.Known.{KnownClaims, OpenAsLines}
 use Rattle.function_top.specs.OneInput.{IsTold, IsToldAs, IsToldOf, LeadsExactly, LeadsTo}
 use Rattle.function_top.specs.Refusals.{fault_line}
 use Rattle.function_top.specs.Subject.{Subject}
 use Rattle.function_top.specs.TrueLine.{IsTrueOf}
-use Rattle.function_top.proofs.Truth.{OpenAsLines, exact_true}
-use Rattle.report_text.proofs.Frame.{Bytes, IsSilent, Lacks, free_lacks}
+use Rattle.function_top.proofs.Truth.{exact_true}
+use Rattle.report_text.proofs.Frame.{Bytes, IsSilent, free_lacks}
 use Rattle.function_top.proofs.Written.{EachWhole, one_good}
-
--- no byte is a colon, code 58
-abbrev pub HasNoColon : Bytes → Type 0
-HasNoColon line = All (λ byte. byte ≢ 58) line
-
--- what is known of lines that are a claim alone over the names
-pub record KnownClaims (names : List Bytes) : Type 0 where
-  pub newline : (line : Bytes) (claim : Claim) → Tells names line claim → Lacks line
-  pub one : (line : Bytes) (claim other : Claim) → Tells names line claim → Tells names line other → claim ≡ other
-  pub apart : (line : Bytes) (condition : List Affine) (claim other : Claim) → Tells names line claim → ¬ Spells names line condition other
-  pub colon : (line : Bytes) (claim : Claim) → Tells names line claim → HasNoColon line
 
 -- whatever claim alone the line is, it is true of the input
 abbrev pub TellsTrue : Subject → Store → Bytes → Type 0
@@ -91,12 +80,12 @@ module _ (subject : Subject) (opening : OpenAsLines) (input : Store) (is_input :
   pub told_is_true : (task : Task) (found : Found) (status : Status) (claim : Claim) → IsFound task subject found → IsToldOf found input status claim
       → Holds_of claim
   told_is_true task found status claim finds (inl (all, inl (rank, leads, is))) =
-      subst Holds_of (sym is) (part_true task.formula task.delay found.exact rank finds.exact leads)
+      subst Holds_of (sym is) (part_true task.formula task.delay found.exact rank finds.exactness.part leads)
   told_is_true task found status claim finds (inl (all, inr (none, inl (rank, leads, told)))) =
       told_true subject input (claim_of found.claims rank) claim told
-      (leaf_true found.claims (plan_of found.cover) rank finds.holds leads)
+      (leaf_true found.claims (plan_of found.cover) rank finds.truth.holds leads)
   told_is_true task found status claim finds (inl (all, inr (none, inr (lacks, (rank, leads, told))))) =
-      told_true subject input (ordinal_claim rank) claim told (finds.ends input leads.why rank is_input leads.is)
+      told_true subject input (ordinal_claim rank) claim told (finds.truth.ends input leads.why rank is_input leads.is)
   told_is_true task found status claim finds (inr (some, none, lacks, nowhere, is)) = subst Holds_of (sym is) tt
 
 -- ---- the other lines tell nothing

@@ -85,5 +85,5 @@ pub met_by_satisfied : (task : Task) (subject : Subject) (found : Found) (report
     → MeetsSomeLine input report.proved ↔ Sat subject.formula (start subject.body input)
 met_by_satisfied task subject found report finds shows loopless within input is_input =
     let met = met_where_defined found.claims (plan_of found.cover) shows.lines report.proved shows.lines_of shows.proved input in
-    let claimed = finds.exactly loopless within input is_input in
+    let claimed = finds.exactness.covers loopless within input is_input in
     ((λ some. claimed.0 (met.0 some)), (λ sat. met.1 (claimed.1 sat)))

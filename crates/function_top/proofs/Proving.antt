@@ -17,7 +17,7 @@ use Rattle.function_top.specs.Shown.{Shows}
 use Rattle.function_top.specs.Subject.{Subject}
 use Rattle.function_top.proofs.Counted.{line_met, text_met}
 use Rattle.function_top.proofs.ProvedLines.{met_by_satisfied}
-use Rattle.function_top.proofs.Truth.{OpenAsLines, KnownLines}
+use Rattle.function_top.specs.Known.{KnownLines, OpenAsLines}
 use Rattle.report_text.proofs.Frame.{Bytes}
 
 pub proves_exactly : (subject : Subject) → KnownLines subject.names → OpenAsLines → (task : Task) (found : Found) (report : Report) (text : Bytes)

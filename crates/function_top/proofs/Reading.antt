@@ -5,7 +5,7 @@ use Rattle.command_words.specs.declared.order.Order.{Order}
 use Rattle.command_words.specs.declared.order.Order.TheVariants.{Analysis, Demo}
 use Rattle.command_words.specs.declared.order.Query.{Query}
 use Rattle.command_words.specs.Order.{Accepted, Ask, Request, analysis, demo, request_of, task_of}
-use Rattle.function_top.proofs.Headline.{AskOnce}
+use Rattle.function_top.proofs.Running.{AskOnce}
 
 module _ (words : List (List ℕ)) (read : Option Order) (law : (request : Request) → option_map request_of read ≡ Some request ↔ Ask words request) where
   pub once : AskOnce words

@@ -1,13 +1,14 @@
 -- A text with a fault is no program, or no formula.
-use Rattle.std.proofs.Common.{◌≡◌, ◌∙◌, ◌⊎◌, inl, inr, ℕ, ◌+◌, ◌<◌, List, length, Option, None, Some, refl, sym, ap, arith}
-use Rattle.std.specs.Prelude.{IfSome}
+use Rattle.std.proofs.Common.{◌≡◌, ◌∙◌, inl, inr, ℕ, ◌+◌, ◌<◌, List, [], length, Option, None, Some, Result, Ok, Err, refl, sym, ap, subst, arith}
+use Rattle.std.specs.Prelude.{IfErr, IfSome}
+use Rattle.std.specs.Result.{IsErr, IsErrAnd}
 use Rattle.std.proofs.lemmas.Option.{none-some, same_Some}
 use Rattle.outside.specs.ReadEnd.{ConsumesJust}
-use Rattle.ctl_formula.specs.Formulas.{Ctl, normal}
-use Rattle.normal_form.specs.Operators.{operators}
+use Rattle.ctl_formula.specs.Formulas.{Ctl}
 use Rattle.formula_parse.specs.declared.fault.FormulaFault.{FormulaFault}
 use Rattle.formula_parse.specs.declared.fault.FormulaFault.TheVariants as F
 use Rattle.formula_parse.specs.declared.fault.FormulaLimit.{FormulaLimit}
+use Rattle.formula_parse.specs.Derives.{IsFormulaOf}
 use Rattle.formula_parse.specs.FaultOf.{IsNormalFault}
 use Rattle.formula_parse.specs.Laws.{FormulasHaveNoFault}
 use Rattle.formula_parse.specs.Laws as formulas
@@ -16,10 +17,15 @@ use Rattle.source_parse.specs.declared.fault.ParseFault.TheVariants.{Lex, Expect
 use Rattle.source_parse.specs.Derives.{DerivesNone}
 use Rattle.source_parse.specs.Faults.{IsFaultOf, IsMemory, numbered}
 use Rattle.source_parse.specs.Laws.{ProgramsHaveNoFault}
-use Rattle.function_top.specs.Asking.{IsFaultAsked}
-use Rattle.function_top.specs.Output.{IsLongFormula, IsNoFormula}
-use Rattle.function_top.specs.Refusals.{formula_text}
-use Rattle.function_top.specs.Text.{IsRead}
+use Rattle.command_words.specs.Order.{Task}
+use Rattle.function_top.specs.Asking.{IsFaultAsked, IsInputGiven}
+use Rattle.function_top.specs.Output.{IsFormulaRefused, IsLongFormula}
+use Rattle.function_top.specs.Text.{HasGraph, IsRead}
+
+-- an error that is passed on holds what it held
+pub passed_on : {A E : Type 0} (result : Result A E) (error : E) (P : E → Type 0) → IsErr result × IsErrAnd result (λ e. e ≡ error) → P error → IfErr result P
+passed_on (Ok a) error P h held = tt
+passed_on (Err other) error P h held = subst P (sym h.1) held
 
 -- a fault with a number isn't want of memory
 is_no_memory : (fault : ParseFault) (found : ℕ × ℕ) → numbered fault ≡ Some found → IsMemory fault → ⊥
@@ -49,60 +55,48 @@ is_no_want (F.NotAffine at) found told memory = memory
 is_no_want (F.Limit which at count) found told memory = memory
 
 -- the fault of a normal form is that it is too long
-record IsLong (meant : Ctl) (number offset : ℕ) : Type 0 where
-  pub long : 256 < operators (normal meant)
-  pub number_is : number ≡ 11
-  pub offset_is : offset ≡ 0
-
-normal_fault : (meant : Ctl) (fault : FormulaFault) (number offset : ℕ) → IsNormalFault meant fault → formulas.numbered fault ≡ Some (number, offset)
-    → IsLong meant number offset
-normal_fault meant (F.Limit FormulaLimit.Operators at count) number offset is told =
+normal_fault : (names : List (List ℕ)) (text : List ℕ) (meant : Ctl) → IsFormulaOf text names meant → (fault : FormulaFault) (number offset : ℕ)
+    → IsNormalFault meant fault → formulas.numbered fault ≡ Some (number, offset) → IsLongFormula names text number offset
+normal_fault names text meant derived (F.Limit FormulaLimit.Operators at count) number offset is told =
     let same = same_Some (11, at) (number, offset) told in
-    record { long = is.0; number_is = sym (ap (λ p. p.0) same); offset_is = sym (ap (λ p. p.1) same) ∙ is.1 }
-normal_fault meant (F.Limit FormulaLimit.Bytes at count) number offset is told = absurd is
-normal_fault meant (F.Limit FormulaLimit.Nesting at count) number offset is told = absurd is
-normal_fault meant (F.Lex fault) number offset is told = absurd is
-normal_fault meant (F.Expected at) number offset is told = absurd is
-normal_fault meant (F.Unknown at) number offset is told = absurd is
-normal_fault meant (F.NotAffine at) number offset is told = absurd is
-normal_fault meant (F.Memory error) number offset is told = absurd (none-some (number, offset) told)
+    record { meant = meant; derived = derived; long = is.0; number_is = sym (ap (λ p. p.0) same); offset_is = sym (ap (λ p. p.1) same) ∙ is.1 }
+normal_fault names text meant derived (F.Limit FormulaLimit.Bytes at count) number offset is told = absurd is
+normal_fault names text meant derived (F.Limit FormulaLimit.Nesting at count) number offset is told = absurd is
+normal_fault names text meant derived (F.Lex fault) number offset is told = absurd is
+normal_fault names text meant derived (F.Expected at) number offset is told = absurd is
+normal_fault names text meant derived (F.Unknown at) number offset is told = absurd is
+normal_fault names text meant derived (F.NotAffine at) number offset is told = absurd is
+normal_fault names text meant derived (F.Memory error) number offset is told = absurd (none-some (number, offset) told)
 
 -- the formula that is asked about, and why it is refused
-pub record IsRefused (names : List (List ℕ)) (asked : Option (List ℕ)) (line : List ℕ) : Type 0 where
-  pub formula : List ℕ
-  pub asked_is : asked ≡ Some formula
-  pub refused : IsNoFormula names formula line ⊎ IsLongFormula names formula line
-
-pub asked_refused : (names : List (List ℕ)) (asked : Option (List ℕ)) (fault : FormulaFault) (number offset : ℕ) (line : List ℕ) → FormulasHaveNoFault
-    → IsFaultAsked names asked fault → formulas.numbered fault ≡ Some (number, offset) → line ≡ formula_text number offset → IsRefused names asked line
-asked_refused names None fault number offset line law is told line_is = absurd (is_no_want fault (number, offset) told is)
-asked_refused names (Some text) fault number offset line law (inl of_text) told line_is = record {
-  formula = text;
-  asked_is = refl;
-  refused = inl record {
-    none = λ f derived. is_no_want fault (number, offset) told (law text names f fault derived of_text);
-    fault = fault;
-    number = number;
-    offset = offset;
-    fault_of = of_text;
-    number_of = told;
-    line_is = line_is;
-  };
-}
-asked_refused names (Some text) fault number offset line law (inr of_normal) told line_is =
-    let found = normal_fault of_normal.meant fault number offset of_normal.fault_of told in record {
-      formula = text;
-      asked_is = refl;
-      refused = inr record {
-        meant = of_normal.meant;
-        derived = of_normal.derived;
-        long = found.long;
-        line_is = line_is ∙ ap (λ n. formula_text n offset) found.number_is ∙ ap (formula_text 11) found.offset_is;
-      };
+pub asked_refused : (task : Task) (text : List ℕ) (names : List (List ℕ)) → HasGraph text names → IsInputGiven names task.input → (asked : Option (List ℕ))
+    → task.formula ≡ asked → (fault : FormulaFault) (number offset : ℕ) → FormulasHaveNoFault → IsFaultAsked names asked fault
+    → formulas.numbered fault ≡ Some (number, offset) → IsFormulaRefused task text number offset
+asked_refused task text names within given None is fault number offset law own told = absurd (is_no_want fault (number, offset) told own)
+asked_refused task text names within given (Some formula) is fault number offset law own told = record {
+  names = names;
+  within = within;
+  given = given;
+  formula = formula;
+  asked = is;
+  refused = elim own [
+    | inl of_text ↦ inl record {
+      none = λ f derived. is_no_want fault (number, offset) told (law formula names f fault derived of_text);
+      fault = fault;
+      fault_of = of_text;
+      number_of = told;
     }
+    | inr of_normal ↦ inr (normal_fault names formula of_normal.meant of_normal.derived fault number offset of_normal.fault_of told)
+  ];
+}
 
 -- a text that is past the limit, which is the one that the source told where it told one
 pub long_text : (limit : ℕ) (left left' : Option (List ℕ)) → IfSome left (λ bytes. limit < length bytes) → ConsumesJust (limit + 1) left left'
     → (text : List ℕ) × IsRead left text × (limit < length text)
 long_text limit None left' long just = let count = just.1 in (just.0, tt, omega (arith, count))
 long_text limit (Some told) left' long just = (told, refl, long)
+
+-- a text that was read whole is that one too
+pub whole_text : (left left' : Option (List ℕ)) (text : List ℕ) → IfSome left (λ bytes. (text ≡ bytes) × (left' ≡ Some [])) → IsRead left text
+whole_text None left' text whole = tt
+whole_text (Some told) left' text whole = sym whole.0

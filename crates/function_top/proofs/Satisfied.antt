@@ -41,11 +41,11 @@ module _ (task : Task) (subject : Subject) (found : Found) (finds : IsFound task
   IsSatisfied = Sat subject.formula (start subject.body input)
 
   claimed : (is_defined (eval (plan_of found.cover) input) ≡ true) ↔ IsSatisfied
-  claimed = finds.exactly small.loopless small.within input is_input
+  claimed = finds.exactness.covers small.loopless small.within input is_input
 
   -- where no formula is asked about the cover is one leaf
   is_whole : subject.formula ≡ af_exit → IsWhole (plan_of found.cover)
-  is_whole ends = one_whole (plan_of found.cover) (finds.loopless (ap normal ends) small.loopless.free)
+  is_whole ends = one_whole (plan_of found.cover) (finds.strength.loopless (ap normal ends) small.loopless.free)
 
   asked_or_whole : (asked : Option Bytes) → IsFormulaAsked subject.names asked subject.formula → IsSome asked ⊎ IsWhole (plan_of found.cover)
   asked_or_whole None ends = inr (is_whole ends)
@@ -56,7 +56,7 @@ module _ (task : Task) (subject : Subject) (found : Found) (finds : IsFound task
 
   by_rank : (rank : OrdinalRank) → LeadsTo (plan_of found.ranked) input rank → IsSatisfied
   by_rank rank way =
-      let none = finds.unranked (asked_or_whole task.formula formula) in
+      let none = finds.truth.unranked (asked_or_whole task.formula formula) in
       let here : bottom ≡ leaf way.why rank = sym (ap (λ tree. eval tree input) none) ∙ way.is in absurd (cc)
 
   by_exact : (asked : Option Bytes) → IsFormulaAsked subject.names asked subject.formula → IsExactPart asked subject task.delay found.exact
@@ -67,10 +67,10 @@ module _ (task : Task) (subject : Subject) (found : Found) (finds : IsFound task
   leads : IsSatisfied → (rank : AffineRank) × LeadsTo (plan_of found.cover) input rank
   leads sat =
       let there = which_leaf (eval (plan_of found.cover) input) (claimed.1 sat) in
-      (there.1, record { fits = finds.narrow_ways small input is_input numbers sat; why = there.0; is = there.2 })
+      (there.1, record { fits = finds.exactness.ways small input is_input numbers sat; why = there.0; is = there.2 })
 
   pub told_of_satisfied : (status : Status) (claim : Claim) → IsToldOf found input status claim → (status ≡ AllInputs) ↔ IsSatisfied
-  told_of_satisfied status claim (inl (all, inl (rank, way, is))) = ((λ same. by_exact task.formula formula finds.exact rank way), (λ sat. all))
+  told_of_satisfied status claim (inl (all, inl (rank, way, is))) = ((λ same. by_exact task.formula formula finds.exactness.part rank way), (λ sat. all))
   told_of_satisfied status claim (inl (all, inr (none, inl (rank, way, told)))) = ((λ same. by_cover rank way), (λ sat. all))
   told_of_satisfied status claim (inl (all, inr (none, inr (lacks, (rank, way, told))))) = ((λ same. by_rank rank way), (λ sat. all))
   told_of_satisfied status claim (inr (some, none, lacks, nowhere, is)) = (
@@ -80,9 +80,9 @@ module _ (task : Task) (subject : Subject) (found : Found) (finds : IsFound task
 
 -- ---- what was due
 
-pub satisfied_answer : (task : Task) (text asked : Bytes) (subject : Subject) (input : Store) (status : Status) (turns : ℕ) (bytes : Bytes)
+pub satisfied_answer : {task : Task} {text asked : Bytes} {subject : Subject} {input : Store} {status : Status} {turns : ℕ} {bytes : Bytes}
     → HasSmallMeasures subject → IsAnswerOn task text asked subject input status turns bytes
     → (status ≡ AllInputs) ↔ Sat subject.formula (start subject.body input)
-satisfied_answer task text asked subject input status turns bytes small on =
-    told_of_satisfied task subject on.found on.finds on.is.formula small input on.input_is.input_is (numbers_small subject.names asked input on.input_is)
+satisfied_answer {task} {text} {asked} {subject} {input} {status} small on =
+    told_of_satisfied task subject on.found on.analysed.finds on.analysed.is.formula small input on.input_is.input_is (numbers_small subject.names asked input on.input_is)
     status on.claim on.told

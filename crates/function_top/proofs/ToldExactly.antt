@@ -36,7 +36,7 @@ use Rattle.function_top.specs.Exact.{EndsExactly, HasSmallLevels, IsExact, IsExa
 use Rattle.function_top.specs.Meeting.{TellsClaim}
 use Rattle.function_top.specs.OneInput.{IsTold, IsToldOf, LeadsExactly, LeadsTo}
 use Rattle.function_top.proofs.ExactLines.{claimed_by, ranks_at}
-use Rattle.function_top.proofs.OneTold.{KnownClaims}
+use Rattle.function_top.specs.Known.{KnownClaims}
 use Rattle.function_top.proofs.Rising.{growth_up, none_heavy}
 use Rattle.report_text.proofs.Frame.{Bytes, Lacks}
 use Rattle.function_top.proofs.Written.{one_good}

@@ -14,7 +14,7 @@ use Rattle.ordinal_rank.specs.Families.{BoundsEnds}
 use Rattle.line_text.specs.declared.claim.Claim.{Claim}
 use Rattle.line_text.specs.LineText.{functions_of}
 use Rattle.line_text.specs.Numeral.{numeral}
-use Rattle.line_text.specs.Spells.{OpensAsLine, Spells}
+use Rattle.line_text.specs.Spells.{Spells}
 use Rattle.line_text.proofs.Words.{numeral_is_numeral}
 use Rattle.report_text.specs.declared.line.Line.{Line}
 use Rattle.report_text.specs.declared.line.Top.{Top}
@@ -30,6 +30,7 @@ use Rattle.function_top.specs.declared.found.Exact.TheVariants.{Made, Unasked, U
 use Rattle.function_top.specs.declared.found.Found.{Found}
 use Rattle.function_top.specs.Exact.{IsExact, IsExactTree}
 use Rattle.function_top.specs.Found.{IsExactPart, IsFound, IsTrueTree, claim_found}
+use Rattle.function_top.specs.Known.{KnownLines, OpenAsLines}
 use Rattle.command_words.specs.Order.{Task}
 use Rattle.function_top.specs.Refusals.{fault_line, usage_line}
 use Rattle.function_top.specs.Shown.{Shows, ShowsExact}
@@ -40,18 +41,8 @@ use Rattle.function_top.proofs.Conditions.{condition_met}
 use Rattle.function_top.proofs.ExactLines.{ranks_at}
 use Rattle.function_top.proofs.Once.{one_line}
 use Rattle.function_top.proofs.OnlyMet.{met_is_one}
-use Rattle.report_text.proofs.Frame.{Bytes, IsFree, IsSilent, Lacks, both_free, digits_free, free_lacks, says_nothing, tested}
+use Rattle.report_text.proofs.Frame.{Bytes, IsFree, IsSilent, both_free, digits_free, free_lacks, says_nothing, tested}
 use Rattle.function_top.proofs.Written.{EachWhole, Frames, Prints, one_good, report_holds, silent_frames}
-
--- what is known of the lines over the names
-pub record KnownLines (names : List Bytes) : Type 0 where
-  pub newline : (line : Bytes) (condition : List Affine) (claim : Claim) → Spells names line condition claim → Lacks line
-  pub one : (line : Bytes) (condition other : List Affine) (claim claim' : Claim) → Spells names line condition claim
-      → Spells names line other claim' → (condition ≡ other) × (claim ≡ claim')
-
--- a line that says anything opens as one
-abbrev pub OpenAsLines : Type 0
-OpenAsLines = (names : List Bytes) (line : Bytes) (condition : List Affine) (claim : Claim) → Spells names line condition claim → OpensAsLine line
 
 -- the lines of refused words and of faults say nothing
 pub usage_silent : IsSilent usage_line
@@ -118,7 +109,7 @@ module _ (subject : Subject) (opening : OpenAsLines) where
       → IsTrueOf subject (claim_found found input) input
   found_true task found finds input is_input =
       else_true found.claims input (eval (plan_of found.cover) input) (claim_by ordinal_claim (eval (plan_of found.ranked) input))
-      (finds.holds input is_input) (ordinal_true (plan_of found.ranked) finds.ends input is_input (eval (plan_of found.ranked) input) refl)
+      (finds.truth.holds input is_input) (ordinal_true (plan_of found.ranked) finds.truth.ends input is_input (eval (plan_of found.ranked) input) refl)
 
   module _ (known : KnownLines subject.names) where
     -- of lines of which each input meets exactly one each is true, where the claim of that one is
@@ -172,7 +163,7 @@ module _ (subject : Subject) (opening : OpenAsLines) where
         → IsReportText subject.names report text → EachWhole (SaysTrue subject) text
     report_true task found report text finds shows printed =
         report_holds (SaysTrue subject) frames subject.names known.newline report text
-        (part_lines_true task.formula task.delay found.exact report.header report.exact finds.exact shows.exact)
+        (part_lines_true task.formula task.delay found.exact report.header report.exact finds.exactness.part shows.exact)
         (λ head. all_of Printed (lines_under head report) (λ line member.
         line_true (λ input. claim_found found input) (report.proved ++ (report.ranked ++ report.unknown)) (one_line found report shows)
         (found_true task found finds) line (among report head line member)))

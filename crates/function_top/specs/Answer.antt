@@ -14,10 +14,10 @@ use Rattle.function_top.specs.Demo.{IsDemoDue}
 use Rattle.function_top.specs.Output.{IsDueOn, IsReport, IsWithinLimits}
 use Rattle.function_top.specs.Form.{Form}
 use Rattle.function_top.specs.Headline.{AnswerHeadline, Headline}
-use Rattle.command_words.specs.Order.{Accepted, Ask, Task, analysis, demo}
+use Rattle.command_words.specs.Order.{Accepted, Ask, Request, Task, analysis, demo}
 use Rattle.function_top.specs.Refusals.{usage_text}
 use Rattle.function_top.specs.Says.{Says}
-use Rattle.function_top.specs.Subject.{IsSubject, Subject}
+use Rattle.function_top.specs.Subject.{IsSubject, Subject, asked_names}
 use Rattle.function_top.specs.Text.{IsRead}
 
 -- the status where a write of what was due with this status failed: a report has one of its own
@@ -31,29 +31,21 @@ after_failing ReadFault = ReadFault
 after_failing WriteFault = WriteFault
 after_failing NoMemory = NoMemory
 
--- the bytes are those that are due, with this status, by what the words ask for on the text that was read without a fault
+-- These bytes are due by what is asked for, with this status, and each adviser is asked for them so many times: by an analysis, on the text that was read;
+-- by a demo program a summary, for which nothing is read.
+abbrev pub IsDueBy : Request → Call → Status → ℕ → List ℕ → Type 0
+IsDueBy (analysis task) call status turns bytes =
+    (text : List ℕ) × IsRead call.left text × IsDueOn task text status (length call.asked) turns bytes
+IsDueBy (demo number) call status turns bytes = (status ≡ AllInputs) × IsDemoDue number turns bytes
+
+-- the bytes are those that are due, with this status, by what the words ask for, and no read failed
 pub record WasDue (words : List (List ℕ)) (call : Call) (status : Status) (bytes : List ℕ) : Type 0 where
-  pub task : Task
-  pub asked : Ask words (analysis task)
-  pub text : List ℕ
-  pub read : IsRead call.left text
+  pub request : Request
+  pub asked : Ask words request
   pub faultless : call.read_faults_after ≡ call.read_faults
   pub turns : ℕ
-  pub due : IsDueOn task text status (length call.asked) turns bytes
+  pub due : IsDueBy request call status turns bytes
   pub rose : RoseBy (λ times. times) turns call.asked call.asked_after
-
--- the bytes are those that are due by the demo program that the words ask for, for which nothing was read
-pub record WasDemo (words : List (List ℕ)) (call : Call) (bytes : List ℕ) : Type 0 where
-  pub number : ℕ
-  pub asked : Ask words (demo number)
-  pub unread : call.read_faults_after ≡ call.read_faults
-  pub turns : ℕ
-  pub due : IsDemoDue number turns bytes
-  pub rose : RoseBy (λ times. times) turns call.asked call.asked_after
-
--- the bytes are those that are due, and they cover all inputs
-abbrev pub WasCovered : List (List ℕ) → Call → List ℕ → Type 0
-WasCovered words call bytes = WasDue words call AllInputs bytes ⊎ WasDemo words call bytes
 
 -- the bytes were written whole; or a write failed, and a front of them was written
 abbrev pub Writes : Call → List ℕ → Type 0
@@ -63,14 +55,14 @@ Writes call bytes = WritesOrFails call.taken call.taken_after call.write_faults 
 -- with it; where a write failed, a front of it. Words, the text of a program, of an input or of a formula that are refused got their line, or a front
 -- of it where a write failed. Behind a failed read, and where memory ran out, nothing was written.
 abbrev pub Answers : List (List ℕ) → Status → Call → Type 0
-Answers words AllInputs call = (bytes : List ℕ) × WasCovered words call bytes × Appends call.taken call.taken_after bytes
+Answers words AllInputs call = (bytes : List ℕ) × WasDue words call AllInputs bytes × Appends call.taken call.taken_after bytes
 Answers words SomeInputs call = (bytes : List ℕ) × WasDue words call SomeInputs bytes × Appends call.taken call.taken_after bytes
 Answers words Words call = ((¬ Accepted words) ⊎ WasDue words call Words usage_text) × Writes call usage_text
 Answers words Program call = (bytes : List ℕ) × WasDue words call Program bytes × Writes call bytes
 Answers words Formula call = (bytes : List ℕ) × WasDue words call Formula bytes × Writes call bytes
 Answers words ReadFault call = Rose call.read_faults call.read_faults_after × Keeps call.taken call.taken_after
 Answers words WriteFault call =
-    (bytes : List ℕ) × (WasCovered words call bytes ⊎ WasDue words call SomeInputs bytes)
+    (bytes : List ℕ) × (WasDue words call AllInputs bytes ⊎ WasDue words call SomeInputs bytes)
     × AppendsFront call.taken call.taken_after bytes × Rose call.write_faults call.write_faults_after
 Answers words NoMemory call = (call.read_faults_after ≡ call.read_faults) × Keeps call.taken call.taken_after
 
@@ -80,7 +72,7 @@ Answers words NoMemory call = (call.read_faults_after ≡ call.read_faults) × K
 abbrev pub IsComplete : List (List ℕ) → Status → Call → Type 0
 IsComplete words status call =
     (task : Task) (text : List ℕ) (subject : Subject) → Ask words (analysis task) → call.left ≡ Some text → IsSubject task text subject → IsWithinLimits text
-    → IsInputGiven subject.names task.input → operators (normal subject.formula) ≤ 256
+    → IsInputGiven (asked_names subject) task.input → operators (normal subject.formula) ≤ 256
     → ¬ Rose call.read_faults call.read_faults_after → ¬ Rose call.write_faults call.write_faults_after
     → (status ≡ AllInputs) ⊎ (status ≡ SomeInputs) ⊎ (status ≡ NoMemory)
 

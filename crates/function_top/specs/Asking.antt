@@ -1,14 +1,19 @@
--- The formula that is asked about, in normal form, or what is answered in its place; and the input that is asked for.
-use Rattle.std.specs.Prelude.{◌≡◌, ℕ, ◌≤◌, ◌⊎◌, List, Option, None, Some, ⊤}
+-- The formula that is asked about, in normal form, or what is answered in its place; the input that is asked for; and all that is asked of a program.
+use Rattle.std.specs.Prelude.{◌≡◌, ℕ, ◌≤◌, ◌⊎◌, List, Option, None, Some, length, ⊤}
 use Rattle.step_meaning.specs.Outcome.{Store}
 use Rattle.input_text.specs.Input.{IsInputText}
 use Rattle.ctl_formula.specs.Formulas.{Ctl, normal}
+use Rattle.ctl_formula.specs.Mirror.{ctl}
 use Rattle.normal_form.specs.Operators.{operators}
+use Rattle.normal_form.specs.Rows.{RowsAreOver}
+use Rattle.command_words.specs.Order.{Task, task_of}
 use Rattle.formula_parse.specs.declared.fault.FormulaFault.{FormulaFault}
 use Rattle.formula_parse.specs.Derives.{IsFormulaOf}
 use Rattle.formula_parse.specs.FaultOf.{IsFaultOf, IsNormalFault}
 use Rattle.formula_parse.specs.Laws.{IsMemory}
+use Rattle.function_top.specs.declared.question.Question.{Question}
 use Rattle.function_top.specs.Subject.{IsFormulaAsked}
+use Rattle.function_top.specs.Text.{IsGraphOf}
 
 -- over the names this is the normal form of the formula that is asked about, and has at most 256 operators
 pub record IsNormalAsked (names : List (List ℕ)) (asked : Option (List ℕ)) (f : Ctl) : Type 0 where
@@ -47,3 +52,12 @@ IsReadAs names None None = ⊤
 IsReadAs names (Some text) (Some input) = IsInputText names text input
 IsReadAs names None (Some input) = ⊥
 IsReadAs names (Some text) None = ⊥
+
+-- This is asked of the text by the task: of the program that it is, within the limits, about the normal form of a formula whose atoms are over its
+-- variables, and about the input that was read, if one is asked for.
+pub record IsQuestion (task : Task) (text : List ℕ) (question : Question) : Type 0 where
+  pub task_is : task_of question.query ≡ task
+  pub graph : IsGraphOf text question.graph
+  pub input : IsReadAs question.graph.names task.input question.input
+  pub formula : IsNormalAsked question.graph.names task.formula (ctl question.formula)
+  pub over : RowsAreOver (length question.graph.names) (ctl question.formula)

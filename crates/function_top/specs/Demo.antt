@@ -1,5 +1,5 @@
 -- What is due by a demo program: a summary of the report on it.
-use Rattle.std.specs.Prelude.{◌≡◌, ℕ, ◌+◌, ◌≤◌, false, List, [], ◌∷◌, ◌++◌, length, None, codes}
+use Rattle.std.specs.Prelude.{◌≡◌, ℕ, ◌+◌, false, List, [], ◌∷◌, ◌++◌, length, None, codes}
 use Rattle.ctl_formula.specs.Formulas.{af_exit}
 use Rattle.line_text.specs.Numeral.{numeral}
 use Rattle.report_text.specs.declared.report.Report.{Report}
@@ -35,7 +35,6 @@ pub record IsDemoDue (number turns : ℕ) (bytes : List ℕ) : Type 0 where
   pub found : Found
   pub finds : IsFound defaults (demo_subject number) found
   pub asked : turns ≡ found.turns
-  pub few : turns ≤ 8
   pub report : Report
   pub shows : Shows found report
   pub covers : report.unknown ≡ []

@@ -4,6 +4,7 @@ use Rattle.step_meaning.specs.Outcome.{Store}
 use Rattle.step_meaning.specs.Run.{IsInput, start}
 use Rattle.step_meaning.specs.Countdown.{IsCountdown}
 use Rattle.step_meaning.specs.Counts.{HasNoLoop}
+use Rattle.step_meaning.specs.Syntax.{Statements}
 use Rattle.linear_cons.specs.Functions.{constant_of}
 use Rattle.decision_tree.specs.declared.affine_rank.AffineRank.{AffineRank}
 use Rattle.decision_tree.specs.Evaluation.{eval}
@@ -75,25 +76,39 @@ pub record HasSmallMeasures (subject : Subject) : Type 0 where
   pub within : IsWithinMeasures subject.body (normal subject.formula)
   pub growth : ctl_growth subject.body (normal subject.formula) ≤ 2 ^ 60
 
--- Truth: what the trees claim is true, and where one of ordinal ranks makes a claim every run ends as it says; there is none where a formula is asked about or
--- the cover leaves no input open. Exactness: in a plain program without loops, whose numbers fit, and within its measures for the normal form,
--- no satisfied input is left without a claim; and where the growth is small too, the way of one of small numbers through the cover is found within
--- 128 bits. Strength: where the normal form of the formula is a whole `A[f U g]` the advisers are asked as long as a
--- leaf of the cover is undefined, eight times at most, and else never. Where it is `AF exit`, the cover of a countdown program has no undefined
--- leaf, and that of a program without loops is one leaf, which promises the most steps of a path; and where the factors in front of the loop are small,
--- the way of an input of small numbers through the cover is found within 128 bits.
-pub record IsFound (task : Task) (subject : Subject) (found : Found) : Type 0 where
-  pub exact : IsExactPart task.formula subject task.delay found.exact
+-- Truth: what the cover claims is true, and where the tree of ordinal ranks makes a claim every run ends as it says. That tree makes none where a formula is
+-- asked about, or the cover leaves no input open.
+pub record IsTrueFound (task : Task) (subject : Subject) (found : Found) : Type 0 where
   pub claims : found.claims ≡ claims_for (normal subject.formula)
   pub holds : IsTrueTree subject found.claims (plan_of found.cover)
   pub ends : BoundsEnds (length subject.names) subject.body (plan_of found.ranked)
   pub unranked : IsSome task.formula ⊎ IsWhole (plan_of found.cover) → plan_of found.ranked ≡ bottom
-  pub exactly : IsLoopless subject.body → IsWithinMeasures subject.body (normal subject.formula) → ClaimsExactly subject (plan_of found.cover)
-  pub narrow_ways : HasSmallMeasures subject → FindsInputs (length subject.names) subject.body subject.formula (plan_of found.cover)
-  pub countdown : normal subject.formula ≡ af_exit → IsCountdown subject.body → IsWhole (plan_of found.cover)
-  pub loopless : normal subject.formula ≡ af_exit → HasNoLoop subject.body
-      → rank_of (plan_of found.cover) ≡ Some (ranked (constant_of (pos (last_steps subject.body))))
-  pub ways : normal subject.formula ≡ af_exit → IsCountdown subject.body → HasSmallFactors subject.body → SmallWaysFit (plan_of found.cover)
-  pub few : found.turns ≤ 8
-  pub insists : IsAdvised (normal subject.formula) → IsWhole (plan_of found.cover) ⊎ (found.turns ≡ 8)
-  pub spares : ¬ IsAdvised (normal subject.formula) → found.turns ≡ 0
+
+-- Exactness: the exact part is exact. In a plain program without loops, whose numbers fit, and within its measures for the normal form, no satisfied input
+-- is left without a claim; and where the growth is small too, the way of one of small numbers through the cover is found within 128 bits.
+pub record IsExactFound (task : Task) (subject : Subject) (found : Found) : Type 0 where
+  pub part : IsExactPart task.formula subject task.delay found.exact
+  pub covers : IsLoopless subject.body → IsWithinMeasures subject.body (normal subject.formula) → ClaimsExactly subject (plan_of found.cover)
+  pub ways : HasSmallMeasures subject → FindsInputs (length subject.names) subject.body subject.formula (plan_of found.cover)
+
+-- Strength: where the formula in normal form is `AF exit`, the cover of a countdown program has no undefined leaf, and that of a program without loops is
+-- one leaf, which promises the most steps of a path; and where the factors in front of the loop are small, the way of an input of small numbers through
+-- the cover is found within 128 bits.
+pub record IsStrongCover (normal_form : Ctl) (body : Statements) (cover : Plan AffineRank) : Type 0 where
+  pub countdown : normal_form ≡ af_exit → IsCountdown body → IsWhole cover
+  pub loopless : normal_form ≡ af_exit → HasNoLoop body → rank_of cover ≡ Some (ranked (constant_of (pos (last_steps body))))
+  pub ways : normal_form ≡ af_exit → IsCountdown body → HasSmallFactors body → SmallWaysFit cover
+
+-- Advice: where the formula in normal form is a whole `A[f U g]` the advisers are asked as long as a leaf of the cover is undefined, eight times at most, and
+-- else never.
+pub record IsAdvisedFor (normal_form : Ctl) (cover : Plan AffineRank) (turns : ℕ) : Type 0 where
+  pub few : turns ≤ 8
+  pub insists : IsAdvised normal_form → IsWhole cover ⊎ (turns ≡ 8)
+  pub spares : ¬ IsAdvised normal_form → turns ≡ 0
+
+-- all that is said of what was found
+pub record IsFound (task : Task) (subject : Subject) (found : Found) : Type 0 where
+  pub truth : IsTrueFound task subject found
+  pub exactness : IsExactFound task subject found
+  pub strength : IsStrongCover (normal subject.formula) subject.body (plan_of found.cover)
+  pub advice : IsAdvisedFor (normal subject.formula) (plan_of found.cover) found.turns

@@ -9,7 +9,7 @@ use Rattle.claim_line.specs.Tells.{Tells}
 use Rattle.input_text.specs.Input.{IsInputText}
 use Rattle.function_top.specs.Call.{Call}
 use Rattle.command_words.specs.Order.{Ask, Task, analysis}
-use Rattle.function_top.specs.Subject.{IsSubject, Subject}
+use Rattle.function_top.specs.Subject.{IsSubject, Subject, asked_names}
 use Rattle.function_top.specs.TrueLine.{IsTrueOf, TrueLine}
 
 -- whatever a whole line of the text says over the subject's names is true of the subject
@@ -36,5 +36,5 @@ IsTrueAnswer subject input text =
 abbrev pub AnswerHeadline : List (List ℕ) → Call → Type 0
 AnswerHeadline words call =
     (task : Task) (text before written asked : List ℕ) (subject : Subject) (input : Store) → Ask words (analysis task) → call.left ≡ Some text
-    → IsSubject task text subject → task.input ≡ Some asked → IsInputText subject.names asked input
+    → IsSubject task text subject → task.input ≡ Some asked → IsInputText (asked_names subject) asked input
     → call.taken ≡ Some before → call.taken_after ≡ Some (before ++ written) → IsTrueAnswer subject input written

@@ -14,6 +14,7 @@ pub mod OneInput
 pub mod Output
 pub mod Demo
 pub mod Form
+pub mod Known
 pub mod Meeting
 pub mod Says
 pub mod Answer

@@ -15,7 +15,7 @@ use Rattle.function_top.specs.Exact.{HasSmallLevels}
 use Rattle.function_top.specs.Found.{HasSmallMeasures}
 use Rattle.function_top.specs.Meeting.{AreMetOnce, CountsExactly, ProvesExactly, TellsExactly}
 use Rattle.command_words.specs.Order.{Task}
-use Rattle.function_top.specs.Subject.{Subject}
+use Rattle.function_top.specs.Subject.{Subject, asked_names}
 
 -- The bytes of a report on the subject by the task, or of what is told of one input, say all this with their status. Of a report each input meets one
 -- line, and its exact lines are met by the runs that they count; of a plain program without loops, and a formula whose normal form is within its
@@ -28,9 +28,9 @@ pub record Says (task : Task) (subject : Subject) (status : Status) (bytes : Lis
   pub lines : task.input ≡ None → AreMetOnce subject.names bytes
   pub counts : task.input ≡ None → CountsExactly subject bytes
   pub proves : task.input ≡ None → IsLoopless subject.body → IsWithinMeasures subject.body (normal subject.formula) → ProvesExactly subject bytes
-  pub exactly : (asked : List ℕ) (input : Store) → task.input ≡ Some asked → IsInputText subject.names asked input → task.formula ≡ None
+  pub exactly : (asked : List ℕ) (input : Store) → task.input ≡ Some asked → IsInputText (asked_names subject) asked input → task.formula ≡ None
       → HasSmallLevels subject.body task.delay → TellsExactly subject task.delay input bytes
-  pub satisfied : (asked : List ℕ) (input : Store) → task.input ≡ Some asked → IsInputText subject.names asked input → HasSmallMeasures subject
+  pub satisfied : (asked : List ℕ) (input : Store) → task.input ≡ Some asked → IsInputText (asked_names subject) asked input → HasSmallMeasures subject
       → (status ≡ AllInputs) ↔ Sat subject.formula (start subject.body input)
   pub countdowns : (task.input ≡ None) ⊎ HasSmallFactors subject.body → normal subject.formula ≡ af_exit → IsCountdown subject.body
       → status ≢ SomeInputs

@@ -13,6 +13,10 @@ pub record Subject : Type 0 where
   pub body : Statements
   pub formula : Ctl
 
+-- the names that a formula and the text of an input may use: the program's own
+abbrev pub asked_names : Subject → List (List ℕ)
+asked_names subject = subject.names
+
 -- over the names the text, where one is asked about, is this formula; where none is, it is `AF exit`, that each run ends
 abbrev pub IsFormulaAsked : List (List ℕ) → Option (List ℕ) → Ctl → Type 0
 IsFormulaAsked names None formula = formula ≡ af_exit
@@ -21,7 +25,7 @@ IsFormulaAsked names (Some text) formula = IsFormulaOf text names formula
 -- of a text the program is analysed that it is, with the formula that is asked about
 pub record IsSubject (task : Task) (text : List ℕ) (subject : Subject) : Type 0 where
   pub program : IsProgramText text subject.names subject.body
-  pub formula : IsFormulaAsked subject.names task.formula subject.formula
+  pub formula : IsFormulaAsked (asked_names subject) task.formula subject.formula
 
 -- What follows has no part in the headline.
 

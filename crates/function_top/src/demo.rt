@@ -1,15 +1,16 @@
 //! The analysis of a demo program, and its summary.
 
-ghost use Rattle.std.specs.Prelude.{◌≡◌, ◌≤◌, ◌++◌, ◌∷◌, ◌^◌, ◌+◌, ℕ, [], All, IfOk, OnOk, length};
+ghost use Rattle.std.specs.Prelude.{◌≡◌, ◌≤◌, ◌++◌, ◌∷◌, ◌^◌, ◌+◌, [], All, IfOk, OnOk, length};
 ghost use Rattle.step_meaning.specs.Syntax.{statements};
 ghost use Rattle.line_text.specs.Numeral.{numeral};
 ghost use Rattle.report_text.specs.Printed.{ended_lines};
-ghost use Rattle.ctl_rounds.specs.Asked.{RoseBy};
+ghost use Rattle.ctl_rounds.specs.Asked.{AreAskedAlike};
 ghost use Rattle.demo_program.specs.Demo.{demo_body, demo_names, demo_text};
 ghost use Rattle.function_top.specs.Demo.{IsDemoDue, summary_lines};
 
 use crate::finding::find;
 use crate::output::Output;
+use crate::question::graph_of;
 use crate::report::shown;
 use crate::status::Status;
 use advice::Adviser;
@@ -24,7 +25,7 @@ use demo_program::laws::{
 use interval_dom::Boxes;
 use line_text::push_numeral;
 use report_text::Report;
-use source_parse::{a_text_is_one_program, parse};
+use source_parse::a_text_is_one_program;
 use std::alloc::{AllocError, Global};
 
 /// What is asked of an analysis where nothing is chosen.
@@ -47,18 +48,14 @@ pub(crate) fn demo(
     requires patient { All (λ adviser. asked_of adviser ≤ 2 ^ 32) advisers.old.items }
     ensures due { IfOk result (λ due. IsDemoDue number due.turns due.bytes.items) }
     ensures status { IfOk result (λ due. due.status ≡ Status.AllInputs) }
-    ensures asked { (times : ℕ) × (times ≤ 8) × RoseBy (λ adviser. asked_of adviser) times advisers.old.items advisers.new.items
-        × IfOk result (λ due. due.turns ≡ times) }
+    ensures asked { AreAskedAlike (λ adviser. asked_of adviser) advisers.old.items advisers.new.items (λ times. IfOk result (λ due. due.turns ≡ times)) }
 {
     demo_texts_are_programs();
     demo_texts_are_short();
     a_text_is_one_program();
     let text = demo_text(alloc, number)?;
     // by the laws the text is a program within the limits, so that nothing but memory can be wanting
-    let Ok(program) = parse(alloc, &text) else {
-        return Err(AllocError);
-    };
-    let Ok(graph) = Graph::of(alloc, program) else {
+    let Ok(graph) = graph_of(alloc, &text) else {
         return Err(AllocError);
     };
     summarised(alloc, number, text.len(), &graph, advisers)
@@ -79,8 +76,7 @@ fn summarised(
     requires patient { All (λ adviser. asked_of adviser ≤ 2 ^ 32) advisers.old.items }
     ensures due { IfOk result (λ due. IsDemoDue number due.turns due.bytes.items) }
     ensures status { IfOk result (λ due. due.status ≡ Status.AllInputs) }
-    ensures asked { (times : ℕ) × (times ≤ 8) × RoseBy (λ adviser. asked_of adviser) times advisers.old.items advisers.new.items
-        × IfOk result (λ due. due.turns ≡ times) }
+    ensures asked { AreAskedAlike (λ adviser. asked_of adviser) advisers.old.items advisers.new.items (λ times. IfOk result (λ due. due.turns ≡ times)) }
 {
     demo_programs_count_down();
     demo_programs_have_few_labels();

@@ -1,28 +1,21 @@
 //! From a program and a formula to what is found of them.
 
-ghost use Rattle.std.specs.Prelude.{◌≡◌, ◌≤◌, ◌^◌, ◌⊎◌, ◌↔◌, ℕ, Bool, All, IfOk, IsSome, IsTrue, Some, length, pos};
-ghost use Rattle.step_meaning.specs.Countdown.{IsCountdown};
-ghost use Rattle.step_meaning.specs.Counts.{HasNoLoop};
+ghost use Rattle.std.specs.Prelude.{◌≡◌, ◌≤◌, ◌^◌, ◌⊎◌, ◌↔◌, Bool, All, IfOk, IsSome, IsTrue, Some, length};
 ghost use Rattle.step_meaning.specs.Syntax.{statements};
-ghost use Rattle.linear_cons.specs.Functions.{constant_of};
-ghost use Rattle.count_down.specs.Candidates.{last_steps};
-ghost use Rattle.count_down.specs.Trees.{ranked};
-ghost use Rattle.ctl_formula.specs.Formulas.{Ctl, af_exit, normal, until};
+ghost use Rattle.ctl_formula.specs.Formulas.{Ctl, normal, until};
 ghost use Rattle.ctl_formula.specs.Mirror.{ctl};
 ghost use Rattle.decision_tree.specs.Extent.{IsWhole};
-ghost use Rattle.decision_tree.specs.Plans.{bottom, plan_of, rank_of};
+ghost use Rattle.decision_tree.specs.Plans.{bottom, plan_of};
 ghost use Rattle.control_flow.specs.Invariants.{AreInvariants};
 ghost use Rattle.ordinal_rank.specs.Families.{BoundsEnds, IsFit};
-ghost use Rattle.fitting_ways.specs.Factors.{HasSmallFactors};
-ghost use Rattle.fitting_ways.specs.Ways.{SmallWaysFit};
-ghost use Rattle.ctl_rounds.specs.Asked.{IsAdvised, RoseBy};
+ghost use Rattle.ctl_rounds.specs.Asked.{AreAskedAlike};
 ghost use Rattle.normal_form.specs.Operators.{HasNoNegation};
 ghost use Rattle.normal_form.specs.Rows.{RowsAreOver};
 ghost use Rattle.exact_families.specs.Completeness.{IsLoopless};
 ghost use Rattle.formula_measures.specs.Measures.{ctl_growth};
 ghost use Rattle.ctl_rounds.specs.Bounds.{CoversInputs, FindsInputs, SatisfiesInputs, SatisfiesWithin};
 ghost use Rattle.ctl_rounds.specs.Families.{IsWithin};
-ghost use Rattle.function_top.specs.Found.{IsExactPart, IsFound, claims_for};
+ghost use Rattle.function_top.specs.Found.{IsAdvisedFor, IsExactPart, IsFound, IsStrongCover, claims_for};
 ghost use Rattle.command_words.specs.Order.{task_of};
 ghost use Rattle.function_top.specs.Printable.{IsExactPrintable, IsFoundPrintable, IsPrintable};
 ghost use Rattle.function_top.specs.Subject.{subject_of};
@@ -57,8 +50,7 @@ pub(crate) fn find<D: NumDomain>(
     ensures finds { IfOk result (λ found. (meant : Ctl) → ctl formula.now ≡ normal meant
         → IsFound (task_of query.now) (subject_of graph.now meant) found) }
     ensures printable { IfOk result (λ found. IsFoundPrintable (length graph.now.names) found) }
-    ensures asked { (times : ℕ) × (times ≤ 8) × RoseBy (λ adviser. asked_of adviser) times advisers.old.items advisers.new.items
-        × IfOk result (λ found. found.turns ≡ times) }
+    ensures asked { AreAskedAlike (λ adviser. asked_of adviser) advisers.old.items advisers.new.items (λ times. IfOk result (λ found. found.turns ≡ times)) }
 {
     normal_forms_mean_the_same();
     let exact = exact_part(alloc, query, graph)?;
@@ -119,15 +111,9 @@ fn covered<D: NumDomain>(
     ensures ends { IfOk result (λ covered. BoundsEnds (length graph.now.names) (statements graph.now.body) (plan_of covered.3)) }
     ensures fit { IfOk result (λ covered. IsFit (length graph.now.names) (plan_of covered.3)) }
     ensures unranked { IfOk result (λ covered. IsSome (task_of query.now).formula ⊎ IsWhole (plan_of covered.0) → plan_of covered.3 ≡ bottom) }
-    ensures asked { (times : ℕ) × (times ≤ 8) × RoseBy (λ adviser. asked_of adviser) times advisers.old.items advisers.new.items
-        × IfOk result (λ covered. covered.1 ≡ times) }
-    ensures insists { IsAdvised (ctl formula.now) → IfOk result (λ covered. IsWhole (plan_of covered.0) ⊎ (covered.1 ≡ 8)) }
-    ensures spares { ¬ IsAdvised (ctl formula.now) → IfOk result (λ covered. covered.1 ≡ 0) }
-    ensures countdown { ctl formula.now ≡ af_exit → IsCountdown (statements graph.now.body) → IfOk result (λ covered. IsWhole (plan_of covered.0)) }
-    ensures loopless { ctl formula.now ≡ af_exit → HasNoLoop (statements graph.now.body) → IfOk result (λ covered.
-        rank_of (plan_of covered.0) ≡ Some (ranked (constant_of (pos (last_steps (statements graph.now.body)))))) }
-    ensures ways { ctl formula.now ≡ af_exit → IsCountdown (statements graph.now.body) → HasSmallFactors (statements graph.now.body)
-        → IfOk result (λ covered. SmallWaysFit (plan_of covered.0)) }
+    ensures asked { AreAskedAlike (λ adviser. asked_of adviser) advisers.old.items advisers.new.items (λ times. IfOk result (λ covered. covered.1 ≡ times)) }
+    ensures advised { IfOk result (λ covered. IsAdvisedFor (ctl formula.now) (plan_of covered.0) covered.1) }
+    ensures strong { IfOk result (λ covered. IsStrongCover (ctl formula.now) (statements graph.now.body) (plan_of covered.0)) }
 {
     let inv: Inv<D> = invariants(alloc, graph)?;
     let certificate = analyse(alloc, graph, &inv, formula, advisers, query.delay)?;

@@ -20,6 +20,12 @@ ghost use Rattle.function_top.specs.Found.{IsFound, claim_found};
 ghost use Rattle.command_words.specs.Order.{Task};
 ghost use Rattle.function_top.specs.Shown.{Shows};
 ghost use Rattle.function_top.specs.Subject.{Subject};
+ghost use Rattle.function_top.specs.Known.{KnownTexts};
+
+use claim_line::laws::{a_line_tells_at_most_one_claim, claims_have_their_own_form};
+use formula_parse::a_text_is_one_formula;
+use line_text::laws::{a_line_spells_at_most_one_claim, lines_have_their_own_form};
+use source_parse::{a_text_is_one_program, names_are_distinct, names_are_spelled_as_names};
 
 /// A law: each input of a program meets exactly one line of the sections of its report below the exact part, which claims what the trees that were found
 /// do.
@@ -49,3 +55,17 @@ pub fn proved_lines_are_met_by_satisfied_inputs()
         → IsLoopless subject.body → IsWithinMeasures subject.body (normal subject.formula) → (input : Store) → IsInput (length subject.names) input
         → MeetsSomeLine input report.proved ↔ Sat subject.formula (start subject.body input) }
 {}
+
+/// A law: what is known of the texts of programs, of formulas and of lines.
+pub(crate) fn texts_are_known()
+    ensures { KnownTexts }
+{
+    a_text_is_one_program();
+    a_text_is_one_formula();
+    names_are_spelled_as_names();
+    names_are_distinct();
+    lines_have_their_own_form();
+    a_line_spells_at_most_one_claim();
+    a_line_tells_at_most_one_claim();
+    claims_have_their_own_form();
+}

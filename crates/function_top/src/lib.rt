@@ -13,6 +13,7 @@ mod input;
 mod laws;
 mod one_input;
 mod output;
+mod question;
 mod report;
 mod status;
 mod top;

@@ -5,7 +5,7 @@ ghost use Rattle.std.specs.Io.KnownBytes.{Appends};
 ghost use Rattle.outside.specs.Faults.{Rose};
 ghost use Rattle.outside.specs.Sink.{AppendsFront};
 ghost use Rattle.outside.specs.Source.{ConsumesUpTo};
-ghost use Rattle.ctl_rounds.specs.Asked.{RoseBy};
+ghost use Rattle.ctl_rounds.specs.Asked.{AreAskedAlike, RoseBy};
 ghost use Rattle.command_words.specs.Order.{Ask, Task, analysis, task_of};
 ghost use Rattle.function_top.specs.Answer.{IsRun, after_failing};
 ghost use Rattle.function_top.specs.Output.{IsDueOn};
@@ -13,16 +13,13 @@ ghost use Rattle.function_top.specs.Text.{IsRead};
 
 use crate::answer::{report_on, too_long};
 use crate::demo::demo;
+use crate::laws::texts_are_known;
 use crate::output::Output;
 use crate::report::usage;
 use crate::status::Status;
 use advice::Adviser;
-use claim_line::laws::{a_line_tells_at_most_one_claim, claims_have_their_own_form};
 use command_words::{Order, Query, order_of};
-use formula_parse::a_text_is_one_formula;
-use line_text::laws::{a_line_spells_at_most_one_claim, lines_have_their_own_form};
 use outside::{ReadEnd, Sink, Source, read_program, write_all};
-use source_parse::{a_text_is_one_program, names_are_distinct, names_are_spelled_as_names};
 use std::alloc::{AllocError, Global};
 
 /// Does all that the program does: reads a program from the source, and writes the report on it to the sink.
@@ -61,14 +58,7 @@ pub fn run<S: Source, K: Sink>(
     ensures writes_never_fall { K.faults sink.old ≤ K.faults sink.new }
     ensures asked { (times : ℕ) × (times ≤ 8) × RoseBy (λ adviser. asked_of adviser) times advisers.old.items advisers.new.items }
 {
-    a_text_is_one_program();
-    a_text_is_one_formula();
-    names_are_spelled_as_names();
-    names_are_distinct();
-    lines_have_their_own_form();
-    a_line_spells_at_most_one_claim();
-    a_line_tells_at_most_one_claim();
-    claims_have_their_own_form();
+    texts_are_known();
     match order_of(alloc, words) {
         Ok(Some(Order::Analysis(query))) => match answer(alloc, &query, source, advisers) {
             Ok(Some(due)) => settle(sink, &due.bytes, due.status),
@@ -98,8 +88,8 @@ fn answer<S: Source>(
     ensures stops { ConsumesUpTo (65536 + 1) (S.left source.old) (S.left source.new) }
     ensures never_falls { S.faults source.old ≤ S.faults source.new }
     ensures stays { OnErr result (S.faults source.new ≡ S.faults source.old) }
-    ensures asked { (times : ℕ) × (times ≤ 8) × RoseBy (λ adviser. asked_of adviser) times advisers.old.items advisers.new.items
-        × IfOk result (λ outcome. IfSome outcome (λ due. due.turns ≡ times)) }
+    ensures asked { AreAskedAlike (λ adviser. asked_of adviser) advisers.old.items advisers.new.items
+        (λ times. IfOk result (λ outcome. IfSome outcome (λ due. due.turns ≡ times))) }
 {
     match read_program(alloc, source)? {
         ReadEnd::Text(text) => Ok(Some(report_on(alloc, query, &text, advisers)?)),

@@ -1,7 +1,8 @@
-use Rattle.std.proofs.Common.{inl}
-use Rattle.function_top.specs.Output.{no_program}
+use Rattle.std.proofs.Common.{inl, refl}
+use Rattle.function_top.specs.declared.question.Refusal.TheVariants as R
+use Rattle.function_top.specs.Output.{refused}
 use Rattle.function_top.proofs.answer.too_long.Goals as goal
 
 pub returns-clause-due : goal.returns-clause-due
 returns-clause-due c = λ task text advisers long.
-    no_program c.in_ok-line.ensures.status c.in_ok-line.ensures.unasked (inl record { long = long; line_is = c.in_ok-line.ensures.line })
+    refused (R.Program 14 65536) (inl record { long = long; number_is = refl; offset_is = refl }) c.in_ok-due.ensures.says c.in_ok-due.ensures.unasked

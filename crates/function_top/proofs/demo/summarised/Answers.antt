@@ -28,7 +28,6 @@ returns-clause-due g c =
       found = found;
       finds = finds;
       asked = refl;
-      few = finds.few;
       report = c.in_ok-report.report;
       shows = c.in_ok-report.ensures.shows;
       covers = covered defaults (demo_subject number) found c.in_ok-report.report finds c.in_ok-report.ensures.shows refl

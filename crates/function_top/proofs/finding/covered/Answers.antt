@@ -1,4 +1,4 @@
-use Rattle.std.proofs.Common.{◌≡◌, length, rules, refl, subst, arith}
+use Rattle.std.proofs.Common.{◌≡◌, ◌≤◌, length, rules, refl, subst, sym, arith}
 use Rattle.step_meaning.specs.Syntax.{statements}
 use Rattle.control_flow.specs.Labels.{all_labels}
 use Rattle.count_down.proofs.Leads.{all_weaken}
@@ -92,20 +92,21 @@ pub returns-clause-narrow_ways : goal.returns-clause-narrow_ways
 returns-clause-narrow_ways g c = λ loopless free within growth.
     c.in_ok-certificate.ensures.narrow_ways loopless free within growth (plan_of c.in_ok-cover.cover) (covers g c)
 
-pub returns-clause-countdown : goal.returns-clause-countdown
-returns-clause-countdown g c = λ ends counted. c.in_ok-certificate.ensures.countdown ends counted (plan_of c.in_ok-cover.cover) (covers g c)
-
-pub returns-clause-loopless : goal.returns-clause-loopless
-returns-clause-loopless g c = λ ends free. c.in_ok-certificate.ensures.loopless ends free (plan_of c.in_ok-cover.cover) (covers g c)
-
-pub returns-clause-ways : goal.returns-clause-ways
-returns-clause-ways g c = λ ends counted little. c.in_ok-certificate.ensures.ways ends counted little (plan_of c.in_ok-cover.cover) (covers g c)
-
 pub returns-clause-asked : goal.returns-clause-asked
 returns-clause-asked g c = c.in_ok-certificate.ensures.asked
 
-pub returns-clause-insists : goal.returns-clause-insists
-returns-clause-insists g c = λ advised. c.in_ok-certificate.ensures.turns advised (plan_of c.in_ok-cover.cover) (covers g c)
+pub returns-clause-strong : goal.returns-clause-strong
+returns-clause-strong g c =
+    let cover = plan_of c.in_ok-cover.cover in record {
+      countdown = λ ends counted. c.in_ok-certificate.ensures.countdown ends counted cover (covers g c);
+      loopless = λ ends free. c.in_ok-certificate.ensures.loopless ends free cover (covers g c);
+      ways = λ ends counted little. c.in_ok-certificate.ensures.ways ends counted little cover (covers g c);
+    }
 
-pub returns-clause-spares : goal.returns-clause-spares
-returns-clause-spares g c = c.in_ok-certificate.ensures.unadvised
+pub returns-clause-advised : goal.returns-clause-advised
+returns-clause-advised g c =
+    let asked = c.in_ok-certificate.ensures.asked in record {
+      few = subst (λ n. n ≤ 8) (sym asked.3) asked.1;
+      insists = λ advised. c.in_ok-certificate.ensures.turns advised (plan_of c.in_ok-cover.cover) (covers g c);
+      spares = c.in_ok-certificate.ensures.unadvised;
+    }

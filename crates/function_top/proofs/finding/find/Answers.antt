@@ -6,11 +6,10 @@ use Rattle.decision_tree.specs.Plans.{plan_of}
 use Rattle.normal_form.specs.Operators.{HasNoNegation}
 use Rattle.normal_form.proofs.NoNegation.{none_in_normal}
 use Rattle.formula_measures.specs.Measures.{IsWithinMeasures, ctl_growth}
-use Rattle.ctl_rounds.specs.Asked.{IsAdvised}
 use Rattle.ctl_rounds.specs.Bounds.{CoversInputs, SatisfiesInputs}
 use Rattle.ctl_rounds.proofs.Asking.{unasked}
 use Rattle.report_text.specs.declared.line.Top.TheVariants.{Exact as Counted}
-use Rattle.function_top.specs.Found.{IsTrueTree, claims_for}
+use Rattle.function_top.specs.Found.{IsAdvisedFor, IsStrongCover, IsTrueTree, claims_for}
 use Rattle.function_top.specs.Subject.{subject_of}
 use Rattle.function_top.proofs.Claiming.{claims_exactly, claims_true, no_exact_number}
 use Rattle.function_top.proofs.finding.find.Goals as goal
@@ -20,34 +19,32 @@ returns-in_err-exact-clause-asked g c = (0, omega (arith), unasked (λ a. (goal.
 
 pub returns-clause-finds : goal.returns-clause-finds
 returns-clause-finds g c = λ meant is.
-    let asked = c.in_ok-cover.ensures.asked in
     let subject = subject_of c.args.graph.now meant in
-    let f = ctl c.args.formula.now in
+    let cover = plan_of c.in_ok-cover.cover in
+    let own = c.in_ok-cover.ensures in
+    let mean_the_same = c.normal_forms_mean_the_same.ensures in
+    let free = subst HasNoNegation (sym is) (none_in_normal meant) in
     record {
-      exact = c.in_ok-exact.ensures.exact meant;
-      claims = c.claims_for.ensures ∙ ap claims_for is;
-      holds = subst (λ claims. IsTrueTree subject claims (plan_of c.in_ok-cover.cover)) (sym c.claims_for.ensures)
-          (claims_true c.normal_forms_mean_the_same.ensures subject (plan_of c.in_ok-cover.cover) f is c.in_ok-cover.ensures.satisfied
-          c.in_ok-cover.ensures.bounded);
-      ends = c.in_ok-cover.ensures.ends;
-      unranked = c.in_ok-cover.ensures.unranked;
-      exactly = λ loopless within.
-          claims_exactly c.normal_forms_mean_the_same.ensures subject (plan_of c.in_ok-cover.cover)
-          (subst (λ f. SatisfiesInputs (length subject.names) subject.body f (plan_of c.in_ok-cover.cover)) is c.in_ok-cover.ensures.satisfied)
-          (subst (λ f. CoversInputs (length subject.names) subject.body f (plan_of c.in_ok-cover.cover)) is
-          (c.in_ok-cover.ensures.narrow loopless (subst HasNoNegation (sym is) (none_in_normal meant))
-          (subst (IsWithinMeasures subject.body) (sym is) within, c.requires.over)));
-      narrow_ways = λ small input is_input numbers sat.
-          c.in_ok-cover.ensures.narrow_ways small.loopless (subst HasNoNegation (sym is) (none_in_normal meant))
-          (subst (IsWithinMeasures subject.body) (sym is) small.within, c.requires.over) (subst (λ f. ctl_growth subject.body f ≤ 2 ^ 60) (sym is) small.growth)
-          input is_input numbers
-          (subst (λ f. Sat f (start subject.body input)) (sym is) ((c.normal_forms_mean_the_same.ensures meant (start subject.body input)).1 sat));
-      countdown = λ ends counts. c.in_ok-cover.ensures.countdown (is ∙ ends) counts;
-      loopless = λ ends free. c.in_ok-cover.ensures.loopless (is ∙ ends) free;
-      ways = λ ends counts little. c.in_ok-cover.ensures.ways (is ∙ ends) counts little;
-      few = subst (λ n. n ≤ 8) (sym asked.3) asked.1;
-      insists = λ advised. c.in_ok-cover.ensures.insists (subst IsAdvised (sym is) advised);
-      spares = λ unadvised. c.in_ok-cover.ensures.spares (λ advised. unadvised (subst IsAdvised is advised));
+      truth = record {
+        claims = c.claims_for.ensures ∙ ap claims_for is;
+        holds = subst (λ claims. IsTrueTree subject claims cover) (sym c.claims_for.ensures)
+            (claims_true mean_the_same subject cover (ctl c.args.formula.now) is own.satisfied own.bounded);
+        ends = own.ends;
+        unranked = own.unranked;
+      };
+      exactness = record {
+        part = c.in_ok-exact.ensures.exact meant;
+        covers = λ loopless within.
+            claims_exactly mean_the_same subject cover (subst (λ f. SatisfiesInputs (length subject.names) subject.body f cover) is own.satisfied)
+            (subst (λ f. CoversInputs (length subject.names) subject.body f cover) is
+            (own.narrow loopless free (subst (IsWithinMeasures subject.body) (sym is) within, c.requires.over)));
+        ways = λ small input is_input numbers sat.
+            own.narrow_ways small.loopless free (subst (IsWithinMeasures subject.body) (sym is) small.within, c.requires.over)
+            (subst (λ f. ctl_growth subject.body f ≤ 2 ^ 60) (sym is) small.growth) input is_input numbers
+            (subst (λ f. Sat f (start subject.body input)) (sym is) ((mean_the_same meant (start subject.body input)).1 sat));
+      };
+      strength = subst (λ f. IsStrongCover f subject.body cover) is own.strong;
+      advice = subst (λ f. IsAdvisedFor f cover c.in_ok-cover.turns) is own.advised;
     }
 
 pub returns-clause-printable : goal.returns-clause-printable

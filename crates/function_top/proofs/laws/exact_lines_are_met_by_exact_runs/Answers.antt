@@ -6,6 +6,6 @@ use Rattle.function_top.proofs.laws.exact_lines_are_met_by_exact_runs.Goals as g
 
 pub returns : goal.returns
 returns c task subject found report finds shows tests stop tree is input is_input n =
-    let exact = made_exact task.formula subject task.delay found.exact tests stop tree finds.exact is in
+    let exact = made_exact task.formula subject task.delay found.exact tests stop tree finds.exactness.part is in
     let shown = subst (λ e. ShowsExact e report.header report.exact) is shows.exact in
     met_by_runs (length subject.names) subject.body tests (plan_of tree) exact.2 shown.1.0 report.exact shown.1.1 shown.1.2 input is_input n

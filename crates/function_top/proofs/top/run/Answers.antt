@@ -2,11 +2,11 @@ use Rattle.std.proofs.Common.{◌≡◌, ◌∙◌, ℕ, List, Some, length, map
 use Rattle.std.proofs.lemmas.List.{length-map}
 use Rattle.ctl_rounds.proofs.Asking.{unasked}
 use Rattle.ctl_rounds.specs.Asked.{RoseBy}
-use Rattle.command_words.specs.Order.{task_of}
+use Rattle.command_words.specs.Order.{analysis, demo, task_of}
+use Rattle.function_top.specs.declared.status.Status.TheVariants.{AllInputs}
 use Rattle.function_top.specs.Output.{IsDueOn}
-use Rattle.function_top.proofs.Headline.{keeps_itself, known_texts}
 use Rattle.function_top.proofs.Reading.{once, refused, served, shown}
-use Rattle.function_top.proofs.Running.{numbers_rose, run_demo, run_out, run_refused, run_settled, run_unread}
+use Rattle.function_top.proofs.Running.{keeps_itself, numbers_rose, run_out, run_refused, run_settled, run_unread}
 use Rattle.function_top.proofs.top.run.Goals as goal
 
 -- the words as texts
@@ -26,18 +26,23 @@ pub returns-in-Ok-Some-clause-run : goal.returns-in-Ok-Some-clause-run
 returns-in-Ok-Some-clause-run g c =
     let words = texts c.args.words.now in
     let order = c.in-Ok-Some-Analysis in
-    let asks = served words order.field-0 order.ensures order.query (order.field-0-is ∙ ap Some order.field-0-0-is) in
     let due = rw c.in-Ok-Some.field-0-is at c.in-Ok-Some.ensures.due in
     let asked = rw c.in-Ok-Some.field-0-is at c.in-Ok-Some.ensures.asked in
     let rose = subst (λ times. RoseBy (λ a. (goal.Adviser-dyn g (a.vtable, a.value)).asked_of a.value) times c.args.advisers.now.items c.answer.new.advisers.items) (sym asked.3) asked.2 in
-    run_settled words _ (known_texts c.a_text_is_one_program.ensures c.a_text_is_one_formula.ensures c.names_are_spelled_as_names.ensures c.names_are_distinct.ensures
-    c.lines_have_their_own_form.ensures.opening c.lines_have_their_own_form.ensures.newline c.a_line_spells_at_most_one_claim.ensures c.a_line_tells_at_most_one_claim.ensures
-    c.claims_have_their_own_form.ensures.newline c.claims_have_their_own_form.ensures.apart c.claims_have_their_own_form.ensures.colon)
-    (once words order.field-0 order.ensures) (task_of order.query, asks) c.in-Ok-Some.due.status c.settle.result due.0 c.in-Ok-Some.due.turns
-    c.in-Ok-Some.due.bytes.items due.1 due.2
-    (subst (λ (n : ℕ). IsDueOn (task_of order.query) due.0 c.in-Ok-Some.due.status n c.in-Ok-Some.due.turns c.in-Ok-Some.due.bytes.items)
-    (asked_length _ c.args.advisers.now.items) due.3)
-    (numbers_rose _ _ _ _ rose) (rw c.deref.ensures.value at c.settle.ensures.settles)
+    run_settled words _ c.texts_are_known.ensures (once words order.field-0 order.ensures) c.in-Ok-Some.due.status c.settle.result c.in-Ok-Some.due.bytes.items
+    (record {
+      request = analysis (task_of order.query);
+      asked = served words order.field-0 order.ensures order.query (order.field-0-is ∙ ap Some order.field-0-0-is);
+      faultless = due.2;
+      turns = c.in-Ok-Some.due.turns;
+      due = (
+        due.0,
+        due.1,
+        subst (λ (n : ℕ). IsDueOn (task_of order.query) due.0 c.in-Ok-Some.due.status n c.in-Ok-Some.due.turns c.in-Ok-Some.due.bytes.items)
+            (asked_length _ c.args.advisers.now.items) due.3,
+      );
+      rose = numbers_rose _ _ _ _ rose;
+    }) (rw c.deref.ensures.value at c.settle.ensures.settles)
 
 pub returns-in-Ok-Some-clause-unread : goal.returns-in-Ok-Some-clause-unread
 returns-in-Ok-Some-clause-unread g c = λ none.
@@ -48,12 +53,9 @@ pub returns-in-Ok-None-answer-clause-run : goal.returns-in-Ok-None-answer-clause
 returns-in-Ok-None-answer-clause-run g c =
     let words = texts c.args.words.now in
     let order = c.in-Ok-Some-Analysis in
-    let asks = served words order.field-0 order.ensures order.query (order.field-0-is ∙ ap Some order.field-0-0-is) in
     let rose = rw c.in-Ok-None-answer.field-0-is at c.in-Ok-None-answer.ensures.due in
-    run_unread words _ (known_texts c.a_text_is_one_program.ensures c.a_text_is_one_formula.ensures c.names_are_spelled_as_names.ensures c.names_are_distinct.ensures
-    c.lines_have_their_own_form.ensures.opening c.lines_have_their_own_form.ensures.newline c.a_line_spells_at_most_one_claim.ensures c.a_line_tells_at_most_one_claim.ensures
-    c.claims_have_their_own_form.ensures.newline c.claims_have_their_own_form.ensures.apart c.claims_have_their_own_form.ensures.colon)
-    (once words order.field-0 order.ensures) (task_of order.query, asks) refl (rose, keeps_itself _)
+    run_unread words _ (once words order.field-0 order.ensures) (task_of order.query)
+    (served words order.field-0 order.ensures order.query (order.field-0-is ∙ ap Some order.field-0-0-is)) refl (rose, keeps_itself _)
 
 pub returns-in-Ok-None-answer-clause-unread : goal.returns-in-Ok-None-answer-clause-unread
 returns-in-Ok-None-answer-clause-unread g c = λ none.
@@ -72,12 +74,18 @@ pub returns-in-Ok-clause-run : goal.returns-in-Ok-clause-run
 returns-in-Ok-clause-run g c =
     let words = texts c.args.words.now in
     let order = c.in-Ok-Some-Demo in
-    let asks = shown words order.field-0 order.ensures order.number (order.field-0-is ∙ ap Some order.field-0-0-is) in
     let asked = c.in-Ok.ensures.asked in
     let rose = subst (λ times. RoseBy (λ a. (goal.Adviser-dyn g (a.vtable, a.value)).asked_of a.value) times c.args.advisers.now.items c.demo.new.advisers.items) (sym asked.3) asked.2 in
     let settled = rw c.deref-in-Ok.ensures.value at c.settle-in-Ok.ensures.settles in
-    run_demo words _ (once words order.field-0 order.ensures) order.number c.in-Ok.due.turns c.in-Ok.due.bytes.items c.settle-in-Ok.result asks refl
-    c.in-Ok.ensures.due (numbers_rose _ _ _ _ rose) (rw c.in-Ok.ensures.status at settled)
+    run_settled words _ c.texts_are_known.ensures (once words order.field-0 order.ensures) AllInputs c.settle-in-Ok.result c.in-Ok.due.bytes.items
+    (record {
+      request = demo order.number;
+      asked = shown words order.field-0 order.ensures order.number (order.field-0-is ∙ ap Some order.field-0-0-is);
+      faultless = refl;
+      turns = c.in-Ok.due.turns;
+      due = (refl, c.in-Ok.ensures.due);
+      rose = numbers_rose _ _ _ _ rose;
+    }) (rw c.in-Ok.ensures.status at settled)
 
 pub returns-in-Err-demo-clause-run : goal.returns-in-Err-demo-clause-run
 returns-in-Err-demo-clause-run g c = run_out (texts c.args.words.now) _ refl (refl, keeps_itself _)
