@@ -27,8 +27,8 @@ use Rattle.ctl_rounds.specs.Showing.{AreAt, all_of}
 use Rattle.ctl_rounds.proofs.Placing.{own_places}
 use Rattle.ctl_rounds.specs.Certified.{Certifies}
 use Rattle.ctl_rounds.specs.Covers.{Extends}
-use Rattle.ctl_rounds.specs.Finding.{AreFoundSoFar, IsSubject, IsTop}
-use Rattle.ctl_rounds.specs.declared.subject.Subject.{Subject}
+use Rattle.ctl_rounds.specs.Finding.{AreFoundSoFar, IsInquiry, IsTop}
+use Rattle.ctl_rounds.specs.declared.inquiry.Inquiry.{Inquiry}
 use Rattle.ctl_rounds.proofs.CoverLaws.{covers_more}
 
 -- a graph has fewer than 1,024 labels besides the end
@@ -51,37 +51,37 @@ pub unchanged : (at : Setting AffineRank) (old new : List (Plan AffineRank)) (dr
     → Eliminates affine_ranks at (trees_in old) drops (trees_in new) → (label : ℕ) → trees_in new label ≡ trees_in old label
 unchanged at old new drops none legal = subst (λ d. Eliminates affine_ranks at (trees_in old) d (trees_in new)) none legal
 
-module _ {D : Type 0} (domain : Domain D) (subject : Subject D) where
+module _ {D : Type 0} (domain : Domain D) (inquiry : Inquiry D) where
   abbrev body : Statements
-  body = statements subject.premises.now.graph.now.body
+  body = statements inquiry.premises.now.graph.now.body
 
   abbrev formula : Ctl
-  formula = ctl subject.formula.now
+  formula = ctl inquiry.formula.now
 
   abbrev told : Told
-  told = told_on domain subject.premises.now
+  told = told_on domain inquiry.premises.now
 
   abbrev Top : Family AffineRank → Type 0
-  Top family = IsTop domain subject family
+  Top family = IsTop domain inquiry family
 
   -- one more, with the cover that it makes
   pub added : (tops : List (Family AffineRank)) (family : Family AffineRank) (old new : Option (Plan AffineRank))
-      → AreFoundSoFar domain subject tops old → Top family → Extends old (trees_in family.trees (entry_of body)) new
-      → AreFoundSoFar domain subject (tops ++ family ∷ []) new
+      → AreFoundSoFar domain inquiry tops old → Top family → Extends old (trees_in family.trees (entry_of body)) new
+      → AreFoundSoFar domain inquiry (tops ++ family ∷ []) new
   added tops family old new found own last = record {
     families = All-push Top tops family found.families own;
     firsts = covers_more body family old new last None tops found.firsts;
   }
 
   -- what was found, over the families of the smaller parts in the order of their numbers
-  pub certified : IsSubject domain subject → (parts : List (Family AffineRank)) → parts ≡ all_of subject.smaller.now
-      → (tops : List (Family AffineRank)) (cover : Option (Plan AffineRank)) → AreFoundSoFar domain subject tops cover → 0 < length tops
-      → Certifies (length subject.premises.now.graph.now.names) body told formula parts tops
+  pub certified : IsInquiry domain inquiry → (parts : List (Family AffineRank)) → parts ≡ all_of inquiry.smaller.now
+      → (tops : List (Family AffineRank)) (cover : Option (Plan AffineRank)) → AreFoundSoFar domain inquiry tops cover → 0 < length tops
+      → Certifies (length inquiry.premises.now.graph.now.names) body told formula parts tops
   certified is parts are tops cover found some =
       let families : ℕ → Trees AffineRank = families_of parts in
       let smaller = is.smaller in
-      let at : AreAt families 0 (all_of subject.smaller.now) = subst (AreAt families 0) are (own_places parts) in
-      let operands : families_of subject.smaller.now.operands.items ≡ operands_from families 0 formula = smaller.operands families at in
+      let at : AreAt families 0 (all_of inquiry.smaller.now) = subst (AreAt families 0) are (own_places parts) in
+      let operands : families_of inquiry.smaller.now.operands.items ≡ operands_from families 0 formula = smaller.operands families at in
       let Shown : Family AffineRank → Type 0 = λ family. IsShown body told formula (operands_from families 0 formula) (trees_of family) in
       let each = smaller.each_part in record {
         some = some;
@@ -93,6 +93,6 @@ module _ {D : Type 0} (domain : Domain D) (subject : Subject D) where
         each_part = subst (λ list. length list ≡ number_from 0 formula) (sym are) (omega (arith, each));
         part_numbers = subst (AreNumberedFrom 0) (sym are) smaller.part_numbers;
         top_numbers = all_weaken Top (λ family. family.part ≡ number_from 0 formula) tops (λ family top. top.number ∙ smaller.number) found.families;
-        smaller = subst (All (IsFamilyFor (length subject.premises.now.graph.now.names) body)) (sym are) smaller.fit;
-        whole = all_weaken Top (IsFamilyFor (length subject.premises.now.graph.now.names) body) tops (λ family top. top.fits) found.families;
+        smaller = subst (All (IsFamilyFor (length inquiry.premises.now.graph.now.names) body)) (sym are) smaller.fit;
+        whole = all_weaken Top (IsFamilyFor (length inquiry.premises.now.graph.now.names) body) tops (λ family top. top.fits) found.families;
       }

@@ -15,29 +15,29 @@ use Rattle.exact_families.specs.Completeness.{IsLoopless}
 use Rattle.formula_measures.specs.Measures.{ctl_growth}
 use Rattle.ctl_rounds.specs.Families.{IsExact, IsNarrowFor, IsUncut, IsWithin}
 use Rattle.ctl_rounds.specs.Bounds.{CoversInputs, FindsInputs}
-use Rattle.ctl_rounds.specs.declared.subject.Subject.{Subject}
+use Rattle.ctl_rounds.specs.declared.inquiry.Inquiry.{Inquiry}
 
 -- the first of the families is such
 abbrev pub FirstIs : (Family AffineRank → Type 0) → List (Family AffineRank) → Type 0
 FirstIs IsSuch [] = ⊥
 FirstIs IsSuch (family ∷ more) = IsSuch family
 
-module _ {D : Type 0} (subject : Subject D) where
+module _ {D : Type 0} (inquiry : Inquiry D) where
   abbrev pub vars_of : ℕ
-  vars_of = length subject.premises.now.graph.now.names
+  vars_of = length inquiry.premises.now.graph.now.names
 
   abbrev pub body_of : Statements
-  body_of = statements subject.premises.now.graph.now.body
+  body_of = statements inquiry.premises.now.graph.now.body
 
   abbrev pub formula_of : Ctl
-  formula_of = ctl subject.formula.now
+  formula_of = ctl inquiry.formula.now
 
   -- In a plain program without loops the first family is defined wherever the formula holds: if no leaf of it or of the families of the smaller
   -- parts was given up, and where the formula is within the measures of the program.
   abbrev pub BeginsExactly : List (Family AffineRank) → Type 0
   BeginsExactly tops =
       IsLoopless body_of → HasNoNegation formula_of
-      → (All IsUncut (all_of subject.smaller.now) → FirstIs (IsExact body_of formula_of) tops)
+      → (All IsUncut (all_of inquiry.smaller.now) → FirstIs (IsExact body_of formula_of) tops)
       × (IsWithin vars_of body_of formula_of → FirstIs (IsNarrowFor vars_of body_of formula_of) tops)
 
   -- And the cover of the families is defined at each input from which it holds: if the first tree has at most 4,096 nodes, and within the measures. Where
@@ -45,24 +45,24 @@ module _ {D : Type 0} (subject : Subject D) where
   abbrev pub CoversExactly : List (Family AffineRank) → Option (Plan AffineRank) → Type 0
   CoversExactly tops cover =
       IsLoopless body_of → HasNoNegation formula_of
-      → (All IsUncut (all_of subject.smaller.now) → FirstIs (IsFitToBegin body_of) tops → CoversInputs vars_of body_of formula_of (claims_of cover))
+      → (All IsUncut (all_of inquiry.smaller.now) → FirstIs (IsFitToBegin body_of) tops → CoversInputs vars_of body_of formula_of (claims_of cover))
       × (IsWithin vars_of body_of formula_of → CoversInputs vars_of body_of formula_of (claims_of cover))
       × (IsWithin vars_of body_of formula_of → ctl_growth body_of formula_of ≤ 2 ^ 60 → FindsInputs vars_of body_of formula_of (claims_of cover))
 
-module _ {D : Type 0} (domain : Domain D) (subject : Subject D) where
+module _ {D : Type 0} (domain : Domain D) (inquiry : Inquiry D) where
   -- What is known of the program is so, and the families show the smaller parts of the formula, whose numbers begin with 0.
-  pub record IsSubject : Type 0 where
-    pub premises : ArePremises domain subject.premises.now
-    pub smaller : AreSmaller subject.premises.now.graph.now (told_on domain subject.premises.now) subject.premises.now.labels 0
-        (ctl subject.formula.now) subject.smaller.now
+  pub record IsInquiry : Type 0 where
+    pub premises : ArePremises domain inquiry.premises.now
+    pub smaller : AreSmaller inquiry.premises.now.graph.now (told_on domain inquiry.premises.now) inquiry.premises.now.labels 0
+        (ctl inquiry.formula.now) inquiry.smaller.now
 
   -- the family shows the whole formula over those of its operands
   abbrev pub IsTop : Family AffineRank → Type 0
   IsTop family =
-      Shows subject.premises.now.graph.now (told_on domain subject.premises.now) (ctl subject.formula.now) subject.smaller.now.number
-      subject.smaller.now.operands.items family
+      Shows inquiry.premises.now.graph.now (told_on domain inquiry.premises.now) (ctl inquiry.formula.now) inquiry.smaller.now.number
+      inquiry.smaller.now.operands.items family
 
   -- families of the whole formula, and the cover so far of what they say of inputs
   pub record AreFoundSoFar (tops : List (Family AffineRank)) (so_far : Option (Plan AffineRank)) : Type 0 where
     pub families : All IsTop tops
-    pub firsts : Covers None (at_entry (statements subject.premises.now.graph.now.body) tops) so_far
+    pub firsts : Covers None (at_entry (statements inquiry.premises.now.graph.now.body) tops) so_far

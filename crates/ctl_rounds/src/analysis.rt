@@ -1,5 +1,5 @@
 //! The analysis of a formula over a program.
-ghost use Rattle.std.specs.Prelude.{◌≡◌, ◌↔◌, ◌<◌, ◌≤◌, ◌⊎◌, ◌^◌, ◌++◌, ℕ, All, IfNone, IfOk, IfSome, IsTrue, None, Some, length, option_map, pos};
+ghost use Rattle.std.specs.Prelude.{◌≡◌, ◌↔◌, ◌<◌, ◌≤◌, ◌⊎◌, ◌^◌, ◌++◌, All, IfNone, IfOk, IfSome, IsTrue, None, Some, length, option_map, pos};
 ghost use Rattle.linear_cons.specs.Functions.{constant_of};
 ghost use Rattle.step_meaning.specs.Countdown.{IsCountdown};
 ghost use Rattle.step_meaning.specs.Counts.{HasNoLoop};
@@ -19,10 +19,10 @@ ghost use Rattle.fitting_ways.specs.Factors.{HasSmallFactors};
 ghost use Rattle.fitting_ways.specs.Ways.{SmallWaysFit};
 ghost use Rattle.ctl_rounds.specs.Knowing.{told_on};
 ghost use Rattle.ctl_rounds.specs.Showing.{all_of};
-ghost use Rattle.ctl_rounds.specs.Asked.{IsAdvised, RoseBy};
+ghost use Rattle.ctl_rounds.specs.Asked.{AreAskedAlike, IsAdvised};
 ghost use Rattle.ctl_rounds.specs.Certified.{Certifies};
 ghost use Rattle.ctl_rounds.specs.Covers.{Covers, IsCover, IsFitToBegin, at_entry, claims_of};
-ghost use Rattle.ctl_rounds.specs.Finding.{AreFoundSoFar, CoversExactly, FirstIs, IsSubject};
+ghost use Rattle.ctl_rounds.specs.Finding.{AreFoundSoFar, CoversExactly, FirstIs, IsInquiry};
 ghost use Rattle.ctl_rounds.specs.Bounds.{CoversInputs, FindsInputs};
 ghost use Rattle.ctl_rounds.specs.Families.{HasRowsWithin, IsUncut, IsWithin};
 ghost use Rattle.exact_families.specs.Completeness.{IsLoopless};
@@ -30,9 +30,9 @@ ghost use Rattle.formula_measures.specs.Measures.{ctl_growth};
 ghost use Rattle.normal_form.specs.Operators.{HasNoNegation};
 
 use crate::certificate::Certificate;
-use crate::found::Found;
+use crate::inquiry::Inquiry;
 use crate::premises::Premises;
-use crate::subject::Subject;
+use crate::tops::Tops;
 use advice::Adviser;
 use control_flow::Graph;
 use count_down::candidate;
@@ -92,8 +92,7 @@ pub fn analyse<D: NumDomain>(
     ensures turns { IsAdvised (ctl formula.now) → IfOk result (λ certificate. (cover : Plan AffineRank)
         → IsCover (statements graph.now.body) certificate.tops cover → IsWhole cover ⊎ (certificate.turns ≡ 8)) }
     ensures unadvised { (IsAdvised (ctl formula.now) → ⊥) → IfOk result (λ certificate. certificate.turns ≡ 0) }
-    ensures asked { (times : ℕ) × (times ≤ 8) × RoseBy (λ adviser. asked_of adviser) times advisers.old.items advisers.new.items
-        × IfOk result (λ certificate. certificate.turns ≡ times) }
+    ensures asked { AreAskedAlike (λ adviser. asked_of adviser) advisers.old.items advisers.new.items (λ times. IfOk result (λ certificate. certificate.turns ≡ times)) }
     ensures countdown { ctl formula.now ≡ af_exit → IsCountdown (statements graph.now.body) → IfOk result (λ certificate. (cover : Plan AffineRank)
         → IsCover (statements graph.now.body) certificate.tops cover → IsWhole cover) }
     ensures unasked { ctl formula.now ≡ af_exit → IsCountdown (statements graph.now.body) → IfOk result (λ certificate. certificate.turns ≡ 0) }
@@ -115,12 +114,12 @@ pub fn analyse<D: NumDomain>(
     };
     let mut search = Search::new(alloc);
     let smaller = premises.smaller_parts(&mut search, formula, 0)?;
-    let subject = Subject {
+    let inquiry = Inquiry {
         premises: &premises,
         formula,
         smaller: &smaller,
     };
-    let found = subject.found(&mut search, advisers)?;
+    let found = inquiry.found(&mut search, advisers)?;
     let parts = smaller.in_order()?;
     Ok(found.certificate(parts))
 }
@@ -130,14 +129,14 @@ pub fn synthesises(advisers: usize, delay: u32) -> bool {
     advisers > 0 && delay > 1
 }
 
-impl<'a, D: NumDomain> Subject<'a, D> {
+impl<'a, D: NumDomain> Inquiry<'a, D> {
     /// What is found by the candidate of a countdown program, and of any other program or formula by proposals.
     fn found(
         &self,
         search: &mut Search,
         advisers: &mut Vec<Box<dyn Adviser>>,
-    ) -> Result<Found, AllocError>
-        requires subject { IsSubject D.NumDomain.own self.now }
+    ) -> Result<Tops, AllocError>
+        requires inquiry { IsInquiry D.NumDomain.own self.now }
         requires patient { All (λ adviser. asked_of adviser ≤ 2 ^ 32) advisers.old.items }
         ensures certified { IfOk result (λ found. Certifies (length self.now.premises.now.graph.now.names)
             (statements self.now.premises.now.graph.now.body) (told_on D.NumDomain.own self.now.premises.now) (ctl self.now.formula.now)
@@ -152,8 +151,7 @@ impl<'a, D: NumDomain> Subject<'a, D> {
         ensures turns { IsAdvised (ctl self.now.formula.now) → IfOk result (λ found.
             IsWhole (claims_of (option_map plan_of found.cover)) ⊎ (found.turns ≡ 8)) }
         ensures unadvised { (IsAdvised (ctl self.now.formula.now) → ⊥) → IfOk result (λ found. found.turns ≡ 0) }
-        ensures asked { (times : ℕ) × (times ≤ 8) × RoseBy (λ adviser. asked_of adviser) times advisers.old.items advisers.new.items
-            × IfOk result (λ found. found.turns ≡ times) }
+        ensures asked { AreAskedAlike (λ adviser. asked_of adviser) advisers.old.items advisers.new.items (λ times. IfOk result (λ found. found.turns ≡ times)) }
         ensures countdown { ctl self.now.formula.now ≡ af_exit → IsCountdown (statements self.now.premises.now.graph.now.body)
             → IfOk result (λ found. IsWhole (claims_of (option_map plan_of found.cover))) }
         ensures unasked { ctl self.now.formula.now ≡ af_exit → IsCountdown (statements self.now.premises.now.graph.now.body)
@@ -173,7 +171,7 @@ impl<'a, D: NumDomain> Subject<'a, D> {
 
     /// The candidate of a countdown program where the formula is `AF exit`.
     fn candidate(&self) -> Result<Option<Family<AffineRank>>, AllocError>
-        requires subject { IsSubject D.NumDomain.own self.now }
+        requires inquiry { IsInquiry D.NumDomain.own self.now }
         ensures formula { IfOk result (λ found. IfSome found (λ family. ctl self.now.formula.now ≡ af_exit)) }
         ensures candidate { IfOk result (λ found. IfSome found (λ family.
             IsCandidate family.trees (statements self.now.premises.now.graph.now.body))) }
@@ -192,8 +190,8 @@ impl<'a, D: NumDomain> Subject<'a, D> {
     }
 
     /// What the check leaves of a candidate: all of it.
-    fn counted(&self, family: Family<AffineRank>) -> Result<Found, AllocError>
-        requires subject { IsSubject D.NumDomain.own self.now }
+    fn counted(&self, family: Family<AffineRank>) -> Result<Tops, AllocError>
+        requires inquiry { IsInquiry D.NumDomain.own self.now }
         requires formula { ctl self.now.formula.now ≡ af_exit }
         requires candidate { IsCandidate family.trees (statements self.now.premises.now.graph.now.body) }
         requires labels { length family.trees ≡ self.now.premises.now.labels }
@@ -216,7 +214,7 @@ impl<'a, D: NumDomain> Subject<'a, D> {
         let family = self
             .premises
             .checked(self.formula, self.smaller, family.trees)?;
-        let mut found = Found::none(self.premises.alloc);
+        let mut found = Tops::none(self.premises.alloc);
         self.keep(family, &mut found)?;
         Ok(found)
     }

@@ -14,16 +14,16 @@ mod analysis;
 mod certificate;
 mod covering;
 mod fitting;
-mod found;
 mod improving;
+mod inquiry;
 mod known;
 pub mod laws;
 mod premises;
 mod rounds;
 mod showing;
 mod smaller;
-mod subject;
 mod synthesis;
+mod tops;
 mod until_kind;
 
 pub use analysis::{analyse, synthesises};

@@ -1,17 +1,17 @@
 //! Turns of advice.
-ghost use Rattle.std.specs.Prelude.{◌≡◌, ◌↔◌, ◌<◌, ◌≤◌, ℕ, ◌^◌, ◌⊎◌, [], ◌∷◌, ◌++◌, All, IfOk, IfSome, IsTrue, OnOk, length, option_map};
+ghost use Rattle.std.specs.Prelude.{◌≡◌, ◌↔◌, ◌<◌, ◌≤◌, ◌^◌, ◌⊎◌, [], ◌∷◌, ◌++◌, All, IfOk, IfSome, IsTrue, OnOk, length, option_map};
 ghost use Rattle.ctl_formula.specs.Mirror.{ctl};
 ghost use Rattle.decision_tree.specs.Extent.{IsWhole};
 ghost use Rattle.decision_tree.specs.Plans.{plan_of};
-ghost use Rattle.ctl_rounds.specs.Asked.{IsAdvised, RoseBy};
+ghost use Rattle.ctl_rounds.specs.Asked.{AreAskedAlike, IsAdvised};
 ghost use Rattle.ctl_rounds.specs.Covers.{claims_of};
 ghost use Rattle.step_meaning.specs.Syntax.{statements};
 ghost use Rattle.exact_families.specs.Completeness.{IsLoopless};
-ghost use Rattle.ctl_rounds.specs.Finding.{AreFoundSoFar, BeginsExactly, IsSubject, IsTop};
+ghost use Rattle.ctl_rounds.specs.Finding.{AreFoundSoFar, BeginsExactly, IsInquiry, IsTop};
 
 use crate::covering::{extended, tree_at_entry};
-use crate::found::Found;
-use crate::subject::Subject;
+use crate::inquiry::Inquiry;
+use crate::tops::Tops;
 use advice::{Adviser, Hint, consult};
 use backward_sweeps::Operands;
 use ctl_formula::Formula;
@@ -25,15 +25,15 @@ use std::alloc::AllocError;
 /// The most turns of advice.
 const TURNS: u32 = 8;
 
-impl<'a, D: NumDomain> Subject<'a, D> {
+impl<'a, D: NumDomain> Inquiry<'a, D> {
     /// What is found by proposals: a family; for an `A[f U g]` those of turns of advice; and, where there are advisers and more than one sweep comes
     /// before widening, those of linear programs. The only error is want of memory.
     pub(crate) fn sought(
         &self,
         search: &mut Search,
         advisers: &mut Vec<Box<dyn Adviser>>,
-    ) -> Result<Found, AllocError>
-        requires subject { IsSubject D.NumDomain.own self.now }
+    ) -> Result<Tops, AllocError>
+        requires inquiry { IsInquiry D.NumDomain.own self.now }
         requires patient { All (λ adviser. asked_of adviser ≤ 2 ^ 32) advisers.old.items }
         ensures found { IfOk result (λ found. AreFoundSoFar D.NumDomain.own self.now found.tops.items (option_map plan_of found.cover)) }
         ensures some { IfOk result (λ found. 0 < length found.tops.items) }
@@ -42,8 +42,7 @@ impl<'a, D: NumDomain> Subject<'a, D> {
         ensures turns { IsAdvised (ctl self.now.formula.now) → IfOk result (λ found.
             IsWhole (claims_of (option_map plan_of found.cover)) ⊎ (found.turns ≡ 8)) }
         ensures unadvised { (IsAdvised (ctl self.now.formula.now) → ⊥) → IfOk result (λ found. found.turns ≡ 0) }
-        ensures asked { (times : ℕ) × (times ≤ 8) × RoseBy (λ adviser. asked_of adviser) times advisers.old.items advisers.new.items
-            × IfOk result (λ found. found.turns ≡ times) }
+        ensures asked { AreAskedAlike (λ adviser. asked_of adviser) advisers.old.items advisers.new.items (λ times. IfOk result (λ found. found.turns ≡ times)) }
     {
         let synthesises = self.premises.synthesises;
         let mut found = self.hinted(advisers)?;
@@ -54,8 +53,8 @@ impl<'a, D: NumDomain> Subject<'a, D> {
     }
 
     /// The same without linear programs.
-    fn hinted(&self, advisers: &mut Vec<Box<dyn Adviser>>) -> Result<Found, AllocError>
-        requires subject { IsSubject D.NumDomain.own self.now }
+    fn hinted(&self, advisers: &mut Vec<Box<dyn Adviser>>) -> Result<Tops, AllocError>
+        requires inquiry { IsInquiry D.NumDomain.own self.now }
         requires patient { All (λ adviser. asked_of adviser ≤ 2 ^ 32) advisers.old.items }
         ensures found { IfOk result (λ found. AreFoundSoFar D.NumDomain.own self.now found.tops.items (option_map plan_of found.cover)) }
         ensures some { IfOk result (λ found. 0 < length found.tops.items) }
@@ -64,8 +63,7 @@ impl<'a, D: NumDomain> Subject<'a, D> {
         ensures turns { IsAdvised (ctl self.now.formula.now) → IfOk result (λ found.
             IsWhole (claims_of (option_map plan_of found.cover)) ⊎ (found.turns ≡ 8)) }
         ensures unadvised { (IsAdvised (ctl self.now.formula.now) → ⊥) → IfOk result (λ found. found.turns ≡ 0) }
-        ensures asked { (times : ℕ) × (times ≤ 8) × RoseBy (λ adviser. asked_of adviser) times advisers.old.items advisers.new.items
-            × IfOk result (λ found. found.turns ≡ times) }
+        ensures asked { AreAskedAlike (λ adviser. asked_of adviser) advisers.old.items advisers.new.items (λ times. IfOk result (λ found. found.turns ≡ times)) }
     {
         if is_advised(self.formula) {
             Ok(self.advised(advisers)?)
@@ -76,8 +74,8 @@ impl<'a, D: NumDomain> Subject<'a, D> {
 
     /// What the check leaves of the trees that are proposed, and then, in at most eight turns as long as some input has no claim, of those
     /// that the advisers' hints propose. The only error is want of memory.
-    fn advised(&self, advisers: &mut Vec<Box<dyn Adviser>>) -> Result<Found, AllocError>
-        requires subject { IsSubject D.NumDomain.own self.now }
+    fn advised(&self, advisers: &mut Vec<Box<dyn Adviser>>) -> Result<Tops, AllocError>
+        requires inquiry { IsInquiry D.NumDomain.own self.now }
         requires formula { IsAdvised (ctl self.now.formula.now) }
         requires patient { All (λ adviser. asked_of adviser ≤ 2 ^ 32) advisers.old.items }
         ensures found { IfOk result (λ found. AreFoundSoFar D.NumDomain.own self.now found.tops.items (option_map plan_of found.cover)) }
@@ -85,8 +83,7 @@ impl<'a, D: NumDomain> Subject<'a, D> {
         ensures exact { IfOk result (λ found. BeginsExactly self.now found.tops.items) }
         ensures alone { IsLoopless (statements self.now.premises.now.graph.now.body) → IfOk result (λ found. length found.tops.items ≡ 1) }
         ensures turns { IfOk result (λ found. IsWhole (claims_of (option_map plan_of found.cover)) ⊎ (found.turns ≡ 8)) }
-        ensures asked { (times : ℕ) × (times ≤ 8) × RoseBy (λ adviser. asked_of adviser) times advisers.old.items advisers.new.items
-            × IfOk result (λ found. found.turns ≡ times) }
+        ensures asked { AreAskedAlike (λ adviser. asked_of adviser) advisers.old.items advisers.new.items (λ times. IfOk result (λ found. found.turns ≡ times)) }
     {
         let alloc = self.premises.alloc;
         let (keep, goal) = (&self.smaller.operands[0], &self.smaller.operands[1]);
@@ -107,7 +104,7 @@ impl<'a, D: NumDomain> Subject<'a, D> {
 
     /// What is seen of the program's loops.
     fn facts(&self) -> Result<Facts, AllocError>
-        requires subject { IsSubject D.NumDomain.own self.now }
+        requires inquiry { IsInquiry D.NumDomain.own self.now }
     {
         let premises = self.premises;
         let variables = premises.graph.program().names.items().len() as u32;
@@ -122,8 +119,8 @@ impl<'a, D: NumDomain> Subject<'a, D> {
     }
 
     /// What the check leaves of the trees that are proposed.
-    fn begun(&self) -> Result<Found, AllocError>
-        requires subject { IsSubject D.NumDomain.own self.now }
+    fn begun(&self) -> Result<Tops, AllocError>
+        requires inquiry { IsInquiry D.NumDomain.own self.now }
         ensures found { IfOk result (λ found. AreFoundSoFar D.NumDomain.own self.now found.tops.items (option_map plan_of found.cover)) }
         ensures some { IfOk result (λ found. 0 < length found.tops.items) }
         ensures exact { IfOk result (λ found. BeginsExactly self.now found.tops.items) }
@@ -131,7 +128,7 @@ impl<'a, D: NumDomain> Subject<'a, D> {
         ensures turns { IfOk result (λ found. found.turns ≡ 0) }
     {
         let first = self.premises.found(self.formula, self.smaller)?;
-        let mut found = Found::none(self.premises.alloc);
+        let mut found = Tops::none(self.premises.alloc);
         self.keep(first, &mut found)?;
         Ok(found)
     }
@@ -141,9 +138,9 @@ impl<'a, D: NumDomain> Subject<'a, D> {
         &self,
         operands: &Operands<'_>,
         hints: &[Hint],
-        found: &mut Found,
+        found: &mut Tops,
     ) -> Result<(), AllocError>
-        requires subject { IsSubject D.NumDomain.own self.now }
+        requires inquiry { IsInquiry D.NumDomain.own self.now }
         requires found { AreFoundSoFar D.NumDomain.own self.now found.old.tops.items (option_map plan_of found.old.cover) }
         ensures found { OnOk result (AreFoundSoFar D.NumDomain.own self.now found.new.tops.items (option_map plan_of found.new.cover)) }
         ensures some { 0 < length found.old.tops.items → OnOk result (0 < length found.new.tops.items) }
@@ -172,7 +169,7 @@ impl<'a, D: NumDomain> Subject<'a, D> {
         current: &Family<AffineRank>,
         hint: &Hint,
     ) -> Result<Option<Family<AffineRank>>, AllocError>
-        requires subject { IsSubject D.NumDomain.own self.now }
+        requires inquiry { IsInquiry D.NumDomain.own self.now }
         ensures { IfOk result (λ found. IfSome found (IsTop D.NumDomain.own self.now)) }
     {
         let Some(family) = self.left_of(operands, current, hint)? else {
@@ -195,7 +192,7 @@ impl<'a, D: NumDomain> Subject<'a, D> {
         current: &Family<AffineRank>,
         hint: &Hint,
     ) -> Result<Option<Family<AffineRank>>, AllocError>
-        requires subject { IsSubject D.NumDomain.own self.now }
+        requires inquiry { IsInquiry D.NumDomain.own self.now }
         ensures { IfOk result (λ found. IfSome found (IsTop D.NumDomain.own self.now)) }
     {
         let premises = self.premises;
@@ -220,9 +217,9 @@ impl<'a, D: NumDomain> Subject<'a, D> {
     pub(crate) fn keep(
         &self,
         family: Family<AffineRank>,
-        found: &mut Found,
+        found: &mut Tops,
     ) -> Result<(), AllocError>
-        requires subject { IsSubject D.NumDomain.own self.now }
+        requires inquiry { IsInquiry D.NumDomain.own self.now }
         requires family { IsTop D.NumDomain.own self.now family }
         requires found { AreFoundSoFar D.NumDomain.own self.now found.old.tops.items (option_map plan_of found.old.cover) }
         ensures found { OnOk result (AreFoundSoFar D.NumDomain.own self.now found.new.tops.items (option_map plan_of found.new.cover)) }

@@ -3,11 +3,11 @@ ghost use Rattle.std.specs.Prelude.{◌≡◌, ◌<◌, OnOk, length, option_map
 ghost use Rattle.decision_tree.specs.Plans.{plan_of};
 ghost use Rattle.step_meaning.specs.Syntax.{statements};
 ghost use Rattle.exact_families.specs.Completeness.{IsLoopless};
-ghost use Rattle.ctl_rounds.specs.Finding.{AreFoundSoFar, BeginsExactly, IsSubject, IsTop};
+ghost use Rattle.ctl_rounds.specs.Finding.{AreFoundSoFar, BeginsExactly, IsInquiry, IsTop};
 
 use crate::covering::{extended, tree_at_entry};
-use crate::found::Found;
-use crate::subject::Subject;
+use crate::inquiry::Inquiry;
+use crate::tops::Tops;
 use crate::until_kind::UntilKind;
 use decision_tree::{AffineRank, Family};
 use loop_moves::{Parting, Plan, Question, Search};
@@ -16,15 +16,11 @@ use part_trees::Claims;
 use rank_synthesis::Synthesis;
 use std::alloc::AllocError;
 
-impl<'a, D: NumDomain> Subject<'a, D> {
+impl<'a, D: NumDomain> Inquiry<'a, D> {
     /// Adds what the check leaves of families that linear programs propose for an until or a weak until of a program with loops, as long as some input
     /// has no claim. The only error is want of memory.
-    pub(crate) fn synthesise(
-        &self,
-        search: &mut Search,
-        found: &mut Found,
-    ) -> Result<(), AllocError>
-        requires subject { IsSubject D.NumDomain.own self.now }
+    pub(crate) fn synthesise(&self, search: &mut Search, found: &mut Tops) -> Result<(), AllocError>
+        requires inquiry { IsInquiry D.NumDomain.own self.now }
         requires found { AreFoundSoFar D.NumDomain.own self.now found.old.tops.items (option_map plan_of found.old.cover) }
         ensures found { OnOk result (AreFoundSoFar D.NumDomain.own self.now found.new.tops.items (option_map plan_of found.new.cover)) }
         ensures some { 0 < length found.old.tops.items → OnOk result (0 < length found.new.tops.items) }
@@ -63,9 +59,9 @@ impl<'a, D: NumDomain> Subject<'a, D> {
         &self,
         search: &mut Search,
         question: &Question<'_>,
-        found: &mut Found,
+        found: &mut Tops,
     ) -> Result<(), AllocError>
-        requires subject { IsSubject D.NumDomain.own self.now }
+        requires inquiry { IsInquiry D.NumDomain.own self.now }
         requires transitions { question.now.transitions.now ≡ self.now.premises.now.transitions.now }
         requires found { AreFoundSoFar D.NumDomain.own self.now found.old.tops.items (option_map plan_of found.old.cover) }
         ensures found { OnOk result (AreFoundSoFar D.NumDomain.own self.now found.new.tops.items (option_map plan_of found.new.cover)) }
@@ -89,9 +85,9 @@ impl<'a, D: NumDomain> Subject<'a, D> {
         question: &Question<'_>,
         synthesis: &mut Synthesis,
         parting: Parting,
-        found: &mut Found,
+        found: &mut Tops,
     ) -> Result<(), AllocError>
-        requires subject { IsSubject D.NumDomain.own self.now }
+        requires inquiry { IsInquiry D.NumDomain.own self.now }
         requires transitions { question.now.transitions.now ≡ self.now.premises.now.transitions.now }
         requires found { AreFoundSoFar D.NumDomain.own self.now found.old.tops.items (option_map plan_of found.old.cover) }
         ensures found { OnOk result (AreFoundSoFar D.NumDomain.own self.now found.new.tops.items (option_map plan_of found.new.cover)) }
@@ -111,9 +107,9 @@ impl<'a, D: NumDomain> Subject<'a, D> {
     fn keep_if_it_adds(
         &self,
         family: Family<AffineRank>,
-        found: &mut Found,
+        found: &mut Tops,
     ) -> Result<(), AllocError>
-        requires subject { IsSubject D.NumDomain.own self.now }
+        requires inquiry { IsInquiry D.NumDomain.own self.now }
         requires family { IsTop D.NumDomain.own self.now family }
         requires found { AreFoundSoFar D.NumDomain.own self.now found.old.tops.items (option_map plan_of found.old.cover) }
         ensures found { OnOk result (AreFoundSoFar D.NumDomain.own self.now found.new.tops.items (option_map plan_of found.new.cover)) }
@@ -128,8 +124,8 @@ impl<'a, D: NumDomain> Subject<'a, D> {
     }
 
     /// Whether the family says something of an input that has no claim yet.
-    fn adds(&self, family: &Family<AffineRank>, found: &Found) -> Result<bool, AllocError>
-        requires subject { IsSubject D.NumDomain.own self.now }
+    fn adds(&self, family: &Family<AffineRank>, found: &Tops) -> Result<bool, AllocError>
+        requires inquiry { IsInquiry D.NumDomain.own self.now }
         requires family { IsTop D.NumDomain.own self.now family.now }
     {
         let entry = tree_at_entry(self.premises.graph, family);

@@ -1,0 +1,14 @@
+//! What is analysed.
+
+use crate::premises::Premises;
+use crate::smaller::SmallerParts;
+use ctl_formula::Formula;
+use num_domain::NumDomain;
+
+/// A formula, what is known of the program that it is asked of, and families that show the formula's smaller parts.
+#[derive(Drop)]
+pub(crate) struct Inquiry<'a, D: NumDomain> {
+    pub(crate) premises: &'a Premises<'a, D>,
+    pub(crate) formula: &'a Formula,
+    pub(crate) smaller: &'a SmallerParts,
+}
