@@ -154,7 +154,8 @@ module _ {R : Type 0} (ranks : Ranks R) (at : Setting R) (label : ℕ) where
       record {
         each = λ k d later below.
             found_still elsewhere family refuted here (slice_index_or found k d)
-            (subst (λ (r : Refuted). (slice_index_or found k d).leaf ≢ r.leaf) (is d) (apart from k d (omega (arith, later)) below))
+            (subst (λ (r : Refuted). (slice_index_or found k d).leaf ≢ r.leaf) (is d)
+            (let less = apart from k d (omega (arith, later)) below in λ same. omega (arith, less, same)))
             (left.each k d (omega (arith, later)) below);
         others = λ told cleared place less aside.
             let inside : place < leaves_of (family label) = omega (arith, count, less) in

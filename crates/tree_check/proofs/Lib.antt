@@ -8,3 +8,4 @@ pub mod Sparing
 pub mod Reading
 pub mod Counting
 pub mod Doing
+pub mod Walked

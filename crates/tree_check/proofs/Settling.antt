@@ -48,7 +48,7 @@ module _ {R : Type 0} where
 
   -- ---- the list of the trees
 
-  plan_at : (trees : List (Tree R)) (label : ℕ) (tree : Tree R) → label < length trees → plan_of (get_or trees label tree) ≡ trees_in (map plan_of trees) label
+  pub plan_at : (trees : List (Tree R)) (label : ℕ) (tree : Tree R) → label < length trees → plan_of (get_or trees label tree) ≡ trees_in (map plan_of trees) label
   plan_at [] label tree low = absurd (omega arith)
   plan_at (first ∷ trees) zero tree low = refl
   plan_at (first ∷ trees) (suc label) tree low = plan_at trees label tree (omega (arith, low))

@@ -1,5 +1,5 @@
 -- The leaves of a label's tree, one after the other.
-use Rattle.std.proofs.Common.{◌≡◌, ◌≢◌, ◌⊎◌, ℕ, zero, suc, ◌+◌, ◌-◌, ◌<◌, ◌≤◌, inl, inr, Bool, true, false, nat_lt, List, [], ◌∷◌, ◌++◌, length, map, take, get_or, All, AllPairs, Option, None, refl, sym, ap, subst, ◌∙◌, arith}
+use Rattle.std.proofs.Common.{◌≡◌, ◌⊎◌, ℕ, zero, suc, ◌+◌, ◌-◌, ◌<◌, ◌≤◌, inl, inr, Bool, true, false, nat_lt, List, [], ◌∷◌, ◌++◌, length, map, take, get_or, All, AllPairs, Option, None, refl, sym, ap, subst, ◌∙◌, arith}
 use Rattle.std.proofs.lemmas.Bool.{cases_lt, le-ltb, lt-ltb}
 use Rattle.std.proofs.lemmas.List.{append_assoc, append-nil, length-append, nil_from_length}
 use Rattle.std.proofs.lemmas.List.Elements.{All-append, All-nil, All-tail, All-weaker}
@@ -73,10 +73,10 @@ pub not_beyond : {P : Type 0} (narrows : Bool) (within : List Formed) (path : Li
 not_beyond narrows within path whole (inl holds) = holds
 not_beyond narrows within path whole (inr beyond) = absurd (subst (λ t. IsBeyond t within path) whole beyond)
 
--- a leaf of the second side is another than one of the first
+-- a leaf of the second side comes behind one of the first
 further : (earlier later : Refuted) (passed mid count : ℕ) → mid ≡ passed + count → (near : ℕ) → earlier.leaf ≡ passed + near → near < count
-    → (far : ℕ) → later.leaf ≡ mid + far → later.leaf ≢ earlier.leaf
-further earlier later passed mid count counted near here low far there same = omega (arith, counted, here, low, there, same)
+    → (far : ℕ) → later.leaf ≡ mid + far → earlier.leaf < later.leaf
+further earlier later passed mid count counted near here low far there = omega (arith, counted, here, low, there)
 
 module _ {R : Type 0} (ranks : Ranks R) where
   module _ (at : Setting R) (family : Trees R) (label : ℕ) where
@@ -161,7 +161,7 @@ module _ {R : Type 0} (ranks : Ranks R) where
       more = [];
       listed = sym (append-nil old);
       each = All-nil (IsFoundWithin ranks at family label plan asks passed);
-      apart = no_pairs (λ earlier later. later.leaf ≢ earlier.leaf);
+      apart = no_pairs (λ earlier later. earlier.leaf < later.leaf);
       others = λ looks place low from aside. clear looks place low from;
     }
 
@@ -182,9 +182,9 @@ module _ {R : Type 0} (ranks : Ranks R) where
           listed = far.listed ∙ ap (λ front. front ++ far.more) near.listed ∙ append_assoc old near.more far.more;
           each = All-append Both near.more far.more (All-weaker Near Both (within_first row this that asks passed) near.more near.each)
               (All-weaker Far Both (within_second row this that asks passed mid count) far.more far.each);
-          apart = pairs_append (λ earlier later. later.leaf ≢ earlier.leaf) near.more far.more near.apart far.apart
-              (All-weaker Near (λ earlier. All (λ later. later.leaf ≢ earlier.leaf) far.more)
-              (λ earlier here. All-weaker Far (λ later. later.leaf ≢ earlier.leaf)
+          apart = pairs_append (λ earlier later. earlier.leaf < later.leaf) near.more far.more near.apart far.apart
+              (All-weaker Near (λ earlier. All (λ later. earlier.leaf < later.leaf) far.more)
+              (λ earlier here. All-weaker Far (λ later. earlier.leaf < later.leaf)
               (λ later there. further earlier later passed mid (leaves_of this) count here.0 here.1 here.2 there.0 there.1) far.more far.each)
               near.more near.each);
           others = λ looks place low from aside. elim (cases_lt place (leaves_of this)) [
@@ -228,7 +228,7 @@ module _ {R : Type 0} (ranks : Ranks R) where
           listed = is;
           each = all_one (IsFoundWithin ranks at family label (leaf why rank) asks passed) found
               (0, omega arith, omega arith, subst (λ all. Finds ranks (of_leaf at (leaf why rank) family label all) f) (sym (append-nil asks)) finds);
-          apart = no_two (λ earlier later. later.leaf ≢ earlier.leaf) found;
+          apart = no_two (λ earlier later. earlier.leaf < later.leaf) found;
           others = λ looks place low from aside.
               absurd (all_first (IsAside (passed + place)) found [] aside (let is : place ≡ 0 = omega (arith, low) in omega (arith, is)));
         }

@@ -26,9 +26,9 @@ IsBeyond true within path = IsMetNowhere (all_asked (within ++ map (λ a. given 
 abbrev pub IsAside : ℕ → Refuted → Type 0
 IsAside number refuted = refuted.leaf ≢ number
 
--- no two of the refuted leaves are the same leaf
+-- the refuted leaves are told apart by their numbers, each of which is greater than those before it
 abbrev pub AreApart : List Refuted → Type 0
-AreApart refuted = AllPairs (λ earlier later. later.leaf ≢ earlier.leaf) refuted
+AreApart refuted = AllPairs (λ earlier later. earlier.leaf < later.leaf) refuted
 
 module _ {R : Type 0} (ranks : Ranks R) (at : Setting R) (family : Trees R) (label : ℕ) where
   -- the systems of the leaf with the number, behind what is asked before the tree

@@ -5,6 +5,7 @@
 #![tactic(auto)]
 
 mod checking;
+mod giving;
 pub mod laws;
 mod narrow;
 mod rounds;

@@ -6,7 +6,6 @@ ghost use Rattle.ctl_formula.specs.Mirror.{ctl};
 ghost use Rattle.decision_tree.specs.Paths.{path_of};
 ghost use Rattle.decision_tree.specs.Plans.{leaves_of, plan_of};
 ghost use Rattle.tree_support.specs.declared.dropped.Dropped.{Dropped};
-ghost use Rattle.tree_support.specs.Elimination.{cause_of};
 ghost use Rattle.tree_support.specs.Setting.{trees_in};
 ghost use Rattle.tree_support.specs.Support.{IsSupported};
 ghost use Rattle.constraint_stack.specs.Searches.{WhereAsked};
@@ -15,12 +14,13 @@ ghost use Rattle.tree_check.specs.Rounds.{Advances, AreElsewhere, IsReady, IsSup
 ghost use Rattle.tree_check.specs.Surveys.{AreApart, IsFirst, IsFound, IsReviewed};
 ghost use Rattle.tree_check.specs.Telling.{AreCleared, AreTold, IsTold};
 
+use crate::giving::{Place, give_up_within};
 use crate::narrow::{add_path, sets};
 use crate::survey::{Refuted, Span, Survey};
-use constraint_stack::{ConstraintStack, Reason};
+use constraint_stack::ConstraintStack;
 use control_flow::{Choice, Edge, Graph, Transition};
 use ctl_formula::Formula;
-use decision_tree::{Cause, Family, Rank, Tree};
+use decision_tree::{Family, Rank, Tree};
 use forward_inv::Inv;
 use leaf_search::{Part, Stand, UNEDGED, Way};
 use linear_cons::Row;
@@ -454,15 +454,18 @@ impl<'a, D: NumDomain, R: Rank> Premises<'a, D, R> {
         requires found { All (λ refuted. IsFound R.Rank.own (setting_on D.NumDomain.own self.now) (trees_in (map plan_of trees.old)) label refuted)
             found.now }
         requires apart { AreApart found.now }
+        requires leaves { leaves_of (trees_in (map plan_of trees.old) label) < 2 ^ 64 - 1 }
         ensures advances { Advances R.Rank.own (setting_on D.NumDomain.own self.now) (map plan_of trees.old) drops.old.items
             (map plan_of trees.new) drops.new.items }
         ensures cleared { OnOk result ((told : Option Dropped)
             → AreCleared R.Rank.own (setting_on D.NumDomain.own self.now) (trees_in (map plan_of trees.old)) told label found.now
             → AreCleared R.Rank.own (setting_on D.NumDomain.own self.now) (trees_in (map plan_of trees.new)) told label []) }
     {
-        for refuted in found {
-            give_up(trees, label, refuted, drops)?;
+        if found.is_empty() {
+            return Ok(());
         }
+        let mut at = Place { passed: 0, next: 0 };
+        give_up_within(&mut trees[label as usize], label, found, &mut at, drops)?;
         Ok(())
     }
 
@@ -606,29 +609,7 @@ fn give_up<R: Rank>(
     ensures listed { OnErr result (drops.new.items ≡ drops.old.items) }
     ensures same { OnErr result (map plan_of trees.new ≡ map plan_of trees.old) }
 {
-    let finding = refuted.finding;
-    let dropped = Dropped {
-        label,
-        leaf: refuted.leaf,
-        edge: finding.edge,
-        reason: finding.reason,
-    };
-    drops.push(dropped)?;
-    let cause = cause(&finding.reason);
-    trees[label as usize].undefine(refuted.leaf, &cause);
+    drops.push(refuted.dropped(label))?;
+    trees[label as usize].undefine(refuted.leaf, &refuted.cause());
     Ok(())
-}
-
-/// The cause that a leaf given up for the reason has.
-fn cause(reason: &Reason) -> Cause
-    ensures { result ≡ cause_of reason.now }
-{
-    match reason {
-        Reason::Point { num, den } => Cause::Point {
-            num: *num,
-            den: *den,
-        },
-        Reason::Wide(wide) => Cause::Wide(*wide),
-        Reason::Rows { count } => Cause::Rows { count: *count },
-    }
 }

@@ -2,25 +2,56 @@
 ghost use Rattle.std.specs.Prelude.{◌≡◌, List, ◌+◌, ◌-◌, ◌^◌, ◌<◌, ◌≤◌, ◌++◌, ◌∷◌, [], true, false, IfOk, OnOk, map};
 ghost use Rattle.decision_tree.specs.Plans.{leaf, leaves_of, plan_of};
 ghost use Rattle.constraint_stack.specs.Forming.{Formed, given};
+ghost use Rattle.tree_support.specs.Elimination.{cause_of};
 ghost use Rattle.tree_support.specs.Setting.{trees_in};
 ghost use Rattle.constraint_stack.specs.Stacks.{IsMetNowhere, all_asked};
 ghost use Rattle.leaf_search.specs.Ahead.{IsAhead};
 ghost use Rattle.leaf_search.specs.Leaves.{WhereStood};
 ghost use Rattle.constraint_stack.specs.Searches.{Holds, IsLonger, IsSame, WhereAsked};
+ghost use Rattle.tree_check.specs.Rounds.{dropped_by};
 ghost use Rattle.tree_check.specs.Surveys.{IsReviewed, IsSurveyed, LooksOn};
 ghost use Rattle.leaf_search.specs.Walks.{side_of};
 
-use constraint_stack::{ConstraintStack, Finding};
-use decision_tree::{Rank, Tree, Why};
+use constraint_stack::{ConstraintStack, Finding, Reason};
+use decision_tree::{Cause, Rank, Tree, Why};
 use leaf_search::{Ahead, Stand, UNEDGED, Way, add_rows};
 use linear_cons::Row;
 use std::alloc::{AllocError, Global};
+use tree_support::Dropped;
 
 /// A leaf, by its number at its label, and the reason against it.
 #[derive(Clone, Copy)]
 pub(crate) struct Refuted {
     pub(crate) leaf: u64,
     pub(crate) finding: Finding,
+}
+
+impl Refuted {
+    /// The leaf at the label, as it is listed once it is given up.
+    pub(crate) fn dropped(&self, label: u32) -> Dropped
+        ensures { result ≡ dropped_by label self.now }
+    {
+        Dropped {
+            label,
+            leaf: self.leaf,
+            edge: self.finding.edge,
+            reason: self.finding.reason,
+        }
+    }
+
+    /// The cause that the leaf has once it is given up.
+    pub(crate) fn cause(&self) -> Cause
+        ensures { result ≡ cause_of self.now.finding.reason }
+    {
+        match &self.finding.reason {
+            Reason::Point { num, den } => Cause::Point {
+                num: *num,
+                den: *den,
+            },
+            Reason::Wide(wide) => Cause::Wide(*wide),
+            Reason::Rows { count } => Cause::Rows { count: *count },
+        }
+    }
 }
 
 /// Which leaves a survey looks at: those from a number on, all of them or up to the first with a reason against it, and where it is
