@@ -9,7 +9,7 @@ use Rattle.decision_tree.specs.Equality.{same_plan}
 use Rattle.decision_tree.specs.Nodes.{node}
 use Rattle.decision_tree.specs.Plans.{Plan, bottom, branch, leaf, size_of, top}
 use Rattle.decision_tree.specs.Trend.{Trend, greatest_of}
-use Rattle.decision_tree.specs.declared.rank.Alternatives.{Alternatives}
+use Rattle.decision_tree.specs.Alternatives.{Alternatives}
 use Rattle.tree_unify.specs.Shapes.{on_side, trimmed}
 use Rattle.tree_unify.proofs.Meeting.{node_size}
 use Rattle.linear_cons.specs.declared.row.RowKind.{RowKind}

@@ -11,7 +11,7 @@ use Rattle.linear_cons.proofs.Forms.{value_constant, value_difference}
 use Rattle.linear_forms.proofs.MeetingLaws.{row_meets}
 use Rattle.decision_tree.specs.Evaluation.{eval}
 use Rattle.decision_tree.specs.Plans.{IsEnd, Plan, bottom, branch, is_defined, leaf, top}
-use Rattle.decision_tree.specs.declared.rank.Alternatives.{Alternatives}
+use Rattle.decision_tree.specs.Alternatives.{Alternatives}
 use Rattle.decision_tree.specs.declared.reason.Pick.{Pick}
 use Rattle.decision_tree.specs.declared.reason.Pick.TheVariants.{No, Value, Yes}
 use Rattle.decision_tree.specs.declared.reason.Why.{Why}

@@ -20,7 +20,7 @@ use Rattle.decision_tree.specs.Laws.AffineLaws.{trend_is}
 use Rattle.decision_tree.specs.Nodes.{node}
 use Rattle.decision_tree.specs.Plans.{Plan, bottom, branch, is_defined, leaf, top}
 use Rattle.decision_tree.specs.Trend.{RunsWith, Trend, falling, greatest_of, rising, unmentioned}
-use Rattle.decision_tree.specs.declared.rank.Alternatives.{Alternatives}
+use Rattle.decision_tree.specs.Alternatives.{Alternatives}
 use Rattle.decision_tree.specs.declared.reason.Why.{Why}
 use Rattle.tree_unify.proofs.Asking.{later_first, later_none, later_second, later_undefined, one_or_not}
 use Rattle.tree_unify.proofs.Meeting.{eval_met, eval_missed, meets_or_not}
@@ -184,7 +184,7 @@ module _ {R : Type 0} (same : R → R → Bool) (alike : (rank other : R) → Is
         (⊎_elim (λ most. weaker (rank_value rank store) (rank_value next store) behind (one_way (rank_value next store) (rank_value rank store) ((greater next rank store).0 met)) most) (λ most. most) bounds))
         (λ missed. carried behind behind _ (leaf why rank) refl (later_first same alike where_greater greater_fits a b store why other rank next here there missed)
         (⊎_elim (λ most. most) (λ most. weaker (rank_value next store) (rank_value rank store) behind (λ more. missed ((greater next rank store).1 more)) most) bounds))
-        (one_or_not store (where_greater next rank).list)
+        (one_or_not store (where_greater next rank))
 
     leaf_bounds : (why : Why) (rank : R) (best : Option R) → greatest_of rank (trend rank place) range (put rank place) ≡ best
         → Bounds (leaf why rank) (eval (step_to_greatest one_more best) store)

@@ -10,7 +10,7 @@ use Rattle.linear_forms.specs.Meeting.{MeetsEach, MeetsOne}
 use Rattle.decision_tree.specs.Evaluation.{eval}
 use Rattle.decision_tree.specs.Nodes.{node}
 use Rattle.decision_tree.specs.Plans.{Plan}
-use Rattle.decision_tree.specs.declared.rank.Alternatives.{Alternatives}
+use Rattle.decision_tree.specs.Alternatives.{Alternatives}
 use Rattle.tree_unify.specs.Shapes.{on_side}
 use Rattle.tree_unify.proofs.Meeting.{eval_met, eval_missed, meets_more, meets_or_not, node_eval}
 use Rattle.backward_transfer.specs.Tests.{all_held, enabled, failure_tried, is_held, is_refuted, not_refuted, one_held, one_refuted, rows_asked, tested, tried}

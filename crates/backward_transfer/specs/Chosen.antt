@@ -9,7 +9,7 @@ use Rattle.linear_cons.specs.Functions.{NumbersFit, constant_of, difference_of, 
 use Rattle.linear_cons.specs.Rows.{row_kind_of}
 use Rattle.decision_tree.specs.Evaluation.{eval}
 use Rattle.decision_tree.specs.Plans.{Plan, bottom, leaf, size_of}
-use Rattle.decision_tree.specs.declared.rank.Alternatives.{Alternatives}
+use Rattle.decision_tree.specs.Alternatives.{Alternatives}
 use Rattle.decision_tree.specs.declared.rank.Rank.{Ghosts as Ranks}
 use Rattle.decision_tree.specs.declared.reason.Pick.TheVariants.{Value}
 use Rattle.decision_tree.specs.declared.reason.Why.{Why}

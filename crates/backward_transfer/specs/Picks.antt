@@ -2,7 +2,7 @@
 -- complements that it forms fit and its trees are small.
 use Rattle.std.specs.Prelude.{ℕ, ◌≤◌, Bool}
 use Rattle.decision_tree.specs.Plans.{Plan, size_of}
-use Rattle.decision_tree.specs.declared.rank.Alternatives.{Alternatives}
+use Rattle.decision_tree.specs.Alternatives.{Alternatives}
 use Rattle.decision_tree.specs.declared.rank.Rank.{Ghosts as Ranks}
 use Rattle.decision_tree.specs.declared.reason.Pick.TheVariants.{Yes, No}
 use Rattle.tree_unify.specs.Builds.{Build}

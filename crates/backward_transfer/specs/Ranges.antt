@@ -12,7 +12,7 @@ use Rattle.linear_cons.specs.declared.row.RowKind.TheVariants.{Always, Never, Ro
 use Rattle.decision_tree.specs.AffineRanks.{trend_of}
 use Rattle.decision_tree.specs.Plans.{Plan, bottom, branch, leaf, size_of}
 use Rattle.decision_tree.specs.Trend.{GreatestFits, Trend, falling, greatest_of, rising, unmentioned}
-use Rattle.decision_tree.specs.declared.rank.Alternatives.{Alternatives}
+use Rattle.decision_tree.specs.Alternatives.{Alternatives}
 use Rattle.decision_tree.specs.declared.rank.Rank.{Ghosts as Ranks}
 use Rattle.tree_unify.specs.Builds.{Build, formed}
 use Rattle.tree_unify.specs.Shapes.{JoinedFits, joined}

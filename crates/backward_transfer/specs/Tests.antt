@@ -6,7 +6,7 @@ use Rattle.linear_cons.specs.Settling.{settles}
 use Rattle.linear_cons.specs.declared.row.Row.{Row}
 use Rattle.decision_tree.specs.Nodes.{node}
 use Rattle.decision_tree.specs.Plans.{Plan, bottom, size_of}
-use Rattle.decision_tree.specs.declared.rank.Alternatives.{Alternatives}
+use Rattle.decision_tree.specs.Alternatives.{Alternatives}
 use Rattle.decision_tree.specs.declared.rank.Rank.{Ghosts as Ranks}
 use Rattle.tree_unify.specs.Builds.{Build}
 use Rattle.tree_unify.specs.Shapes.{JoinedFits, OnSide, on_side}

@@ -1,18 +1,23 @@
 -- The alternatives of a claim: their rows are added one after the other.
-use Rattle.std.proofs.Common.{◌≡◌, ℕ, zero, suc, ◌+◌, ◌<◌, ◌≤◌, Bool, true, false, List, [], ◌∷◌, ◌++◌, length, map, take, drop, get_or, All, Contains, Option, None, Some, Result, Ok, Err, refl, sym, ap, subst, ◌∙◌, arith}
-use Rattle.std.proofs.lemmas.List.{append_assoc, append-nil, map-append, take_all, take-append-drop}
-use Rattle.std.proofs.lemmas.List.Elements.{All-push, Contains-append_left, filter_map-append}
+use Rattle.std.proofs.Common.{◌≡◌, ◌↔◌, ℤ, ℕ, ◌+◌, ◌<◌, Bool, true, false, List, [], ◌∷◌, ◌++◌, length, map, take, drop, get_or, All, Contains, Option, None, Some, Result, Ok, Err, refl, sym, ap, subst, ◌∙◌, arith}
+use Rattle.std.proofs.lemmas.List.{append_assoc, append-nil, map-append, take-append-drop}
+use Rattle.std.proofs.lemmas.List.Elements.{All-cons, All-head, All-nil, All-tail, Contains-append_left}
 use Rattle.linear_cons.specs.declared.exact.Wide.{Wide}
 use Rattle.linear_cons.specs.declared.row.Row.{Row}
 use Rattle.linear_cons.specs.declared.row.RowKind.{RowKind}
 use Rattle.linear_cons.specs.declared.row.RowKind.TheVariants.{Always, Never, Row as Kept}
 use Rattle.linear_cons.specs.Rows.{MeetsKind}
-use Rattle.linear_solve.proofs.Lists.{all_of, behind, in_map, item_in, member_of, take_snoc}
-use Rattle.std.specs.List.{filter_map}
+use Rattle.linear_solve.proofs.Lists.{all_of, behind, in_map, member_of, take_snoc}
+use Rattle.decision_tree.specs.Alternatives.{Alternatives, MeetsAny, lists_behind, lists_of, rows_of}
+use Rattle.decision_tree.specs.declared.rank.Rank.{Ghosts as Ranks}
+use Rattle.constraint_stack.specs.declared.claim.Asked.{Asked}
+use Rattle.constraint_stack.specs.declared.claim.Asked.TheVariants.{Greater, Negative}
+use Rattle.decision_tree.specs.declared.rank.Comparison.{Comparison}
+use Rattle.decision_tree.proofs.Comparing.{some_parts}
 use Rattle.constraint_stack.specs.declared.finding.Finding.{Finding}
 use Rattle.constraint_stack.specs.declared.stack.ConstraintStack.{ConstraintStack}
-use Rattle.constraint_stack.specs.Stacks.{Adds, Held, IsMetNowhere, IsTried, Item, all_chosen, chosen, first_of, is_there, kind_of, kinds, restored}
-use Rattle.constraint_stack.specs.Searches.{IsSame, IsTriedWith, lists_there, rows_there}
+use Rattle.constraint_stack.specs.Stacks.{Adds, Held, IsMetNowhere, IsTried, Item, Refutes, all_chosen, chosen, first_of, is_there, kind_of, kinds, restored}
+use Rattle.constraint_stack.specs.Searches.{IsSame, IsTriedWith, alternatives_of}
 use Rattle.constraint_stack.proofs.Holding.{held_more, nowhere_added}
 
 -- what is met nowhere isn't met with more besides
@@ -50,79 +55,132 @@ wide_longer old mid new (Ok (Kept row)) rows more true is adds = rw adds.1 is
 wide_longer old mid new (Ok (Kept row)) rows more false is adds = rw adds.2 is
 wide_longer old mid new (Err w) rows more added is adds = rw adds.2 (restored_first old mid w is)
 
--- ---- the rows of one alternative
-
--- what is there at an index
-pub some_at : {X : Type 0} (xs : List (Option X)) (i : ℕ) (x : Option X) (y : X) → x ≡ Some y → x ≡ get_or xs i x → Some y ≡ get_or xs i (Some y)
-some_at xs i x y is here = subst (λ z. z ≡ get_or xs i z) is here
-
--- those up to the next
-there_more : (kinds : List (Option RowKind)) (i : ℕ) (x : Option RowKind) → i < length kinds → x ≡ get_or kinds i x → rows_there (take (i + 1) kinds) ≡ rows_there (take i kinds) ++ rows_there (x ∷ [])
-there_more kinds i x low is = ap rows_there (take_snoc kinds i x low is) ∙ filter_map-append (λ kind. kind) (take i kinds) (x ∷ [])
+-- ---- constraints in order
 
 chosen_more : (items : List Item) (front : List RowKind) (kind : RowKind) → items ++ all_chosen (front ++ kind ∷ []) ≡ (items ++ all_chosen front) ++ chosen kind ∷ []
 chosen_more items front kind = ap (λ rest. items ++ rest) (map-append (λ kind. chosen kind) front (kind ∷ [])) ∙ sym (append_assoc items (all_chosen front) (chosen kind ∷ []))
 
-chosen_up_to : (items : List Item) (kinds : List (Option RowKind)) (i : ℕ) (kind : RowKind) → i < length kinds → Some kind ≡ get_or kinds i (Some kind) → items ++ all_chosen (rows_there (take (i + 1) kinds)) ≡ (items ++ all_chosen (rows_there (take i kinds))) ++ chosen kind ∷ []
-chosen_up_to items kinds i kind low is = ap (λ rest. items ++ all_chosen rest) (there_more kinds i (Some kind) low is) ∙ chosen_more items (rows_there (take i kinds)) kind
+-- those up to the next
+chosen_up_to : (items : List Item) (kinds : List RowKind) (i : ℕ) (kind : RowKind) → i < length kinds → kind ≡ get_or kinds i kind → items ++ all_chosen (take (i + 1) kinds) ≡ (items ++ all_chosen (take i kinds)) ++ chosen kind ∷ []
+chosen_up_to items kinds i kind low is = ap (λ rest. items ++ all_chosen rest) (take_snoc kinds i kind low is) ∙ chosen_more items (take i kinds) kind
 
-pub chosen_some : (items : List Item) (kinds : List (Option RowKind)) (i : ℕ) (kind : RowKind) (rows new : List Row) (wide wider : Option Wide) → i < length kinds → Some kind ≡ get_or kinds i (Some kind) → Held (items ++ all_chosen (rows_there (take i kinds))) rows wide → Adds (Ok kind) rows wide true new wider → Held (items ++ all_chosen (rows_there (take (i + 1) kinds))) new wider
+pub chosen_some : (items : List Item) (kinds : List RowKind) (i : ℕ) (kind : RowKind) (rows new : List Row) (wide wider : Option Wide) → i < length kinds → kind ≡ get_or kinds i kind → Held (items ++ all_chosen (take i kinds)) rows wide → Adds (Ok kind) rows wide true new wider → Held (items ++ all_chosen (take (i + 1) kinds)) new wider
 chosen_some items kinds i kind rows new wide wider low is held adds =
-    subst (λ all. Held all new wider) (sym (chosen_up_to items kinds i kind low is)) (held_more (items ++ all_chosen (rows_there (take i kinds))) rows wide (chosen kind) (Ok kind) new wider held (refl, refl) adds)
+    subst (λ all. Held all new wider) (sym (chosen_up_to items kinds i kind low is)) (held_more (items ++ all_chosen (take i kinds)) rows wide (chosen kind) (Ok kind) new wider held (refl, refl) adds)
 
-pub chosen_none : (items : List Item) (kinds : List (Option RowKind)) (i : ℕ) (x : Option RowKind) → i < length kinds → x ≡ get_or kinds i x → x ≡ None → items ++ all_chosen (rows_there (take (i + 1) kinds)) ≡ items ++ all_chosen (rows_there (take i kinds))
-chosen_none items kinds i x low is none =
-    ap (λ rest. items ++ all_chosen rest) (there_more kinds i x low is ∙ ap (λ y. rows_there (take i kinds) ++ rows_there (y ∷ [])) none ∙ append-nil (rows_there (take i kinds)))
+-- behind one constraint more, and behind all
+chosen_behind : (items : List Item) (first second : List RowKind) → items ++ all_chosen (first ++ second) ≡ (items ++ all_chosen first) ++ all_chosen second
+chosen_behind items first second = ap (λ rest. items ++ rest) (map-append (λ kind. chosen kind) first second) ∙ sym (append_assoc items (all_chosen first) (all_chosen second))
 
--- the whole alternative is met nowhere where its rows up to one aren't
-pub chosen_nowhere : (items : List Item) (kinds : List (Option RowKind)) (i : ℕ) (kind : RowKind) (rows new : List Row) (wide wider : Option Wide) → i < length kinds → Some kind ≡ get_or kinds i (Some kind) → Held (items ++ all_chosen (rows_there (take i kinds))) rows wide → Adds (Ok kind) rows wide false new wider → IsMetNowhere (items ++ all_chosen (rows_there kinds))
+-- all are met nowhere where those up to one aren't
+pub chosen_nowhere : (items : List Item) (kinds : List RowKind) (i : ℕ) (kind : RowKind) (rows new : List Row) (wide wider : Option Wide) → i < length kinds → kind ≡ get_or kinds i kind → Held (items ++ all_chosen (take i kinds)) rows wide → Adds (Ok kind) rows wide false new wider → IsMetNowhere (items ++ all_chosen kinds)
 chosen_nowhere items kinds i kind rows new wide wider low is held adds =
-    let front : IsMetNowhere (items ++ all_chosen (rows_there (take (i + 1) kinds))) =
-    subst IsMetNowhere (sym (chosen_up_to items kinds i kind low is)) (nowhere_added (items ++ all_chosen (rows_there (take i kinds))) rows wide (chosen kind) (Ok kind) new wider held (refl, refl) adds)
+    let front : IsMetNowhere (items ++ all_chosen (take (i + 1) kinds)) =
+    subst IsMetNowhere (sym (chosen_up_to items kinds i kind low is)) (nowhere_added (items ++ all_chosen (take i kinds)) rows wide (chosen kind) (Ok kind) new wider held (refl, refl) adds)
     in
-    let parts : rows_there kinds ≡ rows_there (take (i + 1) kinds) ++ rows_there (drop (i + 1) kinds) =
-    ap rows_there (sym (take-append-drop (i + 1) kinds)) ∙ filter_map-append (λ kind. kind) (take (i + 1) kinds) (drop (i + 1) kinds)
+    let whole : items ++ all_chosen kinds ≡ (items ++ all_chosen (take (i + 1) kinds)) ++ all_chosen (drop (i + 1) kinds) =
+    ap (λ rest. items ++ all_chosen rest) (sym (take-append-drop (i + 1) kinds)) ∙ chosen_behind items (take (i + 1) kinds) (drop (i + 1) kinds)
     in
-    let whole : items ++ all_chosen (rows_there kinds) ≡ (items ++ all_chosen (rows_there (take (i + 1) kinds))) ++ all_chosen (rows_there (drop (i + 1) kinds)) =
-    ap (λ rest. items ++ all_chosen rest) parts
-    ∙ ap (λ rest. items ++ rest) (map-append (λ kind. chosen kind) (rows_there (take (i + 1) kinds)) (rows_there (drop (i + 1) kinds)))
-    ∙ sym (append_assoc items (all_chosen (rows_there (take (i + 1) kinds))) (all_chosen (rows_there (drop (i + 1) kinds))))
-    in
-    subst IsMetNowhere (sym whole) (nowhere_with (items ++ all_chosen (rows_there (take (i + 1) kinds))) (all_chosen (rows_there (drop (i + 1) kinds))) front)
+    subst IsMetNowhere (sym whole) (nowhere_with (items ++ all_chosen (take (i + 1) kinds)) (all_chosen (drop (i + 1) kinds)) front)
 
--- ---- the alternatives that are there
+pub chosen_one : (items : List Item) (kind : RowKind) (rows new : List Row) (wide wider : Option Wide) → Held items rows wide → Adds (Ok kind) rows wide true new wider → Held (items ++ all_chosen (kind ∷ [])) new wider
+chosen_one items kind rows new wide wider held adds = held_more items rows wide (chosen kind) (Ok kind) new wider held (refl, refl) adds
 
-there_in : {X : Type 0} (xs : List (Option X)) (x : X) → Contains xs (Some x) → Contains (filter_map (λ y. y) xs) x
-there_in [] x member = absurd (omega (arith, member.1))
-there_in (None ∷ xs) x (zero, low, is) = absurd (cc)
-there_in (None ∷ xs) x (suc k, low, is) = there_in xs x (k, omega arith, is)
-there_in (Some y ∷ xs) x (zero, low, is) = (0, omega arith, let same : y ≡ x = cc in same)
-there_in (Some y ∷ xs) x (suc k, low, is) = let rest = there_in xs x (k, omega arith, is) in behind (filter_map (λ z. z) xs) y x rest
+pub one_nowhere : (items : List Item) (kind : RowKind) (rows new : List Row) (wide wider : Option Wide) → Held items rows wide → Adds (Ok kind) rows wide false new wider → IsMetNowhere (items ++ all_chosen (kind ∷ []))
+one_nowhere items kind rows new wide wider held adds = nowhere_added items rows wide (chosen kind) (Ok kind) new wider held (refl, refl) adds
+
+-- nothing is chosen
+pub none_chosen : (items : List Item) → items ≡ items ++ all_chosen []
+none_chosen items = sym (append-nil items)
+
+-- ---- the alternatives part by part
+
+-- the lists behind constraints are the lists with these in front
+lists_in_front : (first second : List RowKind) (rest : Alternatives) → lists_behind (first ++ second) rest ≡ map (λ choice. first ++ choice) (lists_behind second rest)
+lists_in_front first second [] = refl
+lists_in_front first second (part ∷ rest) =
+    rw (append_assoc first second (part.more ∷ []), append_assoc first second (rows_of part.same)) (ap (λ lists. (first ++ (second ++ part.more ∷ [])) ∷ lists) (lists_in_front first (second ++ rows_of part.same) rest))
+
+lists_with : (same : List RowKind) (rest : Alternatives) → lists_behind same rest ≡ map (λ choice. same ++ choice) (lists_of rest)
+lists_with same rest = ap (λ t. lists_behind t rest) (sym (append-nil same)) ∙ lists_in_front same [] rest
+
+-- what is tried behind constraints is tried of the lists behind them
+all_behind : (items : List Item) (same : List RowKind) (lists : List (List RowKind)) → All (λ choice. IsMetNowhere ((items ++ all_chosen same) ++ all_chosen choice)) lists
+    → All (λ choice. IsMetNowhere (items ++ all_chosen choice)) (map (λ choice. same ++ choice) lists)
+all_behind items same [] none = All-nil (λ (choice : List RowKind). IsMetNowhere (items ++ all_chosen choice))
+all_behind items same (choice ∷ lists) none =
+    All-cons (λ (choice : List RowKind). IsMetNowhere (items ++ all_chosen choice)) (same ++ choice) (map (λ choice. same ++ choice) lists)
+    (subst IsMetNowhere (sym (chosen_behind items same choice)) (All-head (λ (choice : List RowKind). IsMetNowhere ((items ++ all_chosen same) ++ all_chosen choice)) choice lists none))
+    (all_behind items same lists (All-tail (λ (choice : List RowKind). IsMetNowhere ((items ++ all_chosen same) ++ all_chosen choice)) choice lists none))
+
+tried_map : (items : List Item) (same : List RowKind) (lists : List (List RowKind)) (edge : ℕ) (refuted : Bool) (found : Option Finding)
+    → IsTriedWith (items ++ all_chosen same) lists edge refuted found → IsTriedWith items (map (λ choice. same ++ choice) lists) edge refuted found
+tried_map items same lists edge true None tried = tried
+tried_map items same lists edge true (Some f) tried = (
+  tried.0,
+  (
+    same ++ tried.1.0,
+    in_map (λ choice. same ++ choice) lists tried.1.0 tried.1.1,
+    subst (λ all. Refutes all f.reason) (sym (chosen_behind items same tried.1.0)) tried.1.2,
+  ),
+)
+tried_map items same lists edge false found none = all_behind items same lists none
+
+-- no alternative holds behind constraints that are met nowhere
+nowhere_behind : (items : List Item) (same : List RowKind) (rest : Alternatives) → IsMetNowhere (items ++ all_chosen same)
+    → All (λ choice. IsMetNowhere (items ++ all_chosen choice)) (lists_behind same rest)
+nowhere_behind items same rest none =
+    subst (λ lists. All (λ choice. IsMetNowhere (items ++ all_chosen choice)) lists) (sym (lists_with same rest))
+    (all_behind items same (lists_of rest) (all_of (λ (choice : List RowKind). IsMetNowhere ((items ++ all_chosen same) ++ all_chosen choice)) (lists_of rest)
+    (λ choice member. nowhere_with (items ++ all_chosen same) (all_chosen choice) none)))
+
+-- a first part and what follows: the first one gave a reason
+pub first_tried : (items : List Item) (part : Comparison) (rest : Alternatives) (edge : ℕ) (found : Option Finding) → IsTried (items ++ all_chosen (part.more ∷ [])) edge true found
+    → IsTriedWith items (lists_of (part ∷ rest)) edge true found
+first_tried items part rest edge None tried = tried
+first_tried items part rest edge (Some f) tried = (tried.0, (part.more ∷ [], (0, omega arith, refl), tried.1))
+
+-- it gave none, and no store is left behind it
+pub rest_nowhere : (items : List Item) (part : Comparison) (rest : Alternatives) (edge : ℕ) (found : Option Finding) → IsMetNowhere (items ++ all_chosen (part.more ∷ []))
+    → IsMetNowhere (items ++ all_chosen (rows_of part.same)) → IsTriedWith items (lists_of (part ∷ rest)) edge false found
+rest_nowhere items part rest edge found first none =
+    All-cons (λ (choice : List RowKind). IsMetNowhere (items ++ all_chosen choice)) (part.more ∷ []) (lists_behind (rows_of part.same) rest) first
+    (nowhere_behind items (rows_of part.same) rest none)
+
+-- it is the last one
+pub last_nowhere : (items : List Item) (part : Comparison) (edge : ℕ) (found : Option Finding) → IsMetNowhere (items ++ all_chosen (part.more ∷ []))
+    → IsTriedWith items (lists_of (part ∷ [])) edge false found
+last_nowhere items part edge found first =
+    All-cons (λ (choice : List RowKind). IsMetNowhere (items ++ all_chosen choice)) (part.more ∷ []) [] first (All-nil (λ (choice : List RowKind). IsMetNowhere (items ++ all_chosen choice)))
+
+-- what follows was tried behind it
+pub rest_tried : (items : List Item) (part : Comparison) (rest : Alternatives) (edge : ℕ) (refuted : Bool) (found : Option Finding) → IsMetNowhere (items ++ all_chosen (part.more ∷ []))
+    → IsTriedWith (items ++ all_chosen (rows_of part.same)) (lists_of rest) edge refuted found → IsTriedWith items (lists_of (part ∷ rest)) edge refuted found
+rest_tried items part rest edge true None first tried = tried
+rest_tried items part rest edge true (Some f) first tried =
+    let found_in = subst (λ lists. IsTriedWith items lists edge true (Some f)) (sym (lists_with (rows_of part.same) rest)) (tried_map items (rows_of part.same) (lists_of rest) edge true (Some f) tried) in
+    (found_in.0, (found_in.1.0, behind (lists_behind (rows_of part.same) rest) (part.more ∷ []) found_in.1.0 found_in.1.1, found_in.1.2))
+rest_tried items part rest edge false found first tried =
+    All-cons (λ (choice : List RowKind). IsMetNowhere (items ++ all_chosen choice)) (part.more ∷ []) (lists_behind (rows_of part.same) rest) first
+    (subst (λ lists. All (λ choice. IsMetNowhere (items ++ all_chosen choice)) lists) (sym (lists_with (rows_of part.same) rest)) (all_behind items (rows_of part.same) (lists_of rest) tried))
 
 -- what holds of stacks that are the same
 pub held_same : (items : List Item) (old new : ConstraintStack) → IsSame old new → Held items old.rows old.wide → Held items new.rows new.wide
 held_same items old new same held = subst (λ rows. Held items rows new.wide) (sym same.0) (subst (λ wide. Held items old.rows wide) (sym same.1) held)
 
-pub tried_choice : (items : List Item) (lists : List (List RowKind)) (choice : List RowKind) (edge : ℕ) (found : Option Finding) → Contains lists choice → IsTried (items ++ all_chosen choice) edge true found → IsTriedWith items lists edge true found
-tried_choice items lists choice edge None member tried = tried
-tried_choice items lists choice edge (Some f) member tried = (tried.0, (choice, member, tried.1))
+-- ---- what is asked of ranks has as many alternatives as ranks have parts, and some
 
-pub list_in : (list : List (Option (List (Option RowKind)))) (i : ℕ) (kinds : List (Option RowKind)) → i < length list → Some kinds ≡ get_or list i (Some kinds) → Contains (lists_there list) (rows_there kinds)
-list_in list i kinds low is = in_map rows_there (filter_map (λ k. k) list) kinds (there_in list kinds (item_in list i (Some kinds) low is))
+module _ {R : Type 0} (ranks : Ranks R)
+    (greater_length : (rank other : R) → length (ranks.where_greater rank other) ≡ ranks.PARTS)
+    (negative_length : (rank : R) → length (ranks.where_negative rank) ≡ ranks.PARTS) where
+  pub as_many : (asked : Asked R) → length (alternatives_of ranks asked) ≡ ranks.PARTS
+  as_many (Negative rank) = negative_length rank.now
+  as_many (Greater rank other) = greater_length rank.now other.now
 
-lists_more : (list : List (Option (List (Option RowKind)))) (i : ℕ) (x : Option (List (Option RowKind))) → i < length list → x ≡ get_or list i x → lists_there (take (i + 1) list) ≡ lists_there (take i list) ++ lists_there (x ∷ [])
-lists_more list i x low is =
-    ap lists_there (take_snoc list i x low is)
-    ∙ ap (map rows_there) (filter_map-append (λ kinds. kinds) (take i list) (x ∷ []))
-    ∙ map-append rows_there (filter_map (λ kinds. kinds) (take i list)) (filter_map (λ kinds. kinds) (x ∷ []))
-
-pub none_some : (items : List Item) (list : List (Option (List (Option RowKind)))) (i : ℕ) (kinds : List (Option RowKind)) → i < length list → Some kinds ≡ get_or list i (Some kinds) → All (λ choice. IsMetNowhere (items ++ all_chosen choice)) (lists_there (take i list)) → IsMetNowhere (items ++ all_chosen (rows_there kinds)) → All (λ choice. IsMetNowhere (items ++ all_chosen choice)) (lists_there (take (i + 1) list))
-none_some items list i kinds low is before here =
-    subst (λ lists. All (λ choice. IsMetNowhere (items ++ all_chosen choice)) lists) (sym (lists_more list i (Some kinds) low is)) (All-push (λ (choice : List RowKind). IsMetNowhere (items ++ all_chosen choice)) (lists_there (take i list)) (rows_there kinds) before here)
-
-pub none_none : (items : List Item) (list : List (Option (List (Option RowKind)))) (i : ℕ) (x : Option (List (Option RowKind))) → i < length list → x ≡ get_or list i x → x ≡ None → All (λ choice. IsMetNowhere (items ++ all_chosen choice)) (lists_there (take i list)) → All (λ choice. IsMetNowhere (items ++ all_chosen choice)) (lists_there (take (i + 1) list))
-none_none items list i x low is none before =
-    subst (λ lists. All (λ choice. IsMetNowhere (items ++ all_chosen choice)) lists) (sym (lists_more list i x low is ∙ ap (λ y. lists_there (take i list) ++ lists_there (y ∷ [])) none ∙ append-nil (lists_there (take i list)))) before
-
-pub none_end : (items : List Item) (list : List (Option (List (Option RowKind)))) (i : ℕ) → length list ≤ i → All (λ choice. IsMetNowhere (items ++ all_chosen choice)) (lists_there (take i list)) → All (λ choice. IsMetNowhere (items ++ all_chosen choice)) (lists_there list)
-none_end items list i end all = subst (λ l. All (λ choice. IsMetNowhere (items ++ all_chosen choice)) (lists_there l)) (take_all i list end) all
+  module _
+      (more : (rank : R) (store : List ℤ) → ranks.exceeds (ranks.rank_value (ranks.one_more rank) store) (ranks.rank_value rank store))
+      (greater : (rank other : R) (store : List ℤ) → MeetsAny store (ranks.where_greater rank other)
+      ↔ ranks.exceeds (ranks.rank_value rank store) (ranks.rank_value other store)) where
+    pub asked_parts : Asked R → 0 < ranks.PARTS
+    asked_parts (Negative rank) = some_parts ranks greater_length more greater rank.now
+    asked_parts (Greater rank other) = some_parts ranks greater_length more greater rank.now

@@ -1,10 +1,9 @@
 -- Systems: what a store would have to meet, functions that are at least 0 and a claim about ranks; and when no store meets one.
 use Rattle.std.specs.Prelude.{ℕ, ℤ, pos, ◌<ℤ◌, List, [], ◌∷◌, ◌++◌, map, All, Option, None, Some, ⊤}
-use Rattle.std.specs.List.{filter_map}
 use Rattle.linear_cons.specs.declared.affine.Affine.{Affine}
 use Rattle.linear_cons.specs.declared.row.RowKind.{RowKind}
 use Rattle.linear_cons.specs.Rows.{MeetsKind, PointMeetsKind, row_kind_of}
-use Rattle.decision_tree.specs.declared.rank.Alternatives.{Alternatives}
+use Rattle.decision_tree.specs.Alternatives.{lists_of}
 use Rattle.decision_tree.specs.declared.rank.Rank.{Ghosts as Ranks}
 use Rattle.constraint_stack.specs.Forming.{Formed, exact}
 
@@ -31,10 +30,6 @@ module _ {R : Type 0} (ranks : Ranks R) where
   abbrev pub MoveFits : Option (ℕ × Affine) → R → Type 0
   MoveFits None rank = ⊤
   MoveFits (Some (place, by)) rank = ranks.subst_fits rank place by
-
-  -- the alternatives that are there, each as the list of its rows
-  abbrev pub lists_of : Alternatives → List (List RowKind)
-  lists_of alternatives = map (λ kinds. filter_map (λ kind. kind) kinds) (filter_map (λ kinds. kinds) alternatives.list)
 
   -- the rows that a claim asks for, one list for each alternative
   abbrev pub choices : Claim R → List (List RowKind)

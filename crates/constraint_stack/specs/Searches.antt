@@ -1,14 +1,15 @@
 -- The search for a reason against systems, and against the alternatives of a claim.
-use Rattle.std.specs.Prelude.{◌≡◌, ℕ, Bool, true, false, List, [], ◌∷◌, ◌++◌, length, map, take, All, Contains, Option, Result, Ok, Err, IsSomeAnd}
-use Rattle.std.specs.List.{filter_map}
+use Rattle.std.specs.Prelude.{◌≡◌, ℕ, Bool, true, false, List, [], ◌∷◌, ◌++◌, length, take, All, Contains, Option, Result, Ok, Err, IsSomeAnd}
 use Rattle.linear_cons.specs.declared.exact.Wide.{Wide}
 use Rattle.linear_cons.specs.declared.row.RowKind.{RowKind}
 use Rattle.linear_cons.specs.Exact.{IsOutside}
-use Rattle.decision_tree.specs.declared.rank.Alternatives.{Alternatives}
+use Rattle.decision_tree.specs.Alternatives.{Alternatives, lists_of}
 use Rattle.decision_tree.specs.declared.rank.Rank.{Ghosts as Ranks}
 use Rattle.constraint_stack.specs.Reasons.{Justifies}
 use Rattle.constraint_stack.specs.Forming.{Formed}
 use Rattle.constraint_stack.specs.Claims.{ClaimFits, HasNoStore, choices, Claim, System}
+use Rattle.constraint_stack.specs.declared.claim.Asked.{Asked}
+use Rattle.constraint_stack.specs.declared.claim.Asked.TheVariants.{Greater, Negative}
 use Rattle.constraint_stack.specs.declared.finding.Finding.{Finding}
 use Rattle.constraint_stack.specs.declared.stack.ConstraintStack.{ConstraintStack}
 use Rattle.constraint_stack.specs.Stacks.{Held, IsMetNowhere, IsTried, Item, Refutes, all_asked, all_chosen, is_there, restored, unformed}
@@ -33,13 +34,6 @@ WhereHeld stack Is = (items : List Item) → Holds stack items → Is items
 abbrev pub WhereAsked : ConstraintStack → (List Formed → Type 0) → Type 0
 WhereAsked stack Is = (asks : List Formed) → Holds stack (all_asked asks) → Is asks
 
--- the rows of an alternative, and the alternatives, that are there
-abbrev pub rows_there : List (Option RowKind) → List RowKind
-rows_there kinds = filter_map (λ kind. kind) kinds
-
-abbrev pub lists_there : List (Option (List (Option RowKind))) → List (List RowKind)
-lists_there list = map (λ kinds. rows_there kinds) (filter_map (λ kinds. kinds) list)
-
 -- the search for a reason against the items with each of the lists
 abbrev pub IsTriedWith : List Item → List (List RowKind) → ℕ → Bool → Option Finding → Type 0
 IsTriedWith items lists edge true found =
@@ -48,7 +42,7 @@ IsTriedWith items lists edge false found = All (λ choice. IsMetNowhere (items +
 
 -- the search against the items with a claim, whose alternatives could be formed or couldn't
 abbrev pub IsClaimTried : List Item → Result Alternatives Wide → ℕ → Bool → Option Finding → Type 0
-IsClaimTried items (Ok alternatives) edge refuted found = IsTriedWith items (lists_there alternatives.list) edge refuted found
+IsClaimTried items (Ok alternatives) edge refuted found = IsTriedWith items (lists_of alternatives) edge refuted found
 IsClaimTried items (Err wide) edge refuted found = IsTried (items ++ unformed ∷ []) edge refuted found
 
 module _ {R : Type 0} (ranks : Ranks R) where
@@ -66,5 +60,19 @@ module _ {R : Type 0} (ranks : Ranks R) where
 
   -- the alternatives of the claim as they could be formed; or operands outside 128 bits, where a call that forms them leaves them
   abbrev pub IsClaimFormed : Claim R → Result Alternatives Wide → Type 0
-  IsClaimFormed claim (Ok alternatives) = ClaimFits ranks claim × (choices ranks claim ≡ lists_there alternatives.list)
+  IsClaimFormed claim (Ok alternatives) = ClaimFits ranks claim × (choices ranks claim ≡ lists_of alternatives)
   IsClaimFormed claim (Err wide) = IsOutside wide × (ClaimFits ranks claim → ⊥)
+
+  -- the alternatives of what is asked of ranks, and that they can be told
+  abbrev pub alternatives_of : Asked R → Alternatives
+  alternatives_of (Negative rank) = ranks.where_negative rank.now
+  alternatives_of (Greater rank other) = ranks.where_greater rank.now other.now
+
+  abbrev pub AreTold : Asked R → Type 0
+  AreTold (Negative rank) = ranks.negative_fits rank.now
+  AreTold (Greater rank other) = ranks.greater_fits rank.now other.now
+
+  -- its alternatives as they could be told; or operands outside 128 bits, where a call that tells them leaves them
+  abbrev pub IsToldAs : Asked R → Result Alternatives Wide → Type 0
+  IsToldAs asked (Ok alternatives) = AreTold asked × (alternatives ≡ alternatives_of asked)
+  IsToldAs asked (Err wide) = IsOutside wide × (AreTold asked → ⊥)

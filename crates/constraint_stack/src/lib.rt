@@ -13,7 +13,7 @@ mod finding;
 mod reason;
 mod stack;
 
-pub use claim::try_claim;
+pub use claim::{Asked, try_claim, try_unformed};
 pub use finding::Finding;
 pub use reason::Reason;
 pub use stack::{Checkpoint, ConstraintStack};

@@ -5,6 +5,6 @@ pub mod Standing
 mod Greatest
 pub mod Replacing
 mod Gathering
-mod LexicographicPairs
+pub mod Comparing
 pub mod Lending
 mod Marking

@@ -1,10 +1,11 @@
 -- Affine functions as ranks.
-use Rattle.std.specs.Prelude.{ℕ, pos, negsuc, int_lt, [], ◌∷◌, None, Some, if◌then◌else◌}
+use Rattle.std.specs.Prelude.{ℕ, pos, negsuc, int_lt, [], ◌∷◌, None, if◌then◌else◌}
 use Rattle.linear_cons.specs.Functions.{NumbersFit, coefficient, constant_of, difference_of, sum_of}
 use Rattle.linear_cons.specs.declared.affine.Affine.{Affine}
 use Rattle.linear_cons.specs.Rows.{row_kind_of}
+use Rattle.decision_tree.specs.Alternatives.{Alternatives}
 use Rattle.decision_tree.specs.Trend.{Trend, falling, rising, unmentioned}
-use Rattle.decision_tree.specs.declared.rank.Alternatives.{Alternatives}
+use Rattle.decision_tree.specs.declared.rank.Comparison.{Comparison}
 
 -- at least 0 at exactly the stores where the first function exceeds the second
 abbrev pub excess_of : Affine → Affine → Affine
@@ -15,9 +16,12 @@ pub record ExcessFits (a b : Affine) : Type 0 where
   pub difference : NumbersFit (difference_of a b)
   pub excess : NumbersFit (excess_of a b)
 
--- the one constraint `a >= 0`, as a row
+-- the one constraint `a >= 0`, as a row: as a part, and alone
+abbrev pub part_of : Affine → Comparison
+part_of a = record { more = row_kind_of a; same = None }
+
 abbrev pub only : Affine → Alternatives
-only a = record { list = Some (Some (row_kind_of a) ∷ None ∷ None ∷ []) ∷ None ∷ [] }
+only a = part_of a ∷ []
 
 -- a function rises with a variable of positive coefficient and falls with one of negative coefficient
 abbrev pub trend_of : Affine → ℕ → Trend

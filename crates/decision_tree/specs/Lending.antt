@@ -2,7 +2,7 @@
 use Rattle.std.specs.Prelude.{Bool, ℕ, ℤ, List, ◌++◌, drop, length, map, take}
 use Rattle.std.specs.Borrow.{Array, Fml, Lends, MutBor, RattleType}
 use Rattle.linear_cons.specs.declared.affine.Affine.{Affine}
-use Rattle.decision_tree.specs.declared.rank.Alternatives.{Alternatives}
+use Rattle.decision_tree.specs.Alternatives.{Alternatives}
 use Rattle.decision_tree.specs.declared.tree.Tree.{Tree}
 use Rattle.decision_tree.specs.Plans.{Plan, plan_of}
 use Rattle.decision_tree.specs.Trend.{Trend}
@@ -13,6 +13,7 @@ use Rattle.decision_tree.specs.contracts.tree.Tree.{the_row as tree_row}
 abbrev pub RankMembers : Type 0 → Type 1
 RankMembers R = record {
   eq : R → R → Bool;
+  PARTS : ℕ;
   Value : Type 0;
   rank_value : R → List ℤ → Value;
   exceeds : Value → Value → Type 0;
@@ -37,6 +38,7 @@ with_trees plans trees = take (length plans) (map plan_of trees ++ drop (length 
 abbrev pub LendsTrees : (R : RattleType) → RankMembers R.Denot → MutBor (List (Plan R.Denot)) → MutBor (List (Tree R.Denot)) → Fml
 LendsTrees R rank list trees = Lends
     (list_row R (record {
+      PARTS = rank.PARTS;
       Value = rank.Value;
       rank_value = rank.rank_value;
       exceeds = rank.exceeds;

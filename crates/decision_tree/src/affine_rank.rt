@@ -1,13 +1,14 @@
 //! Ranks that are affine functions.
-ghost use Rattle.std.specs.Prelude.{◌≡◌, ◌<◌, OkIff, IfErr, ℤ, ◌≤ℤ◌, ◌<ℤ◌, pos};
+ghost use Rattle.std.specs.Prelude.{◌≡◌, ◌<◌, OkIff, IfErr, ℤ, ◌≤ℤ◌, ◌<ℤ◌, pos, []};
 ghost use Rattle.linear_cons.specs.Functions.{NumbersFit, SubstitutionFits, complement_of, constant_of, sum_of, substituted as put_in};
 ghost use Rattle.linear_cons.specs.Functions.{value_at};
 ghost use Rattle.linear_cons.specs.Exact.{IsOutside};
 ghost use Rattle.decision_tree.specs.Trend.{EndFits, put_end};
-ghost use Rattle.decision_tree.specs.AffineRanks.{ExcessFits, excess_of, only, trend_of};
+ghost use Rattle.decision_tree.specs.AffineRanks.{ExcessFits, excess_of, only, part_of, trend_of};
+ghost use Rattle.decision_tree.specs.Alternatives.{part_at};
 
-use crate::rank::{Alternatives, Rank};
-use linear_cons::{Affine, Linear, Row, Wide};
+use crate::rank::{Comparison, Rank};
+use linear_cons::{Affine, Linear, Row, RowKind, Wide};
 
 /// An affine function as a rank: it exceeds another where its value is greater, and is a natural
 /// where its value is at least 0.
@@ -20,7 +21,11 @@ impl Rank for AffineRank {
     ghost use Rattle.decision_tree.specs.Laws.AffineLaws.{chain_is, equal_is, excess_is, more_exceeds, more_keeps, negative_is, trend_is};
     ghost use Rattle.linear_cons.proofs.Forms.{value_substituted};
     ghost use Rattle.std.proofs.lemmas.Int.{ints};
-    ghost use Rattle.std.proofs.Common.{arith};
+    ghost use Rattle.std.proofs.Common.{arith, refl};
+
+    const PARTS: u8 = 1;
+
+    ghost PARTS = { 1 };
 
     ghost Value = { ℤ };
 
@@ -60,6 +65,10 @@ impl Rank for AffineRank {
 
     ghost order_law = { λ rank other store next. more_keeps rank.value other.value store next };
 
+    ghost greater_length_law = { λ rank other. refl };
+
+    ghost negative_length_law = { λ rank. refl };
+
     ghost greater_law = { λ rank other store. excess_is rank.value other.value store };
 
     ghost negative_law = { λ rank store. negative_is rank.value store };
@@ -76,15 +85,21 @@ impl Rank for AffineRank {
         Ok(AffineRank { value })
     }
 
-    fn greater(&self, other: &AffineRank) -> Result<Alternatives, Wide> {
+    fn greater(&self, other: &AffineRank, part: u8) -> Result<Comparison, Wide> {
+        if part > 0 {
+            return Ok(Comparison::never());
+        }
         let difference = self.value.sub(&other.value)?;
         let excess = difference.plus(-1)?;
-        Ok(Alternatives::only(excess))
+        Ok(Comparison::only(excess))
     }
 
-    fn negative(&self) -> Result<Alternatives, Wide> {
+    fn negative(&self, part: u8) -> Result<Comparison, Wide> {
+        if part > 0 {
+            return Ok(Comparison::never());
+        }
         let complement = Affine::constant(-1).sub(&self.value)?;
-        Ok(Alternatives::only(complement))
+        Ok(Comparison::only(complement))
     }
 
     fn greatest(&self, place: u8, range: &Linear) -> Result<Option<AffineRank>, Wide> {
@@ -124,13 +139,24 @@ impl AffineRank {
     }
 }
 
-impl Alternatives {
+impl Comparison {
     /// The one constraint `a >= 0`.
-    fn only(a: Affine) -> Alternatives
-        ensures { result ≡ only a }
+    pub fn only(a: Affine) -> Comparison
+        ensures { result ≡ part_of a }
     {
-        Alternatives {
-            list: [Some([Some(Row::of(a)), None, None]), None],
+        Comparison {
+            more: Row::of(a),
+            same: None,
+        }
+    }
+
+    /// That which no store meets.
+    fn never() -> Comparison
+        ensures { result ≡ part_at [] 0 }
+    {
+        Comparison {
+            more: RowKind::Never,
+            same: None,
         }
     }
 }

@@ -22,7 +22,7 @@ pub use affine_rank::AffineRank;
 pub use family::{Family, TreeList};
 pub use family_list::FamilyList;
 pub use path::PathFault;
-pub use rank::{Alternatives, Rank};
+pub use rank::{Comparison, Rank};
 pub use reason::{Cause, Pick, Why};
 pub use trail::Trail;
 pub use tree::Tree;

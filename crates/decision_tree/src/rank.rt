@@ -1,19 +1,19 @@
 //! Ranks: what a leaf promises, as functions of the store.
-ghost use Rattle.std.specs.Prelude.{◌≡◌, ℕ, ◌<◌, ◌↔◌, ℤ, List, Option, length, slice_set, IsTrue, OkIff, IfErr};
+ghost use Rattle.std.specs.Prelude.{◌≡◌, ◌⊎◌, ℕ, ◌<◌, ◌↔◌, ℤ, List, Option, length, slice_set, IsTrue, OkIff, IfErr};
 ghost use Rattle.linear_cons.specs.Exact.{IsOutside};
 ghost use Rattle.linear_cons.specs.Functions.{value_at};
 ghost use Rattle.linear_cons.specs.declared.affine.Affine.{Affine};
-ghost use Rattle.decision_tree.specs.declared.rank.Alternatives.{Alternatives};
-ghost use Rattle.decision_tree.specs.Alternatives.{MeetsAny};
+ghost use Rattle.decision_tree.specs.Alternatives.{Alternatives, MeetsAny, part_at};
 ghost use Rattle.decision_tree.specs.Trend.{GreatestFits, RunsWith, Trend, greatest_of};
 
 use linear_cons::{Affine, Linear, RowKind, Wide};
 
-/// At most two alternatives of at most three constraints each. A store meets them where it meets
-/// every constraint of one that is there.
+/// How one part of two ranks compares: the first rank is the greater where a store meets `more`, and the next part decides where it meets each of
+/// `same`. Where there is no `same` the next part decides beside it.
 #[derive(Clone, Copy, PartialEq, Eq, Debug)]
-pub struct Alternatives {
-    pub list: [Option<[Option<RowKind>; 3]>; 2],
+pub struct Comparison {
+    pub more: RowKind,
+    pub same: Option<[RowKind; 2]>,
 }
 
 /// A function of the store whose values are compared: how many steps a leaf promises at most.
@@ -21,6 +21,11 @@ pub struct Alternatives {
 /// `Wide` comes from a call exactly where the exact answer has a number outside `i128`, or forms one
 /// on the way; what each call answers is a function of its arguments.
 pub trait Rank: Copy + Eq {
+    /// How many parts are compared, the highest first.
+    const PARTS: u8;
+
+    ghost PARTS: { ℕ };
+
     // What ranks have at stores.
     ghost Value: { Type 0 };
 
@@ -64,14 +69,16 @@ pub trait Rank: Copy + Eq {
         ensures exact { OkIff result (add_one_fits self.now) (one_more self.now) }
         ensures wide { IfErr result IsOutside };
 
-    /// The stores at which this rank exceeds the other.
-    fn greater(&self, other: &Self) -> Result<Alternatives, Wide>
-        ensures exact { OkIff result (greater_fits self.now other.now) (where_greater self.now other.now) }
+    /// By its part with the number, the stores at which this rank exceeds the other. The parts behind the first are asked for where the first was told.
+    fn greater(&self, other: &Self, part: u8) -> Result<Comparison, Wide>
+        requires { (part ≡ 0) ⊎ greater_fits self.now other.now }
+        ensures exact { OkIff result (greater_fits self.now other.now) (part_at (where_greater self.now other.now) part) }
         ensures wide { IfErr result IsOutside };
 
-    /// The stores at which this rank is no natural.
-    fn negative(&self) -> Result<Alternatives, Wide>
-        ensures exact { OkIff result (negative_fits self.now) (where_negative self.now) }
+    /// By its part with the number, the stores at which this rank is no natural. The parts behind the first are asked for where the first was told.
+    fn negative(&self, part: u8) -> Result<Comparison, Wide>
+        requires { (part ≡ 0) ⊎ negative_fits self.now }
+        ensures exact { OkIff result (negative_fits self.now) (part_at (where_negative self.now) part) }
         ensures wide { IfErr result IsOutside };
 
     /// The greatest that the rank becomes as the number at the place runs over the range: the rank
@@ -102,6 +109,11 @@ pub trait Rank: Copy + Eq {
     ghost order_law: { (rank other : Self) (store next : List ℤ)
         → exceeds (rank_value (one_more rank) store) (rank_value (one_more other) next)
         ↔ exceeds (rank_value rank store) (rank_value other next) };
+
+    // There are as many alternatives as parts.
+    ghost greater_length_law: { (rank other : Self) → length (where_greater rank other) ≡ PARTS };
+
+    ghost negative_length_law: { (rank : Self) → length (where_negative rank) ≡ PARTS };
 
     // The alternatives are exact.
     ghost greater_law: { (rank other : Self) (store : List ℤ) → MeetsAny store (where_greater rank other)

@@ -5,7 +5,7 @@ use Rattle.linear_cons.specs.declared.row.Row.{Row}
 use Rattle.linear_cons.specs.Functions.{substituted}
 use Rattle.linear_forms.specs.Duality.{AreDual}
 use Rattle.decision_tree.specs.Plans.{IsEnd, Plan, bottom, branch, is_defined, leaf, top}
-use Rattle.decision_tree.specs.declared.rank.Alternatives.{Alternatives}
+use Rattle.decision_tree.specs.Alternatives.{Alternatives}
 use Rattle.tree_unify.specs.Shapes.{joined, trimmed}
 use Rattle.tree_unify.specs.declared.join.Join.TheVariants.{Both, Either}
 use Rattle.backward_transfer.specs.Steps.{assigned, stepped}

@@ -76,11 +76,11 @@ compare m n =
     (λ below. inr (sym (row_kind_unique (excess m n) Never (none, below)), omega (arith, ints, below)))
     (λ from. inl (sym (row_kind_unique (excess m n) Always (none, from)), omega (arith, ints, from)))
 
-chosen_always : (kind : RowKind) (greater other : Plan AffineRank) → kind ≡ Always → chosen same_rank ((kind ∷ []) ∷ []) greater other ≡ greater
-chosen_always kind greater other is = ap (λ (k : RowKind). chosen same_rank ((k ∷ []) ∷ []) greater other) is
+chosen_always : (kind : RowKind) (greater other : Plan AffineRank) → kind ≡ Always → chosen same_rank (record { more = kind; same = None } ∷ []) greater other ≡ greater
+chosen_always kind greater other is = ap (λ (k : RowKind). chosen same_rank (record { more = k; same = None } ∷ []) greater other) is
 
-chosen_never : (kind : RowKind) (greater other : Plan AffineRank) → kind ≡ Never → chosen same_rank ((kind ∷ []) ∷ []) greater other ≡ other
-chosen_never kind greater other is = ap (λ (k : RowKind). chosen same_rank ((k ∷ []) ∷ []) greater other) is
+chosen_never : (kind : RowKind) (greater other : Plan AffineRank) → kind ≡ Never → chosen same_rank (record { more = kind; same = None } ∷ []) greater other ≡ other
+chosen_never kind greater other is = ap (λ (k : RowKind). chosen same_rank (record { more = k; same = None } ∷ []) greater other) is
 
 -- the later of two leaves of so many steps
 pub later_met : (why other : Why) (m n : ℕ)

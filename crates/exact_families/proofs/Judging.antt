@@ -11,7 +11,7 @@ use Rattle.linear_cons.specs.Settling.{settles}
 use Rattle.decision_tree.specs.Equality.{same_plan}
 use Rattle.decision_tree.specs.Nodes.{node}
 use Rattle.decision_tree.specs.Plans.{IsEnd, Plan, bottom, branch, is_defined, leaf, top}
-use Rattle.decision_tree.specs.declared.rank.Alternatives.{Alternatives}
+use Rattle.decision_tree.specs.Alternatives.{Alternatives}
 use Rattle.decision_tree.specs.Laws.EqualityLaws.{plan_eq-Decides}
 use Rattle.tree_unify.specs.Shapes.{asks_second, grafted, joined, joined_at, leaf_met, on_side, trimmed, trimmed_with}
 use Rattle.tree_unify.specs.declared.join.Join.{Join}

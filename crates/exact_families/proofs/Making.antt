@@ -6,7 +6,7 @@ use Rattle.linear_cons.specs.Functions.{substituted}
 use Rattle.decision_tree.specs.Plans.{IsEnd, Plan, bottom, branch, is_defined, leaf, top}
 use Rattle.decision_tree.specs.Laws.AffineLaws.{equal_is}
 use Rattle.decision_tree.specs.declared.affine_rank.AffineRank.{AffineRank}
-use Rattle.decision_tree.specs.declared.rank.Alternatives.{Alternatives}
+use Rattle.decision_tree.specs.Alternatives.{Alternatives}
 use Rattle.decision_tree.specs.declared.reason.Why.{Why}
 use Rattle.tree_unify.specs.Shapes.{joined, trimmed}
 use Rattle.tree_unify.specs.declared.join.Join.TheVariants.{Both, Either}

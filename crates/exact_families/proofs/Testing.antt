@@ -8,7 +8,7 @@ use Rattle.linear_cons.specs.Settling.{settles}
 use Rattle.linear_forms.specs.Duality.{AreDual, EachOf, Excludes, HoldsWhole, IsComplement, IsRefuted, SomeOf}
 use Rattle.decision_tree.specs.Nodes.{node}
 use Rattle.decision_tree.specs.Plans.{Plan}
-use Rattle.decision_tree.specs.declared.rank.Alternatives.{Alternatives}
+use Rattle.decision_tree.specs.Alternatives.{Alternatives}
 use Rattle.tree_unify.specs.Shapes.{on_side}
 use Rattle.backward_transfer.specs.Tests.{all_held, enabled, failure_tried, is_held, is_refuted, not_refuted, one_held, one_refuted, rows_asked, tested, tried}
 use Rattle.exact_families.proofs.Judges.{GrantsOne, GrantsRows, IsJudge, judged}

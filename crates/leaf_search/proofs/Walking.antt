@@ -1,23 +1,24 @@
 -- The walk over a tree's leaves.
-use Rattle.std.proofs.Common.{◌≡◌, ℕ, ℤ, Bool, true, false, List, [], ◌∷◌, ◌++◌, All, Contains, Option, None, Some, Result, Ok, Err, IsSomeAnd, refl, sym, subst, arith}
+use Rattle.std.proofs.Common.{◌≡◌, ℕ, ℤ, Bool, true, false, List, [], ◌∷◌, ◌++◌, All, Contains, Option, None, Some, Result, Ok, Err, IsSomeAnd, refl, sym, ap, subst, ◌∙◌, arith}
 use Rattle.std.proofs.lemmas.List.{append-nil, map-append}
 use Rattle.std.proofs.lemmas.List.Elements.{All-append, All-cons, All-nil, All-push, Contains-append_left, Contains-append_right}
 use Rattle.linear_cons.specs.declared.affine.Affine.{Affine}
 use Rattle.linear_cons.specs.declared.exact.Wide.{Wide}
+use Rattle.linear_cons.specs.Exact.{IsOutside}
 use Rattle.linear_cons.specs.declared.row.RowKind.{RowKind}
 use Rattle.linear_cons.specs.declared.row.RowKind.TheVariants.{Always}
 use Rattle.linear_cons.specs.Rows.{MeetsKind}
-use Rattle.decision_tree.specs.declared.rank.Alternatives.{Alternatives}
+use Rattle.decision_tree.specs.Alternatives.{Alternatives, lists_of}
 use Rattle.decision_tree.specs.declared.rank.Rank.{Ghosts as Ranks}
 use Rattle.decision_tree.specs.declared.reason.Cause.{Cause}
 use Rattle.decision_tree.specs.Plans.{Plan, bottom, top, leaf, branch}
 use Rattle.linear_solve.proofs.Lists.{all_of, member_of}
 use Rattle.constraint_stack.specs.Forming.{Formed}
-use Rattle.constraint_stack.specs.Claims.{HasNoStore, choices, kinds_of, Claim, System, exceeding, nothing}
+use Rattle.constraint_stack.specs.Claims.{ClaimFits, HasNoStore, choices, kinds_of, Claim, System, exceeding, nothing}
 use Rattle.tree_support.specs.Systems.{moved_by, plain}
 use Rattle.constraint_stack.specs.declared.finding.Finding.{Finding}
 use Rattle.constraint_stack.specs.Stacks.{IsMetNowhere, IsTried, Refutes, all_asked, all_chosen, asked, kind_of, kinds, unformed}
-use Rattle.constraint_stack.specs.Searches.{Finds, IsClaimFormed, IsClaimTried, IsSearched, lists_there}
+use Rattle.constraint_stack.specs.Searches.{Finds, IsClaimFormed, IsClaimTried, IsSearched}
 use Rattle.leaf_search.specs.Walks.{ending, side_of, systems_behind}
 use Rattle.constraint_stack.proofs.Choosing.{nowhere_with}
 use Rattle.constraint_stack.proofs.Justifying.{justified, justified_unformed, kinds_with}
@@ -29,6 +30,11 @@ asked_more asks a = map-append (λ a. asked a) asks (a ∷ [])
 unformed_met : (asks : List Formed) (store : List ℤ) → All (λ kind. MeetsKind store kind) (kinds (all_asked asks)) → All (λ kind. MeetsKind store kind) (kinds (all_asked asks ++ unformed ∷ []))
 unformed_met asks store met =
     subst (λ all. All (λ kind. MeetsKind store kind) all) (sym (map-append kind_of (all_asked asks) (unformed ∷ []))) (All-push (λ (kind : RowKind). MeetsKind store kind) (kinds (all_asked asks)) Always met tt)
+
+-- alternatives that are told where it fits
+abbrev AreToldAs : Type 0 → Alternatives → Result Alternatives Wide → Type 0
+AreToldAs Fits alternatives (Ok found) = Fits × (found ≡ alternatives)
+AreToldAs Fits alternatives (Err wide) = IsOutside wide × (Fits → ⊥)
 
 module _ {R : Type 0} (ranks : Ranks R) where
   -- ---- lists of systems
@@ -76,13 +82,20 @@ module _ {R : Type 0} (ranks : Ranks R) where
         (subst (λ items. Refutes items f.reason) (sym (append-nil (all_asked asks))) tried.1);
   }
 
+  -- a claim is formed where its alternatives are told
+  pub formed_as_told : (claim : Claim R) (alternatives : Alternatives) (Fits : Type 0) (told : Result Alternatives Wide)
+      → choices ranks claim ≡ lists_of alternatives → (Fits → ClaimFits ranks claim) → (ClaimFits ranks claim → Fits) → AreToldAs Fits alternatives told
+      → IsClaimFormed ranks claim told
+  formed_as_told claim alternatives Fits (Ok found) same fits back is = (fits is.0, same ∙ ap lists_of (sym is.1))
+  formed_as_told claim alternatives Fits (Err wide) same fits back is = (is.0, λ all. is.1 (back all))
+
   -- a system with a claim
   pub claim_searched : (edge : ℕ) (asks : List Formed) (claim : Claim R) (formed : Result Alternatives Wide) (refuted : Bool) (found : Option Finding) → IsClaimFormed ranks claim formed → IsClaimTried (all_asked asks) formed edge refuted found → IsSearched ranks (record { edge = edge; asks = asks; claim = claim } ∷ []) refuted found
   claim_searched edge asks claim (Ok alternatives) false found formed none =
       let s : System R = record { edge = edge; asks = asks; claim = claim } in
       All-cons (HasNoStore ranks) s [] (subst (λ lists. All (λ (choice : List RowKind). (store : List ℤ) → All (λ kind. MeetsKind store kind) (kinds_of ranks s choice) → ⊥) lists) (sym formed.1)
-      (all_of (λ (choice : List RowKind). (store : List ℤ) → All (λ kind. MeetsKind store kind) (kinds_of ranks s choice) → ⊥) (lists_there alternatives.list)
-      (λ choice member. nowhere_kinds s choice (member_of (λ (choice : List RowKind). IsMetNowhere (all_asked asks ++ all_chosen choice)) (lists_there alternatives.list) choice none member)))) (All-nil (HasNoStore ranks))
+      (all_of (λ (choice : List RowKind). (store : List ℤ) → All (λ kind. MeetsKind store kind) (kinds_of ranks s choice) → ⊥) (lists_of alternatives)
+      (λ choice member. nowhere_kinds s choice (member_of (λ (choice : List RowKind). IsMetNowhere (all_asked asks ++ all_chosen choice)) (lists_of alternatives) choice none member)))) (All-nil (HasNoStore ranks))
   claim_searched edge asks claim (Ok alternatives) true None formed tried = tried
   claim_searched edge asks claim (Ok alternatives) true (Some f) formed tried = record {
     system = record { edge = edge; asks = asks; claim = claim };

@@ -7,7 +7,7 @@ ghost use Rattle.tree_support.specs.Setting.{trees_in};
 ghost use Rattle.tree_support.specs.Systems.{of_atom, of_both, of_end, of_keep, of_leaf, of_now, of_rank, of_side, of_why, unedged, undefined_at};
 ghost use Rattle.constraint_stack.specs.Claims.{unnatural};
 ghost use Rattle.constraint_stack.specs.Stacks.{Forms, IsTried, all_asked, asked};
-ghost use Rattle.constraint_stack.specs.Searches.{IsClaimFormed, IsSame, IsSearched, WhereAsked};
+ghost use Rattle.constraint_stack.specs.Searches.{IsSame, IsSearched, WhereAsked};
 ghost use Rattle.leaf_search.specs.Ahead.{IsAhead};
 ghost use Rattle.leaf_search.specs.Operands.{families_of};
 ghost use Rattle.leaf_search.specs.Leaves.{WhereStood};
@@ -17,9 +17,9 @@ use crate::ahead::{Ahead, here};
 use crate::follow::refute_at;
 use crate::part::Part;
 use crate::walk::Way;
-use constraint_stack::{ConstraintStack, Finding, try_claim};
+use constraint_stack::{Asked, ConstraintStack, Finding, try_claim};
 use control_flow::{Choice, Transition};
-use decision_tree::{Alternatives, Family, Rank, Tree, Why};
+use decision_tree::{Family, Rank, Tree, Why};
 use linear_cons::{Affine, Row, RowKind, Wide};
 use std::alloc::AllocError;
 
@@ -334,17 +334,8 @@ fn refute_rank<R: Rank>(
     ensures searched { IfOk result (λ refuted. WhereAsked stack.old (λ asks.
         IsSearched R.Rank.own (record { edge = unedged; asks = asks; claim = unnatural rank.now } ∷ []) refuted found.new)) }
 {
-    let formed = negative(rank);
-    let refuted = try_claim(&formed, UNEDGED, stack, found)?;
+    let refuted = try_claim(&Asked::Negative(rank), UNEDGED, stack, found)?;
     Ok(refuted)
-}
-
-/// The stores at which the rank is no natural.
-fn negative<R: Rank>(rank: &R) -> Result<Alternatives, Wide>
-    ensures { IsClaimFormed R.Rank.own (unnatural rank.now) result }
-{
-    let alternatives = rank.negative()?;
-    Ok(alternatives)
 }
 
 /// Looks for a reason against the undefined leaves of an operand's tree at the label; past the last operand nothing is defined.

@@ -1,16 +1,17 @@
 //! The walk over the leaves of another tree.
-ghost use Rattle.std.specs.Prelude.{◌≡◌, ◌++◌, ◌∷◌, ◌<◌, [], true, false, None, All, IfOk, OnOk, IfSome, length};
+ghost use Rattle.std.specs.Prelude.{◌≡◌, ◌++◌, ◌∷◌, ◌<◌, [], true, false, None, All, IfErr, IfOk, OkIff, OnOk, IfSome, length};
+ghost use Rattle.linear_cons.specs.Exact.{IsOutside};
 ghost use Rattle.linear_cons.specs.Functions.{complement_of};
 ghost use Rattle.decision_tree.specs.Plans.{leaf, plan_of};
 ghost use Rattle.decision_tree.specs.declared.reason.Why.{Why};
-ghost use Rattle.constraint_stack.specs.Claims.{HasNoStore, exceeding};
+ghost use Rattle.constraint_stack.specs.Claims.{HasNoStore, MoveFits, moved_rank};
 ghost use Rattle.tree_support.specs.Systems.{moved_by};
 ghost use Rattle.constraint_stack.specs.Stacks.{Forms, IsMetNowhere, all_asked, asked};
-ghost use Rattle.constraint_stack.specs.Searches.{Holds, IsClaimFormed, IsLonger, IsSame, IsSearched, WhereAsked};
+ghost use Rattle.constraint_stack.specs.Searches.{Holds, IsLonger, IsSame, IsSearched, WhereAsked};
 ghost use Rattle.leaf_search.specs.Walks.{IsKept, IsSettled, LeadsTo, WhereAmong, ending, side_of, systems_behind};
 
-use constraint_stack::{ConstraintStack, Finding, try_claim};
-use decision_tree::{Alternatives, Rank, Tree};
+use constraint_stack::{Asked, ConstraintStack, Finding, try_claim, try_unformed};
+use decision_tree::{Rank, Tree};
 use linear_cons::{Affine, Row, RowKind, Wide};
 use std::alloc::AllocError;
 
@@ -297,25 +298,30 @@ impl<R: Rank> Way<R> {
         match &self.limit {
             None => Ok(false),
             Some(limit) => {
-                let formed = self.excess(rank, limit);
-                let refuted = try_claim(&formed, self.edge, stack, found)?;
+                let refuted = match self.more(rank) {
+                    Ok(more) => {
+                        try_claim(&Asked::Greater(&more, limit), self.edge, stack, found)?
+                    }
+                    Err(wide) => try_unformed(wide, self.edge, stack, found)?,
+                };
                 Ok(refuted)
             }
         }
     }
 
-    /// The stores at which the leaf's rank, moved back and one more, exceeds the limit.
-    fn excess(&self, rank: &R, limit: &R) -> Result<Alternatives, Wide>
+    /// The leaf's rank, moved back, and one more.
+    fn more(&self, rank: &R) -> Result<R, Wide>
         requires { IfSome self.now.sets (λ s. s.0 < 16) }
-        ensures { IsClaimFormed R.Rank.own (exceeding rank.now self.now.sets limit.now) result }
+        ensures exact { OkIff result (MoveFits R.Rank.own self.now.sets rank.now × R.add_one_fits (moved_rank R.Rank.own self.now.sets rank.now))
+            (R.one_more (moved_rank R.Rank.own self.now.sets rank.now)) }
+        ensures wide { IfErr result IsOutside }
     {
         let moved = match &self.sets {
             None => *rank,
             Some((place, by)) => rank.subst(*place, by)?,
         };
         let more = moved.add_one()?;
-        let greater = more.greater(limit)?;
-        Ok(greater)
+        Ok(more)
     }
 }
 

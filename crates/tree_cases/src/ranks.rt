@@ -1,7 +1,7 @@
 //! Calls on ranks, which are functions. These are `rank more F`, `rank put F for x in F`, `rank greatest L for x in F`, and for where one is greater, or is no
 //! natural number, `exceeds F and F` and `negative F`.
 use case_text::{Answer, Words, read_function, read_linear};
-use decision_tree::{AffineRank, Alternatives, Rank};
+use decision_tree::{AffineRank, Comparison, Rank};
 use linear_cons::Wide;
 
 /// Makes the call of that name and writes its answer; false where none has the name.
@@ -11,9 +11,9 @@ pub fn answers(name: &str, words: &mut Words<'_>, answer: &mut Answer) -> bool {
         "exceeds" => {
             let first = read_rank(words);
             words.expect("and");
-            push_compared(first.greater(&read_rank(words)), answer);
+            push_compared(first.greater(&read_rank(words), 0), answer);
         }
-        "negative" => push_compared(read_rank(words).negative(), answer),
+        "negative" => push_compared(read_rank(words).negative(0), answer),
         _ => return false,
     }
     true
@@ -53,20 +53,10 @@ fn push_changed(changed: Result<Option<AffineRank>, Wide>, answer: &mut Answer) 
     }
 }
 
-/// Writes the constraints, of which one list is met.
-fn push_compared(compared: Result<Alternatives, Wide>, answer: &mut Answer) {
+/// Writes the constraint, which is all of the comparison.
+fn push_compared(compared: Result<Comparison, Wide>, answer: &mut Answer) {
     match compared {
-        Ok(alternatives) => push_alternatives(&alternatives, answer),
+        Ok(comparison) => answer.push_kind(&comparison.more),
         Err(wide) => answer.push_wide(&wide),
-    }
-}
-
-fn push_alternatives(alternatives: &Alternatives, answer: &mut Answer) {
-    for (number, list) in alternatives.list.iter().flatten().enumerate() {
-        answer.push(if number == 0 { "" } else { " or " });
-        for (number, kind) in list.iter().flatten().enumerate() {
-            answer.push(if number == 0 { "" } else { " and " });
-            answer.push_kind(kind);
-        }
     }
 }

@@ -6,10 +6,10 @@ use Rattle.linear_cons.specs.Settling.{settles}
 use Rattle.linear_cons.specs.declared.row.Row.{Row}
 use Rattle.decision_tree.specs.Nodes.{node}
 use Rattle.decision_tree.specs.Plans.{Plan, branch, is_defined, leaf}
-use Rattle.decision_tree.specs.declared.rank.Alternatives.{Alternatives}
+use Rattle.decision_tree.specs.Alternatives.{Alternatives}
 use Rattle.decision_tree.specs.declared.rank.Rank.{Ghosts as Ranks}
 use Rattle.tree_unify.specs.Builds.{Build, formed}
-use Rattle.tree_unify.specs.Choosing.{ChosenFits, alternatives_of, chosen}
+use Rattle.tree_unify.specs.Choosing.{ChosenFits, chosen}
 use Rattle.tree_unify.specs.declared.join.Join.{Join}
 use Rattle.tree_unify.specs.declared.join.Join.TheVariants.{Both, Either, Later}
 
@@ -74,13 +74,13 @@ module _ {R : Type 0} (same : R → R → Bool) (where_greater : R → R → Alt
   leaf_met Either first (leaf why rank) = leaf why rank
   leaf_met Either first second = first
   leaf_met Later (leaf why rank) (leaf other second) =
-      chosen same (alternatives_of (where_greater second rank).list) (leaf other second) (leaf why rank)
+      chosen same (where_greater second rank) (leaf other second) (leaf why rank)
   leaf_met Later first second = second
 
   -- the numbers fit of the rank difference, and of its row's complement
   abbrev pub MetFits : Join → Plan R → Plan R → Type 0
   MetFits Later (leaf why rank) (leaf other second) =
-      greater_fits second rank × ChosenFits (alternatives_of (where_greater second rank).list)
+      greater_fits second rank × ChosenFits (where_greater second rank)
   MetFits Later first second = ⊤
   MetFits Either first second = ⊤
   MetFits Both first second = ⊤

@@ -165,8 +165,7 @@ fn met<R: Rank>(
         (Join::Either, _, _) => leaf.boxed(alloc)?,
         (Join::Both, _, _) => second.boxed(alloc)?,
         (Join::Later, Tree::Leaf { rank, .. }, Tree::Leaf { rank: other, .. }) => {
-            let alternatives = other.greater(rank)?;
-            choose(alloc, &alternatives, second, leaf)?
+            choose(alloc, other, rank, second, leaf)?
         }
         (Join::Later, _, _) => second.boxed(alloc)?,
     };

@@ -102,7 +102,7 @@ module _ {R : Type 0} (same : R → R → Bool) (alike : (rank other : R) → Is
       let whole = node_size given is.0 is.1.0 in
       rw is.1.1.2 (omega (arith, here, there, whole))
 
-  module _ (never : (path : List Row) (rank : R) → MayBeMetWithOne path (ranks.where_greater rank rank).list → ⊥) where
+  module _ (never : (path : List Row) (rank : R) → MayBeMetWithOne path (ranks.where_greater rank rank) → ⊥) where
     -- ---- a claim that the newer tree makes too
 
     -- sides that make one leaf are that leaf
@@ -132,7 +132,7 @@ module _ {R : Type 0} (same : R → R → Bool) (alike : (rank other : R) → Is
     against_itself why rank path (top cause) is against = absurd (cc)
     against_itself why rank path (leaf other next) is against =
         let same_one : next ≡ rank = cc in
-        never path rank (subst (λ r. MayBeMetWithOne path (ranks.where_greater r rank).list) same_one against)
+        never path rank (subst (λ r. MayBeMetWithOne path (ranks.where_greater r rank)) same_one against)
     against_itself why rank path (branch row this that) is against =
         against_at why rank path row this that (settles path row) (λ way. against_itself why rank way this) (λ way. against_itself why rank way that) is against
 

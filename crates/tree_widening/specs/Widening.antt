@@ -17,7 +17,7 @@ use Rattle.tree_widening.specs.Meeting.{MayBeMetWithOne}
 module _ {R : Type 0} (ranks : Ranks R) where
   -- The newer tree's leaf tells against a claim of the rank: it makes none, or there may be a point on its way where its own rank exceeds.
   abbrev pub IsAgainst : R → List Row → Plan R → Type 0
-  IsAgainst rank path (leaf why next) = MayBeMetWithOne path (ranks.where_greater next rank).list
+  IsAgainst rank path (leaf why next) = MayBeMetWithOne path (ranks.where_greater next rank)
   IsAgainst rank path end = ⊤
 
   -- The newer tree's leaf bears a claim of the rank out: it makes one, whose rank exceeds at no store on its way.

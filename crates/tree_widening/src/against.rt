@@ -1,15 +1,16 @@
 //! Whether a newer tree tells against a claim.
-ghost use Rattle.std.specs.Prelude.{◌≡◌, IfOk, OnErr, OnOk};
+ghost use Rattle.std.specs.Prelude.{◌≡◌, ◌+◌, ◌<◌, IfOk, OnErr, OnOk, drop};
 ghost use Rattle.linear_cons.specs.Exact.{IsOutside};
 ghost use Rattle.linear_cons.specs.declared.exact.Wide.{Wide};
+ghost use Rattle.decision_tree.specs.Alternatives.{part_at};
 ghost use Rattle.decision_tree.specs.Plans.{plan_of};
 ghost use Rattle.decision_tree.specs.declared.path.PathFault.TheVariants.{Wide as TooWide};
 ghost use Rattle.tree_unify.specs.Shapes.{TrimWithFits};
-ghost use Rattle.tree_widening.specs.Judging.{IsDecided, IsEachDecided, IsJudged, IsLeafJudged, IsOneDecided};
+ghost use Rattle.tree_widening.specs.Judging.{IsBehindDecided, IsDecided, IsJudged, IsKindDecided, IsLeafJudged, IsOneDecided};
 ghost use Rattle.tree_widening.specs.Widening.{ExceedFits};
 
 use crate::walk::{Stopped, Walk};
-use decision_tree::{PathFault, Rank, Trail, Tree};
+use decision_tree::{Comparison, PathFault, Rank, Trail, Tree};
 use linear_cons::{MOST_ROWS, RowKind};
 use linear_solve::{Answer, decide_tightest};
 use std::alloc::{AllocError, Global};
@@ -58,58 +59,98 @@ fn exceeds<R: Rank>(alloc: Global, walk: &mut Walk, next: &R, rank: &R) -> Resul
     ensures wide { OnErr result ((w : Wide) → walk.new.fault ≡ TooWide w → R.greater_fits next.now rank.now → ⊥) }
     ensures operands { OnErr result ((w : Wide) → walk.new.fault ≡ TooWide w → IsOutside w) }
 {
-    match next.greater(rank) {
-        Ok(alternatives) => one_may_be_met(alloc, walk, &alternatives.list),
+    match next.greater(rank, 0) {
+        Ok(first) => exceeds_from(alloc, walk, next, rank, 0, &first),
         Err(wide) => Err(walk.stop(PathFault::Wide(wide))),
     }
 }
 
-/// Whether a point on the way of the walk may meet one of the alternatives. The walk is where it was.
-fn one_may_be_met(
+/// Whether a point on the way of the walk may meet one of the alternatives from that with the number on, whose part is known. The walk is where it
+/// was.
+#[cycle(comparing)]
+fn exceeds_from<R: Rank>(
     alloc: Global,
     walk: &mut Walk,
-    alternatives: &[Option<[Option<RowKind>; 3]>],
+    next: &R,
+    rank: &R,
+    number: u8,
+    part: &Comparison,
 ) -> Result<bool, Stopped>
-    ensures decided { IfOk result (λ met. IsOneDecided walk.old.trail alternatives.now met) }
+    requires told { R.greater_fits next.now rank.now }
+    requires number { number < R.PARTS }
+    requires part { part.now ≡ part_at (R.where_greater next.now rank.now) number }
+    ensures decided { IfOk result (λ met. IsOneDecided walk.old.trail (drop number (R.where_greater next.now rank.now)) met) }
     ensures trail { OnOk result (walk.new.trail ≡ walk.old.trail) }
     ensures wide { OnErr result ((w : Wide) → walk.new.fault ≡ TooWide w → ⊥) }
 {
-    let Some((first, rest)) = alternatives.split_first() else {
-        return Ok(false);
-    };
-    let Some(kinds) = first else {
-        return one_may_be_met(alloc, walk, rest);
-    };
-    if each_may_be_met(alloc, walk, kinds)? {
+    if may_meet(alloc, walk, &part.more)? {
         return Ok(true);
     }
-    one_may_be_met(alloc, walk, rest)
+    match &part.same {
+        Some(same) => exceeds_behind(alloc, walk, next, rank, number, same),
+        None => exceeds_behind(alloc, walk, next, rank, number, &[]),
+    }
 }
 
-/// Whether a point on the way of the walk may meet each of the constraints. The solver is asked only where
-/// no row of the way is opposed to one of theirs. The walk is where it was.
-fn each_may_be_met(
+/// Whether a point on the way of the walk may meet each of the constraints and one of the alternatives behind that with the number. The walk is
+/// where it was.
+#[cycle(comparing)]
+fn exceeds_behind<R: Rank>(
     alloc: Global,
     walk: &mut Walk,
-    kinds: &[Option<RowKind>],
+    next: &R,
+    rank: &R,
+    number: u8,
+    same: &[RowKind],
 ) -> Result<bool, Stopped>
-    ensures decided { IfOk result (λ met. IsEachDecided walk.old.trail kinds.now met) }
+    requires told { R.greater_fits next.now rank.now }
+    requires number { number < R.PARTS }
+    ensures decided { IfOk result (λ met. IsBehindDecided walk.old.trail same.now (drop (number + 1) (R.where_greater next.now rank.now)) met) }
     ensures trail { OnOk result (walk.new.trail ≡ walk.old.trail) }
     ensures wide { OnErr result ((w : Wide) → walk.new.fault ≡ TooWide w → ⊥) }
 {
-    let Some((first, rest)) = kinds.split_first() else {
-        return walk.may_be_met(alloc);
+    let parts = R::PARTS;
+    let after = number + 1;
+    if after == parts {
+        return Ok(false);
+    }
+    let Some((first, rest)) = same.split_first() else {
+        return match next.greater(rank, after) {
+            Ok(told) => exceeds_from(alloc, walk, next, rank, after, &told),
+            Err(wide) => Err(walk.stop(PathFault::Wide(wide))),
+        };
     };
     match first {
-        None => each_may_be_met(alloc, walk, rest),
-        Some(RowKind::Always) => each_may_be_met(alloc, walk, rest),
-        Some(RowKind::Never) => Ok(false),
-        Some(RowKind::Row(row)) => {
+        RowKind::Always => exceeds_behind(alloc, walk, next, rank, number, rest),
+        RowKind::Never => Ok(false),
+        RowKind::Row(row) => {
             if let Some(false) = walk.trail.settles(row) {
                 return Ok(false);
             }
             walk.down(row)?;
-            let met = each_may_be_met(alloc, walk, rest)?;
+            let met = exceeds_behind(alloc, walk, next, rank, number, rest)?;
+            walk.trail.up();
+            Ok(met)
+        }
+    }
+}
+
+/// Whether a point on the way of the walk may meet the constraint. The solver is asked only where no row of the way is opposed to it. The walk is
+/// where it was.
+fn may_meet(alloc: Global, walk: &mut Walk, kind: &RowKind) -> Result<bool, Stopped>
+    ensures decided { IfOk result (λ met. IsKindDecided walk.old.trail kind.now met) }
+    ensures trail { OnOk result (walk.new.trail ≡ walk.old.trail) }
+    ensures wide { OnErr result ((w : Wide) → walk.new.fault ≡ TooWide w → ⊥) }
+{
+    match kind {
+        RowKind::Always => walk.may_be_met(alloc),
+        RowKind::Never => Ok(false),
+        RowKind::Row(row) => {
+            if let Some(false) = walk.trail.settles(row) {
+                return Ok(false);
+            }
+            walk.down(row)?;
+            let met = walk.may_be_met(alloc)?;
             walk.trail.up();
             Ok(met)
         }

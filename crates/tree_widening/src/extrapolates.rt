@@ -22,7 +22,7 @@ pub trait Extrapolates: Rank {
         ensures wide { IfErr result IsOutside };
 
     // No point is found at which a rank exceeds itself.
-    ghost itself_law: { (path : List Row) (rank : Self) → MayBeMetWithOne path (Self.Rank.where_greater rank rank).list → ⊥ };
+    ghost itself_law: { (path : List Row) (rank : Self) → MayBeMetWithOne path (Self.Rank.where_greater rank rank) → ⊥ };
 }
 
 impl Extrapolates for AffineRank {

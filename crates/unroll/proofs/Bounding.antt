@@ -12,7 +12,7 @@ use Rattle.linear_cons.specs.declared.row.RowKind.TheVariants.{Always, Never, Ro
 use Rattle.linear_forms.specs.Duality.{AreDual, EachOf, SomeOf}
 use Rattle.decision_tree.specs.Nodes.{node}
 use Rattle.decision_tree.specs.Plans.{Plan, bottom, branch, leaf, size_of, top}
-use Rattle.decision_tree.specs.declared.rank.Alternatives.{Alternatives}
+use Rattle.decision_tree.specs.Alternatives.{Alternatives}
 use Rattle.tree_unify.specs.Shapes.{on_side}
 use Rattle.backward_transfer.specs.Tests.{IsLaterSmall, TestAsks, enabled, failure_tried, not_refuted, rows_asked, tested, tried}
 use Rattle.backward_transfer.specs.Steps.{asked, assigned, stepped}

@@ -1,5 +1,5 @@
 -- Ranks that are numbers of steps: with one more, with a function put in, and which of two is the greater.
-use Rattle.std.proofs.Common.{◌≡◌, ◌⊎◌, inl, inr, ⊎_elim, ℕ, suc, ◌+◌, ◌^◌, ◌<◌, ◌≤◌, ℤ, pos, negsuc, ◌+ℤ◌, ◌-ℤ◌, [], ◌∷◌, sym, ap, subst, ◌∙◌, arith}
+use Rattle.std.proofs.Common.{None, ◌≡◌, ◌⊎◌, inl, inr, ⊎_elim, ℕ, suc, ◌+◌, ◌^◌, ◌<◌, ◌≤◌, ℤ, pos, negsuc, ◌+ℤ◌, ◌-ℤ◌, [], ◌∷◌, sym, ap, subst, ◌∙◌, arith}
 use Rattle.std.proofs.lemmas.Int.{by_lt_z, ints}
 use Rattle.linear_cons.specs.Functions.{IsConstant, coefficient, constant_of, difference_of, sum_of}
 use Rattle.linear_cons.specs.Numbers.{number_at}
@@ -111,7 +111,7 @@ excess_kind rank next one two =
     constant_kind (excess_of next.value rank.value) (subst IsConstant (sym is) (constant_excess two.0 one.0))
 
 chosen_each : (P : Row → Type 0) (Q : Why → AffineRank → Type 0) (kind : RowKind) (greater other : Plan AffineRank) → (kind ≡ Always) ⊎ (kind ≡ Never)
-    → EachIs P Q greater → EachIs P Q other → EachIs P Q (chosen same_rank ((kind ∷ []) ∷ []) greater other)
+    → EachIs P Q greater → EachIs P Q other → EachIs P Q (chosen same_rank (record { more = kind; same = None } ∷ []) greater other)
 chosen_each P Q Always greater other known first second = first
 chosen_each P Q Never greater other known first second = second
 chosen_each P Q (Kept row) greater other known first second = ⊎_elim (λ is. absurd (cc)) (λ is. absurd (cc)) known
@@ -130,7 +130,7 @@ pub met_steps : (P : Row → Type 0) (most : ℕ) (why other : Why) (rank next :
     → EachIs P (λ reason. IsSteps most) (leaf_met same_rank affine_ranks.where_greater affine_ranks.greater_fits Later (leaf why rank) (leaf other next))
 met_steps P most why other rank next one two = met_each P (λ reason. IsSteps most) why other rank next (one.steps, one.is) (two.steps, two.is) one two
 
-chosen_fits : (kind : RowKind) → (kind ≡ Always) ⊎ (kind ≡ Never) → ChosenFits ((kind ∷ []) ∷ [])
+chosen_fits : (kind : RowKind) → (kind ≡ Always) ⊎ (kind ≡ Never) → ChosenFits (record { more = kind; same = None } ∷ [])
 chosen_fits Always known = tt
 chosen_fits Never known = tt
 chosen_fits (Kept row) known = ⊎_elim (λ is. absurd (cc)) (λ is. absurd (cc)) known

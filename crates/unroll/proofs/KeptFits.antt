@@ -10,7 +10,7 @@ use Rattle.linear_cons.specs.declared.row.RowKind.{RowKind}
 use Rattle.linear_cons.specs.declared.row.RowKind.TheVariants.{Always, Never, Row as Kept}
 use Rattle.decision_tree.specs.Plans.{IsEnd, Plan, bottom, branch, leaf, top}
 use Rattle.decision_tree.specs.declared.affine_rank.AffineRank.{AffineRank}
-use Rattle.decision_tree.specs.declared.rank.Alternatives.{Alternatives}
+use Rattle.decision_tree.specs.Alternatives.{Alternatives}
 use Rattle.decision_tree.specs.declared.reason.Why.{Why}
 use Rattle.tree_unify.specs.Shapes.{GraftFits, JoinFits, JoinedFits, MetFits, OnSide, TrimFits, TrimWithFits}
 use Rattle.tree_unify.specs.declared.join.Join.TheVariants.{Later}

@@ -1,6 +1,6 @@
 -- How large the later of two trees is, whose ranks are numbers of steps, and a tree before a test.
 use Rattle.std.specs.Bool.{⊤}
-use Rattle.std.proofs.Common.{◌≡◌, ◌⊎◌, ⊎_elim, ℕ, zero, suc, ◌+◌, ◌*◌, ◌<◌, ◌≤◌, pos, Bool, true, false, List, [], ◌∷◌, ◌++◌, refl, sym, ap, subst, ◌∙◌, arith}
+use Rattle.std.proofs.Common.{None, ◌≡◌, ◌⊎◌, ⊎_elim, ℕ, zero, suc, ◌+◌, ◌*◌, ◌<◌, ◌≤◌, pos, Bool, true, false, List, [], ◌∷◌, ◌++◌, refl, sym, ap, subst, ◌∙◌, arith}
 use Rattle.std.proofs.Math.Nat.{add-mul, le_refl, mul-le-mul, mul-suc, suc-mul}
 use Rattle.linear_cons.specs.Functions.{IsConstant, constant_of}
 use Rattle.linear_cons.specs.Rows.{complement, row_kind_of}
@@ -35,7 +35,7 @@ use Rattle.unroll.proofs.Lifting.{plain_test}
 use Rattle.unroll.proofs.SpreadRows.{spread_long}
 
 chosen_size : (kind : RowKind) (greater other : Plan AffineRank) → (kind ≡ Always) ⊎ (kind ≡ Never) → size_of greater ≡ 1 → size_of other ≡ 1
-    → size_of (chosen same_rank ((kind ∷ []) ∷ []) greater other) ≡ 1
+    → size_of (chosen same_rank (record { more = kind; same = None } ∷ []) greater other) ≡ 1
 chosen_size Always greater other known first second = first
 chosen_size Never greater other known first second = second
 chosen_size (Kept row) greater other known first second = ⊎_elim (λ is. absurd (cc)) (λ is. absurd (cc)) known

@@ -34,7 +34,7 @@ kind_met a (Kept row) is store = quotient_same_stores a row.affine is store
 pub only_is : (a : Affine) (store : List ℤ) → MeetsAny store (only a) ↔ (pos 0 ≤ℤ value_at a store)
 only_is a store =
     let kind = kind_met a (row_kind_of a) (row_kind_is a) store in
-    (⊎_elim (λ met. kind.0 met.0) (λ none. absurd none), λ least. inl (kind.1 least, tt))
+    (⊎_elim (λ met. kind.0 met) (λ none. absurd none.1), λ least. inl (kind.1 least))
 
 pub excess_is : (a b : Affine) (store : List ℤ) → MeetsAny store (only (excess_of a b)) ↔ (value_at b store <ℤ value_at a store)
 excess_is a b store =

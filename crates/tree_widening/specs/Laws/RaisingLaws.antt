@@ -1,15 +1,14 @@
 -- A function exceeds itself nowhere.
-use Rattle.std.proofs.Common.{◌≡◌, ℤ, pos, negsuc, ◌+ℤ◌, ◌-ℤ◌, ◌<ℤ◌, List, [], ◌∷◌, Option, None, Some, ⊎_elim, sym, subst, arith}
+use Rattle.std.proofs.Common.{◌≡◌, pos, negsuc, ◌+ℤ◌, ◌-ℤ◌, ◌<ℤ◌, List, ⊎_elim, sym, subst, arith}
 use Rattle.std.proofs.lemmas.Int.{ints}
 use Rattle.linear_cons.specs.Functions.{IsConstant, coefficient, constant_of, difference_of}
 use Rattle.linear_cons.specs.Rows.{row_kind_of}
 use Rattle.linear_cons.specs.declared.affine.Affine.{Affine}
 use Rattle.linear_cons.specs.declared.row.Row.{Row}
-use Rattle.linear_cons.specs.declared.row.RowKind.{RowKind}
 use Rattle.linear_cons.specs.declared.row.RowKind.TheVariants.{Never}
 use Rattle.linear_cons.specs.Laws.Primitive.{number_at_places}
 use Rattle.linear_cons.proofs.RowKinds.{row_kind_unique}
-use Rattle.decision_tree.specs.AffineRanks.{excess_of}
+use Rattle.decision_tree.specs.AffineRanks.{excess_of, only}
 use Rattle.tree_widening.specs.Meeting.{MayBeMetWith, MayBeMetWithOne}
 
 pub excess_itself : (a : Affine) → row_kind_of (excess_of a a) ≡ Never
@@ -25,10 +24,9 @@ excess_itself a = sym (row_kind_unique (excess_of a a) Never (constant, below))
     below : (excess_of a a).constant <ℤ pos 0
     below = omega (arith, ints)
 
--- no point meets constraints that begin with a function's exceeding itself
-pub never_met : (path : List Row) (a : Affine) (rest : List (Option RowKind)) → MayBeMetWith path (Some (row_kind_of (excess_of a a)) ∷ rest) → ⊥
-never_met path a rest met = subst (λ kind. MayBeMetWith path (Some kind ∷ rest)) (excess_itself a) met
+-- no point meets a function's exceeding itself
+pub never_met : (path : List Row) (a : Affine) → MayBeMetWith path (row_kind_of (excess_of a a)) → ⊥
+never_met path a met = subst (λ kind. MayBeMetWith path kind) (excess_itself a) met
 
-pub exceeds_itself_nowhere : (path : List Row) (a : Affine)
-    → MayBeMetWithOne path (Some (Some (row_kind_of (excess_of a a)) ∷ None ∷ None ∷ []) ∷ None ∷ []) → ⊥
-exceeds_itself_nowhere path a one = ⊎_elim (λ met. never_met path a (None ∷ None ∷ []) met) (λ none. none) one
+pub exceeds_itself_nowhere : (path : List Row) (a : Affine) → MayBeMetWithOne path (only (excess_of a a)) → ⊥
+exceeds_itself_nowhere path a one = ⊎_elim (λ met. never_met path a met) (λ none. none) one

@@ -4,6 +4,3 @@ use Rattle.tree_unify.proofs.choosing.+ask_all.Goals as goal
 
 pub returns-in_default : goal.returns-in_default
 returns-in_default g c = grind (arith, common_steps)
-
-pub returns-in_err-no-in-Some-Row : goal.returns-in_err-no-in-Some-Row
-returns-in_err-no-in-Some-Row g c = grind (arith, common_steps)

@@ -1,6 +1,0 @@
-use Rattle.std.proofs.Common.{arith}
-use Rattle.std.proofs.lemmas.Grind.{common_steps}
-use Rattle.tree_unify.proofs.choosing.+ask_any.Goals as goal
-
-pub returns-in_default : goal.returns-in_default
-returns-in_default g c = grind (arith, common_steps)
