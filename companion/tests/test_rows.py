@@ -165,6 +165,8 @@ class Examples(unittest.TestCase):
     def test_a_report_with_ranks_is_read(self):
         report = parse_report("exact: not a plain program\nproved:\nranked:\n-x >= 0: ends, rank w*(0) + 21\nx - 1 >= 0: ends, rank w*(0) + 2*x + 21\nunknown:\nverdict: all inputs\n")
         self.assertEqual([str(line.claim) for line in report.lines("ranked")], ["ends, rank w*(0) + 21", "ends, rank w*(0) + 2*x + 21"])
+        report = parse_report("exact: not a plain program\nproved:\nranked:\nalways: ends, rank w^2*(1) + w*(x) + -1\nunknown:\nverdict: all inputs\n")
+        self.assertEqual([str(line.claim) for line in report.lines("ranked")], ["ends, rank w^2*(1) + w*(x) + -1"])
         report = parse_report("fits:\nx >= 0: fits\nunknown:\n-x - 1 >= 0: unknown\nverdict: some inputs\n")
         self.assertEqual([str(line.claim) for line in report.lines("fits")], ["fits"])
 

@@ -65,7 +65,7 @@ exact_number (Exactly (pos n)) = n
 exact_number (Exactly (negsuc n)) = 0
 exact_number (Within bound) = 0
 exact_number Holds = 0
-exact_number (Ranked high low) = 0
+exact_number (Ranked functions) = 0
 exact_number Unknown = 0
 
 -- an end that claims exactly so many steps is a leaf of that rank

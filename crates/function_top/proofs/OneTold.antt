@@ -1,5 +1,5 @@
 -- What is told of one input is true of it.
-use Rattle.std.proofs.Common.{◌≡◌, ◌≢◌, inl, inr, ◌∙◌, ℕ, [], ◌∷◌, ◌++◌, length, Contains, Option, None, Some, codes, refl, sym, ap, subst, arith}
+use Rattle.std.proofs.Common.{◌≡◌, ◌≢◌, inl, inr, ◌∙◌, ℕ, [], ◌∷◌, ◌++◌, length, Contains, Option, None, Some, codes, refl, sym, ap, subst, arith, List, map}
 use Rattle.std.proofs.lemmas.List.Elements.{All-contains, Contains-append_right}
 use Rattle.step_meaning.specs.Outcome.{Store}
 use Rattle.step_meaning.specs.Run.{IsInput, start}
@@ -9,7 +9,7 @@ use Rattle.linear_cons.proofs.Forms.{value_constant}
 use Rattle.ctl_formula.specs.Satisfaction.{SatWithin}
 use Rattle.decision_tree.specs.declared.affine_rank.AffineRank.{AffineRank}
 use Rattle.decision_tree.specs.Plans.{Plan, plan_of}
-use Rattle.ordinal_rank.specs.Ends.{EndsBy}
+use Rattle.ordinal_rank.specs.Ends.{EndsUnder}
 use Rattle.line_text.specs.declared.claim.Claim.{Claim}
 use Rattle.line_text.specs.declared.claim.Claim.TheVariants.{Exactly, Holds, Ranked, Unknown, Within}
 use Rattle.line_text.specs.Numeral.{numeral}
@@ -26,7 +26,7 @@ use Rattle.function_top.specs.declared.status.Status.{Status}
 use Rattle.function_top.specs.Exact.{IsExact}
 use Rattle.function_top.specs.Found.{IsExactPart, IsFound, IsTrueTree}
 use Rattle.function_top.specs.Known.{KnownClaims, OpenAsLines}
-use Rattle.function_top.specs.OneInput.{IsTold, IsToldAs, IsToldOf, LeadsExactly, LeadsTo}
+use Rattle.function_top.specs.OneInput.{IsTold, IsToldAs, IsToldOf, LeadsExactly, LeadsTo, AreToldAs}
 use Rattle.function_top.specs.Refusals.{fault_line}
 use Rattle.function_top.specs.Subject.{Subject}
 use Rattle.function_top.specs.TrueLine.{IsTrueOf}
@@ -45,14 +45,24 @@ told_value : (bound told : Affine) (input : Store) → IsToldAs bound input told
 told_value bound told input (inl (fits, same)) = sym (ap (λ f. value_at f input) same ∙ value_constant (value_at bound input) input)
 told_value bound told input (inr (wide, same)) = ap (λ f. value_at f input) (sym same)
 
+told_values : (functions told : List Affine) (input : Store) → AreToldAs functions input told
+    → map (λ function. value_at function input) functions ≡ map (λ function. value_at function input) told
+told_values [] [] input as_told = refl
+told_values [] (number ∷ more) input as_told = absurd as_told
+told_values (function ∷ rest) [] input as_told = absurd as_told
+told_values (function ∷ rest) (number ∷ more) input as_told =
+    let first = told_value function number input as_told.0 in
+    let others = told_values rest more input as_told.1 in
+    cc (first, others)
+
 -- so a claim that is told so says the same of it
 told_true : (subject : Subject) (input : Store) (claim told : Claim) → IsTold claim input told → IsTrueOf subject claim input → IsTrueOf subject told input
 told_true subject input (Within bound) told (function, as_told, is) truth =
     subst (λ claim. IsTrueOf subject claim input) (sym is)
     (subst (λ v. SatWithin v subject.formula (start subject.body input)) (told_value bound function input as_told) truth)
-told_true subject input (Ranked high low) told (first, second, as_told, other, is) truth =
+told_true subject input (Ranked functions) told (numbers, as_told, is) truth =
     subst (λ claim. IsTrueOf subject claim input) (sym is)
-    (subst (λ v. EndsBy v (start subject.body input)) (told_value high first input as_told) truth)
+    (subst (λ values. EndsUnder values (start subject.body input)) (told_values functions numbers input as_told) truth)
 told_true subject input (Exactly number) told is truth = subst (λ claim. IsTrueOf subject claim input) (sym is) truth
 told_true subject input Holds told is truth = subst (λ claim. IsTrueOf subject claim input) (sym is) truth
 told_true subject input Unknown told is truth = subst (λ claim. IsTrueOf subject claim input) (sym is) truth

@@ -1,14 +1,15 @@
 -- The lines of what was found are over the names, and so is what is told of one input.
-use Rattle.std.proofs.Common.{inl, inr, true, false, int_le, if◌then◌else◌, ℕ, ◌≤◌, ℤ, pos, List, length, not, All, sym, subst}
-use Rattle.std.proofs.lemmas.List.Elements.{All-filter, All-nil}
+use Rattle.std.proofs.Common.{◌≡◌, ◌∙◌, inl, inr, true, false, int_le, if◌then◌else◌, ℕ, suc, ◌≤◌, ℤ, pos, List, [], ◌∷◌, length, not, All, refl, sym, ap, subst}
+use Rattle.std.proofs.lemmas.List.Elements.{All-cons, All-filter, All-head, All-nil, All-tail, All-weaker}
 use Rattle.linear_cons.specs.declared.affine.Affine.{Affine}
 use Rattle.linear_cons.specs.declared.row.Row.{Row}
-use Rattle.linear_cons.specs.Functions.{constant_of, value_at}
+use Rattle.linear_cons.specs.Functions.{IsOver as IsOverPlaces, constant_of, value_at}
 use Rattle.linear_cons.proofs.Over.{over_constant}
 use Rattle.decision_tree.specs.Evaluation.{eval}
 use Rattle.decision_tree.specs.Plans.{Plan, bottom, branch, leaf, plan_of, top}
 use Rattle.decision_tree.specs.Extent.{IsTreeOver}
 use Rattle.ordinal_rank.specs.Families.{IsTreeOver as IsOrdinalOver}
+use Rattle.ordinal_rank.specs.Ordinals.{functions_of}
 use Rattle.line_text.specs.declared.claim.Claim.{Claim}
 use Rattle.line_text.specs.declared.claim.Claim.TheVariants.{Exactly, Holds, Ranked, Unknown, Within}
 use Rattle.line_text.specs.Names.{IsOver}
@@ -24,7 +25,7 @@ use Rattle.function_top.specs.declared.found.Exact.{Exact as Known}
 use Rattle.function_top.specs.declared.found.Exact.TheVariants.{Made, Unasked, Unmade}
 use Rattle.function_top.specs.declared.found.Found.{Found}
 use Rattle.function_top.specs.declared.status.Status.{Status}
-use Rattle.function_top.specs.OneInput.{IsTold, IsToldAs, IsToldOf}
+use Rattle.function_top.specs.OneInput.{AreToldAs, IsTold, IsToldAs, IsToldOf}
 use Rattle.function_top.specs.Printable.{IsExactPrintable, IsFoundPrintable}
 use Rattle.function_top.specs.Shown.{ShowsExact}
 
@@ -57,11 +58,23 @@ module _ (names : List (List ℕ)) (few : length names ≤ 15) where
       subst (IsOver names) (sym same) (named names few (constant_of (value_at bound input)) (over_constant (length names) (value_at bound input)))
   told_bound_over bound input told over (inr (wide, same)) = subst (IsOver names) (sym same) over
 
+  told_functions_over : (functions : List Affine) (input : List ℤ) (told : List Affine) → All (IsOver names) functions → AreToldAs functions input told
+      → (length told ≡ length functions) × All (IsOver names) told
+  told_functions_over [] input [] over as_told = (refl, over)
+  told_functions_over [] input (number ∷ more) over as_told = absurd as_told
+  told_functions_over (function ∷ rest) input [] over as_told = absurd as_told
+  told_functions_over (function ∷ rest) input (number ∷ more) over as_told =
+      let those = told_functions_over rest input more (All-tail (IsOver names) function rest over) as_told.1 in (
+        ap suc those.0,
+        All-cons (IsOver names) number more (told_bound_over function input number (All-head (IsOver names) function rest over) as_told.0) those.1,
+      )
+
   told_claim_over : (claim told : Claim) (input : List ℤ) → IsClaimOver names claim → IsTold claim input told → IsClaimOver names told
   told_claim_over (Within bound) told input over (function, as_told, is) =
       subst (IsClaimOver names) (sym is) (told_bound_over bound input function over as_told)
-  told_claim_over (Ranked high low) told input over (first, second, as_told, other, is) =
-      subst (IsClaimOver names) (sym is) (told_bound_over high input first over.0 as_told, told_bound_over low input second over.1 other)
+  told_claim_over (Ranked functions) told input over (numbers, as_told, is) =
+      let those = told_functions_over functions input numbers over.1 as_told in
+      subst (IsClaimOver names) (sym is) (those.0 ∙ over.0, those.1)
   told_claim_over (Exactly number) told input over is = subst (IsClaimOver names) (sym is) over
   told_claim_over Holds told input over is = subst (IsClaimOver names) (sym is) over
   told_claim_over Unknown told input over is = subst (IsClaimOver names) (sym is) over
@@ -76,5 +89,5 @@ module _ (names : List (List ℕ)) (few : length names ≤ 15) where
   told_over found input status claim printable (inl (all, inr (otherwise, inr (lacks, (rank, leads, told))))) =
       let over = subst (IsOrdinalOver (length names)) leads.is
       (leaf_over (IsOrdinalOver (length names)) (λ row this that own. (own.1, own.2)) (plan_of found.ranked) input printable.ranked.over) in
-      told_claim_over (ordinal_claim rank) claim input (named names few rank.high over.0.0, named names few rank.low over.0.1) told
+      told_claim_over (ordinal_claim rank) claim input (refl, All-weaker (IsOverPlaces (length names)) (IsOver names) (named names few) (functions_of rank) over.0) told
   told_over found input status claim printable (inr (some, otherwise, lacks, nowhere, is)) = subst (IsClaimOver names) (sym is) tt

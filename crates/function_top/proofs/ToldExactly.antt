@@ -95,7 +95,7 @@ exactly_told Plain rank input claim n other told is = cc
 
 -- nor is it where the tree of ordinal ranks claims
 ordinal_told : (rank : OrdinalRank) (input : Store) (claim : Claim) (n : ℕ) → IsTold (ordinal_claim rank) input claim → claim ≡ Exactly (pos n) → ⊥
-ordinal_told rank input claim n told is = let told_is = told.4 in cc
+ordinal_told rank input claim n told is = let told_is = told.2 in cc
 
 module _ (vars : ℕ) (body : Statements) (tests : ℕ) (stop : Option Stop) (tree : Tree AffineRank) (level : IsExactTree vars body tests (plan_of tree))
     (growth : growth_of body tests ≤ 2 ^ 60) (input : Store) (is_input : IsInput vars input) (numbers : HasSmallNumbers input) (n : ℕ) where

@@ -1,5 +1,5 @@
 -- What is told of one input: a claim alone.
-use Rattle.std.specs.Prelude.{◌≡◌, ◌⊎◌}
+use Rattle.std.specs.Prelude.{◌≡◌, ◌⊎◌, List, [], ◌∷◌, ⊤}
 use Rattle.step_meaning.specs.Outcome.{Store}
 use Rattle.linear_cons.specs.declared.affine.Affine.{Affine}
 use Rattle.linear_cons.specs.Functions.{PartsFit, constant_of, value_at}
@@ -35,13 +35,20 @@ LeadsExactly (Made tests stop tree) input rank = LeadsTo (plan_of tree) input ra
 abbrev pub IsToldAs : Affine → Store → Affine → Type 0
 IsToldAs bound input told = (PartsFit bound input × (told ≡ constant_of (value_at bound input))) ⊎ ((¬ PartsFit bound input) × (told ≡ bound))
 
+-- several functions so, one by one
+abbrev pub AreToldAs : List Affine → Store → List Affine → Type 0
+AreToldAs [] input [] = ⊤
+AreToldAs [] input (told ∷ more) = ⊥
+AreToldAs (function ∷ rest) input [] = ⊥
+AreToldAs (function ∷ rest) input (told ∷ more) = IsToldAs function input told × AreToldAs rest input more
+
 -- what a leaf claims, as it is told of the input
 abbrev pub IsTold : Claim → Store → Claim → Type 0
 IsTold (Within bound) input claim = (told : Affine) × IsToldAs bound input told × (claim ≡ Within told)
 IsTold (Exactly number) input claim = claim ≡ Exactly number
 IsTold Holds input claim = claim ≡ Holds
-IsTold (Ranked high low) input claim =
-    (first second : Affine) × IsToldAs high input first × IsToldAs low input second × (claim ≡ Ranked first second)
+IsTold (Ranked functions) input claim =
+    (told : List Affine) × AreToldAs functions input told × (claim ≡ Ranked told)
 IsTold Unknown input claim = claim ≡ Unknown
 
 -- the exact part claims this of the input

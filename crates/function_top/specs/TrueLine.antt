@@ -1,9 +1,9 @@
 -- When a line is true.
-use Rattle.std.specs.Prelude.{ℤ, pos, negsuc, List, length, ⊤}
+use Rattle.std.specs.Prelude.{ℤ, pos, negsuc, List, length, map, ⊤}
 use Rattle.step_meaning.specs.Outcome.{Store}
 use Rattle.step_meaning.specs.Step.{Configuration}
 use Rattle.step_meaning.specs.Run.{IsInput, start, Longest}
-use Rattle.ordinal_rank.specs.Ends.{EndsBy}
+use Rattle.ordinal_rank.specs.Ends.{EndsUnder}
 use Rattle.linear_cons.specs.declared.affine.Affine.{Affine}
 use Rattle.linear_cons.specs.Functions.{value_at}
 use Rattle.ctl_formula.specs.Satisfaction.{Sat, SatWithin}
@@ -19,13 +19,13 @@ IsLongest (negsuc n) c = ⊥
 
 -- The claim is true of the input of the subject: the longest of its runs has exactly so many steps; the formula, whose normal form is an until, holds
 -- where they begin within as many steps as the function's value at the input, which for `AF exit` says that each run ends within so many; the formula
--- holds there; every run ends, within a number of steps or where a new number bounds the rest, and a new one is needed at most as often as the value of
--- the first function at the input says; or nothing is claimed.
+-- holds there; every run ends, within a number of steps or where a new number bounds the rest, and how often a new one is needed is bounded as
+-- the values of the functions at the input say; or nothing is claimed.
 abbrev pub IsTrueOf : Subject → Claim → Store → Type 0
 IsTrueOf subject (Exactly number) input = IsLongest number (start subject.body input)
 IsTrueOf subject (Within bound) input = SatWithin (value_at bound input) subject.formula (start subject.body input)
 IsTrueOf subject Holds input = Sat subject.formula (start subject.body input)
-IsTrueOf subject (Ranked high low) input = EndsBy (value_at high input) (start subject.body input)
+IsTrueOf subject (Ranked functions) input = EndsUnder (map (λ function. value_at function input) functions) (start subject.body input)
 IsTrueOf subject Unknown input = ⊤
 
 -- the line of this condition and claim is true of the subject: for every input that meets the condition the claim is true of it

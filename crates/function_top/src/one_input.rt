@@ -5,7 +5,7 @@ ghost use Rattle.decision_tree.specs.declared.affine_rank.AffineRank.{AffineRank
 ghost use Rattle.decision_tree.specs.Plans.{plan_of};
 ghost use Rattle.line_text.specs.declared.claim.Claim.{Claim};
 ghost use Rattle.claim_line.specs.Tells.{Tells};
-ghost use Rattle.function_top.specs.OneInput.{IsTold, IsToldAs, IsToldOf, LeadsExactly, LeadsTo};
+ghost use Rattle.function_top.specs.OneInput.{AreToldAs, IsTold, IsToldAs, IsToldOf, LeadsExactly, LeadsTo};
 ghost use Rattle.function_top.specs.Printable.{IsFoundPrintable};
 
 use crate::found::{Exact, Found};
@@ -55,7 +55,7 @@ fn told(found: &Found, input: &[i128; 16]) -> (Claim, Status)
     }
     match rank_at(&found.ranked, input) {
         Some(rank) => {
-            let claim = Claim::Ranked(rank.high, rank.low);
+            let claim = Claim::Ranked(rank.functions());
             (claim_told(&claim, input), Status::AllInputs)
         }
         None => (Claim::Unknown, Status::SomeInputs),
@@ -68,7 +68,7 @@ fn claim_told(claim: &Claim, input: &[i128; 16]) -> Claim
 {
     match claim {
         Claim::Within(bound) => Claim::Within(bound_told(bound, input)),
-        Claim::Ranked(high, low) => Claim::Ranked(bound_told(high, input), bound_told(low, input)),
+        Claim::Ranked(functions) => Claim::Ranked(functions_told(functions, input)),
         Claim::Exactly(_) | Claim::Holds | Claim::Unknown => *claim,
     }
 }
@@ -81,6 +81,20 @@ fn bound_told(bound: &Affine, input: &[i128; 16]) -> Affine
         Ok(value) => Affine::constant(value),
         Err(_) => *bound,
     }
+}
+
+/// The functions of a rank so, one by one.
+fn functions_told(functions: &[Affine; 5], input: &[i128; 16]) -> [Affine; 5]
+    ensures { AreToldAs functions.now input.now result }
+{
+    let [fourth, third, second, first, finite] = functions;
+    [
+        bound_told(fourth, input),
+        bound_told(third, input),
+        bound_told(second, input),
+        bound_told(first, input),
+        bound_told(finite, input),
+    ]
 }
 
 /// The rank at the leaf of the exact part where the input stands, if there is one.

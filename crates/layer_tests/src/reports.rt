@@ -198,7 +198,10 @@ fn tree_of(alloc: Global, root: &Root) -> Result<Tree<AffineRank>, Fail>
 fn claim_of(said: &Said) -> Claim {
     match *said {
         Exactly(steps) => Claim::Exactly(steps),
-        Ranked(high, low) => Claim::Ranked(function(high), function(low)),
+        Ranked(high, low) => {
+            let nought = Affine::constant(0);
+            Claim::Ranked([nought, nought, nought, function(high), function(low)])
+        }
         Within(numbers) => Claim::Within(function(numbers)),
         Holds => Claim::Holds,
         Unknown => Claim::Unknown,

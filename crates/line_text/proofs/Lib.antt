@@ -8,6 +8,7 @@ pub mod Words
 pub mod Products
 pub mod Sums
 pub mod Terms
+pub mod Ranks
 pub mod Lines
 pub mod LineForms
 pub mod Joined

@@ -8,7 +8,7 @@ use Rattle.linear_cons.specs.declared.affine.Affine.{Affine}
 use Rattle.line_text.specs.declared.claim.Claim.{Claim}
 use Rattle.line_text.specs.declared.claim.Claim.TheVariants.{Exactly, Within, Holds, Ranked, Unknown}
 use Rattle.line_text.specs.AffineText.{Term, affine_text, front_sign, joining_sign, later_text, number_text, product_text, sum_text, terms_of}
-use Rattle.line_text.specs.LineText.{claim_text, condition_text, is_one, more_joined, row_text, row_texts, steps_word}
+use Rattle.line_text.specs.LineText.{claim_text, condition_text, is_one, more_joined, power_text, rank_text, row_text, row_texts, shown, steps_word}
 use Rattle.line_text.specs.Names.{AreNames}
 use Rattle.line_text.specs.Numeral.{numeral}
 use Rattle.line_text.specs.Spells.{OpensAsLine, Spells}
@@ -92,6 +92,20 @@ steps_clean : (one : Bool) → IsClean (steps_word one)
 steps_clean true = (refl, (refl, (refl, (refl, (refl, tt)))))
 steps_clean false = (refl, (refl, (refl, (refl, (refl, (refl, tt))))))
 
+power_clean : (n : ℕ) → IsClean (power_text n)
+power_clean zero = tt
+power_clean (suc zero) = (refl, (refl, (refl, tt)))
+power_clean (suc (suc n)) =
+    clean_append (codes "w^") _ (refl, (refl, tt)) (clean_append (numeral (suc (suc n))) (codes "*(") (numeral_clean (suc (suc n))) (refl, (refl, tt)))
+
+rank_clean : (names : List (List ℕ)) (functions : List Affine) → AreDistinct names → IsClean (rank_text names functions)
+rank_clean names [] are = tt
+rank_clean names (low ∷ []) are = affine_clean names low are
+rank_clean names (high ∷ next ∷ rest) are =
+    clean_append (power_text (suc (length rest))) _ (power_clean (suc (length rest)))
+    (clean_append (affine_text names high) _ (affine_clean names high are)
+    (clean_append (codes ") + ") _ (refl, (refl, (refl, (refl, tt)))) (rank_clean names (next ∷ rest) are)))
+
 pub claim_clean : (names : List (List ℕ)) (claim : Claim) → AreDistinct names → IsClean (claim_text names claim)
 claim_clean names (Exactly number) are =
     clean_append (codes "exactly ") _ (refl, (refl, (refl, (refl, (refl, (refl, (refl, (refl, tt))))))))
@@ -101,11 +115,10 @@ claim_clean names (Within bound) are =
     clean_append (codes "within ") _ (refl, (refl, (refl, (refl, (refl, (refl, (refl, tt)))))))
     (clean_append (affine_text names bound) _ (affine_clean names bound are) (steps_clean (is_one bound)))
 claim_clean names Holds are = (refl, (refl, (refl, (refl, (refl, tt)))))
-claim_clean names (Ranked high low) are =
-    clean_append (codes "ends, rank w*(") _
-    (refl, (refl, (refl, (refl, (refl, (refl, (refl, (refl, (refl, (refl, (refl, (refl, (refl, (refl, tt))))))))))))))
-    (clean_append (affine_text names high) _ (affine_clean names high are)
-    (clean_append (codes ") + ") _ (refl, (refl, (refl, (refl, tt)))) (affine_clean names low are)))
+claim_clean names (Ranked functions) are =
+    clean_append (codes "ends, rank ") _
+    (refl, (refl, (refl, (refl, (refl, (refl, (refl, (refl, (refl, (refl, (refl, tt)))))))))))
+    (rank_clean names (shown functions) are)
 claim_clean names Unknown are = (refl, (refl, (refl, (refl, (refl, (refl, (refl, tt)))))))
 
 -- ---- a line has the colon behind its condition, but no newline byte

@@ -1,5 +1,5 @@
 -- A line is read back: its condition row by row, and its claim.
-use Rattle.std.proofs.Common.{◌≡◌, ℕ, suc, Bool, true, false, eqb, ℤ, pos, List, [], ◌∷◌, ◌++◌, All, sym, refl, ap, ◌∙◌, arith, append_assoc, unsigned_abs, codes, None}
+use Rattle.std.proofs.Common.{◌≡◌, ℕ, suc, Bool, true, false, ℤ, pos, List, [], ◌∷◌, ◌++◌, All, sym, refl, ap, ◌∙◌, arith, append_assoc, unsigned_abs, codes, None}
 use Rattle.std.specs.Ordering.{int_eq}
 use Rattle.linear_cons.specs.declared.affine.Affine.{Affine}
 use Rattle.line_text.specs.declared.claim.Claim.{Claim}
@@ -11,7 +11,8 @@ use Rattle.line_text.specs.Numeral.{numeral}
 use Rattle.line_text.specs.Spells.{IsClaimOver, Spells}
 use Rattle.line_text.proofs.Cuts.{heads_differ, word_cut, BeginsStopped}
 use Rattle.line_text.proofs.Products.{front_cut, number_back, product_first}
-use Rattle.line_text.proofs.Sums.{Ends, always_apart, blank_ends, closing_ends}
+use Rattle.line_text.proofs.Ranks.{ranks_told, seconds_differ}
+use Rattle.line_text.proofs.Sums.{Ends, always_apart, blank_ends}
 use Rattle.line_text.proofs.Terms.{AreDistinct, affine_cut, distinct_names, terms_proper}
 use Rattle.line_text.proofs.Words.{numeral_injective, numeral_is_word}
 
@@ -38,53 +39,33 @@ bound_cut :
 bound_cut names a b are over over' e =
     (affine_cut names a b (steps_word (is_one a)) (steps_word (is_one b)) are over over' (word_ends (is_one a)) (word_ends (is_one b)) e).0
 
--- functions with one text are one, whatever follows
-text_cut :
-    (names : List (List ℕ)) (a b : Affine) → AreDistinct names → IsOver names a → IsOver names b → affine_text names a ≡ affine_text names b → a ≡ b
-text_cut names a b are over over' e =
-    (affine_cut names a b (41 ∷ []) (41 ∷ []) are over over' (closing_ends []) (closing_ends []) (ap (λ t. t ++ 41 ∷ []) e)).0
-
-rank_cut :
-    (names : List (List ℕ)) (p q r s : Affine) → AreDistinct names → IsOver names p × IsOver names q → IsOver names r × IsOver names s
-    → affine_text names p ++ (codes ") + " ++ affine_text names q) ≡ affine_text names r ++ (codes ") + " ++ affine_text names s)
-    → Ranked p q ≡ Ranked r s
-rank_cut names p q r s are over over' e =
-    let cut = affine_cut names p r (codes ") + " ++ affine_text names q) (codes ") + " ++ affine_text names s) are over.0 over'.0
-    (closing_ends (32 ∷ 43 ∷ 32 ∷ affine_text names q)) (closing_ends (32 ∷ 43 ∷ 32 ∷ affine_text names s)) e in
-    let low : affine_text names q ≡ affine_text names s = let f = cut.1 in cc in
-    cc (cut.0, text_cut names q s are over.1 over'.1 low)
-
--- texts with different second bytes differ
-seconds_differ : (a b c : ℕ) (x y : List ℕ) → eqb b c ≡ false → a ∷ b ∷ x ≡ a ∷ c ∷ y → ⊥
-seconds_differ a b c x y apart e = heads_differ b c x y apart (let f = e in cc)
-
 claim_cut :
     (names : List (List ℕ)) (c d : Claim) → AreDistinct names → IsClaimOver names c → IsClaimOver names d
     → claim_text names c ≡ claim_text names d → c ≡ d
 claim_cut names (Exactly y) (Exactly z) are over over' e = ap Exactly (number_cut y z (steps_word (int_eq y (pos 1))) (steps_word (int_eq z (pos 1))) (word_stops _) (word_stops _) cc)
 claim_cut names (Exactly y) (Within b) are over over' e = absurd (heads_differ 101 119 _ _ refl e)
 claim_cut names (Exactly y) Holds are over over' e = absurd (heads_differ 101 104 _ _ refl e)
-claim_cut names (Exactly y) (Ranked r s) are over over' e = absurd (seconds_differ 101 120 110 _ _ refl e)
+claim_cut names (Exactly y) (Ranked qs) are over over' e = absurd (seconds_differ 101 120 110 _ _ refl e)
 claim_cut names (Exactly y) Unknown are over over' e = absurd (heads_differ 101 117 _ _ refl e)
 claim_cut names (Within a) (Exactly z) are over over' e = absurd (heads_differ 119 101 _ _ refl e)
 claim_cut names (Within a) (Within b) are over over' e = ap Within (bound_cut names a b are over over' cc)
 claim_cut names (Within a) Holds are over over' e = absurd (heads_differ 119 104 _ _ refl e)
-claim_cut names (Within a) (Ranked r s) are over over' e = absurd (heads_differ 119 101 _ _ refl e)
+claim_cut names (Within a) (Ranked qs) are over over' e = absurd (heads_differ 119 101 _ _ refl e)
 claim_cut names (Within a) Unknown are over over' e = absurd (heads_differ 119 117 _ _ refl e)
 claim_cut names Holds (Exactly z) are over over' e = absurd (heads_differ 104 101 _ _ refl e)
 claim_cut names Holds (Within b) are over over' e = absurd (heads_differ 104 119 _ _ refl e)
 claim_cut names Holds Holds are over over' e = refl
-claim_cut names Holds (Ranked r s) are over over' e = absurd (heads_differ 104 101 _ _ refl e)
+claim_cut names Holds (Ranked qs) are over over' e = absurd (heads_differ 104 101 _ _ refl e)
 claim_cut names Holds Unknown are over over' e = absurd (heads_differ 104 117 _ _ refl e)
-claim_cut names (Ranked p q) (Exactly z) are over over' e = absurd (seconds_differ 101 110 120 _ _ refl e)
-claim_cut names (Ranked p q) (Within b) are over over' e = absurd (heads_differ 101 119 _ _ refl e)
-claim_cut names (Ranked p q) Holds are over over' e = absurd (heads_differ 101 104 _ _ refl e)
-claim_cut names (Ranked p q) (Ranked r s) are over over' e = rank_cut names p q r s are over over' cc
-claim_cut names (Ranked p q) Unknown are over over' e = absurd (heads_differ 101 117 _ _ refl e)
+claim_cut names (Ranked ps) (Exactly z) are over over' e = absurd (seconds_differ 101 110 120 _ _ refl e)
+claim_cut names (Ranked ps) (Within b) are over over' e = absurd (heads_differ 101 119 _ _ refl e)
+claim_cut names (Ranked ps) Holds are over over' e = absurd (heads_differ 101 104 _ _ refl e)
+claim_cut names (Ranked ps) (Ranked qs) are over over' e = ap Ranked (ranks_told names ps qs are over over' cc)
+claim_cut names (Ranked ps) Unknown are over over' e = absurd (heads_differ 101 117 _ _ refl e)
 claim_cut names Unknown (Exactly z) are over over' e = absurd (heads_differ 117 101 _ _ refl e)
 claim_cut names Unknown (Within b) are over over' e = absurd (heads_differ 117 119 _ _ refl e)
 claim_cut names Unknown Holds are over over' e = absurd (heads_differ 117 104 _ _ refl e)
-claim_cut names Unknown (Ranked r s) are over over' e = absurd (heads_differ 117 101 _ _ refl e)
+claim_cut names Unknown (Ranked qs) are over over' e = absurd (heads_differ 117 101 _ _ refl e)
 claim_cut names Unknown Unknown are over over' e = refl
 
 -- a row and what follows, by parts

@@ -1,5 +1,5 @@
 -- What a written line says.
-use Rattle.std.specs.Prelude.{◌≡◌, ◌⊎◌, ℕ, ℤ, pos, ◌≤ℤ◌, List, ◌++◌, All, Contains, codes, ⊤}
+use Rattle.std.specs.Prelude.{◌≡◌, ◌⊎◌, ℕ, ℤ, pos, ◌≤ℤ◌, List, ◌++◌, length, All, Contains, codes, ⊤}
 use Rattle.linear_cons.specs.declared.affine.Affine.{Affine}
 use Rattle.linear_cons.specs.Functions.{value_at}
 use Rattle.line_text.specs.declared.claim.Claim.{Claim}
@@ -7,10 +7,10 @@ use Rattle.line_text.specs.declared.claim.Claim.TheVariants.{Exactly, Within, Ho
 use Rattle.line_text.specs.Names.{IsOver}
 use Rattle.line_text.specs.LineText.{line_text}
 
--- the claim speaks of no variable past the names
+-- the claim speaks of no variable past the names, and a rank has five functions
 abbrev pub IsClaimOver : List (List ℕ) → Claim → Type 0
 IsClaimOver names (Within bound) = IsOver names bound
-IsClaimOver names (Ranked high low) = IsOver names high × IsOver names low
+IsClaimOver names (Ranked functions) = (length functions ≡ 5) × All (IsOver names) functions
 IsClaimOver names (Exactly number) = ⊤
 IsClaimOver names Holds = ⊤
 IsClaimOver names Unknown = ⊤

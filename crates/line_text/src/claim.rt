@@ -11,9 +11,9 @@ pub enum Claim {
     Within(Affine),
     /// The formula holds.
     Holds,
-    /// Every run ends: what bounds its steps gives way to a new bound at most as often as the first function's value at the input says. The
-    /// second function is the low part of the rank that shows it.
-    Ranked(Affine, Affine),
+    /// Every run ends, by a rank of these functions, of which the first stands before ω^4 and the last alone: the first whose value at the input
+    /// isn't 0 says at most how often what bounds the steps, of a lower power, gives way to a new bound.
+    Ranked([Affine; 5]),
     /// Nothing is claimed.
     Unknown,
 }

@@ -1,8 +1,7 @@
 //! The text of lines, rows and claims.
-ghost use Rattle.std.specs.Prelude.{◌≡◌, ◌++◌, OnOk, codes};
-ghost use Rattle.line_text.specs.AffineText.{affine_text};
+ghost use Rattle.std.specs.Prelude.{◌≡◌, ◌<◌, ◌++◌, All, OnOk, codes};
 ghost use Rattle.line_text.specs.Buffer.{BeginsWith, bytes_in};
-ghost use Rattle.line_text.specs.LineText.{claim_text, is_one, joined, row_text, steps_word};
+ghost use Rattle.line_text.specs.LineText.{claim_text, is_nought, is_one, joined, power_text, rank_text, row_text, shown, steps_word};
 ghost use Rattle.line_text.specs.Names.{IsOver};
 ghost use Rattle.line_text.specs.Spells.{IsClaimOver};
 
@@ -75,30 +74,61 @@ pub fn push_claim(text: &mut Vec<u8>, claim: &Claim, names: &Names) -> Result<()
             push_steps(text, is_one(bound))
         }
         Claim::Holds => text.extend_from_slice(b"holds"),
-        Claim::Ranked(high, low) => {
-            text.extend_from_slice(b"ends, rank w*(")?;
-            push_rank(text, high, low, names)
+        Claim::Ranked(functions) => {
+            text.extend_from_slice(b"ends, rank ")?;
+            push_rank(text, shown(functions), names)
         }
         Claim::Unknown => text.extend_from_slice(b"unknown"),
     }
 }
 
-/// Appends both functions of a rank behind its `(`.
-fn push_rank(
-    text: &mut Vec<u8>,
-    high: &Affine,
-    low: &Affine,
-    names: &Names,
-) -> Result<(), AllocError>
-    requires high { IsOver names.now high.now }
-    requires low { IsOver names.now low.now }
-    ensures text { OnOk result (text.new.items ≡ text.old.items
-        ++ (affine_text names.now high.now ++ (codes ") + " ++ affine_text names.now low.now))) }
+/// Appends functions of a rank, the highest first, as `w^2*(x) + w*(y) + 3`.
+fn push_rank(text: &mut Vec<u8>, functions: &[Affine], names: &Names) -> Result<(), AllocError>
+    requires { All (IsOver names.now) functions.now }
+    ensures text { OnOk result (text.new.items ≡ text.old.items ++ rank_text names.now functions.now) }
     ensures kept { BeginsWith text.new.items text.old.items }
 {
-    push_affine(text, high, names)?;
+    let Some((first, rest)) = functions.split_first() else {
+        return Ok(());
+    };
+    if rest.is_empty() {
+        return push_affine(text, first, names);
+    }
+    push_power(text, rest.len())?;
+    push_affine(text, first, names)?;
     text.extend_from_slice(b") + ")?;
-    push_affine(text, low, names)
+    push_rank(text, rest, names)
+}
+
+/// Appends the power of `w` before a function that so many stand behind, as `w^2*(`.
+fn push_power(text: &mut Vec<u8>, power: usize) -> Result<(), AllocError>
+    requires { 0 < power }
+    ensures text { OnOk result (text.new.items ≡ text.old.items ++ power_text power) }
+    ensures kept { BeginsWith text.new.items text.old.items }
+{
+    if power == 1 {
+        return text.extend_from_slice(b"w*(");
+    }
+    text.extend_from_slice(b"w^")?;
+    push_number(text, power as i128)?;
+    text.extend_from_slice(b"*(")
+}
+
+/// The functions of a rank that are written: of more than two those in front that are the constant 0 are left out.
+fn shown(functions: &[Affine]) -> &[Affine]
+    ensures { result.now ≡ shown functions.now }
+{
+    match functions.split_first() {
+        Some((first, rest)) if rest.len() > 1 && is_nought(first) => shown(rest),
+        _ => functions,
+    }
+}
+
+/// True exactly where the function is the constant 0.
+fn is_nought(affine: &Affine) -> bool
+    ensures { result ≡ is_nought affine.now }
+{
+    affine.constant == 0 && affine.coef.iter().all(|number| *number == 0)
 }
 
 /// True exactly where the function is the constant 1.

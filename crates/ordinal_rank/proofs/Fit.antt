@@ -33,7 +33,7 @@ over_spares : (vars place : ℕ) → vars ≤ place → (tree : Plan OrdinalRank
 over_spares vars place high bottom over = tt
 over_spares vars place high (top cause) over = tt
 over_spares vars place high (leaf why rank) over =
-    (record { high = over.0.0.past place high; low = over.0.1.past place high }, pick_spares vars place high why over.1)
+    (λ k function low. (over.0 k function low).past place high, pick_spares vars place high why over.1)
 over_spares vars place high (branch row this that) over =
     (over.0.past place high, over_spares vars place high this over.1, over_spares vars place high that over.2)
 

@@ -1,42 +1,41 @@
--- Pairs of affine functions as ranks are lawful, and what is shown of such ranks.
-use Rattle.std.proofs.Common.{◌⊎◌, ℤ, pos, ◌≤ℤ◌, ◌<ℤ◌, inl, inr, List, refl, arith}
-use Rattle.std.proofs.lemmas.Int.{ints, by_lt_z}
-use Rattle.linear_cons.specs.Functions.{constant_of, value_at}
-use Rattle.linear_cons.proofs.Forms.{form_unmentioned, value_constant, value_sum}
+-- Affine functions in order as ranks are lawful, and what is shown of such ranks.
+use Rattle.std.proofs.Common.{◌≡◌, ℤ, pos, List, length, set, refl, arith}
+use Rattle.linear_cons.specs.Functions.{coefficient, value_at}
+use Rattle.linear_cons.specs.declared.affine.Affine.{Affine}
+use Rattle.linear_cons.proofs.Forms.{form_unmentioned}
 use Rattle.tree_support.proofs.Lawful.{AreLawful}
 use Rattle.ordinal_rank.specs.declared.ordinal.OrdinalRank.{OrdinalRank}
 use Rattle.ordinal_rank.specs.Families.{IsFreeOf, ordinal_ranks}
-use Rattle.ordinal_rank.specs.Laws.PairLaws.{chain_is, excess_is, more_keeps, negative_is, one_way_is, substituted_is}
+use Rattle.ordinal_rank.specs.Ordinals.{parts_of}
+use Rattle.ordinal_rank.specs.Parts.{Exceeds, values_at}
+use Rattle.ordinal_rank.specs.Laws.PartLaws.{above, chain_is, excess_is, more_exceeds, more_keeps, negative_is, one_way_is, substituted_is}
+
+-- a function that doesn't mention the place has the same value whatever number is put there
+spared : (function : Affine) (store : List ℤ) (z : ℤ) → length store ≡ 16 → coefficient function 15 ≡ pos 0
+    → value_at function (set store 15 z) ≡ value_at function store
+spared function store z long free = form_unmentioned function 15 store (pos 1) z (omega arith) free
 
 pub ordinals_lawful : AreLawful ordinal_ranks (IsFreeOf 15)
 ordinals_lawful = record {
-  one_way = one_way_is;
-  chains = chain_is;
-  substitutes = λ rank place by store low long. substituted_is rank.high rank.low place by store low long;
-  keeps_order = λ rank other store next. more_keeps rank.high rank.low other.high other.low store next;
-  greater_where = λ rank other store. excess_is rank.high rank.low other.high other.low store;
-  negative_where = λ rank store. negative_is rank.high rank.low store;
+  one_way = λ v w. one_way_is 4 v w;
+  chains = λ u v w. chain_is 4 u v w;
+  substitutes = λ rank place by store low long. substituted_is 4 (parts_of rank) place by store low long;
+  keeps_order = λ rank other store next. more_keeps 4 (parts_of rank) (parts_of other) store next;
+  greater_where = λ rank other store. excess_is 4 (parts_of rank) (parts_of other) store;
+  negative_where = λ rank store. negative_is 4 (parts_of rank) store;
   spared = λ rank free store z long.
-      let first = form_unmentioned rank.high 15 store (pos 1) z (omega arith) free.high in
-      let second = form_unmentioned rank.low 15 store (pos 1) z (omega arith) free.low in
-      rw (first, second) refl;
+      let fourth = spared rank.fourth store z long (free 0 rank.fourth (omega arith)) in
+      let third = spared rank.third store z long (free 1 rank.third (omega arith)) in
+      let second = spared rank.second store z long (free 2 rank.second (omega arith)) in
+      let first = spared rank.first store z long (free 3 rank.first (omega arith)) in
+      let finite = spared rank.finite store z long (free 4 rank.finite (omega arith)) in
+      rw (fourth, third, second, first, finite) refl;
 }
 
-module _ (rank other : OrdinalRank) (store next : List ℤ) where
-  -- a rank that another with one more doesn't exceed is greater in its first function, or in its second and not less in its first
-  pub descent : (ordinal_ranks.exceeds (ordinal_ranks.rank_value (ordinal_ranks.one_more other) next) (ordinal_ranks.rank_value rank store) → ⊥)
-      → (value_at other.high next <ℤ value_at rank.high store)
-      ⊎ ((value_at other.high next ≤ℤ value_at rank.high store) × (value_at other.low next <ℤ value_at rank.low store))
-  descent fails =
-      let sum = value_sum other.low (constant_of (pos 1)) next in
-      let one = value_constant (pos 1) next in
-      by_lt_z (value_at other.high next) (value_at rank.high store) inl (λ from.
-      by_lt_z (value_at rank.high store) (value_at other.high next) (λ above. absurd (fails (inl above))) (λ to.
-      by_lt_z (value_at other.low next) (value_at rank.low store) (λ less. inr (to, less)) (λ at_least.
-      absurd (fails (inr (omega (arith, ints), omega (arith, ints)))))))
-
--- a rank that isn't no natural is one
-pub at_least_nought : (v w : ℤ) → (((pos 0 ≤ℤ v) × (pos 0 ≤ℤ w) → ⊥) → ⊥) → (pos 0 ≤ℤ v) × (pos 0 ≤ℤ w)
-at_least_nought v w fails =
-    by_lt_z v (pos 0) (λ below. absurd (fails (λ both. let from = both.0 in omega (arith, ints)))) (λ first.
-    by_lt_z w (pos 0) (λ below. absurd (fails (λ both. let from = both.1 in omega (arith, ints)))) (λ second. (first, second)))
+-- a rank that another with one more doesn't exceed exceeds the other
+pub descent : (rank other : OrdinalRank) (store next : List ℤ)
+    → (ordinal_ranks.exceeds (ordinal_ranks.rank_value (ordinal_ranks.one_more other) next) (ordinal_ranks.rank_value rank store) → ⊥)
+    → Exceeds 4 (values_at 4 (parts_of rank) store) (values_at 4 (parts_of other) next)
+descent rank other store next fails =
+    above 4 (ordinal_ranks.rank_value (ordinal_ranks.one_more other) next) (values_at 4 (parts_of rank) store) (values_at 4 (parts_of other) next)
+    fails (more_exceeds 4 (parts_of other) next)

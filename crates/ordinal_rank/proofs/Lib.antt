@@ -1,7 +1,8 @@
 pub mod Comings
 pub mod Ending
 pub mod Lawful
-pub mod Phases
+pub mod Descending
+pub mod Lowering
 pub mod Jumping
 pub mod Fit
 pub mod Lists

@@ -1,3 +1,3 @@
--- Proofs, not definitions: the laws of pairs of affine functions as ranks, which the impls cite.
-pub mod PairLaws
+-- Proofs, not definitions: the laws of affine functions in order as ranks, which the impls cite.
+pub mod PartLaws
 pub mod RaisingLaws

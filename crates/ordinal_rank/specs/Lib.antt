@@ -1,4 +1,5 @@
-pub mod Pairs
+pub mod Parts
+pub mod Ordinals
 pub mod Raising
 pub mod Laws
 pub mod Ends

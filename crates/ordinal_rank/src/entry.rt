@@ -10,11 +10,12 @@ ghost use Rattle.decision_tree.specs.Plans.{plan_of};
 ghost use Rattle.tree_support.specs.Setting.{trees_in};
 ghost use Rattle.ordinal_rank.specs.Families.{BoundsEnds, IsFit};
 
+use crate::cells::followed;
 use crate::family::left_of;
 use crate::fitting::fit_or_given_up;
+use crate::jump::Power;
 use crate::lacking::lacks;
 use crate::ordinal::OrdinalRank;
-use crate::pairs::followed;
 use crate::sweeps::swept;
 use backward_sweeps::{Operands, at_once};
 use control_flow::laws::edges_lead_to_labels;
@@ -23,7 +24,7 @@ use decision_tree::{AffineRank, Family, Tree, Why};
 use forward_inv::{Inv, transitions_of};
 use loop_moves::{Parting, Question, Search};
 use num_domain::NumDomain;
-use rank_synthesis::{RankedCell, Synthesis};
+use rank_synthesis::{ORDER, RankedCell, Synthesis};
 use std::alloc::{AllocError, Global};
 use tree_unify::laws::either_has_the_first_defined_leaf;
 use tree_unify::{TreeFault, either};
@@ -32,7 +33,7 @@ use tree_unify::{TreeFault, either};
 const MOST_NODES: u64 = 4_096;
 
 /// A tree of ordinal ranks at the entry of the program: with each input at which it makes a claim every run ends, bounded one after the other as
-/// often as the value of the rank's first function. It is meant for inputs of which the cover says nothing: beside what sweeps propose it has what
+/// the values of the rank's functions say. It is meant for inputs of which the cover says nothing: beside what sweeps propose it has what
 /// linear programs do, where these may propose some and as long as such an input is left. The only error is want of memory.
 pub fn ranked<D: NumDomain>(
     alloc: Global,
@@ -49,7 +50,7 @@ pub fn ranked<D: NumDomain>(
     let transitions = transitions_of(alloc, graph, inv)?;
     let proposed = swept(alloc, inv, &transitions, delay)?;
     let swept = at_entry(alloc, graph, inv, &transitions, &proposed)?;
-    let tree = with_pairs(alloc, graph, inv, &transitions, cover, synthesises, swept)?;
+    let tree = with_synthesis(alloc, graph, inv, &transitions, cover, synthesises, swept)?;
     fit_or_given_up(alloc, &tree, &graph.program().names)
 }
 
@@ -82,7 +83,7 @@ fn tree_at_entry<'f>(graph: &Graph, family: &'f Family<OrdinalRank>) -> &'f Tree
 
 /// The tree with what the check leaves of ranks by linear programs, where these may propose some and as long as some input has no claim. The only
 /// error is want of memory.
-fn with_pairs<D: NumDomain>(
+fn with_synthesis<D: NumDomain>(
     alloc: Global,
     graph: &Graph,
     inv: &Inv<D>,
@@ -118,15 +119,104 @@ fn with_pairs<D: NumDomain>(
     };
     let mut search = Search::new(alloc);
     let mut synthesis = Synthesis::of(&mut search, inv, &question)?;
-    let mut tree = swept;
+    let tree = with_pairs(
+        alloc,
+        graph,
+        inv,
+        transitions,
+        cover,
+        &mut search,
+        &mut synthesis,
+        swept,
+    )?;
+    with_lists(
+        alloc,
+        graph,
+        inv,
+        transitions,
+        cover,
+        &mut search,
+        &mut synthesis,
+        tree,
+    )
+}
+
+/// The tree with what the check leaves of ranks of two parts, as long as some input has no claim. The only error is want of memory.
+fn with_pairs<D: NumDomain>(
+    alloc: Global,
+    graph: &Graph,
+    inv: &Inv<D>,
+    transitions: &[Transition],
+    cover: &Tree<AffineRank>,
+    search: &mut Search,
+    synthesis: &mut Synthesis,
+    tree: Tree<OrdinalRank>,
+) -> Result<Tree<OrdinalRank>, AllocError>
+    requires invariants { AreInvariants D.has (length graph.now.names) (statements graph.now.body) inv.now }
+    requires transitions { length transitions.now ≡ length (all_labels (statements graph.now.body)) }
+    requires told { AreTold (statements graph.now.body) (told_by D.told_bounds D.told_rows D.seen_empty inv.now) transitions.now }
+    requires few { length transitions.now ≤ 1024 }
+    requires onward { AreOnward transitions.now }
+    requires tree { BoundsEnds (length graph.now.names) (statements graph.now.body) (plan_of tree) }
+    ensures { IfOk result (λ tree. BoundsEnds (length graph.now.names) (statements graph.now.body) (plan_of tree)) }
+{
+    let mut tree = tree;
     for parting in Parting::ALL {
         if lacks(alloc, cover, &tree)? {
-            if let Some(cells) = synthesis.paired(&mut search, parting)? {
-                tree = with_cells(alloc, graph, inv, transitions, &cells, tree)?;
+            if let Some(cells) = synthesis.paired(search, parting)? {
+                tree = with_cells(alloc, graph, inv, transitions, &cells, Power::First, tree)?;
             }
         }
     }
     Ok(tree)
+}
+
+/// The tree with what the check leaves of ranks of more parts, as long as some input has no claim. The only error is want of memory.
+fn with_lists<D: NumDomain>(
+    alloc: Global,
+    graph: &Graph,
+    inv: &Inv<D>,
+    transitions: &[Transition],
+    cover: &Tree<AffineRank>,
+    search: &mut Search,
+    synthesis: &mut Synthesis,
+    tree: Tree<OrdinalRank>,
+) -> Result<Tree<OrdinalRank>, AllocError>
+    requires invariants { AreInvariants D.has (length graph.now.names) (statements graph.now.body) inv.now }
+    requires transitions { length transitions.now ≡ length (all_labels (statements graph.now.body)) }
+    requires told { AreTold (statements graph.now.body) (told_by D.told_bounds D.told_rows D.seen_empty inv.now) transitions.now }
+    requires few { length transitions.now ≤ 1024 }
+    requires onward { AreOnward transitions.now }
+    requires tree { BoundsEnds (length graph.now.names) (statements graph.now.body) (plan_of tree) }
+    ensures { IfOk result (λ tree. BoundsEnds (length graph.now.names) (statements graph.now.body) (plan_of tree)) }
+{
+    let mut tree = tree;
+    for (parts, parting) in ORDER {
+        if lacks(alloc, cover, &tree)? {
+            if let Some(cells) = synthesis.listed(search, parting, parts)? {
+                tree = with_cells(
+                    alloc,
+                    graph,
+                    inv,
+                    transitions,
+                    &cells,
+                    highest_of(parts),
+                    tree,
+                )?;
+            }
+        }
+    }
+    Ok(tree)
+}
+
+/// The highest power in a rank of so many parts.
+fn highest_of(parts: usize) -> Power {
+    match parts {
+        0..=2 => Power::First,
+        3 => Power::Second,
+        4 => Power::Third,
+        _ => Power::Fourth,
+    }
 }
 
 /// What is to be kept until the end, which is everything, and the end: claims for so many labels.
@@ -150,6 +240,7 @@ fn with_cells<D: NumDomain>(
     inv: &Inv<D>,
     transitions: &[Transition],
     cells: &[RankedCell],
+    highest: Power,
     tree: Tree<OrdinalRank>,
 ) -> Result<Tree<OrdinalRank>, AllocError>
     requires invariants { AreInvariants D.has (length graph.now.names) (statements graph.now.body) inv.now }
@@ -160,7 +251,7 @@ fn with_cells<D: NumDomain>(
     requires tree { BoundsEnds (length graph.now.names) (statements graph.now.body) (plan_of tree) }
     ensures { IfOk result (λ tree. BoundsEnds (length graph.now.names) (statements graph.now.body) (plan_of tree)) }
 {
-    let proposed = followed(alloc, transitions, cells)?;
+    let proposed = followed(alloc, transitions, cells, highest)?;
     let more = at_entry(alloc, graph, inv, transitions, &proposed)?;
     joined(alloc, tree, &more)
 }

@@ -23,7 +23,7 @@ use tree_check::check_over;
 use tree_support::laws::invariants_tell_the_truth;
 
 /// A family of ordinal ranks for `AF exit`, as the check leaves what sweeps over the labels propose: wherever it is defined every run ends,
-/// bounded one after the other as often as the value of the rank's first function. The only error is want of memory.
+/// bounded one after the other as the values of the rank's functions say. The only error is want of memory.
 pub fn rank_family<D: NumDomain>(
     alloc: Global,
     graph: &Graph,

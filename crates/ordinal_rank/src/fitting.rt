@@ -5,6 +5,7 @@ ghost use Rattle.decision_tree.specs.Extent.{ComplementsFit, PickIs};
 ghost use Rattle.decision_tree.specs.Plans.{plan_of, top};
 ghost use Rattle.decision_tree.specs.declared.reason.Cause.TheVariants.{Given};
 ghost use Rattle.ordinal_rank.specs.Families.{IsFit, IsTreeOver};
+ghost use Rattle.ordinal_rank.specs.Ordinals.{functions_of};
 
 use crate::ordinal::OrdinalRank;
 use decision_tree::{Cause, Pick, Tree, TreeList, Why};
@@ -71,13 +72,16 @@ fn is_row_fit(row: &Row, names: &Names) -> bool
     is_over(&row.affine, names) && row.not().is_ok()
 }
 
-/// True only where both functions of the rank are over the names.
+/// True only where all functions of the rank are over the names.
 #[inline(never)]
 fn is_rank_over(rank: &OrdinalRank, names: &Names) -> bool
-    ensures high { IsTrue result → IsOver (length names.now) rank.now.high }
-    ensures low { IsTrue result → IsOver (length names.now) rank.now.low }
+    ensures { IsTrue result → All (IsOver (length names.now)) (functions_of rank.now) }
 {
-    is_over(&rank.high, names) && is_over(&rank.low, names)
+    is_over(&rank.fourth, names)
+        && is_over(&rank.third, names)
+        && is_over(&rank.second, names)
+        && is_over(&rank.first, names)
+        && is_over(&rank.finite, names)
 }
 
 /// True only where the function whose value the leaf picks, if it picks one, is over the names.

@@ -14,20 +14,23 @@ ghost use Rattle.tree_support.specs.Setting.{Trees};
 ghost use Rattle.ordinal_rank.specs.Ends.{EndsAfter};
 ghost use Rattle.ordinal_rank.specs.Families.{IsBounded, IsRanked};
 ghost use Rattle.ordinal_rank.specs.declared.ordinal.OrdinalRank.{OrdinalRank};
+ghost use Rattle.ordinal_rank.specs.declared.jump.Power.{Power};
 
 use crate::ordinal::OrdinalRank;
 use backward_transfer::laws::a_range_bounds_each_value;
 
-/// Where ends are bounded one after the other no run goes on for ever, whatever it does; and where they are so bounded a bound more may be known.
+/// Where ends are bounded one after the other no run goes on for ever, whatever it does; and where they are so bounded a bound more may be known, or
+/// bounds of a greater order.
 pub fn bounded_ends_come()
-    ensures comes { (k : ℕ) (run : ℕ → Configuration) → EndsAfter k (run 0) → ((n : ℕ) → Step (run n) (run (suc n))) → ⊥ }
-    ensures more { (k : ℕ) (c : Configuration) → EndsAfter k c → EndsAfter (suc k) c }
+    ensures comes { (order k : ℕ) (run : ℕ → Configuration) → EndsAfter order k (run 0) → ((n : ℕ) → Step (run n) (run (suc n))) → ⊥ }
+    ensures more { (order k : ℕ) (c : Configuration) → EndsAfter order k c → EndsAfter order (suc k) c }
+    ensures higher { (order k : ℕ) (c : Configuration) → EndsAfter order k c → EndsAfter (suc order) 0 c }
 {}
 
 /// Before a jump: where a leaf is defined at a store, each value of the range leads to a defined leaf, whose rank the one before exceeds.
 pub fn a_jump_exceeds_each_value()
-    ensures { (plan : Plan OrdinalRank) (place : ℕ) (range : Linear) (store : List ℤ) (z : ℤ) (why : Why) (rank : OrdinalRank) → place < 16
-        → length store ≡ 16 → Covers range store z → eval (jumped place range plan) store ≡ leaf why rank
+    ensures { (highest : Power) (plan : Plan OrdinalRank) (place : ℕ) (range : Linear) (store : List ℤ) (z : ℤ) (why : Why) (rank : OrdinalRank) → place < 16
+        → length store ≡ 16 → Covers range store z → eval (jumped highest place range plan) store ≡ leaf why rank
         → IsExceeded (slice_set store place z) (ordinals.rank_value rank store) (eval plan (slice_set store place z)) }
 {
     a_range_bounds_each_value::<OrdinalRank>();

@@ -1,32 +1,33 @@
-//! Pairs that are extrapolated.
+//! Ordinal ranks that are extrapolated.
 use crate::ordinal::OrdinalRank;
 use linear_cons::{Row, Wide};
 use tree_widening::{Extrapolates, along};
 
-/// Where the first functions are equal the second one is extrapolated, else the first.
+/// The first function that differs is extrapolated, or the last where all before it are equal.
 impl Extrapolates for OrdinalRank {
+    ghost use Rattle.ordinal_rank.specs.Ordinals.{parts_of, rank_of};
     ghost use Rattle.ordinal_rank.specs.Raising.{RaisedFits, raised};
     ghost use Rattle.ordinal_rank.specs.Laws.RaisingLaws.{exceeds_itself_nowhere};
 
-    ghost raised = { λ row below rank. raised row below rank };
+    ghost raised = { λ row below rank. rank_of (raised 4 row (parts_of below) (parts_of rank)) };
 
-    ghost raised_fits = { λ row below rank. RaisedFits row below rank };
+    ghost raised_fits = { λ row below rank. RaisedFits 4 row (parts_of below) (parts_of rank) };
 
-    ghost itself_law = { λ path rank. exceeds_itself_nowhere path rank.high rank.low };
+    ghost itself_law = { λ path rank. exceeds_itself_nowhere 4 path (parts_of rank) };
 
     fn raise(&self, row: &Row, below: &OrdinalRank) -> Result<OrdinalRank, Wide> {
-        if self.high == below.high {
-            let low = along(row, &below.low, &self.low)?;
-            Ok(OrdinalRank {
-                high: self.high,
-                low,
-            })
+        let mut raised = *self;
+        if self.fourth != below.fourth {
+            raised.fourth = along(row, &below.fourth, &self.fourth)?;
+        } else if self.third != below.third {
+            raised.third = along(row, &below.third, &self.third)?;
+        } else if self.second != below.second {
+            raised.second = along(row, &below.second, &self.second)?;
+        } else if self.first != below.first {
+            raised.first = along(row, &below.first, &self.first)?;
         } else {
-            let high = along(row, &below.high, &self.high)?;
-            Ok(OrdinalRank {
-                high,
-                low: self.low,
-            })
+            raised.finite = along(row, &below.finite, &self.finite)?;
         }
+        Ok(raised)
     }
 }

@@ -2,7 +2,7 @@
 ghost use Rattle.std.specs.Prelude.{◌≡◌, ◌<◌, ◌≤◌, IfOk, length};
 ghost use Rattle.control_flow.specs.Transitions.{AreOnward, LeadsWithin};
 
-use crate::jump::back_jump;
+use crate::jump::{Power, back_jump};
 use crate::ordinal::{OrdinalRank, at_once};
 use backward_transfer::{back_assign, back_range, back_skip, back_test};
 use control_flow::{Choice, Transition};
@@ -104,7 +104,7 @@ fn remake<D: NumDomain>(
     if matches!(transition, Transition::End | Transition::Dead) {
         return Ok(false);
     }
-    let made = or_given_up(before(alloc, transition, trees))?;
+    let made = or_given_up(before(alloc, transition, trees, Power::First))?;
     let made = if widening && is_head(transition) {
         or_given_up(widened(alloc, &trees[label as usize], &made, inv.at(label)))?
     } else {
@@ -116,11 +116,12 @@ fn remake<D: NumDomain>(
 }
 
 /// The tree before what is done, for every next state. Before the assignment of a value that is chosen from a range without an end a run may
-/// begin anew.
+/// begin anew, with one more of a power that isn't above the highest.
 pub(crate) fn before(
     alloc: Global,
     transition: &Transition,
     trees: &[Tree<OrdinalRank>],
+    highest: Power,
 ) -> Result<Tree<OrdinalRank>, TreeFault>
     requires { LeadsWithin (length trees.now) transition.now }
 {
@@ -141,7 +142,7 @@ pub(crate) fn before(
             if is_bounded(choice) {
                 return Ok(bounded);
             }
-            let anew = back_jump(alloc, &trees[*to as usize], place.number, range)?;
+            let anew = back_jump(alloc, &trees[*to as usize], place.number, range, highest)?;
             either(alloc, &bounded, &anew)
         }
         Transition::Test {

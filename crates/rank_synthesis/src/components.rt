@@ -2,7 +2,14 @@
 use crate::cells::{Cell, End};
 use std::alloc::{AllocError, Global};
 
-/// For each cell the cells to which links lead from it, itself among them, and how many.
+/// That a link leads from one cell to another.
+#[derive(Clone, Copy)]
+pub(crate) struct Edge {
+    pub(crate) from: usize,
+    pub(crate) to: usize,
+}
+
+/// For each cell the cells to which edges lead from it, itself among them, and how many.
 #[derive(Drop)]
 struct Reached {
     cells: Vec<Vec<bool>>,
@@ -11,13 +18,30 @@ struct Reached {
 
 /// The components of the cells, each behind those that it leads to, and in each the cells in their order.
 pub(crate) fn components(alloc: Global, cells: &[Cell]) -> Result<Vec<Vec<usize>>, AllocError> {
-    let reached = Reached::of(alloc, cells)?;
-    let mut done = vec![in alloc; false; cells.len()]?;
+    let mut edges = Vec::new(alloc);
+    for (from, cell) in cells.iter().enumerate() {
+        for link in &cell.links {
+            if let End::Cell(to) = link.to {
+                edges.push(Edge { from, to })?;
+            }
+        }
+    }
+    components_of(alloc, cells.len(), &edges)
+}
+
+/// The components of so many cells between which the edges lead, each behind those that it leads to, and in each the cells in their order.
+pub(crate) fn components_of(
+    alloc: Global,
+    count: usize,
+    edges: &[Edge],
+) -> Result<Vec<Vec<usize>>, AllocError> {
+    let reached = Reached::of(alloc, count, edges)?;
+    let mut done = vec![in alloc; false; count]?;
     let mut found = Vec::new(alloc);
     // A cell reaches more cells than one that it leads to and that doesn't lead back.
-    for count in 0..=cells.len() {
-        for first in 0..cells.len() {
-            if reached.counts.get(first) == Some(&count) && done.get(first) == Some(&false) {
+    for reach in 0..=count {
+        for first in 0..count {
+            if reached.counts.get(first) == Some(&reach) && done.get(first) == Some(&false) {
                 let component = reached.component(alloc, first)?;
                 for cell in &component {
                     if let Some(is_done) = done.get_mut(*cell) {
@@ -32,13 +56,13 @@ pub(crate) fn components(alloc: Global, cells: &[Cell]) -> Result<Vec<Vec<usize>
 }
 
 impl Reached {
-    fn of(alloc: Global, cells: &[Cell]) -> Result<Reached, AllocError> {
+    fn of(alloc: Global, count: usize, edges: &[Edge]) -> Result<Reached, AllocError> {
         let mut reached = Reached {
-            cells: Vec::with_capacity(alloc, cells.len())?,
-            counts: Vec::with_capacity(alloc, cells.len())?,
+            cells: Vec::with_capacity(alloc, count)?,
+            counts: Vec::with_capacity(alloc, count)?,
         };
-        for first in 0..cells.len() {
-            let own = from(alloc, cells, first)?;
+        for first in 0..count {
+            let own = from(alloc, count, edges, first)?;
             let count = own.iter().filter(|is_reached| **is_reached).count();
             reached.cells.push(own)?;
             reached.counts.push(count)?;
@@ -65,20 +89,23 @@ impl Reached {
     }
 }
 
-/// The cells to which links lead from the first, and that itself.
-fn from(alloc: Global, cells: &[Cell], first: usize) -> Result<Vec<bool>, AllocError> {
-    let mut reached = vec![in alloc; false; cells.len()]?;
+/// Of so many cells those to which edges lead from the first, and that itself.
+fn from(
+    alloc: Global,
+    count: usize,
+    edges: &[Edge],
+    first: usize,
+) -> Result<Vec<bool>, AllocError> {
+    let mut reached = vec![in alloc; false; count]?;
     let mut open = Vec::new(alloc);
     note(first, &mut reached, &mut open)?;
-    for _ in 0..cells.len() {
-        let Some(index) = open.pop() else {
+    for _ in 0..count {
+        let Some(cell) = open.pop() else {
             return Ok(reached);
         };
-        if let Some(cell) = cells.get(index) {
-            for link in &cell.links {
-                if let End::Cell(next) = link.to {
-                    note(next, &mut reached, &mut open)?;
-                }
+        for edge in edges {
+            if edge.from == cell {
+                note(edge.to, &mut reached, &mut open)?;
             }
         }
     }

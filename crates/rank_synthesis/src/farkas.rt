@@ -12,8 +12,11 @@ use std::alloc::{AllocError, Global};
 /// The most links of a component.
 const MOST_LINKS: usize = 48;
 
-/// The most exchanges of one linear program, so that one alone doesn't take long.
-const MOST_EXCHANGES: u32 = 500;
+/// The most exchanges of one linear program for ranks of one part or two, so that one alone doesn't take long.
+pub(crate) const FEW_EXCHANGES: u32 = 500;
+
+/// The most exchanges of one linear program for ranks of more parts.
+pub(crate) const MANY_EXCHANGES: u32 = 6_000;
 
 /// What 1 in a coefficient costs: so ranks speak of few variables.
 const COEFFICIENT_COST: i128 = 50;
@@ -77,13 +80,15 @@ struct Ranks {
 }
 
 impl Synthesis {
-    /// Ranks of the component's cells that change along the links as is asked, where there are such; none where the links are too many.
+    /// Ranks of the component's cells that change along the links as is asked, where there are such and they are found by so many exchanges; none where
+    /// the links are too many.
     pub(crate) fn solved(
         &self,
         search: &mut Search,
         cells: &[Cell],
         component: &[usize],
         asked: &[Along<'_>],
+        exchanges: u32,
     ) -> Result<Option<Solved>, Stop> {
         if asked.len() > MOST_LINKS {
             return Ok(None);
@@ -114,7 +119,7 @@ impl Synthesis {
                 }
             }
         }
-        match ranks.solution(search)? {
+        match ranks.solution(search, exchanges)? {
             Some(solution) => Ok(Some(ranks.read(component, &solution)?)),
             None => Ok(None),
         }
@@ -271,9 +276,9 @@ impl Ranks {
         Ok(())
     }
 
-    /// A solution with small costs, by exchanges that are left to the search.
-    fn solution(&self, search: &mut Search) -> Result<Option<Solution>, Stop> {
-        let given = search.exchanges.min(MOST_EXCHANGES);
+    /// A solution with small costs, by no more than so many exchanges, which are left to the search.
+    fn solution(&self, search: &mut Search, exchanges: u32) -> Result<Option<Solution>, Stop> {
+        let given = search.exchanges.min(exchanges);
         let mut left = given;
         let found = minimised(self.alloc, &self.program, &self.costs, &mut left)?;
         let done = given.saturating_sub(left);

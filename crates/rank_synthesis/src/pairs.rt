@@ -1,9 +1,10 @@
 //! Ranks of two parts for cells: the higher part never rises, and falls where a number is chosen without a bound; where it stays, the lower part falls by the steps.
 use crate::cells::{Cell, End, Link};
 use crate::components::components;
-use crate::farkas::{Along, Behind, Change, Solved};
-use crate::synthesis::Synthesis;
-use linear_cons::{Affine, Row, floor_quotient};
+use crate::farkas::{Along, Behind, Change, FEW_EXCHANGES, Solved};
+use crate::lists::{RankedCell, of_two};
+use crate::synthesis::{Kept, Synthesis};
+use linear_cons::{Affine, floor_quotient};
 use loop_moves::{Move, Parting, Search, Stop, unless_given_up};
 use std::alloc::{AllocError, Global};
 
@@ -12,15 +13,6 @@ use std::alloc::{AllocError, Global};
 pub(crate) struct Pair {
     high: Affine,
     low: Affine,
-}
-
-/// A part of the stores at the head with the label, and its rank of two parts.
-#[derive(Drop)]
-pub struct RankedCell {
-    pub label: u32,
-    pub rows: Vec<Row>,
-    pub high: Affine,
-    pub low: Affine,
 }
 
 /// Where a link of a component leads.
@@ -107,8 +99,8 @@ impl<'a> Lead<'a> {
 
 impl Synthesis {
     /// The cells of the parting that have ranks of two parts: along each move from such a cell the higher part falls, or it stays and the lower one falls by the steps; and the higher part falls by one more than the
-    /// choices without a bound. None where there is no loop, the parting's rows are those of one that was tried, a number lies outside `i128`, or no work is left to the search. Nothing of it is
-    /// proved. The only error is want of memory.
+    /// choices without a bound. None where there is no loop, the parting's rows are those of one that was tried, a number lies outside `i128`, or no work is left to the search. The cells are kept for ranks
+    /// of more parts. Nothing of it is proved. The only error is want of memory.
     pub fn paired(
         &mut self,
         search: &mut Search,
@@ -128,29 +120,28 @@ impl Synthesis {
                 }
             }
         }
-        let ranked = self.ranked_cells(search.alloc, cells, &pairs)?;
-        Ok(Some(ranked))
+        let ranks = self.with_parts(search.alloc, &cells, &pairs)?;
+        self.kept.push(Kept {
+            parting,
+            cells,
+            claimed: if self.jumps { 0 } else { ranks.len() },
+            is_settled: false,
+        })?;
+        Ok(Some(ranks))
     }
 
     /// The cells with their ranks, where they have one.
-    fn ranked_cells(
+    fn with_parts(
         &self,
         alloc: Global,
-        cells: Vec<Cell>,
+        cells: &[Cell],
         pairs: &[Option<Pair>],
     ) -> Result<Vec<RankedCell>, AllocError> {
-        let mut ranked = Vec::new(alloc);
-        for (cell, pair) in cells.into_iter().zip(pairs) {
-            if let (Some(head), Some(pair)) = (self.loops.heads.get(cell.head), pair) {
-                ranked.push(RankedCell {
-                    label: head.label,
-                    rows: cell.rows,
-                    high: pair.high,
-                    low: pair.low,
-                })?;
-            }
+        let mut ranks = Vec::with_capacity(alloc, pairs.len())?;
+        for pair in pairs {
+            ranks.push(pair.map(|pair| of_two(&pair.high, &pair.low)))?;
         }
-        Ok(ranked)
+        self.ranked_cells(alloc, cells, &ranks)
     }
 
     /// Ranks of the component's cells, in order, where there are such.
@@ -224,7 +215,7 @@ impl Synthesis {
                     asked.push(lead.low())?;
                 }
             }
-            if let Some(solved) = self.solved(search, cells, component, &asked)? {
+            if let Some(solved) = self.solved(search, cells, component, &asked, FEW_EXCHANGES)? {
                 let high = Affine::constant(level.saturating_add(more));
                 let mut pairs = Vec::with_capacity(search.alloc, component.len())?;
                 for low in solved.ranks {
@@ -250,13 +241,13 @@ impl Synthesis {
                 asked.push(along)?;
             }
         }
-        let Some(highs) = self.solved(search, cells, component, &asked)? else {
+        let Some(highs) = self.solved(search, cells, component, &asked, FEW_EXCHANGES)? else {
             return Ok(None);
         };
         let Some((times, staying)) = staying(search.alloc, leads, &highs)? else {
             return Ok(None);
         };
-        let Some(lows) = self.solved(search, cells, component, &staying)? else {
+        let Some(lows) = self.solved(search, cells, component, &staying, FEW_EXCHANGES)? else {
             return Ok(None);
         };
         let mut pairs = Vec::with_capacity(search.alloc, component.len())?;
@@ -299,7 +290,7 @@ fn staying<'a>(
 }
 
 /// The least number by which the fall, divided by the divisor, is to be multiplied so that it is greater than the jumps. Given up where it doesn't fall.
-fn least_multiple(jumps: u32, fall: i128, divisor: u128) -> Result<i128, Stop> {
+pub(crate) fn least_multiple(jumps: u32, fall: i128, divisor: u128) -> Result<i128, Stop> {
     let by = fall.unsigned_abs();
     if by == 0 {
         return Err(Stop::GivenUp);

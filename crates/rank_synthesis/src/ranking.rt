@@ -1,6 +1,6 @@
 //! Ranks of cells, component after component.
 use crate::cells::{Cell, End, Found};
-use crate::farkas::{Along, Behind, Change};
+use crate::farkas::{Along, Behind, Change, FEW_EXCHANGES};
 use crate::synthesis::Synthesis;
 use linear_cons::Affine;
 use loop_moves::{Search, Stop, unless_given_up};
@@ -40,7 +40,7 @@ impl Synthesis {
         let Some(asked) = self.falls(search.alloc, cells, component)? else {
             return Ok(None);
         };
-        let solved = self.solved(search, cells, component, &asked)?;
+        let solved = self.solved(search, cells, component, &asked, FEW_EXCHANGES)?;
         Ok(solved.map(|solved| solved.ranks))
     }
 

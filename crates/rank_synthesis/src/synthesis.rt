@@ -6,7 +6,7 @@ use crate::cells::{Cell, Found};
 use crate::closing::close;
 use crate::components::components;
 use backward_sweeps::{begun, given_up, taken_over, tree_at};
-use control_flow::Transition;
+use control_flow::{Choice, Transition};
 use decision_tree::{AffineRank, Pick, Tree, TreeList, Why};
 use forward_inv::Inv;
 use linear_cons::Row;
@@ -21,6 +21,21 @@ pub struct Synthesis {
     pub(crate) loops: Loops,
     /// The rows of each head in the partings that were tried.
     tried: Vec<Vec<Vec<Row>>>,
+    /// The cells for which ranks of two parts were looked for.
+    pub(crate) kept: Vec<Kept>,
+    /// Whether a number is chosen without a bound anywhere: then ranks of the same cells claim the more the more parts they may have.
+    pub(crate) jumps: bool,
+}
+
+/// The cells of a parting, for ranks of more than two parts.
+#[derive(Drop)]
+pub(crate) struct Kept {
+    pub(crate) parting: Parting,
+    pub(crate) cells: Vec<Cell>,
+    /// Ranks of no more cells than so many claim nothing new.
+    pub(crate) claimed: usize,
+    /// Whether it is known that with more parts no other cell has a rank.
+    pub(crate) is_settled: bool,
 }
 
 impl Synthesis {
@@ -37,6 +52,8 @@ impl Synthesis {
         Ok(Synthesis {
             loops,
             tried: Vec::new(search.alloc),
+            kept: Vec::new(search.alloc),
+            jumps: question.transitions.iter().any(has_no_bound),
         })
     }
 
@@ -141,6 +158,17 @@ impl Synthesis {
             heads.push(tree)?;
         }
         Ok(heads)
+    }
+}
+
+/// Whether a number is chosen without a bound.
+fn has_no_bound(transition: &Transition) -> bool {
+    match transition {
+        Transition::Choose { choice, .. } => match choice {
+            Choice::Range { lo, hi } => lo.is_none() || hi.is_none(),
+            _ => false,
+        },
+        _ => false,
     }
 }
 

@@ -1,5 +1,5 @@
 -- The lines of a tree over the names are over them.
-use Rattle.std.proofs.Common.{◌≡◌, ⊎_elim, inl, inr, ℕ, ◌<◌, ◌≤◌, ℤ, pos, negsuc, ◌-ℤ◌, List, [], ◌∷◌, ◌++◌, length, All, Contains, sym, subst, ◌∙◌, arith}
+use Rattle.std.proofs.Common.{◌≡◌, ⊎_elim, inl, inr, ℕ, ◌<◌, ◌≤◌, ℤ, pos, negsuc, ◌-ℤ◌, List, [], ◌∷◌, ◌++◌, length, All, Contains, refl, sym, subst, ◌∙◌, arith}
 use Rattle.std.proofs.lemmas.Bool.{cases_lt}
 use Rattle.std.proofs.lemmas.Int.{ints}
 use Rattle.std.proofs.lemmas.List.{get_or_past}
@@ -18,6 +18,7 @@ use Rattle.decision_tree.specs.Extent.{IsTreeOver}
 use Rattle.ordinal_rank.specs.contracts.ordinal.OrdinalRankPartialEq.TheImpl as rank_eq
 use Rattle.ordinal_rank.specs.declared.ordinal.OrdinalRank.{OrdinalRank}
 use Rattle.ordinal_rank.specs.Families.{IsTreeOver as IsOrdinalOver}
+use Rattle.ordinal_rank.specs.Ordinals.{functions_of as functions_of_rank}
 use Rattle.line_text.specs.declared.claim.Claim.{Claim}
 use Rattle.line_text.specs.declared.claim.Claim.TheVariants.{Unknown}
 use Rattle.line_text.specs.LineText.{functions_of}
@@ -114,7 +115,7 @@ module _ (names : List (List ℕ)) (few : length names ≤ 15) where
       All-cons (IsLineOver names) (record { rows = line.rows; claim = Unknown }) [] (record { rows = own.rows; claims = tt }) (All-nil (IsLineOver names))
   stand_in_over ranked line lines over (parted tree is are) own =
       lines_over are (leaves_over ordinal_claim (IsOrdinalOver (length names)) (λ row this that fits. fits)
-      (λ why rank fits. (named rank.high fits.0.0, named rank.low fits.0.1)) (functions_of line.rows) tree own.rows (trimmed_over ranked tree line.rows is over))
+      (λ why rank fits. (refl, All-weaker (functions.IsOver (length names)) (IsOver names) named (functions_of_rank rank) fits.0)) (functions_of line.rows) tree own.rows (trimmed_over ranked tree line.rows is over))
 
   pub refined_over : (ranked : Plan OrdinalRank) {lines refined : List Line} → IsOrdinalOver (length names) ranked → AreRefined ranked lines refined
       → All (IsLineOver names) lines → All (IsLineOver names) refined

@@ -13,7 +13,7 @@ use Rattle.decision_tree.specs.Plans.{Plan, bottom, branch, is_defined, leaf, to
 use Rattle.tree_unify.proofs.Asking.{trimmed_leaf}
 use Rattle.ordinal_rank.specs.contracts.ordinal.OrdinalRankPartialEq.TheImpl as rank_eq
 use Rattle.ordinal_rank.specs.declared.ordinal.OrdinalRank.{OrdinalRank}
-use Rattle.ordinal_rank.specs.Laws.PairLaws.{equal_is}
+use Rattle.ordinal_rank.specs.Laws.PartLaws.{equal_is}
 use Rattle.line_text.specs.LineText.{functions_of}
 use Rattle.line_text.specs.declared.claim.Claim.{Claim}
 use Rattle.line_text.specs.declared.claim.Claim.TheVariants.{Unknown}

@@ -7,6 +7,7 @@ use Rattle.decision_tree.specs.Plans.{Plan, bottom, branch, is_defined, leaf, to
 use Rattle.decision_tree.specs.declared.affine_rank.AffineRank.{AffineRank}
 use Rattle.tree_unify.specs.Shapes.{trimmed}
 use Rattle.ordinal_rank.specs.contracts.ordinal.OrdinalRankPartialEq.TheImpl as rank_eq
+use Rattle.ordinal_rank.specs.Ordinals.{functions_of as functions_of_rank}
 use Rattle.ordinal_rank.specs.declared.ordinal.OrdinalRank.{OrdinalRank}
 use Rattle.line_text.specs.LineText.{functions_of}
 use Rattle.line_text.specs.declared.claim.Claim.{Claim}
@@ -17,7 +18,7 @@ use Rattle.report_text.specs.Leaves.{AreLines, claim_by, claim_of, leaves_below}
 
 -- what a leaf claims by its ordinal rank
 abbrev pub ordinal_claim : OrdinalRank → Claim
-ordinal_claim rank = Ranked rank.high rank.low
+ordinal_claim rank = Ranked (functions_of_rank rank)
 
 -- what is claimed of a store: what the leaf of a first tree does where it stands, and where that is undefined what that of a tree of ordinal ranks does
 abbrev pub claim_else : Top → Plan AffineRank → Claim → Claim

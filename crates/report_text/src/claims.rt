@@ -34,6 +34,6 @@ impl Claims for OrdinalRank {
     ghost claim_of = { λ claims rank. ordinal_claim rank };
 
     fn claim(&self, _top: &Top) -> Claim {
-        Claim::Ranked(self.high, self.low)
+        Claim::Ranked(self.functions())
     }
 }

@@ -44,9 +44,15 @@ fn read_claim(words: &mut Words<'_>) -> Claim {
         "exactly" => Claim::Exactly(words.number()),
         "within" => Claim::Within(read_function(words)),
         "ranked" => {
-            let high = read_function(words);
-            words.expect("and");
-            Claim::Ranked(high, read_function(words))
+            let mut functions = [Affine::constant(0); 5];
+            for _ in 0..5 {
+                functions.rotate_left(1);
+                functions[4] = read_function(words);
+                if !words.takes("and") {
+                    break;
+                }
+            }
+            Claim::Ranked(functions)
         }
         "unknown" => Claim::Unknown,
         _ => {

@@ -2,6 +2,7 @@
 ghost use Rattle.std.specs.Prelude.{◌≡◌, ◌≤◌, IfOk, length};
 ghost use Rattle.control_flow.specs.Transitions.{AreOnward};
 
+use crate::jump::Power;
 use crate::ordinal::OrdinalRank;
 use crate::sweeps::{before, begun_at, or_given_up};
 use control_flow::Transition;
@@ -11,12 +12,13 @@ use std::alloc::{AllocError, Global};
 use tree_unify::{TreeFault, either, trim};
 
 /// Trees for the labels, at which this is done, that follow from ranks of cells at the heads of loops: each label's tree is made from those of its
-/// successors, the greatest label first. One that can't be made claims nothing. Nothing is promised of them: the check decides. The only error is
+/// successors, the greatest label first; behind a jump no power above the highest rises. One that can't be made claims nothing. Nothing is promised of them: the check decides. The only error is
 /// want of memory.
 pub(crate) fn followed(
     alloc: Global,
     transitions: &[Transition],
     cells: &[RankedCell],
+    highest: Power,
 ) -> Result<Vec<Tree<OrdinalRank>>, AllocError>
     requires few { length transitions.now ≤ 1024 }
     requires onward { AreOnward transitions.now }
@@ -26,7 +28,7 @@ pub(crate) fn followed(
     for label in (0..transitions.len() as u32).rev() {
         let transition = &transitions[label as usize];
         if !is_given(transition) {
-            let made = or_given_up(before(alloc, transition, &trees))?;
+            let made = or_given_up(before(alloc, transition, &trees, highest))?;
             trees[label as usize] = made;
         }
     }
@@ -90,10 +92,7 @@ fn at_head(
 
 /// The cell's rank where its rows are met.
 fn of_cell(alloc: Global, cell: &RankedCell) -> Result<Tree<OrdinalRank>, AllocError> {
-    let rank = OrdinalRank {
-        high: cell.high,
-        low: cell.low,
-    };
+    let rank = OrdinalRank::of(&cell.parts);
     let mut tree = Tree::boxed_leaf(alloc, &Why::Step(Pick::All), &rank)?;
     for row in cell.rows.iter().rev() {
         let none = Tree::boxed_bottom(alloc)?;

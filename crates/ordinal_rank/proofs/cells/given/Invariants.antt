@@ -1,5 +1,5 @@
 use Rattle.std.proofs.Common.{◌≡◌, length}
-use Rattle.ordinal_rank.proofs.pairs.given.Given as goal
+use Rattle.ordinal_rank.proofs.cells.given.Given as goal
 
 -- a tree for each label so far
 abbrev pub invariant-loop-label : goal.invariant-loop-label
