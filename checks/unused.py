@@ -2,7 +2,7 @@
 """Names that nothing else names: definitions of specs/, public calls, and imports.
 
 By text alone: a name that is spelled elsewhere counts as used, an imported one if it is spelled in the file outside comments and imports. Prints each with its file, and ends with 1
-where there is one that isn't known below. A definition that docs/WORKING.md lists as named nowhere yet counts as named.
+where there is one. A definition that docs/WORKING.md lists as named nowhere yet counts as named.
 """
 import re
 import sys
@@ -19,19 +19,6 @@ WORD = re.compile(r"[\w◌≡≢≤<+\-*^ℤ∷⊎↔|&×/%∣¬⊤⊥ℕ']+")
 PLAIN_WORD = re.compile(r"\w+")
 # What is syntax, and traits whose methods are called without their name.
 SILENT = {"if◌then◌else◌", "self", "*", "NumDomain", "Rank", "Write", "Read", "Source", "Sink", "Adviser", "BufRead"}
-
-# What is known: taking it out proves the crates above anew.
-KNOWN = {
-    "crates/control_flow/src/laws.rt: Step is imported for nothing",
-    "crates/formula_parse/proofs/Firsts.antt: Option is imported for nothing",
-    "crates/formula_parse/specs/FaultOf.antt: Option is imported for nothing",
-    "crates/formula_syntax/proofs/Answering.antt: IfErr is imported for nothing",
-    "crates/formula_syntax/proofs/Answering.antt: Option is imported for nothing",
-    "crates/formula_syntax/proofs/Parts.antt: Option is imported for nothing",
-    "crates/formula_syntax/proofs/Sums.antt: Option is imported for nothing",
-    "crates/formula_syntax/proofs/Words.antt: Option is imported for nothing",
-    "crates/formula_syntax/specs/Pending.antt: Option is imported for nothing",
-}
 
 
 def sources():
@@ -96,7 +83,7 @@ def main():
             if named[name] <= own and not is_field and name not in waiting:
                 found.append(f"{path.relative_to(TOP)}: {name} is named nowhere else")
         found += [f"{path.relative_to(TOP)}: {name} is imported for nothing" for name in unused_imports(lines, path.suffix)]
-    new = [line for line in found if line not in KNOWN]
+    new = list(found)
     print("\n".join(new))
     return 1 if new else 0
 

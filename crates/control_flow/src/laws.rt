@@ -4,7 +4,7 @@ ghost use Rattle.std.specs.Prelude.{◌≡◌, ◌⊎◌, ℕ, ℤ, ◌<◌, ◌
 ghost use Rattle.step_meaning.specs.Syntax.{Expression, Statements, free, size_of};
 ghost use Rattle.step_meaning.specs.Outcome.{Store, May};
 ghost use Rattle.step_meaning.specs.Run.{IsInput};
-ghost use Rattle.step_meaning.specs.Step.{Configuration, Next, Step, front, items_of};
+ghost use Rattle.step_meaning.specs.Step.{Configuration, Next, front, items_of};
 ghost use Rattle.step_meaning.specs.Valid.{IsBody};
 ghost use Rattle.control_flow.specs.Actions.{IsSorted, LeadsBelow, LeadsOn};
 ghost use Rattle.control_flow.specs.Edges.{EdgesAreSteps, Reached, SomeEdge, BothTaken, LandsAt, configuration, edges_from};

@@ -29,5 +29,5 @@ pub use fault::FlowFault;
 pub use graph::Graph;
 pub use linear_forms::{affine_of, conjunctions, linearise, spread};
 pub use measure::{anywhere, greatest_number};
-pub use place::Place;
+pub use place::{CHOSEN_PLACE, Place};
 pub use transition::Transition;

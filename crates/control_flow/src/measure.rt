@@ -9,13 +9,10 @@ ghost use Rattle.control_flow.specs.Actions.{IsPlaced};
 ghost use Rattle.control_flow.specs.Tables.{IsTableOf, action_of};
 
 use crate::node::Node;
-use linear_cons::{Affine, Bounds, Row, Rows};
+use linear_cons::{Affine, Bounds, PLACES, Row, Rows};
 use linear_forms::spread;
 use std::alloc::{AllocError, Global};
 use step_meaning::Program;
-
-/// The places of a function.
-const PLACES: usize = 16;
 
 /// What the tests of a program come to.
 #[derive(Drop)]

@@ -25,4 +25,4 @@ pub use path::PathFault;
 pub use rank::{Comparison, Rank};
 pub use reason::{Cause, Pick, Why};
 pub use trail::Trail;
-pub use tree::Tree;
+pub use tree::{MOST_NODES, Tree};

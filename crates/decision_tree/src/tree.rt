@@ -14,6 +14,9 @@ use linear_cons::{Row, Wide};
 use std::alloc::{AllocError, Global};
 use std::mem;
 
+/// The most nodes of a tree that is made or widened, leaves included.
+pub const MOST_NODES: u64 = 65_536;
+
 /// A tree that divides the stores by the sides of its rows.
 pub enum Tree<R: Rank> {
     /// No claim.

@@ -11,6 +11,6 @@ mod words;
 
 pub use laws::tokens_are_words;
 pub use lexeme::{Lexeme, lexemes};
-pub use rule::Rule;
+pub use rule::{MOST_LEVELS, Rule};
 pub use symbol::{Symbol, reserved_word, sign};
 pub use words::after;

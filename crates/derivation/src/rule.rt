@@ -1,5 +1,8 @@
 //! The rules that a text may break.
 
+/// How many levels of nesting may be open at a word.
+pub const MOST_LEVELS: u32 = 64;
+
 /// Which rule a text breaks first.
 #[derive(Clone, Copy, PartialEq, Eq, Debug)]
 pub enum Rule {

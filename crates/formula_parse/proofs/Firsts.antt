@@ -1,5 +1,5 @@
 -- A formula whose atoms fit has none that doesn't, and no formula has two first ones.
-use Rattle.std.proofs.Common.{◌≡◌, ◌⊎◌, inl, inr, ℕ, ◌≤◌, ◌<◌, List, Option, None, Some, sym, ◌∙◌, subst}
+use Rattle.std.proofs.Common.{◌≡◌, ◌⊎◌, inl, inr, ℕ, ◌≤◌, ◌<◌, List, None, Some, sym, ◌∙◌, subst}
 use Rattle.formula_syntax.specs.Trees.{Part, prefixed, quantified, truth, exit, compared, grouped, Chain, done, joined, Formula}
 use Rattle.formula_parse.specs.Faults.{PartFits, ChainFits, AllFit, BreaksPart, BreaksChain, BreaksAt, unknown_in}
 use Rattle.formula_parse.specs.FaultOf.{FirstIsUnknown, FirstIsAtom}

@@ -1,5 +1,5 @@
 -- The first fault of a text that is no formula.
-use Rattle.std.specs.Prelude.{◌≡◌, ℕ, ◌<◌, ◌≤◌, List, Option, Some, length, ⊤}
+use Rattle.std.specs.Prelude.{◌≡◌, ℕ, ◌<◌, ◌≤◌, List, Some, length, ⊤}
 use Rattle.derivation.specs.declared.rule.Rule.TheVariants as Syntax
 use Rattle.source_lex.specs.Tokens.{TokensOf}
 use Rattle.source_lex.specs.Faults.{FirstFault as FirstLexFault}

@@ -1,5 +1,5 @@
 -- How the reading of formulas and their parts goes on, by the next word.
-use Rattle.std.proofs.Common.{◌≡◌, inl, inr, ℕ, ◌+◌, ◌<◌, ◌≤◌, [], ◌∷◌, Option, None, Some, true, false, refl, sym, ap, ◌∙◌, subst, arith}
+use Rattle.std.proofs.Common.{◌≡◌, inl, inr, ℕ, ◌+◌, ◌<◌, ◌≤◌, [], ◌∷◌, None, Some, true, false, refl, sym, ap, ◌∙◌, subst, arith}
 use Rattle.derivation.specs.declared.rule.Rule.TheVariants.{Operators}
 use Rattle.derivation.specs.Pieces.{look, first, first_before, Fits}
 use Rattle.derivation.specs.Comes.{IsNext}

@@ -1,5 +1,5 @@
 -- What is still to be read: things one behind the other, each with its trees, where what stands behind one may depend on its tree.
-use Rattle.std.specs.Prelude.{ℕ, ◌+◌, Bool, Option, Some, List, [], ◌∷◌}
+use Rattle.std.specs.Prelude.{ℕ, ◌+◌, Bool, Some, List, [], ◌∷◌}
 use Rattle.derivation.specs.Pieces.{token, look}
 use Rattle.formula_syntax.specs.declared.sign.Comparison.{Comparison}
 use Rattle.formula_syntax.specs.declared.sign.Sign.TheVariants as S

@@ -18,11 +18,11 @@ ghost use Rattle.formula_syntax.specs.Reads.{Reads, Refuses, IsFrom};
 use crate::fault::{Failure, Fault};
 use crate::lexeme::{Lexeme, after};
 use crate::opening::{Opening, connective_of, opening_of_part};
-use crate::reader::{MOST_LEVELS, MOST_OPERATORS, opening, sign, until};
+use crate::reader::{MOST_OPERATORS, opening, sign, until};
 use crate::sign::{Connective, Prefix, Sign};
 use crate::sum::{right, sum, tail};
 use crate::tree::{Chain, Factor, FactorKind, Formula, Inner, InnerEnd, Part, Sum};
-use derivation::Rule;
+use derivation::{MOST_LEVELS, Rule};
 use std::alloc::{AllocError, Global};
 
 /// Reads a formula.

@@ -12,11 +12,8 @@ use crate::fault::{Failure, Fault};
 use crate::lexeme::{Lexeme, after};
 use crate::opening::until_of;
 use crate::sign::Sign;
-use derivation::Rule;
+use derivation::{MOST_LEVELS, Rule};
 use std::alloc::Global;
-
-/// How many levels of nesting may be open at a word.
-pub const MOST_LEVELS: u32 = 64;
 
 /// How many operators a formula may have.
 pub const MOST_OPERATORS: u32 = 64;

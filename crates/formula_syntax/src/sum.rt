@@ -15,10 +15,10 @@ ghost use Rattle.formula_syntax.specs.Reads.{Reads, Refuses, IsFrom};
 use crate::fault::{Failure, Fault};
 use crate::lexeme::Lexeme;
 use crate::opening::{FactorOpening, comparison_of, opening_of_factor, operator_of};
-use crate::reader::{MOST_LEVELS, MOST_OPERATORS, opening, owned_name, sign};
+use crate::reader::{MOST_OPERATORS, opening, owned_name, sign};
 use crate::sign::{Comparison, Operator, Sign};
 use crate::tree::{Factor, FactorKind, Sum, Tail};
-use derivation::Rule;
+use derivation::{MOST_LEVELS, Rule};
 use std::alloc::Global;
 
 /// Reads a sum.

@@ -14,13 +14,10 @@ ghost use Rattle.leaf_search.specs.Walks.{LeadsTo, systems_behind};
 use crate::ahead::Ahead;
 use crate::walk::{Way, has_sixteen_places};
 use constraint_stack::{ConstraintStack, Finding};
-use control_flow::{Place, Transition};
+use control_flow::{CHOSEN_PLACE, Place, Transition};
 use decision_tree::{Rank, Tree};
 use linear_cons::{Affine, Linear, Row, RowKind, Rows, Wide};
 use std::alloc::AllocError;
-
-/// The place that is no variable's, where a value is kept while it is chosen.
-const CHOSEN_PLACE: u8 = 15;
 
 /// Adds the rows. False where no store meets the rows on the stack with them. The error is want of memory.
 pub fn add_rows(rows: &[Row], stack: &mut ConstraintStack) -> Result<bool, AllocError>

@@ -16,9 +16,9 @@ use crate::fault::{Failure, Fault};
 use crate::opening::{
     LinkOpening, OperandOpening, SizeOpening, link_opening, opening_of_operand, size_opening,
 };
-use crate::reader::{MOST_LEVELS, number, opening, owned_name, sign};
+use crate::reader::{number, opening, owned_name, sign};
 use concrete_syntax::{Divisor, End, Expression, Link, Operand, OperandKind, Prefix, Tail};
-use derivation::{Lexeme, Rule, Symbol, after};
+use derivation::{Lexeme, MOST_LEVELS, Rule, Symbol, after};
 use std::alloc::Global;
 
 /// How many binary operators one expression may have.

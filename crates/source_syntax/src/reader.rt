@@ -9,11 +9,8 @@ ghost use Rattle.source_syntax.specs.Failures.{IfFault};
 ghost use Rattle.source_syntax.specs.Reads.{MissesSign, MissesOpening, MissesName, MissesNumber, AreNext, MissesOne};
 
 use crate::fault::{Failure, Fault};
-use derivation::{Lexeme, Rule, Symbol, after};
+use derivation::{Lexeme, MOST_LEVELS, Rule, Symbol, after};
 use std::alloc::Global;
-
-/// How many levels of nesting may be open at a word.
-pub const MOST_LEVELS: u32 = 64;
 
 /// The number behind a sign or reserved word that has to stand here.
 pub fn sign(words: &[Lexeme<'_>], at: usize, wanted: Symbol) -> Result<usize, Fault>

@@ -15,12 +15,12 @@ ghost use Rattle.source_syntax.specs.Reads.{Reads, Refuses, ReadsEndOfDo, Refuse
 use crate::declaration::{declaration, start};
 use crate::fault::{Failure, Fault};
 use crate::opening::{ItemOpening, StatementOpening, opening_of_item, opening_of_statement};
-use crate::reader::{MOST_LEVELS, opening, sign, signs};
+use crate::reader::{opening, sign, signs};
 use crate::simple::{finish, optional, simple, test};
 use concrete_syntax::{
     Expression, ForLoop, Item, Items, Otherwise, Simple, Start, Statement, StatementKind,
 };
-use derivation::{Lexeme, Rule, Symbol, after};
+use derivation::{Lexeme, MOST_LEVELS, Rule, Symbol, after};
 use std::alloc::Global;
 
 // Reads a statement where `levels` levels are open.

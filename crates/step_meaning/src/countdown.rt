@@ -15,10 +15,7 @@ use crate::expression::{Expr, Op2};
 use crate::function::{exact, function_of, total_size};
 use crate::program::Program;
 use crate::statement::{Block, StmtKind};
-use linear_cons::{Affine, Row, RowKind};
-
-/// The places of a function.
-const PLACES: usize = 16;
+use linear_cons::{Affine, PLACES, Row, RowKind};
 
 /// The greatest size of a number of the function that is counted down.
 const SMALL: u128 = 1 << 31;

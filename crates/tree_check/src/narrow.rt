@@ -7,14 +7,11 @@ ghost use Rattle.constraint_stack.specs.Searches.{Holds, IsSame};
 ghost use Rattle.tree_check.specs.Narrowing.{HoldsAmong, sets_of};
 
 use constraint_stack::ConstraintStack;
-use control_flow::Transition;
+use control_flow::{CHOSEN_PLACE, Transition};
 use decision_tree::{Rank, Tree};
 use leaf_search::Way;
 use linear_cons::Affine;
 use std::alloc::AllocError;
-
-/// The place that is no variable's, where a value is kept while it is chosen.
-const CHOSEN_PLACE: u8 = 15;
 
 /// What the arcs of a label set: a place, to the value of a function.
 pub(crate) fn sets(transition: &Transition) -> Option<(u8, Affine)>

@@ -12,12 +12,9 @@ ghost use Rattle.tree_unify.specs.Builds.{Builds, given};
 ghost use Rattle.tree_unify.specs.declared.fault.TreeFault.TheVariants.{Full, Wide as TooWide};
 
 use crate::fault::TreeFault;
-use decision_tree::{PathFault, Rank, Trail, Tree};
+use decision_tree::{MOST_NODES, PathFault, Rank, Trail, Tree};
 use linear_cons::Row;
 use std::alloc::{AllocError, Global};
-
-/// The most nodes of a tree that is made, leaves included.
-const MOST_NODES: u64 = 65_536;
 
 /// A walk: the rows on its way, the size of the part that was made last, and why it stopped, where it
 /// did. They stand here so that a recursion along a tree hands on references and boxes alone, and a level

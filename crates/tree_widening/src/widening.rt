@@ -16,12 +16,9 @@ use crate::extrapolates::Extrapolates;
 use crate::extrapolation::grow;
 use crate::newer::beginnings;
 use crate::walk::{Stopped, Walk};
-use decision_tree::{Cause, PathFault, Rank, Tree, Why};
+use decision_tree::{Cause, MOST_NODES, PathFault, Rank, Tree, Why};
 use std::alloc::Global;
 use tree_unify::TreeFault;
-
-/// The most nodes of a tree that is widened, leaves included.
-const MOST_NODES: u64 = 65_536;
 
 /// The old tree, widened by the new one. It has the old tree's nodes, but for those whose sides become
 /// equal. A leaf that was given up stays. A claim stays where each leaf of the new tree, trimmed by the

@@ -18,12 +18,9 @@ use crate::sizes::{first_sizes, next_sizes};
 use crate::steps::steps_of;
 use crate::trees::{first_trees, next_trees};
 use control_flow::{Graph, Transition};
-use decision_tree::{AffineRank, Cause, Family, Tree, TreeList};
+use decision_tree::{AffineRank, Cause, Family, MOST_NODES, Tree, TreeList};
 use std::alloc::{AllocError, Global};
 use tree_unify::TreeFault;
-
-/// The most nodes of a tree.
-const NODES: u128 = 65536;
 
 /// The last level that was made, and why no further one was.
 #[derive(Drop)]
@@ -201,7 +198,7 @@ fn check_sizes(graph: &Graph, sizes: &[u128]) -> Result<(), TreeFault>
     ensures nodes { IfErr result IsNodes }
 {
     let most = graph.weight_of(sizes);
-    if most > NODES {
+    if most > u128::from(MOST_NODES) {
         return Err(TreeFault::Full {
             count: most.min(u64::MAX as u128) as u64,
         });
