@@ -1,5 +1,5 @@
 #!/usr/bin/env python3
-"""Sees that docs/PROOFS.md shows the headline and lists the definitions that its reader has to believe: all that `Headline`, `AnswerHeadline` and `Form`
+"""Sees that docs/PROOFS.md shows the headline and lists the definitions that its reader has to believe: all that `Headline`, `AnswerHeadline`, `FitHeadline` and `Form`
 name, and what those name, down to the words of the standard library; and that in each file they stand first, before a line that says where they end.
 
 The list is made of tables between two marks, one for each question that a reader may have. A row has a digest of its definitions: of their text without
@@ -19,16 +19,16 @@ TOP = Path(__file__).resolve().parent.parent
 PAGE = TOP / "docs/PROOFS.md"
 LIST = ("<!-- begin: checks/believe.py -->", "<!-- end -->")
 SHOWN = ("<!-- begin: the headline, by checks/believe.py -->", "<!-- end of the headline -->")
-# The headline and what says it of a line, of the lines on one input, and which lines there are at all. The page shows the first six.
+# The headline and what says it of a line, of the lines on one input, and which lines there are at all. The page shows the first seven.
 ROOTS = [("function_top", file, name) for file, name in [
     ("Headline", "Headline"), ("Headline", "IsTrueText"), ("TrueLine", "TrueLine"), ("TrueLine", "IsTrueOf"),
-    ("Headline", "AnswerHeadline"), ("Headline", "IsTrueAnswer"), ("Form", "Form"),
+    ("Headline", "AnswerHeadline"), ("Headline", "IsTrueAnswer"), ("Headline", "FitHeadline"), ("Form", "Form"),
 ]]
-SHOWN_ROOTS = 6
+SHOWN_ROOTS = 7
 
 # What a reader asks, with the crates whose definitions answer it.
 QUESTIONS = {
-    "What is claimed of a program": ("function_top", "ctl_formula", "ordinal_rank", "step_meaning"),
+    "What is claimed of a program": ("function_top", "ctl_formula", "ordinal_rank", "int_fit", "step_meaning"),
     "What a line of a report says": ("claim_line", "report_text", "line_text", "linear_cons"),
     "Which text is which program": ("source_parse", "elaboration", "source_syntax", "concrete_syntax", "derivation", "source_lex"),
     "Which text is which formula": ("formula_parse", "normal_form", "formula_syntax", "linear_forms"),

@@ -37,6 +37,7 @@ HANDED_ON = (
     HandedOn("domain", "NAME", domain, f"what is kept of the stores: {', '.join(DOMAINS)}"),
     HandedOn("delay", "N", delay, "a digit from 0 to 8: how long the exact part is, and when bounds are guessed"),
     HandedOn("at", "INPUT", str, "what is claimed of one input, as x=1,y=-2"),
+    HandedOn("fit", None, None, "from which inputs do all numbers of its runs fit the 32 bits of C's int? --domain alone stands beside it", asks=True),
 )
 
 
@@ -128,6 +129,8 @@ def parse(words):
     read = found.parse_args(words)
     if read.inputs and read.as_is:
         found.error("--inputs changes a text, and --as-is hands it on unchanged: take one of them")
+    if read.fit and any(getattr(read, name) is not None for name in ("ctl", "delay", "at")):
+        found.error("--fit asks one question, and of these options takes --domain alone")
     if read.picture and (len(read.files) > 1 or read.recursive or read.json):
         found.error("--picture is of one file, and stands without --json")
     if not 0 < read.window[1] - read.window[0] <= MOST_WIDE:

@@ -7,7 +7,6 @@ import unittest
 from io import StringIO
 from unittest import mock
 
-import words
 from files import Progress
 from running import TOP, InFolder, spawned
 
@@ -79,11 +78,9 @@ class OneFile(InFolder):
         self.assertEqual(len(told(301)), 302)
 
     def test_an_option_more_is_a_line_of_a_table(self):
-        fits = words.HandedOn("fit", None, None, "do all numbers fit?", asks=True)
         report = "fits:\\nx >= 0: fits\\nunknown:\\n-x - 1 >= 0: unknown\\nverdict: some inputs\\n"
         command = self.stand_in(f"[ \"$*\" = --fit ] && printf '{report}'; exit 1")
-        with mock.patch.object(words, "HANDED_ON", (*words.HANDED_ON, fits)):
-            self.assertEqual(self.run_here("--fit", command=command, text=ENDS), (1, "<stdin>: fits from some inputs, unknown from the others\n  x >= 0: fits\n  x <= -1: unknown\n", ""))
+        self.assertEqual(self.run_here("--fit", command=command, text=ENDS), (1, "<stdin>: fits from some inputs, unknown from the others\n  x >= 0: fits\n  x <= -1: unknown\n", ""))
 
     def test_one_input(self):
         self.write("f.c", STEPS)

@@ -9,7 +9,7 @@ use Rattle.clap.specs.Walk.{Held, Walk, finished, has_row, is_empty, nothing_hel
 use Rattle.clap.proofs.OnLiterals.{clap_on_literals}
 use Rattle.command_words.specs.Command.{AreTaken, command, value_in}
 use Rattle.command_words.specs.Pairs.{ArePairs, IsOption, IsPlain, Pair, ctl, domain, delay, at, demo, spelled, value_among}
-use Rattle.command_words.proofs.PairRows.{AreNew, finishes, first_among, flag_is_last, flag_row, never_stops, new_behind, no_flag_row, pending_of, row_of, rows_for, settled_all, settled_pair, walk_of, walks}
+use Rattle.command_words.proofs.PairRows.{AreNew, IsFlag, finishes, first_among, flag_is_last, flag_rows, never_stops, new_behind, no_flag_row, pending_of, row_of, rows_for, settled_all, settled_pair, walk_of, walks}
 use Rattle.command_words.proofs.Walking.{at_name, at_rest, name_read, not_hyphens, not_long, not_short, rules, value_read}
 
 unfoldable top : Shape
@@ -105,7 +105,7 @@ defaults_pass rows (rule ∷ more) pass =
 
 rules_pass : AllPass rules
 unfolding rules command clap_on_literals
-rules_pass = (inl refl, (inl refl, (inl refl, (inl refl, (inr refl, (inl refl, (inl refl, tt)))))))
+rules_pass = (inl refl, (inl refl, (inl refl, (inl refl, (inr refl, (inl refl, (inr refl, (inl refl, tt))))))))
 
 -- ---- the whole
 
@@ -134,22 +134,22 @@ taken program pairs all =
     ∙ ap (λ t. faults_by (walk_of [] None pairs) t) (faultless [] [] None pairs refl refl all (new_to_nothing pairs))
     ∙ none_at_rest (walk_of [] None pairs) (never_stops [] None pairs) (last_settles [] [] None pairs refl refl all (new_to_nothing pairs))
 
-read : (program : Text) (pairs : List Pair) → ArePairs pairs → matches_of command (program ∷ spelled pairs) ≡ rows_for pairs ++ flag_row ∷ []
+read : (program : Text) (pairs : List Pair) → ArePairs pairs → matches_of command (program ∷ spelled pairs) ≡ rows_for pairs ++ flag_rows
 unfolding rules command
 read program pairs all =
     ap (λ w. fold with_default (settled_rows rules w.held.pending w.held.rows) rules) (walks [] None pairs all)
     ∙ ap (λ t. fold with_default t rules) (settled_all [] [] None pairs refl all (new_to_nothing pairs))
-    ∙ finishes (rows_for pairs) (no_flag_row pairs all)
+    ∙ finishes (rows_for pairs) (λ flag is. no_flag_row flag is pairs all)
 
 -- Words that spell such pairs are read as these.
 pub record AreReadAsPairs (program : Text) (pairs : List Pair) : Type 0 where
   pub taken : AreTaken (program ∷ spelled pairs)
   pub values : (name : Text) → IsOption name → value_in (program ∷ spelled pairs) name ≡ value_among pairs name
-  pub flag : value_in (program ∷ spelled pairs) (codes "explain") ≡ Some (codes "false")
+  pub flags : (flag : Text) → IsFlag flag → value_in (program ∷ spelled pairs) flag ≡ Some (codes "false")
 
 pub reads_pairs : (program : Text) (pairs : List Pair) → ArePairs pairs → AreReadAsPairs program pairs
 reads_pairs program pairs all = record {
   taken = taken program pairs all;
   values = λ name is. ap (λ rows. first_of name rows) (read program pairs all) ∙ first_among pairs name is;
-  flag = ap (λ rows. first_of (codes "explain") rows) (read program pairs all) ∙ flag_is_last pairs all;
+  flags = λ flag is. ap (λ rows. first_of flag rows) (read program pairs all) ∙ flag_is_last flag is pairs all;
 }

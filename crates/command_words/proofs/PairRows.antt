@@ -118,10 +118,18 @@ never_stops rows pending (pair ∷ more) = never_stops (settled_rows rules pendi
 
 -- ---- what is read in the end
 
-abbrev pub flag_row : Row
-flag_row = record { id = codes "explain"; values = codes "false" ∷ []; count = None; source = Some DefaultValue; reading = AsWritten }
+-- a flag of the command, and its row where it isn't given
+pub data IsFlag : Text → Type 0 where
+  explaining : IsFlag (codes "explain")
+  fitting : IsFlag (codes "fit")
 
-pub first_among : (pairs : List Pair) (name : Text) → IsOption name → first_of name (rows_for pairs ++ flag_row ∷ []) ≡ value_among pairs name
+abbrev pub flag_row : Text → Row
+flag_row name = record { id = name; values = codes "false" ∷ []; count = None; source = Some DefaultValue; reading = AsWritten }
+
+abbrev pub flag_rows : List Row
+flag_rows = flag_row (codes "explain") ∷ flag_row (codes "fit") ∷ []
+
+pub first_among : (pairs : List Pair) (name : Text) → IsOption name → first_of name (rows_for pairs ++ flag_rows) ≡ value_among pairs name
 first_among [] name ctl = refl
 first_among [] name domain = refl
 first_among [] name delay = refl
@@ -129,25 +137,35 @@ first_among [] name at = refl
 first_among [] name demo = refl
 first_among (pair ∷ more) name is = by (bytes_eq pair.option name) refl (first_among more name is)
   where
-    by : (b : Bool) → bytes_eq pair.option name ≡ b → first_of name (rows_for more ++ flag_row ∷ []) ≡ value_among more name
-        → first_of name (rows_for (pair ∷ more) ++ flag_row ∷ []) ≡ value_among (pair ∷ more) name
+    by : (b : Bool) → bytes_eq pair.option name ≡ b → first_of name (rows_for more ++ flag_rows) ≡ value_among more name
+        → first_of name (rows_for (pair ∷ more) ++ flag_rows) ≡ value_among (pair ∷ more) name
     by true e rest = rw e refl
     by false e rest = rw e rest
 
-no_flag : (name : Text) → IsOption name → bytes_eq name (codes "explain") ≡ false
-no_flag name ctl = refl
-no_flag name domain = refl
-no_flag name delay = refl
-no_flag name at = refl
-no_flag name demo = refl
+-- it is none of the options with a value
+pub no_flag : (flag name : Text) → IsFlag flag → IsOption name → bytes_eq name flag ≡ false
+no_flag flag name explaining ctl = refl
+no_flag flag name explaining domain = refl
+no_flag flag name explaining delay = refl
+no_flag flag name explaining at = refl
+no_flag flag name explaining demo = refl
+no_flag flag name fitting ctl = refl
+no_flag flag name fitting domain = refl
+no_flag flag name fitting delay = refl
+no_flag flag name fitting at = refl
+no_flag flag name fitting demo = refl
 
-pub no_flag_row : (pairs : List Pair) → ArePairs pairs → has_row (codes "explain") (rows_for pairs) ≡ false
-no_flag_row [] all = refl
-no_flag_row (pair ∷ more) all = rw (no_flag pair.option all.0) (no_flag_row more all.3)
+pub no_flag_row : (flag : Text) → IsFlag flag → (pairs : List Pair) → ArePairs pairs → has_row flag (rows_for pairs) ≡ false
+no_flag_row flag is [] all = refl
+no_flag_row flag is (pair ∷ more) all = rw (no_flag flag pair.option is all.0) (no_flag_row flag is more all.3)
 
-pub flag_is_last : (pairs : List Pair) → ArePairs pairs → first_of (codes "explain") (rows_for pairs ++ flag_row ∷ []) ≡ Some (codes "false")
-flag_is_last [] all = refl
-flag_is_last (pair ∷ more) all = rw (no_flag pair.option all.0) (flag_is_last more all.3)
+last_flag : (flag : Text) → IsFlag flag → first_of flag flag_rows ≡ Some (codes "false")
+last_flag flag explaining = refl
+last_flag flag fitting = refl
+
+pub flag_is_last : (flag : Text) → IsFlag flag → (pairs : List Pair) → ArePairs pairs → first_of flag (rows_for pairs ++ flag_rows) ≡ Some (codes "false")
+flag_is_last flag is [] all = last_flag flag is
+flag_is_last flag is (pair ∷ more) all = rw (no_flag flag pair.option is all.0) (flag_is_last flag is more all.3)
 
 -- ---- defaults
 
@@ -166,13 +184,23 @@ no_defaults : (rows : List Row) (more : List Rule) → NoDefaults more → fold 
 no_defaults rows [] none = refl
 no_defaults rows (rule ∷ more) none = ap (λ t. fold with_default t more) (no_default rows rule none.0) ∙ no_defaults rows more none.1
 
-flag_default : (rows : List Row) → has_row (codes "explain") rows ≡ false → fold with_default rows (take 1 (drop 4 rules)) ≡ rows ++ flag_row ∷ []
+explain_default : (rows : List Row) → has_row (codes "explain") rows ≡ false
+    → fold with_default rows (take 1 (drop 4 rules)) ≡ rows ++ flag_row (codes "explain") ∷ []
 unfolding rules command clap_on_literals
-flag_default rows none = rw none (at_absent (codes "explain") (more_values DefaultValue (codes "false" ∷ [])) (flag_row ∷ []) rows none)
+explain_default rows none = rw none (at_absent (codes "explain") (more_values DefaultValue (codes "false" ∷ [])) (flag_row (codes "explain") ∷ []) rows none)
 
-pub finishes : (rows : List Row) → has_row (codes "explain") rows ≡ false → fold with_default rows rules ≡ rows ++ flag_row ∷ []
+fit_default : (rows : List Row) → has_row (codes "fit") rows ≡ false → fold with_default rows (take 1 (drop 6 rules)) ≡ rows ++ flag_row (codes "fit") ∷ []
+unfolding rules command clap_on_literals
+fit_default rows none = rw none (at_absent (codes "fit") (more_values DefaultValue (codes "false" ∷ [])) (flag_row (codes "fit") ∷ []) rows none)
+
+pub finishes : (rows : List Row) → ((flag : Text) → IsFlag flag → has_row flag rows ≡ false) → fold with_default rows rules ≡ rows ++ flag_rows
 unfolding rules command clap_on_literals
 finishes rows none =
+    let explained : List Row = rows ++ flag_row (codes "explain") ∷ [] in
+    let unfit : has_row (codes "fit") explained ≡ false = has_row_behind (codes "fit") rows (flag_row (codes "explain")) (none (codes "fit") fitting) refl in
     ap (λ t. fold with_default t (drop 4 rules)) (no_defaults rows (take 4 rules) (refl, (refl, (refl, (refl, tt)))))
-    ∙ ap (λ t. fold with_default t (drop 5 rules)) (flag_default rows none)
-    ∙ no_defaults (rows ++ flag_row ∷ []) (drop 5 rules) (refl, (refl, tt))
+    ∙ ap (λ t. fold with_default t (drop 5 rules)) (explain_default rows (none (codes "explain") explaining))
+    ∙ ap (λ t. fold with_default t (drop 6 rules)) (no_defaults explained (take 1 (drop 5 rules)) (refl, tt))
+    ∙ ap (λ t. fold with_default t (drop 7 rules)) (fit_default explained unfit)
+    ∙ no_defaults (explained ++ flag_row (codes "fit") ∷ []) (drop 7 rules) (refl, tt)
+    ∙ append_assoc rows (flag_row (codes "explain") ∷ []) (flag_row (codes "fit") ∷ [])

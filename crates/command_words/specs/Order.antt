@@ -6,7 +6,7 @@ use Rattle.command_words.specs.Command.{AreTaken, value_in}
 use Rattle.command_words.specs.declared.order.Domain.{Domain}
 use Rattle.command_words.specs.declared.order.Domain.TheVariants.{Boxes, Octagons, Polyhedra}
 use Rattle.command_words.specs.declared.order.Order.{Order}
-use Rattle.command_words.specs.declared.order.Order.TheVariants.{Analysis, Demo}
+use Rattle.command_words.specs.declared.order.Order.TheVariants.{Analysis, Demo, Fit}
 use Rattle.command_words.specs.declared.order.Query.{Query}
 
 -- What is asked of an analysis: what is kept of the stores with which a label is reached, how many tests of loops the exact part allows, the
@@ -18,10 +18,11 @@ pub record Task : Type 0 where
   pub input : Option Text
   pub explain : Bool
 
--- what is asked of the command: an analysis, or that of the demo program of a number
+-- what is asked of the command: an analysis; that of the demo program of a number; or from which inputs runs fit the numbers of 32 bits, over sets of a kind
 pub data Request : Type 0 where
   analysis : Task → Request
   demo : ℕ → Request
+  fit : Domain → Request
 
 -- how a domain is named
 abbrev pub name_of : Domain → Text
@@ -57,9 +58,15 @@ abbrev pub Without : List Text → (Text → Option Text) → Type 0
 Without [] value = ⊤
 Without (name ∷ more) value = (value name ≡ None) × Without more value
 
--- no option of an analysis is given
+-- nor one of these flags is given
+abbrev pub Unflagged : List Text → (Text → Option Text) → Type 0
+Unflagged [] value = ⊤
+Unflagged (name ∷ more) value = IsGiven (value name) false × Unflagged more value
+
+-- no option of an analysis is given, and `--fit` isn't
 abbrev pub IsAlone : (Text → Option Text) → Type 0
-IsAlone value = Without (codes "domain" ∷ (codes "delay" ∷ (codes "ctl" ∷ (codes "at" ∷ [])))) value × IsGiven (value (codes "explain")) false
+IsAlone value =
+    Without (codes "domain" ∷ (codes "delay" ∷ (codes "ctl" ∷ (codes "at" ∷ [])))) value × Unflagged (codes "explain" ∷ (codes "fit" ∷ [])) value
 
 -- the number of a demo program, from 1 to 1000, by its numeral
 pub record IsCount (text : Text) (number : ℕ) : Type 0 where
@@ -71,10 +78,18 @@ pub record IsCount (text : Text) (number : ℕ) : Type 0 where
 abbrev pub IsDemo : (Text → Option Text) → ℕ → Type 0
 IsDemo value number = (text : Text) × (value (codes "demo") ≡ Some text) × IsCount text number × IsAlone value
 
+-- `--fit` is given, with no option but that of the domain
+pub record IsFit (value : Text → Option Text) (domain : Domain) : Type 0 where
+  pub asked : IsGiven (value (codes "fit")) true
+  pub over : IsDomain (value (codes "domain")) domain
+  pub without : Without (codes "delay" ∷ (codes "ctl" ∷ (codes "at" ∷ []))) value
+  pub unflagged : Unflagged (codes "explain" ∷ []) value
+
 -- the values ask for this
 abbrev pub Requests : (Text → Option Text) → Request → Type 0
-Requests value (analysis task) = (value (codes "demo") ≡ None) × IsTask value task
+Requests value (analysis task) = (value (codes "demo") ≡ None) × IsGiven (value (codes "fit")) false × IsTask value task
 Requests value (demo number) = IsDemo value number
+Requests value (fit domain) = (value (codes "demo") ≡ None) × IsFit value domain
 
 -- The words, the program's name first, ask for this: `clap` takes them, and the values that it reads ask for it. Other words ask for nothing.
 abbrev pub Ask : List Text → Request → Type 0
@@ -95,6 +110,7 @@ task_of query = record {
 abbrev pub request_of : Order → Request
 request_of (Analysis query) = analysis (task_of query)
 request_of (Demo number) = demo number
+request_of (Fit domain) = fit domain
 
 -- the words ask for something
 abbrev pub Accepted : List Text → Type 0

@@ -36,7 +36,8 @@ fn command<'w>(alloc: Global) -> Result<Command<'w>, AllocError>
         .arg(option(alloc, "delay"))?
         .arg(option(alloc, "at"))?
         .arg(flag(alloc, "explain"))?
-        .arg(option(alloc, "demo"))?;
+        .arg(option(alloc, "demo"))?
+        .arg(flag(alloc, "fit"))?;
     Ok(command)
 }
 

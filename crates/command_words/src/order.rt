@@ -1,8 +1,8 @@
 //! What words ask for.
-ghost use Rattle.std.specs.Prelude.{◌≡◌, ◌↔◌, ℕ, IfOk, IsTrue, Some, map, option_map};
+ghost use Rattle.std.specs.Prelude.{◌≡◌, ◌↔◌, ◌∷◌, [], ℕ, IfOk, IsFalse, IsTrue, None, Some, codes, map, option_map, true};
 ghost use Rattle.clap.specs.Words.{found_of};
 ghost use Rattle.command_words.specs.Command.{values_of};
-ghost use Rattle.command_words.specs.Order.{Ask, IsAlone, IsCount, IsDelay, IsDomain, IsGiven, IsTask, Request, Requests, Task, request_of, task_of};
+ghost use Rattle.command_words.specs.Order.{Ask, IsAlone, IsCount, IsDelay, IsDomain, IsFit, IsGiven, IsTask, Request, Requests, Task, Unflagged, Without, request_of, task_of};
 
 use crate::command::{read, value_of};
 use clap::ArgMatches;
@@ -27,6 +27,8 @@ pub enum Order<'w> {
     Analysis(Query<'w>),
     /// The analysis of the demo program of this number, from 1 to 1000.
     Demo(u32),
+    /// From which inputs the runs of that program fit the numbers of 32 bits, over sets of this kind.
+    Fit(Domain),
 }
 
 /// What is asked of an analysis.
@@ -63,14 +65,50 @@ fn ordered<'w>(matches: &ArgMatches<'w>) -> Option<Order<'w>>
             Some(number) => Some(Order::Demo(number)),
             None => None,
         },
-        None => match query_of(matches) {
-            Some(query) => Some(Order::Analysis(query)),
-            None => None,
-        },
+        None => ordered_of_source(matches),
     }
 }
 
-/// The number of the demo program that the text says, where no option of an analysis is given.
+/// What they ask for of the program that the source holds.
+fn ordered_of_source<'w>(matches: &ArgMatches<'w>) -> Option<Order<'w>>
+    requires { values_of (found_of matches.now) (codes "demo") ≡ None }
+    ensures { (request : Request) → option_map request_of result ≡ Some request ↔ Requests (values_of (found_of matches.now)) request }
+{
+    if is_given(value_of(matches, "fit")) {
+        return match fit_of(matches) {
+            Some(domain) => Some(Order::Fit(domain)),
+            None => None,
+        };
+    }
+    match query_of(matches) {
+        Some(query) => Some(Order::Analysis(query)),
+        None => None,
+    }
+}
+
+/// The kind of sets over which it is asked what fits, where no option but that of the domain is given beside `--fit`.
+fn fit_of(matches: &ArgMatches<'_>) -> Option<Domain>
+    requires { IsGiven (values_of (found_of matches.now) (codes "fit")) true }
+    ensures { (domain : Domain) → result ≡ Some domain ↔ IsFit (values_of (found_of matches.now)) domain }
+{
+    if has_others(matches) {
+        return None;
+    }
+    domain_of(value_of(matches, "domain"))
+}
+
+/// Whether an option of an analysis but that of the domain is given.
+fn has_others(matches: &ArgMatches<'_>) -> bool
+    ensures { IsFalse result ↔ (Without (codes "delay" ∷ (codes "ctl" ∷ (codes "at" ∷ []))) (values_of (found_of matches.now))
+        × Unflagged (codes "explain" ∷ []) (values_of (found_of matches.now))) }
+{
+    value_of(matches, "delay").is_some()
+        || value_of(matches, "ctl").is_some()
+        || value_of(matches, "at").is_some()
+        || is_given(value_of(matches, "explain"))
+}
+
+/// The number of the demo program that the text says, where nothing else is given.
 fn demo_of(matches: &ArgMatches<'_>, text: &str) -> Option<u32>
     ensures { (number : ℕ) → result ≡ Some number ↔ (IsCount text.now number × IsAlone (values_of (found_of matches.now))) }
 {
@@ -80,7 +118,7 @@ fn demo_of(matches: &ArgMatches<'_>, text: &str) -> Option<u32>
     count_of(text)
 }
 
-/// Whether no option of an analysis is given.
+/// Whether nothing but the demo program's number is given.
 fn is_alone(matches: &ArgMatches<'_>) -> bool
     ensures { IsTrue result ↔ IsAlone (values_of (found_of matches.now)) }
 {
@@ -89,6 +127,7 @@ fn is_alone(matches: &ArgMatches<'_>) -> bool
         && value_of(matches, "ctl").is_none()
         && value_of(matches, "at").is_none()
         && !is_given(value_of(matches, "explain"))
+        && !is_given(value_of(matches, "fit"))
 }
 
 /// The analysis that the values ask for.

@@ -1,7 +1,7 @@
+pub mod AtEntry
 pub mod Divisions
 pub mod Fitted
 pub mod Fronts
-pub mod Guarded
 pub mod Leads
 pub mod Nesting
 pub mod Rows

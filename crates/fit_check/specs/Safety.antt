@@ -1,12 +1,13 @@
 -- Safe trees: where one is defined, the store meets the range rows of each variable and of each number expression of what is done at the label.
-use Rattle.std.specs.Prelude.{◌≡◌, ℕ, ◌<◌}
+use Rattle.std.specs.Prelude.{◌≡◌, ℕ, ◌<◌, true}
 use Rattle.linear_cons.specs.declared.bounds.Bounds.{Bounds}
 use Rattle.linear_cons.specs.Ends.{exactly}
 use Rattle.linear_cons.specs.Functions.{variable_at}
 use Rattle.decision_tree.specs.declared.affine_rank.AffineRank.{AffineRank}
 use Rattle.decision_tree.specs.declared.reason.Why.{Why}
 use Rattle.decision_tree.specs.Evaluation.{eval}
-use Rattle.decision_tree.specs.Plans.{Plan, leaf}
+use Rattle.decision_tree.specs.Extent.{ComplementsFit, IsTreeOver}
+use Rattle.decision_tree.specs.Plans.{Plan, is_defined, leaf}
 use Rattle.step_meaning.specs.Syntax.{Statements}
 use Rattle.step_meaning.specs.Outcome.{Store}
 use Rattle.step_meaning.specs.Run.{IsInput, start}
@@ -35,3 +36,13 @@ pub record TellsFit (vars : ℕ) (body : Statements) (family : Trees AffineRank)
       → eval (family label) store ≡ leaf why rank → Fits (configuration body label store)
   pub inputs : (input : Store) (why : Why) (rank : AffineRank) → IsInput vars input → eval (family (entry_of body)) input ≡ leaf why rank
       → Fits (start body input)
+
+-- where the tree is defined at an input, the runs from there fit
+abbrev pub FitsWhere : ℕ → Statements → Plan AffineRank → Type 0
+FitsWhere vars body tree = (input : Store) → IsInput vars input → is_defined (eval tree input) ≡ true → Fits (start body input)
+
+-- so it is; its rows, ranks and picks speak of the variables alone, and the complements of the rows fit 128 bits
+pub record IsFitTree (vars : ℕ) (body : Statements) (tree : Plan AffineRank) : Type 0 where
+  pub fits : FitsWhere vars body tree
+  pub over : IsTreeOver vars tree
+  pub complements : ComplementsFit tree

@@ -2,8 +2,10 @@
 //! defined where the runs stay there.
 #![tactic(auto)]
 
+mod entry;
 mod family;
 mod laws;
 mod ranging;
 
+pub use entry::fit_tree;
 pub use family::fit_family;

@@ -16,7 +16,7 @@ use Rattle.fitting_ways.specs.Factors.{HasSmallFactors}
 use Rattle.line_text.specs.declared.claim.Claim.{Claim}
 use Rattle.report_text.specs.declared.line.Line.{Line}
 use Rattle.report_text.specs.declared.line.Top.{Top}
-use Rattle.report_text.specs.declared.line.Top.TheVariants.{Bound, Exact as Counted, Plain}
+use Rattle.report_text.specs.declared.line.Top.TheVariants.{Bound, Exact as Counted, Fits, Plain}
 use Rattle.report_text.specs.declared.report.Report.{Report}
 use Rattle.ordinal_rank.specs.declared.ordinal.OrdinalRank.{OrdinalRank}
 use Rattle.report_text.specs.Ranked.{AreRefined, done, more}
@@ -46,6 +46,7 @@ claims_something : (claims : Top) (rank : AffineRank) → is_unknown (claim_of c
 claims_something Counted rank = refl
 claims_something Bound rank = refl
 claims_something Plain rank = refl
+claims_something Fits rank = refl
 
 -- a tree without an undefined leaf claims something at each leaf
 all_claim : (claims : Top) (above : List Affine) (tree : Plan AffineRank) → IsWhole tree → All Claims (leaves_below (claim_of claims) above tree)

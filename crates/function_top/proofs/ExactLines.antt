@@ -19,7 +19,7 @@ use Rattle.decision_tree.specs.declared.reason.Cause.{Cause}
 use Rattle.decision_tree.specs.declared.reason.Cause.TheVariants.{Given, Nodes, Point, Rows, Wide}
 use Rattle.decision_tree.specs.declared.reason.Why.{Why}
 use Rattle.line_text.specs.declared.claim.Claim.{Claim}
-use Rattle.line_text.specs.declared.claim.Claim.TheVariants.{Exactly, Holds, Ranked, Unknown, Within}
+use Rattle.line_text.specs.declared.claim.Claim.TheVariants.{Exactly, Fits, Holds, Ranked, Unknown, Within}
 use Rattle.report_text.specs.declared.line.Line.{Line}
 use Rattle.report_text.specs.declared.line.Top.TheVariants.{Exact}
 use Rattle.report_text.specs.declared.report.Stop.TheVariants.{WideNumbers}
@@ -66,6 +66,7 @@ exact_number (Exactly (negsuc n)) = 0
 exact_number (Within bound) = 0
 exact_number Holds = 0
 exact_number (Ranked functions) = 0
+exact_number Fits = 0
 exact_number Unknown = 0
 
 -- an end that claims exactly so many steps is a leaf of that rank

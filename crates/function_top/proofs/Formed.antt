@@ -13,13 +13,14 @@ use Rattle.report_text.specs.declared.report.Header.{Header}
 use Rattle.report_text.specs.Printed.{IsReportText, ended_lines, exact_part, explain_part, lines_under}
 use Rattle.function_top.specs.declared.found.Found.{Found}
 use Rattle.function_top.specs.Demo.{summary_lines}
-use Rattle.function_top.specs.Form.{IsKnown, exact_head, explanation, section, summary, all_verdict, some_verdict, words, program, formula}
+use Rattle.report_text.specs.Fitting.{IsFitText}
+use Rattle.function_top.specs.Form.{IsKnown, exact_head, explanation, fits_head, section, summary, all_verdict, some_verdict, words, program, formula}
 use Rattle.function_top.specs.Refusals.{fault_line, formula_text, program_text, usage_line, usage_text}
 use Rattle.function_top.specs.Shown.{Shows}
 use Rattle.function_top.specs.Known.{KnownLines}
 use Rattle.function_top.proofs.Truth.{formula_silent, program_silent, usage_silent}
 use Rattle.report_text.proofs.Frame.{Bytes, Lacks, free_lacks}
-use Rattle.function_top.proofs.Written.{EachWhole, Frames, Prints, each_good, one_good, report_holds, summary_lacks}
+use Rattle.function_top.proofs.Written.{EachWhole, Frames, Prints, each_good, fit_report_holds, one_good, report_holds, summary_lacks}
 
 module _ (left : Option Bytes) where
   pub usage_known : EachWhole (IsKnown left) usage_text
@@ -79,3 +80,7 @@ module _ (left : Option Bytes) where
         → EachWhole (IsKnown left) text
     report_known found report text shows printed =
         report_holds (IsKnown left) frames names known.newline report text (all_spoken report.exact) (λ head. all_spoken (lines_under head report)) printed
+
+    pub fit_report_known : (fits unknown : List Line) (text : Bytes) → IsFitText names fits unknown text → EachWhole (IsKnown left) text
+    fit_report_known fits unknown text printed =
+        fit_report_holds (IsKnown left) frames names known.newline (inr (inl fits_head)) fits unknown text (all_spoken fits) (all_spoken unknown) printed

@@ -71,7 +71,7 @@ pub data IsRefusalText : Bytes → Type 0 where
   of_program : (number offset : ℕ) → IsRefusalText (program_text number offset)
   of_formula : (number offset : ℕ) → IsRefusalText (formula_text number offset)
 
-refusal_text : (refusal : Refusal) (status : Status) (bytes : Bytes) → SaysRefusal refusal status bytes → IsRefusalText bytes
+pub refusal_text : (refusal : Refusal) (status : Status) (bytes : Bytes) → SaysRefusal refusal status bytes → IsRefusalText bytes
 refusal_text (R.Program number offset) status bytes says = subst IsRefusalText (sym says.1) (of_program number offset)
 refusal_text R.Input status bytes says = subst IsRefusalText (sym says.1) usage
 refusal_text (R.Formula number offset) status bytes says = subst IsRefusalText (sym says.1) (of_formula number offset)

@@ -12,6 +12,7 @@ pub mod Formed
 pub mod Named
 pub mod Over
 pub mod Headline
+pub mod FitReports
 pub mod Certain
 pub mod Satisfied
 pub mod Proving

@@ -1,30 +1,38 @@
 -- How many lines of the text of a report an input meets.
-use Rattle.std.proofs.Common.{◌≡◌, ◌⊎◌, inl, inr, List, [], ◌∷◌, ◌++◌, sym, subst}
+use Rattle.std.proofs.Common.{◌≡◌, ◌⊎◌, inl, inr, List, [], ◌∷◌, ◌++◌, length, codes, sym, ap, subst, append-nil, append_assoc}
 use Rattle.std.specs.List.{AllZip}
 use Rattle.std.specs.Prelude.{IsPermutation}
 use Rattle.std.proofs.lemmas.List.Elements.{All-cons, All-nil}
 use Rattle.std.proofs.lemmas.List.Sorted.{All-permutation, IsPermutation-append, IsPermutation-cons, IsPermutation-middle, IsPermutation-refl, IsPermutation-sym, IsPermutation-trans}
 use Rattle.step_meaning.specs.Outcome.{Store}
 use Rattle.linear_cons.specs.Rows.{MeetsAll}
+use Rattle.decision_tree.specs.declared.affine_rank.AffineRank.{AffineRank}
+use Rattle.decision_tree.specs.Evaluation.{eval}
+use Rattle.decision_tree.specs.Plans.{Plan}
 use Rattle.line_text.specs.LineText.{functions_of}
 use Rattle.line_text.specs.Spells.{MeetsCondition}
 use Rattle.report_text.specs.declared.line.Line.{Line}
-use Rattle.report_text.specs.Leaves.{NoneOf, OneOf}
+use Rattle.report_text.specs.declared.line.Top.TheVariants.{Fits}
+use Rattle.report_text.specs.Fitting.{AreFitLines, IsFitText, fit_report_lines}
+use Rattle.report_text.specs.Leaves.{NoneOf, OneOf, claim_at}
 use Rattle.report_text.specs.declared.report.Header.{Header}
 use Rattle.report_text.specs.declared.report.Header.TheVariants.{Absent, Partial, Stopped, Whole}
 use Rattle.report_text.specs.declared.report.Report.{Report}
-use Rattle.report_text.specs.Printed.{AreExactTexts, AreTextsOf, Head, IsReportText, IsLineText, lines_under, proved_head, ranked_head, unknown_head}
+use Rattle.report_text.specs.Printed.{AreExactTexts, AreTextsOf, Head, IsReportText, IsLineText, lines_under, proved_head, ranked_head, unknown_head, verdict_line}
 use Rattle.report_text.specs.Sections.{exact_line, section_line}
 use Rattle.report_text.proofs.Cutting.{KnownTexts, report_sections}
+use Rattle.report_text.proofs.FitCutting.{fit_report_cut}
+use Rattle.report_text.proofs.FitLines.{fit_line_met}
 use Rattle.function_top.specs.declared.found.Found.{Found}
 use Rattle.function_top.specs.Exact.{MeetsAtMostOneLine}
 use Rattle.function_top.specs.Found.{claim_found}
 use Rattle.function_top.specs.Shown.{Shows}
+use Rattle.function_top.specs.Fitting.{AreMetByInts}
 use Rattle.function_top.specs.Meeting.{AreMetOnce, AreUnmet, IsMet, MeetsOne}
 use Rattle.function_top.proofs.Conditions.{condition_met, rows_met}
 use Rattle.function_top.proofs.Once.{at_most_one, one_line}
 use Rattle.function_top.specs.Known.{KnownLines, OpenAsLines}
-use Rattle.report_text.proofs.Frame.{Bytes}
+use Rattle.report_text.proofs.Frame.{Bytes, IsSilent, fits_silent, head_silent, says_nothing, verdict_silent}
 
 module _ (names : List Bytes) (known : KnownLines names) (input : Store) where
   abbrev Met : Line → Type 0
@@ -112,6 +120,20 @@ module _ (names : List Bytes) (known : KnownLines names) (input : Store) where
   pub none_of : (lines : List Line) (texts : List Bytes) → AreTextsOf names lines texts → NoneOf Met lines → AreUnmet names input texts
   none_of lines texts are none = All-permutation (λ text. ¬ IsMet names input text) are.unsorted texts are.same (none_met lines are.unsorted are.each none)
 
+  -- a line that isn't met stands among the others
+  pub unmet_between : (front behind : List Bytes) (text : Bytes) → ¬ IsMet names input text → MeetsOne names input (front ++ behind)
+      → MeetsOne names input (front ++ text ∷ behind)
+  unmet_between front behind text apart one = record {
+    line = one.line;
+    others = text ∷ one.others;
+    are = IsPermutation-trans (front ++ text ∷ behind) (text ∷ (front ++ behind)) (one.line ∷ text ∷ one.others)
+        (IsPermutation-middle front text behind)
+        (IsPermutation-trans (text ∷ (front ++ behind)) (text ∷ one.line ∷ one.others) (one.line ∷ text ∷ one.others)
+        (IsPermutation-cons text (front ++ behind) (one.line ∷ one.others) one.are) (IsPermutation-middle (text ∷ []) one.line one.others));
+    met = one.met;
+    unmet = All-cons (λ line. ¬ IsMet names input line) text one.others apart one.unmet;
+  }
+
 -- ---- the text of a report
 
 module _ (names : List Bytes) (known : KnownLines names) (opening : OpenAsLines) where
@@ -147,3 +169,33 @@ module _ (names : List Bytes) (known : KnownLines names) (opening : OpenAsLines)
             subst (λ (lines : List Bytes). AreUnmet names input lines ⊎ MeetsOne names input lines) (sym (cut exact_line))
             (exact_texts input report.header report.exact printed.exact printed.exact_are (at_most_one found report shows input));
       }
+
+  -- ---- the text of a report on what fits
+
+  silent_unmet : (input : Store) (line : Bytes) → IsSilent line → ¬ IsMet names input line
+  silent_unmet input line silent met = says_nothing line silent (opening names line met.condition met.claim met.spells)
+
+  pub met_by_ints : (tree : Plan AffineRank) (fits unknown : List Line) (text : Bytes) → AreFitLines (length names) tree fits unknown
+      → IsFitText names fits unknown text → AreMetByInts names text
+  met_by_ints tree fits unknown text are printed input small =
+      let texts : KnownTexts names = record {
+        newline = known.newline;
+        opening = λ line condition claim. opening names line condition claim;
+      } in
+      let first = printed.fits_texts in
+      let second = printed.unknown_texts in
+      let last = verdict_line second in
+      let Own : Line → Type 0 = λ (line : Line). line.claim ≡ claim_at Fits (eval are.made input) in
+      let claimed : MeetsOne names input (first ++ second) =
+      one_of names known input Own (fits ++ unknown) (first ++ second)
+      (both_of names known input fits unknown first second (some_of names known input fits first printed.fits_are)
+      (some_of names known input unknown second printed.unknown_are))
+      (fit_line_met (length names) are.made fits unknown are.lists input small) in
+      let parted = unmet_between names known input first second (codes "unknown:") (silent_unmet input (codes "unknown:") (head_silent unknown_head)) claimed in
+      let headed = unmet_between names known input [] (first ++ codes "unknown:" ∷ second) (codes "fits:") (silent_unmet input (codes "fits:") fits_silent) parted in
+      let front = codes "fits:" ∷ (first ++ codes "unknown:" ∷ second) in
+      let whole = unmet_between names known input front [] last (silent_unmet input last (verdict_silent second))
+      (subst (MeetsOne names input) (sym (append-nil front)) headed) in
+      let grouped : front ++ last ∷ [] ≡ fit_report_lines first second =
+      ap (λ lines. codes "fits:" ∷ lines) (append_assoc first (codes "unknown:" ∷ second) (last ∷ [])) in
+      subst (MeetsOne names input) (sym (fit_report_cut texts fits unknown text printed)) (subst (MeetsOne names input) grouped whole)

@@ -11,7 +11,7 @@ use Rattle.decision_tree.specs.declared.affine_rank.AffineRank.{AffineRank}
 use Rattle.decision_tree.specs.Plans.{Plan, plan_of}
 use Rattle.ordinal_rank.specs.Ends.{EndsUnder}
 use Rattle.line_text.specs.declared.claim.Claim.{Claim}
-use Rattle.line_text.specs.declared.claim.Claim.TheVariants.{Exactly, Holds, Ranked, Unknown, Within}
+use Rattle.line_text.specs.declared.claim.Claim.TheVariants.{Exactly, Fits, Holds, Ranked, Unknown, Within}
 use Rattle.line_text.specs.Numeral.{numeral}
 use Rattle.claim_line.specs.Tells.{Tells}
 use Rattle.report_text.specs.declared.line.Top.{Top}
@@ -65,6 +65,7 @@ told_true subject input (Ranked functions) told (numbers, as_told, is) truth =
     (subst (λ values. EndsUnder values (start subject.body input)) (told_values functions numbers input as_told) truth)
 told_true subject input (Exactly number) told is truth = subst (λ claim. IsTrueOf subject claim input) (sym is) truth
 told_true subject input Holds told is truth = subst (λ claim. IsTrueOf subject claim input) (sym is) truth
+told_true subject input Fits told is truth = subst (λ claim. IsTrueOf subject claim input) (sym is) truth
 told_true subject input Unknown told is truth = subst (λ claim. IsTrueOf subject claim input) (sym is) truth
 
 module _ (subject : Subject) (opening : OpenAsLines) (input : Store) (is_input : IsInput (length subject.names) input) where

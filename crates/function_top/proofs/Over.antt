@@ -11,7 +11,7 @@ use Rattle.decision_tree.specs.Extent.{IsTreeOver}
 use Rattle.ordinal_rank.specs.Families.{IsTreeOver as IsOrdinalOver}
 use Rattle.ordinal_rank.specs.Ordinals.{functions_of}
 use Rattle.line_text.specs.declared.claim.Claim.{Claim}
-use Rattle.line_text.specs.declared.claim.Claim.TheVariants.{Exactly, Holds, Ranked, Unknown, Within}
+use Rattle.line_text.specs.declared.claim.Claim.TheVariants.{Exactly, Fits, Holds, Ranked, Unknown, Within}
 use Rattle.line_text.specs.Names.{IsOver}
 use Rattle.line_text.specs.Spells.{IsClaimOver}
 use Rattle.report_text.specs.declared.line.Line.{Line}
@@ -41,16 +41,16 @@ module _ (names : List (List ℕ)) (few : length names ≤ 15) where
       (tree_lines_over names few Exact (plan_of tree) shows.1.0 printable.0.over shows.1.1))
 
   -- what is told of one input is over them
-  leaf_over : {R : Type 0} (Fits : Plan R → Type 0) → ((row : Row) (this that : Plan R) → Fits (branch row this that) → Fits this × Fits that)
-      → (tree : Plan R) (input : List ℤ) → Fits tree → Fits (eval tree input)
-  leaf_over Fits sides bottom input over = over
-  leaf_over Fits sides (top cause) input over = over
-  leaf_over Fits sides (leaf why rank) input over = over
-  leaf_over Fits sides (branch row this that) input over =
+  leaf_over : {R : Type 0} (Has : Plan R → Type 0) → ((row : Row) (this that : Plan R) → Has (branch row this that) → Has this × Has that)
+      → (tree : Plan R) (input : List ℤ) → Has tree → Has (eval tree input)
+  leaf_over Has sides bottom input over = over
+  leaf_over Has sides (top cause) input over = over
+  leaf_over Has sides (leaf why rank) input over = over
+  leaf_over Has sides (branch row this that) input over =
       let both = sides row this that over in
-      elim (int_le (pos 0) (value_at row.affine input)) as (λ t. Fits (if t then eval this input else eval that input)) [
-        | true ↦ leaf_over Fits sides this input both.0
-        | false ↦ leaf_over Fits sides that input both.1
+      elim (int_le (pos 0) (value_at row.affine input)) as (λ t. Has (if t then eval this input else eval that input)) [
+        | true ↦ leaf_over Has sides this input both.0
+        | false ↦ leaf_over Has sides that input both.1
       ]
 
   told_bound_over : (bound : Affine) (input : List ℤ) (told : Affine) → IsOver names bound → IsToldAs bound input told → IsOver names told
@@ -77,6 +77,7 @@ module _ (names : List (List ℕ)) (few : length names ≤ 15) where
       subst (IsClaimOver names) (sym is) (those.0 ∙ over.0, those.1)
   told_claim_over (Exactly number) told input over is = subst (IsClaimOver names) (sym is) over
   told_claim_over Holds told input over is = subst (IsClaimOver names) (sym is) over
+  told_claim_over Fits told input over is = subst (IsClaimOver names) (sym is) over
   told_claim_over Unknown told input over is = subst (IsClaimOver names) (sym is) over
 
   pub told_over : (found : Found) (input : List ℤ) (status : Status) (claim : Claim) → IsFoundPrintable (length names) found

@@ -15,7 +15,7 @@ use Rattle.formula_measures.specs.Measures.{IsWithinMeasures}
 use Rattle.line_text.specs.declared.claim.Claim.{Claim}
 use Rattle.report_text.specs.declared.line.Line.{Line}
 use Rattle.report_text.specs.declared.line.Top.{Top}
-use Rattle.report_text.specs.declared.line.Top.TheVariants.{Bound, Exact, Plain}
+use Rattle.report_text.specs.declared.line.Top.TheVariants.{Bound, Exact, Fits, Plain}
 use Rattle.report_text.specs.declared.report.Report.{Report}
 use Rattle.report_text.specs.Leaves.{AreLinesOf, claim_at, claiming, is_unknown}
 use Rattle.report_text.proofs.Standing.{one_line_met}
@@ -36,6 +36,7 @@ known_leaf claims (branch row this that) own = absurd (false≢true own)
 known_leaf Bound (leaf why rank) own = refl
 known_leaf Plain (leaf why rank) own = refl
 known_leaf Exact (leaf why rank) own = refl
+known_leaf Fits (leaf why rank) own = refl
 
 -- and nothing else does
 known_end : (claims : Top) (end : Plan AffineRank) → is_unknown (claim_at claims end) ≡ false → is_defined end ≡ true

@@ -5,19 +5,24 @@ use Rattle.std.proofs.lemmas.List.{append_cancel_left, take_all}
 use Rattle.std.proofs.lemmas.Option.{same_Some}
 use Rattle.outside.specs.Faults.{Rose}
 use Rattle.outside.specs.Sink.{AppendsFront}
-use Rattle.step_meaning.specs.Syntax.{statements}
+use Rattle.step_meaning.specs.Syntax.{Statements, statements}
 use Rattle.ctl_formula.specs.Formulas.{normal}
 use Rattle.normal_form.specs.Operators.{operators}
 use Rattle.formula_parse.specs.Derives.{IsFormulaOf}
 use Rattle.ctl_rounds.specs.Asked.{RoseBy}
-use Rattle.command_words.specs.Order.{Accepted, Ask, Request, Task, analysis, demo}
+use Rattle.source_parse.specs.Derives.{IsProgramText}
+use Rattle.command_words.specs.declared.order.Domain.{Domain}
+use Rattle.command_words.specs.Order.{Accepted, Ask, Request, Task, analysis, demo, fit}
 use Rattle.function_top.specs.declared.question.Refusal.{Refusal}
 use Rattle.function_top.specs.declared.question.Refusal.TheVariants as R
 use Rattle.function_top.specs.declared.status.Status.{Status}
 use Rattle.function_top.specs.declared.status.Status.TheVariants.{AllInputs, NoMemory, Program, Formula, ReadFault, SomeInputs, Words}
-use Rattle.function_top.specs.Answer.{Answers, CoversDemos, IsComplete, IsDueBy, IsRun, SaysAll, WasDue, Writes, after_failing}
+use Rattle.function_top.specs.Answer.{Answers, CoversDemos, IsComplete, IsDueBy, IsFitComplete, IsRun, SaysAll, SaysWhatFits, WasDue, Writes, after_failing}
 use Rattle.function_top.specs.Asking.{IsInputGiven}
 use Rattle.function_top.specs.Call.{Call}
+use Rattle.function_top.specs.Demo.{defaults}
+use Rattle.function_top.specs.Fitting.{IsFitDueOn}
+use Rattle.function_top.specs.Fitting as F
 use Rattle.function_top.specs.Form.{HasKnownLines, IsKnown}
 use Rattle.function_top.specs.Known.{KnownTexts}
 use Rattle.function_top.specs.Output.{IsDueOn, IsLongFormula, IsNoFormula, IsReason, IsReport, IsWithinLimits, SaysRefusal, answered, refused, reported}
@@ -25,6 +30,7 @@ use Rattle.function_top.specs.Refusals.{usage_text}
 use Rattle.function_top.specs.Subject.{IsFormulaAsked, IsSubject, Subject}
 use Rattle.function_top.specs.Text.{HasGraph}
 use Rattle.function_top.proofs.Formed.{summary_known, usage_known}
+use Rattle.function_top.proofs.FitReports.{fit_due_known, fit_due_met, fit_due_true}
 use Rattle.function_top.proofs.Headline.{due_known, due_told, due_true, told_read, told_report, verdict_report}
 use Rattle.function_top.proofs.OneTold.{TellsTrue}
 use Rattle.function_top.proofs.Saying.{due_says}
@@ -121,6 +127,22 @@ module _ (known : KnownTexts) (task : Task) (text : Bytes) (subject : Subject) (
   shown_due {status} {advisers} {turns} {bytes} (answered asked own input one on) = told_report on.found input status on.claim on.told
   shown_due {status} {advisers} {turns} {bytes} (refused refusal reason says unasked) = absurd (not_refused refusal status bytes reason says)
 
+-- nor is a text that is a program within the limits, where it is asked what fits
+module _ (text : Bytes) (names : List Bytes) (body : Statements) (is : IsProgramText text names body) (limits : IsWithinLimits text) where
+  fit_not_refused : (refusal : Refusal) (status : Status) (bytes : Bytes) → ((task : Task) → IsReason task text refusal) → SaysRefusal refusal status bytes → ⊥
+  fit_not_refused (R.Program number offset) status bytes reason says = elim (reason defaults) [
+    | inl long ↦ let fits = limits.short in let over = long.long in omega (arith, fits, over)
+    | inr (inl other) ↦ other.none names body is
+    | inr (inr past) ↦ limits.graph number offset past
+  ]
+  fit_not_refused R.Input status bytes reason says = (reason defaults).refused tt
+  fit_not_refused (R.Formula number offset) status bytes reason says = let none = (reason defaults).asked in cc
+  fit_not_refused R.Memory status bytes reason says = says
+
+  fit_shown : {status : Status} {turns : ℕ} {bytes : Bytes} → IsFitDueOn text status turns bytes → IsReport status
+  fit_shown {status} {turns} {bytes} (F.reported own its fits unknown on verdict unasked) = verdict_report status unknown verdict
+  fit_shown {status} {turns} {bytes} (F.refused refusal reason says unasked) = absurd (fit_not_refused refusal status bytes reason says)
+
 -- ---- what the words ask for
 
 -- they ask for one thing
@@ -129,6 +151,12 @@ AskOnce words = (one other : Request) → Ask words one → Ask words other → 
 
 no_demo : (words : List Bytes) → AskOnce words → (task : Task) → Ask words (analysis task) → (number : ℕ) → ¬ Ask words (demo number)
 no_demo words once task here number there = let same : analysis task ≡ demo number = once (analysis task) (demo number) here there in cc
+
+no_fit : (words : List Bytes) → AskOnce words → (task : Task) → Ask words (analysis task) → (domain : Domain) → ¬ Ask words (fit domain)
+no_fit words once task here domain there = let same : analysis task ≡ fit domain = once (analysis task) (fit domain) here there in cc
+
+fit_no_demo : (words : List Bytes) → AskOnce words → (domain : Domain) → Ask words (fit domain) → (number : ℕ) → ¬ Ask words (demo number)
+fit_no_demo words once domain here number there = let same : fit domain ≡ demo number = once (fit domain) (demo number) here there in cc
 
 -- ---- what was due by what the words ask for
 
@@ -146,6 +174,16 @@ module _ (known : KnownTexts) (words : List Bytes) (once : AskOnce words) (call 
   known_by : (request : Request) → IsDueBy request call status was.turns bytes → HasKnownLines call.left bytes
   known_by (analysis task) due = due_known known task call.left due.0 due.1 due.2
   known_by (demo number) due = summary_known call.left number _ _ _ bytes due.1.is
+  known_by (fit domain) due = fit_due_known known due.0 call.left due.1 due.2
+
+  -- where it is asked what fits, on that text too
+  by_fit : (domain : Domain) (told : Bytes) → Ask words (fit domain) → call.left ≡ Some told → IsFitDueOn told status was.turns bytes
+  by_fit domain told ask is =
+      let due = by_request (fit domain) ask in
+      subst (λ t. IsFitDueOn t status was.turns bytes) (sym (told_read call.left due.0 told due.1 is)) due.2
+
+  fit_was_said : Appends call.taken call.taken_after bytes → SaysWhatFits words status call
+  fit_was_said appends domain text names body ask is h report = (bytes, appends, fit_due_met known text h report (by_fit domain text ask is))
 
   was_said : Appends call.taken call.taken_after bytes → SaysAll words status call
   was_said appends task text subject ask is h report = (bytes, appends, due_says known task text subject h report (by_task task text ask is))
@@ -175,9 +213,14 @@ module _ (known : KnownTexts) (words : List Bytes) (once : AskOnce words) (call 
     due_answers (answered asked own input one on) = report_answers (told_report on.found input status on.claim on.told) settled
     due_answers (refused refusal reason says unasked) = refusal_answers refusal says
 
+    fit_answers : {text : Bytes} {turns : ℕ} → IsFitDueOn text status turns bytes → Answers words result call
+    fit_answers (F.reported names body fits unknown on verdict unasked) = report_answers (verdict_report status unknown verdict) settled
+    fit_answers (F.refused refusal reason says unasked) = refusal_answers refusal says
+
     answers_by : (request : Request) → IsDueBy request call status was.turns bytes → Answers words result call
     answers_by (analysis task) due = due_answers due.2
     answers_by (demo number) due = report_answers (inl due.0) settled
+    answers_by (fit domain) due = fit_answers due.2
 
     completes : IsReport status → ¬ Rose call.write_faults call.write_faults_after → (result ≡ AllInputs) ⊎ (result ≡ SomeInputs) ⊎ (result ≡ NoMemory)
     completes is writes = elim settled [
@@ -203,6 +246,14 @@ said known words once call result answers task text subject ask is h (inr some) 
     let whole = subst (λ s. Answers words s call) some answers in
     subst (λ s. SaysAll words s call) (sym some) (was_said known words once call SomeInputs whole.0 whole.1 whole.2) task text subject ask is h (inr some)
 
+fit_said : KnownTexts → (words : List Bytes) → AskOnce words → (call : Call) (result : Status) → Answers words result call → SaysWhatFits words result call
+fit_said known words once call result answers domain text names body ask is h (inl all) =
+    let whole = subst (λ s. Answers words s call) all answers in
+    subst (λ s. SaysWhatFits words s call) (sym all) (fit_was_said known words once call AllInputs whole.0 whole.1 whole.2) domain text names body ask is h (inl all)
+fit_said known words once call result answers domain text names body ask is h (inr some) =
+    let whole = subst (λ s. Answers words s call) some answers in
+    subst (λ s. SaysWhatFits words s call) (sym some) (fit_was_said known words once call SomeInputs whole.0 whole.1 whole.2) domain text names body ask is h (inr some)
+
 -- ---- all of it
 
 module _ (words : List Bytes) (call : Call) where
@@ -227,12 +278,21 @@ module _ (words : List Bytes) (call : Call) where
             (shown_due known task told subject h limits given limited (due task told ask is)) writes;
         says = said known words once call result answers;
         demos = covers known words once call status bytes was result settled;
+        fit_headline = λ domain told before written subject ask is h taken taken' line condition claim whole s.
+            front_written call (SaysTrue subject) status result bytes settled
+            (fit_due_true known told subject h (by_fit known words once call status bytes was domain told ask is))
+            before written taken taken' line whole condition claim s;
+        fit_complete = λ domain told names body ask is h limits reads writes.
+            completes known words once call status bytes was result settled
+            (fit_shown told names body h limits (by_fit known words once call status bytes was domain told ask is)) writes;
+        says_what_fits = fit_said known words once call result answers;
       }
 
   -- nothing was written
   run_silent : (result : Status) → call.taken_after ≡ call.taken → (IsReport result → ⊥) → Answers words result call
-      → (¬ Accepted words → (result ≡ Words) ⊎ (result ≡ NoMemory)) → IsComplete words result call → CoversDemos words result call → IsRun words result call
-  run_silent result stays none answers refuses complete demos = record {
+      → (¬ Accepted words → (result ≡ Words) ⊎ (result ≡ NoMemory)) → IsComplete words result call → CoversDemos words result call
+      → IsFitComplete words result call → IsRun words result call
+  run_silent result stays none answers refuses complete demos fit_complete = record {
     headline = λ task told before written subject ask is h taken taken' line condition claim whole s.
         nothing_written call (SaysTrue subject) stays before written taken taken' line whole condition claim s;
     answer = λ task told before written asked subject input ask is h one given taken taken' line claim whole tells.
@@ -243,6 +303,10 @@ module _ (words : List Bytes) (call : Call) where
     complete = complete;
     says = λ task text subject ask is h report. absurd (none report);
     demos = demos;
+    fit_headline = λ domain told before written subject ask is h taken taken' line condition claim whole s.
+        nothing_written call (SaysTrue subject) stays before written taken taken' line whole condition claim s;
+    fit_complete = fit_complete;
+    says_what_fits = λ domain text names body ask is h report. absurd (none report);
   }
 
   -- since a read failed
@@ -252,12 +316,22 @@ module _ (words : List Bytes) (call : Call) where
       run_silent ReadFault stays (λ report. elim report [ inl all ↦ cc | inr some ↦ cc ]) answers (λ none. absurd (none (analysis task, ask)))
       (λ task text subject ask is h limits given limited reads writes. absurd (reads answers.0))
       (λ number own. absurd (no_demo words once task ask number own))
+      (λ domain text names body own. absurd (no_fit words once task ask domain own))
+
+  pub run_fit_unread : AskOnce words → (domain : Domain) → Ask words (fit domain) → call.taken_after ≡ call.taken → Answers words ReadFault call
+      → IsRun words ReadFault call
+  run_fit_unread once domain ask stays answers =
+      run_silent ReadFault stays (λ report. elim report [ inl all ↦ cc | inr some ↦ cc ]) answers (λ none. absurd (none (fit domain, ask)))
+      (λ task text subject own. absurd (no_fit words once task own domain ask))
+      (λ number own. absurd (fit_no_demo words once domain ask number own))
+      (λ domain text names body ask is h limits reads writes. absurd (reads answers.0))
 
   -- since memory ran out
   pub run_out : call.taken_after ≡ call.taken → Answers words NoMemory call → IsRun words NoMemory call
   run_out stays answers =
       run_silent NoMemory stays (λ report. elim report [ inl all ↦ cc | inr some ↦ cc ]) answers (λ none. inr refl)
       (λ task text subject ask is h limits given limited reads writes. inr (inr refl)) (λ number ask writes. inr refl)
+      (λ domain text names body ask is h limits reads writes. inr (inr refl))
 
   -- the words were refused, and the usage line was written, or a front of it
   pub run_refused : ¬ Accepted words → (result : Status) → Settles call Words result usage_text → IsRun words result call
@@ -272,6 +346,9 @@ module _ (words : List Bytes) (call : Call) where
         complete = λ task text subject ask. absurd (none (analysis task, ask));
         says = λ task text subject ask. absurd (none (analysis task, ask));
         demos = λ number ask. absurd (none (demo number, ask));
+        fit_headline = λ domain told before written subject ask. absurd (none (fit domain, ask));
+        fit_complete = λ domain text names body ask. absurd (none (fit domain, ask));
+        says_what_fits = λ domain text names body ask. absurd (none (fit domain, ask));
       }
 
 -- numbers rise as the advisers whose they are

@@ -19,7 +19,7 @@ use Rattle.input_text.specs.Input.{IsInputText}
 use Rattle.line_text.specs.declared.claim.Claim.{Claim}
 use Rattle.line_text.specs.declared.claim.Claim.TheVariants.{Exactly}
 use Rattle.report_text.specs.declared.line.Top.{Top}
-use Rattle.report_text.specs.declared.line.Top.TheVariants.{Bound, Exact as Counted, Plain}
+use Rattle.report_text.specs.declared.line.Top.TheVariants.{Bound, Exact as Counted, Fits, Plain}
 use Rattle.report_text.specs.declared.report.Stop.{Stop}
 use Rattle.report_text.specs.declared.report.Stop.TheVariants.{NotPlain, TooManyNodes, WideNumbers}
 use Rattle.ordinal_rank.specs.declared.ordinal.OrdinalRank.{OrdinalRank}
@@ -92,6 +92,7 @@ exactly_told : (claims : Top) (rank : AffineRank) (input : Store) (claim : Claim
 exactly_told Counted rank input claim n other told is = other refl
 exactly_told Bound rank input claim n other told is = let told_is = told.2 in cc
 exactly_told Plain rank input claim n other told is = cc
+exactly_told Fits rank input claim n other told is = cc
 
 -- nor is it where the tree of ordinal ranks claims
 ordinal_told : (rank : OrdinalRank) (input : Store) (claim : Claim) (n : ℕ) → IsTold (ordinal_claim rank) input claim → claim ≡ Exactly (pos n) → ⊥

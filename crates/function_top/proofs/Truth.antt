@@ -1,14 +1,17 @@
 -- What the command writes is true, line by line.
-use Rattle.std.proofs.Common.{◌≡◌, ℕ, ◌+◌, not, List, [], ◌∷◌, ◌++◌, length, All, Contains, Option, None, Some, codes, refl, sym, ap, ◌∙◌, subst, arith}
+use Rattle.std.proofs.Common.{◌≡◌, ℕ, ◌+◌, not, true, List, [], ◌∷◌, ◌++◌, length, All, Contains, Option, None, Some, codes, refl, sym, ap, ◌∙◌, subst, arith}
 use Rattle.std.proofs.lemmas.List.Elements.{All-filter, All-nil, Contains-append_left, Contains-append_right}
 use Rattle.step_meaning.specs.Outcome.{Store}
-use Rattle.step_meaning.specs.Run.{IsInput}
+use Rattle.step_meaning.specs.Run.{IsInput, start}
 use Rattle.linear_cons.specs.declared.affine.Affine.{Affine}
 use Rattle.linear_cons.specs.Rows.{MeetsAll}
 use Rattle.linear_solve.proofs.Lists.{all_of, member_of}
 use Rattle.decision_tree.specs.declared.affine_rank.AffineRank.{AffineRank}
 use Rattle.decision_tree.specs.Evaluation.{eval}
-use Rattle.decision_tree.specs.Plans.{Plan, bottom, branch, leaf, plan_of, top}
+use Rattle.decision_tree.specs.Plans.{Plan, bottom, branch, is_defined, leaf, plan_of, top}
+use Rattle.int_fit.specs.Fitting.{Fits}
+use Rattle.int_fit.specs.Narrowing.{narrowed}
+use Rattle.fit_check.specs.Safety.{FitsWhere}
 use Rattle.ordinal_rank.specs.declared.ordinal.OrdinalRank.{OrdinalRank}
 use Rattle.ordinal_rank.specs.Families.{BoundsEnds}
 use Rattle.line_text.specs.declared.claim.Claim.{Claim}
@@ -18,12 +21,14 @@ use Rattle.line_text.specs.Spells.{Spells}
 use Rattle.line_text.proofs.Words.{numeral_is_numeral}
 use Rattle.report_text.specs.declared.line.Line.{Line}
 use Rattle.report_text.specs.declared.line.Top.{Top}
-use Rattle.report_text.specs.declared.line.Top.TheVariants.{Exact as Counted}
+use Rattle.report_text.specs.declared.line.Top.TheVariants.{Exact as Counted, Fits as Fitting}
 use Rattle.report_text.specs.declared.report.Header.{Header}
 use Rattle.report_text.specs.declared.report.Report.{Report}
 use Rattle.report_text.specs.Leaves.{MeetsOneLine, claim_at, claim_by, is_unknown}
 use Rattle.report_text.specs.Printed.{Head, IsReportText, lines_under, proved_head, ranked_head, unknown_head}
 use Rattle.report_text.specs.Ranked.{claim_else, ordinal_claim}
+use Rattle.report_text.specs.Fitting.{AreFitLines, IsFitText}
+use Rattle.report_text.proofs.FitLines.{all_left}
 use Rattle.report_text.proofs.Standing.{one_line_met}
 use Rattle.function_top.specs.declared.found.Exact.{Exact}
 use Rattle.function_top.specs.declared.found.Exact.TheVariants.{Made, Unasked, Unmade}
@@ -41,8 +46,8 @@ use Rattle.function_top.proofs.Conditions.{condition_met}
 use Rattle.function_top.proofs.ExactLines.{ranks_at}
 use Rattle.function_top.proofs.Once.{one_line}
 use Rattle.function_top.proofs.OnlyMet.{met_is_one}
-use Rattle.report_text.proofs.Frame.{Bytes, IsFree, IsSilent, both_free, digits_free, free_lacks, says_nothing, tested}
-use Rattle.function_top.proofs.Written.{EachWhole, Frames, Prints, one_good, report_holds, silent_frames}
+use Rattle.report_text.proofs.Frame.{Bytes, IsFree, IsSilent, both_free, digits_free, fits_silent, free_lacks, says_nothing, tested}
+use Rattle.function_top.proofs.Written.{EachWhole, Frames, Prints, fit_report_holds, one_good, report_holds, silent_frames}
 
 -- the lines of refused words and of faults say nothing
 pub usage_silent : IsSilent usage_line
@@ -168,3 +173,24 @@ module _ (subject : Subject) (opening : OpenAsLines) where
         line_true (λ input. claim_found found input) (report.proved ++ (report.ranked ++ report.unknown)) (one_line found report shows)
         (found_true task found finds) line (among report head line member)))
         printed
+
+    -- ---- a report on what fits
+
+    fits_claimed : (input : Store) (end : Plan AffineRank) → (is_defined end ≡ true → Fits (start (narrowed subject.body) input))
+        → IsTrueOf subject (claim_at Fitting end) input
+    fits_claimed input bottom fits = tt
+    fits_claimed input (top cause) fits = tt
+    fits_claimed input (leaf why rank) fits = fits refl
+    fits_claimed input (branch row this that) fits = tt
+
+    pub fit_report_true : (tree : Plan AffineRank) (fits unknown : List Line) (text : Bytes) → FitsWhere (length subject.names) (narrowed subject.body) tree
+        → AreFitLines (length subject.names) tree fits unknown → IsFitText subject.names fits unknown text → EachWhole (SaysTrue subject) text
+    fit_report_true tree fits unknown text tells are printed =
+        let lists = are.lists in
+        let all : All Printed lists.lines =
+        all_of Printed lists.lines (line_true (λ input. claim_at Fitting (eval are.made input)) lists.lines
+        (λ input. one_line_met Fitting input are.made lists.lines lists.lines_of)
+        (λ input is_input. fits_claimed input (eval are.made input) (λ defined. tells input is_input (sym (are.made_of.alike input) ∙ defined)))) in
+        fit_report_holds (SaysTrue subject) frames subject.names known.newline (silent (codes "fits:") fits_silent) fits unknown text
+        (subst (All Printed) (sym lists.claimed) (All-filter (λ line. not (is_unknown line.claim)) Printed lists.lines all))
+        (all_left Printed lists.left (All-filter (λ line. is_unknown line.claim) Printed lists.lines all)) printed

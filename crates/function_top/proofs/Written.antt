@@ -14,11 +14,12 @@ use Rattle.report_text.specs.declared.report.Explain.{Explain}
 use Rattle.report_text.specs.declared.report.Header.{Header}
 use Rattle.report_text.specs.declared.report.Header.TheVariants.{Absent, Partial, Stopped, Whole}
 use Rattle.report_text.specs.declared.report.Report.{Report}
+use Rattle.report_text.specs.Fitting.{IsFitText, fit_report_lines}
 use Rattle.report_text.specs.Printed.{AreExactTexts, AreTextsOf, Head, IsLineText, IsReportText, ended_lines, exact_part, explain_part, head_text, heads_for, lines_under, ranked_head, report_lines, section_lines, unknown_head, verdict_line}
 use Rattle.report_text.specs.Sections.{IsWholeLine, lines_after, whole_lines}
 use Rattle.function_top.specs.Demo.{summary_lines}
 use Rattle.report_text.proofs.Cutting.{whole_lines_are}
-use Rattle.report_text.proofs.Frame.{Bytes, IsFree, IsSilent, Lacks, counted_free, explanation_silent, free_lacks, head_silent, headers_silent, partial_line, partial_silent, silent_lacks, stopped_line, stopped_silent, tested, verdict_silent, whole_line, whole_silent}
+use Rattle.report_text.proofs.Frame.{Bytes, IsFree, IsSilent, Lacks, counted_free, explanation_silent, fits_silent, free_lacks, head_silent, headers_silent, partial_line, partial_silent, silent_lacks, stopped_line, stopped_silent, tested, verdict_silent, whole_line, whole_silent}
 
 -- ---- lines
 
@@ -178,6 +179,21 @@ module _ (P : Bytes → Type 0) where
         texts (good_texts lines texts all are)
     good_exact (Stopped cause) lines texts all are =
         good_header (stopped_line cause) (silent_lacks (stopped_line cause) (stopped_silent cause)) (All-head P (stopped_line cause) [] (frames.exact (Stopped cause))) [] (All-nil IsGood)
+
+    -- a report on what fits
+    pub fit_report_holds : P (codes "fits:") → (fits unknown : List Line) (text : Bytes) → All Prints fits → All Prints unknown
+        → IsFitText names fits unknown text → EachWhole text
+    fit_report_holds head fits unknown text claimed others printed =
+        let first = printed.fits_texts in
+        let second = printed.unknown_texts in
+        let last = verdict_line second in
+        each_good (fit_report_lines first second) text
+        (All-cons IsGood (codes "fits:") (first ++ (codes "unknown:" ∷ (second ++ last ∷ []))) (good_silent (codes "fits:") fits_silent head)
+        (All-append IsGood first (codes "unknown:" ∷ (second ++ last ∷ [])) (good_texts fits first claimed printed.fits_are)
+        (All-cons IsGood (codes "unknown:") (second ++ last ∷ []) (good_silent (codes "unknown:") (head_silent unknown_head) (frames.each_head unknown_head))
+        (All-append IsGood second (last ∷ []) (good_texts unknown second others printed.unknown_are)
+        (All-cons IsGood last [] (good_verdict second) (All-nil IsGood))))))
+        printed.is
 
     pub report_holds : (report : Report) (text : Bytes) → All Prints report.exact → ((head : Head) → All Prints (lines_under head report))
         → IsReportText names report text → EachWhole text

@@ -13,8 +13,12 @@ use Rattle.function_top.specs.Call.{Call}
 use Rattle.function_top.specs.Demo.{IsDemoDue}
 use Rattle.function_top.specs.Output.{IsDueOn, IsReport, IsWithinLimits}
 use Rattle.function_top.specs.Form.{Form}
-use Rattle.function_top.specs.Headline.{AnswerHeadline, Headline}
-use Rattle.command_words.specs.Order.{Accepted, Ask, Request, Task, analysis, demo}
+use Rattle.function_top.specs.Fitting.{AreMetByInts, IsFitDueOn}
+use Rattle.function_top.specs.Headline.{AnswerHeadline, FitHeadline, Headline}
+use Rattle.source_parse.specs.Derives.{IsProgramText}
+use Rattle.step_meaning.specs.Syntax.{Statements}
+use Rattle.command_words.specs.declared.order.Domain.{Domain}
+use Rattle.command_words.specs.Order.{Accepted, Ask, Request, Task, analysis, demo, fit}
 use Rattle.function_top.specs.Refusals.{usage_text}
 use Rattle.function_top.specs.Says.{Says}
 use Rattle.function_top.specs.Subject.{IsSubject, Subject, asked_names}
@@ -32,11 +36,12 @@ after_failing WriteFault = WriteFault
 after_failing NoMemory = NoMemory
 
 -- These bytes are due by what is asked for, with this status, and each adviser is asked for them so many times: by an analysis, on the text that was read;
--- by a demo program a summary, for which nothing is read.
+-- by a demo program a summary, for which nothing is read; where it is asked what fits, on the text that was read, for which no adviser is asked.
 abbrev pub IsDueBy : Request → Call → Status → ℕ → List ℕ → Type 0
 IsDueBy (analysis task) call status turns bytes =
     (text : List ℕ) × IsRead call.left text × IsDueOn task text status (length call.asked) turns bytes
 IsDueBy (demo number) call status turns bytes = (status ≡ AllInputs) × IsDemoDue number turns bytes
+IsDueBy (fit domain) call status turns bytes = (text : List ℕ) × IsRead call.left text × IsFitDueOn text status turns bytes
 
 -- the bytes are those that are due, with this status, by what the words ask for, and no read failed
 pub record WasDue (words : List (List ℕ)) (call : Call) (status : Status) (bytes : List ℕ) : Type 0 where
@@ -88,6 +93,19 @@ SaysAll words status call =
     (task : Task) (text : List ℕ) (subject : Subject) → Ask words (analysis task) → call.left ≡ Some text → IsSubject task text subject → IsReport status
     → (bytes : List ℕ) × Appends call.taken call.taken_after bytes × Says task subject status bytes
 
+-- By words that ask what fits a text that is a program within the limits gets its report where no count of faults rose and memory didn't run out.
+abbrev pub IsFitComplete : List (List ℕ) → Status → Call → Type 0
+IsFitComplete words status call =
+    (domain : Domain) (text : List ℕ) (names : List (List ℕ)) (body : Statements) → Ask words (fit domain) → call.left ≡ Some text
+    → IsProgramText text names body → IsWithinLimits text → ¬ Rose call.read_faults call.read_faults_after → ¬ Rose call.write_faults call.write_faults_after
+    → (status ≡ AllInputs) ⊎ (status ≡ SomeInputs) ⊎ (status ≡ NoMemory)
+
+-- Where the status is that of a report, bytes were written whole of which each input of 32-bit numbers meets exactly one line.
+abbrev pub SaysWhatFits : List (List ℕ) → Status → Call → Type 0
+SaysWhatFits words status call =
+    (domain : Domain) (text : List ℕ) (names : List (List ℕ)) (body : Statements) → Ask words (fit domain) → call.left ≡ Some text
+    → IsProgramText text names body → IsReport status → (bytes : List ℕ) × Appends call.taken call.taken_after bytes × AreMetByInts names bytes
+
 -- All that is said of a call of the command with these words that ended with this status.
 pub record IsRun (words : List (List ℕ)) (status : Status) (call : Call) : Type 0 where
   pub headline : Headline words call
@@ -98,3 +116,6 @@ pub record IsRun (words : List (List ℕ)) (status : Status) (call : Call) : Typ
   pub complete : IsComplete words status call
   pub says : SaysAll words status call
   pub demos : CoversDemos words status call
+  pub fit_headline : FitHeadline words call
+  pub fit_complete : IsFitComplete words status call
+  pub says_what_fits : SaysWhatFits words status call

@@ -29,6 +29,7 @@ pub record IsClaimAlone (names : List (List ℕ)) (line : List ℕ) : Type 0 whe
 -- the line is the head of a section, a header of the exact part, a line of the explanation, one of the summary of a demo program, or a verdict
 pub data IsFrame : List ℕ → Type 0 where
   section : (head : Head) → IsFrame (head_text head)
+  fits_head : IsFrame (codes "fits:")
   exact_head : (header : Header) (line : List ℕ) → Contains (exact_part header []) line → IsFrame line
   explanation : (explain : Explain) (line : List ℕ) → Contains (explain_part (Some explain)) line → IsFrame line
   summary : (number bytes labels proved : ℕ) (line : List ℕ) → Contains (summary_lines number bytes labels proved) line → IsFrame line

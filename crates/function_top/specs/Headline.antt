@@ -8,7 +8,9 @@ use Rattle.report_text.specs.Sections.{IsWholeLine}
 use Rattle.claim_line.specs.Tells.{Tells}
 use Rattle.input_text.specs.Input.{IsInputText}
 use Rattle.function_top.specs.Call.{Call}
-use Rattle.command_words.specs.Order.{Ask, Task, analysis}
+use Rattle.source_parse.specs.Derives.{IsProgramText}
+use Rattle.command_words.specs.declared.order.Domain.{Domain}
+use Rattle.command_words.specs.Order.{Ask, Task, analysis, fit}
 use Rattle.function_top.specs.Subject.{IsSubject, Subject, asked_names}
 use Rattle.function_top.specs.TrueLine.{IsTrueOf, TrueLine}
 
@@ -25,6 +27,12 @@ abbrev pub Headline : List (List ℕ) → Call → Type 0
 Headline words call =
     (task : Task) (text before written : List ℕ) (subject : Subject) → Ask words (analysis task) → call.left ≡ Some text → IsSubject task text subject
     → call.taken ≡ Some before → call.taken_after ≡ Some (before ++ written) → IsTrueText subject written
+
+-- The same by words that ask what fits the numbers of 32 bits: of the program that the text is; no line that is written then speaks of a formula.
+abbrev pub FitHeadline : List (List ℕ) → Call → Type 0
+FitHeadline words call =
+    (domain : Domain) (text before written : List ℕ) (subject : Subject) → Ask words (fit domain) → call.left ≡ Some text
+    → IsProgramText text subject.names subject.body → call.taken ≡ Some before → call.taken_after ≡ Some (before ++ written) → IsTrueText subject written
 
 -- whatever a whole line of the text tells that is a claim alone is true of the input
 abbrev pub IsTrueAnswer : Subject → Store → List ℕ → Type 0

@@ -16,5 +16,6 @@ pub mod Demo
 pub mod Form
 pub mod Known
 pub mod Meeting
+pub mod Fitting
 pub mod Says
 pub mod Answer

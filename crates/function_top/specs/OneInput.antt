@@ -8,7 +8,7 @@ use Rattle.decision_tree.specs.declared.reason.Why.{Why}
 use Rattle.decision_tree.specs.Evaluation.{WayFits, eval}
 use Rattle.decision_tree.specs.Plans.{Plan, leaf, plan_of}
 use Rattle.line_text.specs.declared.claim.Claim.{Claim}
-use Rattle.line_text.specs.declared.claim.Claim.TheVariants.{Exactly, Within, Holds, Ranked, Unknown}
+use Rattle.line_text.specs.declared.claim.Claim.TheVariants.{Exactly, Within, Holds, Ranked, Fits, Unknown}
 use Rattle.report_text.specs.declared.line.Top.TheVariants.{Exact as Counted}
 use Rattle.ordinal_rank.specs.declared.ordinal.OrdinalRank.{OrdinalRank}
 use Rattle.report_text.specs.Leaves.{claim_of}
@@ -49,6 +49,7 @@ IsTold (Exactly number) input claim = claim ≡ Exactly number
 IsTold Holds input claim = claim ≡ Holds
 IsTold (Ranked functions) input claim =
     (told : List Affine) × AreToldAs functions input told × (claim ≡ Ranked told)
+IsTold Fits input claim = claim ≡ Fits
 IsTold Unknown input claim = claim ≡ Unknown
 
 -- the exact part claims this of the input

@@ -12,6 +12,7 @@ ghost use Rattle.report_text.specs.Printed.{IsReportText};
 ghost use Rattle.function_top.specs.Asking.{IsQuestion};
 ghost use Rattle.function_top.specs.Output.{IsDueOn, IsReport, IsVerdict, SaysRefusal};
 ghost use Rattle.function_top.specs.Explained.{explained, explanation};
+ghost use Rattle.function_top.specs.Fitting.{IsFitDueOn};
 ghost use Rattle.function_top.specs.Form.{HasKnownLines};
 ghost use Rattle.function_top.specs.Headline.{IsTrueAnswer, IsTrueText};
 ghost use Rattle.command_words.specs.Order.{Task, task_of};
@@ -144,6 +145,7 @@ fn report_on_found(
 pub(crate) fn too_long(alloc: Global) -> Result<Output, AllocError>
     ensures due { IfOk result (λ due. (task : Task) (text : List ℕ) (advisers : ℕ) → 65536 < length text
         → IsDueOn task text due.status advisers due.turns due.bytes.items) }
+    ensures fit_due { IfOk result (λ due. (text : List ℕ) → 65536 < length text → IsFitDueOn text due.status due.turns due.bytes.items) }
     ensures unasked { IfOk result (λ due. due.turns ≡ 0) }
 {
     let number = 14;
@@ -153,7 +155,7 @@ pub(crate) fn too_long(alloc: Global) -> Result<Output, AllocError>
 }
 
 /// The line of a refusal, for which no adviser is asked. The only error is want of memory.
-fn refused(alloc: Global, refusal: Refusal) -> Result<Output, AllocError>
+pub(crate) fn refused(alloc: Global, refusal: Refusal) -> Result<Output, AllocError>
     ensures says { IfOk result (λ due. SaysRefusal refusal due.status due.bytes.items) }
     ensures unasked { IfOk result (λ due. due.turns ≡ 0) }
 {

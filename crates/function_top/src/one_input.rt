@@ -69,7 +69,7 @@ fn claim_told(claim: &Claim, input: &[i128; 16]) -> Claim
     match claim {
         Claim::Within(bound) => Claim::Within(bound_told(bound, input)),
         Claim::Ranked(functions) => Claim::Ranked(functions_told(functions, input)),
-        Claim::Exactly(_) | Claim::Holds | Claim::Unknown => *claim,
+        Claim::Exactly(_) | Claim::Holds | Claim::Fits | Claim::Unknown => *claim,
     }
 }
 

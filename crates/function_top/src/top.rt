@@ -6,19 +6,21 @@ ghost use Rattle.outside.specs.Faults.{Rose};
 ghost use Rattle.outside.specs.Sink.{AppendsFront};
 ghost use Rattle.outside.specs.Source.{ConsumesUpTo};
 ghost use Rattle.ctl_rounds.specs.Asked.{AreAskedAlike, RoseBy};
-ghost use Rattle.command_words.specs.Order.{Ask, Task, analysis, task_of};
+ghost use Rattle.command_words.specs.Order.{Ask, Task, analysis, fit, task_of};
 ghost use Rattle.function_top.specs.Answer.{IsRun, after_failing};
+ghost use Rattle.function_top.specs.Fitting.{IsFitDueOn};
 ghost use Rattle.function_top.specs.Output.{IsDueOn};
 ghost use Rattle.function_top.specs.Text.{IsRead};
 
 use crate::answer::{report_on, too_long};
 use crate::demo::demo;
+use crate::fitting::fit_report_on;
 use crate::laws::texts_are_known;
 use crate::output::Output;
 use crate::report::usage;
 use crate::status::Status;
 use advice::Adviser;
-use command_words::{Order, Query, order_of};
+use command_words::{Domain, Order, Query, order_of};
 use outside::{ReadEnd, Sink, Source, read_program, write_all};
 use std::alloc::{AllocError, Global};
 
@@ -27,7 +29,7 @@ use std::alloc::{AllocError, Global};
 /// `words` are the words of the command line, the program's name first; behind it may stand `--domain` with `boxes`, `octagons` or
 /// `polyhedra`, `--delay` with a digit up to 8, `--ctl` with the text of a formula over the program's variables, `--at` with that of an input, of which
 /// alone is told then, and `--explain`, each at most once and in any order; or `--demo` alone, with a number from 1 to 1000, for whose program nothing
-/// is read. The order is: words, reading, program, input, formula, analysis, writing, and the first refusal ends the run. The whole output is built
+/// is read; or `--fit`, with `--domain` alone beside it, which asks from which inputs no number of a run leaves 32 bits. The order is: words, reading, program, input, formula, analysis, writing, and the first refusal ends the run. The whole output is built
 /// before its first byte is written. After a refusal nothing was written but its line, or a front of that where the sink failed.
 ///
 /// `advisers` are shown facts about loops, and may hint at what bounds one: each equally often and at most eight times, and eight times
@@ -52,7 +54,8 @@ pub fn run<S: Source, K: Sink>(
       asked = map (λ adviser. asked_of adviser) advisers.old.items;
       asked_after = map (λ adviser. asked_of adviser) advisers.new.items;
     } }
-    ensures unread { ((task : Task) → ¬ Ask (map (λ word. word.now) words.now) (analysis task)) → source.new ≡ source.old }
+    ensures unread { ((task : Task) → ¬ Ask (map (λ word. word.now) words.now) (analysis task))
+        → ((domain : Domain) → ¬ Ask (map (λ word. word.now) words.now) (fit domain)) → source.new ≡ source.old }
     ensures stops { ConsumesUpTo (65536 + 1) (S.left source.old) (S.left source.new) }
     ensures reads_never_fall { S.faults source.old ≤ S.faults source.new }
     ensures writes_never_fall { K.faults sink.old ≤ K.faults sink.new }
@@ -67,6 +70,11 @@ pub fn run<S: Source, K: Sink>(
         },
         Ok(Some(Order::Demo(number))) => match demo(alloc, number, advisers) {
             Ok(due) => settle(sink, &due.bytes, due.status),
+            Err(_) => Status::NoMemory,
+        },
+        Ok(Some(Order::Fit(domain))) => match fit_answer(alloc, domain, source) {
+            Ok(Some(due)) => settle(sink, &due.bytes, due.status),
+            Ok(None) => Status::ReadFault,
             Err(_) => Status::NoMemory,
         },
         Ok(None) => settle(sink, usage(), Status::Words),
@@ -93,6 +101,26 @@ fn answer<S: Source>(
 {
     match read_program(alloc, source)? {
         ReadEnd::Text(text) => Ok(Some(report_on(alloc, query, &text, advisers)?)),
+        ReadEnd::TooLong => Ok(Some(too_long(alloc)?)),
+        ReadEnd::Failed => Ok(None),
+    }
+}
+
+/// The same where it is asked what fits the numbers of 32 bits.
+fn fit_answer<S: Source>(
+    alloc: Global,
+    domain: Domain,
+    source: &mut S,
+) -> Result<Option<Output>, AllocError>
+    ensures due { IfOk result (λ outcome. MatchOption outcome (Rose (S.faults source.old) (S.faults source.new))
+        (λ due. (text : List ℕ) × IsRead (S.left source.old) text × (S.faults source.new ≡ S.faults source.old)
+        × IsFitDueOn text due.status due.turns due.bytes.items)) }
+    ensures stops { ConsumesUpTo (65536 + 1) (S.left source.old) (S.left source.new) }
+    ensures never_falls { S.faults source.old ≤ S.faults source.new }
+    ensures stays { OnErr result (S.faults source.new ≡ S.faults source.old) }
+{
+    match read_program(alloc, source)? {
+        ReadEnd::Text(text) => Ok(Some(fit_report_on(alloc, domain, &text)?)),
         ReadEnd::TooLong => Ok(Some(too_long(alloc)?)),
         ReadEnd::Failed => Ok(None),
     }

@@ -65,3 +65,9 @@ pub record FitsNow (c : Configuration) : Type 0 where
 -- so it is in each configuration that steps lead to
 abbrev pub Fits : Configuration → Type 0
 Fits c = (d : Configuration) → Reaches c d → FitsNow d
+
+-- What follows has no part in the headline.
+
+-- the first variables have such numbers
+abbrev pub AreInts : ℕ → Store → Type 0
+AreInts vars store = (place : ℕ) → place < vars → FitsInt (number_at store place)

@@ -1,3 +1,4 @@
 pub mod Fitting
+pub mod Guarding
 pub mod Narrowing
 pub mod Wrapping

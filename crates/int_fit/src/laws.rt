@@ -1,10 +1,11 @@
 //! Laws of the definitions, each the contract of a function that does nothing.
-ghost use Rattle.std.specs.Prelude.{◌↔◌, ℤ, Bool};
+ghost use Rattle.std.specs.Prelude.{◌↔◌, ◌≤◌, ℕ, ℤ, Bool};
 ghost use Rattle.step_meaning.specs.Outcome.{Store};
-ghost use Rattle.step_meaning.specs.Run.{Reaches};
+ghost use Rattle.step_meaning.specs.Run.{Reaches, start};
 ghost use Rattle.step_meaning.specs.Step.{Configuration, Step};
-ghost use Rattle.step_meaning.specs.Syntax.{Expression};
+ghost use Rattle.step_meaning.specs.Syntax.{Expression, Statements};
 ghost use Rattle.int_fit.specs.Fitting.{Fits};
+ghost use Rattle.int_fit.specs.Guarding.{guarded};
 ghost use Rattle.int_fit.specs.Narrowing.{narrowed_number, narrowed_test};
 ghost use Rattle.int_fit.specs.Wrapping.{MayInt, MayTestInt, StepInt, ReachesInt};
 
@@ -19,4 +20,10 @@ pub fn fitting_runs_are_the_same()
 pub fn narrowing_keeps_what_wraps()
     ensures numbers { (e : Expression) (s : Store) (v : ℤ) → MayInt e s v ↔ MayInt (narrowed_number e) s v }
     ensures tests { (c : Expression) (s : Store) (t : Bool) → MayTestInt c s t ↔ MayTestInt (narrowed_test c) s t }
+{}
+
+/// A law: where the runs of a guarded program from an input fit, those of the program do. It has at most 16 variables, each of them a number of 32
+/// bits then, so that the guard is passed.
+pub fn what_fits_behind_the_guard_fits()
+    ensures { (vars : ℕ) (body : Statements) (input : Store) → vars ≤ 16 → Fits (start (guarded vars body) input) → Fits (start body input) }
 {}

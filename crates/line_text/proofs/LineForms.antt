@@ -6,7 +6,7 @@ use Rattle.std.proofs.lemmas.Bool.Decides.{nat_tests}
 use Rattle.std.proofs.lemmas.List.Elements.{Contains-append_left, Contains-append_right}
 use Rattle.linear_cons.specs.declared.affine.Affine.{Affine}
 use Rattle.line_text.specs.declared.claim.Claim.{Claim}
-use Rattle.line_text.specs.declared.claim.Claim.TheVariants.{Exactly, Within, Holds, Ranked, Unknown}
+use Rattle.line_text.specs.declared.claim.Claim.TheVariants.{Exactly, Within, Holds, Ranked, Fits, Unknown}
 use Rattle.line_text.specs.AffineText.{Term, affine_text, front_sign, joining_sign, later_text, number_text, product_text, sum_text, terms_of}
 use Rattle.line_text.specs.LineText.{claim_text, condition_text, is_one, more_joined, power_text, rank_text, row_text, row_texts, shown, steps_word}
 use Rattle.line_text.specs.Names.{AreNames}
@@ -119,6 +119,7 @@ claim_clean names (Ranked functions) are =
     clean_append (codes "ends, rank ") _
     (refl, (refl, (refl, (refl, (refl, (refl, (refl, (refl, (refl, (refl, (refl, tt)))))))))))
     (rank_clean names (shown functions) are)
+claim_clean names Fits are = (refl, (refl, (refl, (refl, tt))))
 claim_clean names Unknown are = (refl, (refl, (refl, (refl, (refl, (refl, (refl, tt)))))))
 
 -- ---- a line has the colon behind its condition, but no newline byte

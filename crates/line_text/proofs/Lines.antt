@@ -3,7 +3,7 @@ use Rattle.std.proofs.Common.{◌≡◌, ℕ, suc, Bool, true, false, ℤ, pos, 
 use Rattle.std.specs.Ordering.{int_eq}
 use Rattle.linear_cons.specs.declared.affine.Affine.{Affine}
 use Rattle.line_text.specs.declared.claim.Claim.{Claim}
-use Rattle.line_text.specs.declared.claim.Claim.TheVariants.{Exactly, Within, Holds, Ranked, Unknown}
+use Rattle.line_text.specs.declared.claim.Claim.TheVariants.{Exactly, Within, Holds, Ranked, Fits, Unknown}
 use Rattle.line_text.specs.AffineText.{affine_text, front_sign, number_text, terms_of}
 use Rattle.line_text.specs.LineText.{claim_text, condition_text, is_one, more_joined, row_text, row_texts, steps_word}
 use Rattle.line_text.specs.Names.{AreNames, IsOver}
@@ -46,26 +46,37 @@ claim_cut names (Exactly y) (Exactly z) are over over' e = ap Exactly (number_cu
 claim_cut names (Exactly y) (Within b) are over over' e = absurd (heads_differ 101 119 _ _ refl e)
 claim_cut names (Exactly y) Holds are over over' e = absurd (heads_differ 101 104 _ _ refl e)
 claim_cut names (Exactly y) (Ranked qs) are over over' e = absurd (seconds_differ 101 120 110 _ _ refl e)
+claim_cut names (Exactly y) Fits are over over' e = absurd (heads_differ 101 102 _ _ refl e)
 claim_cut names (Exactly y) Unknown are over over' e = absurd (heads_differ 101 117 _ _ refl e)
 claim_cut names (Within a) (Exactly z) are over over' e = absurd (heads_differ 119 101 _ _ refl e)
 claim_cut names (Within a) (Within b) are over over' e = ap Within (bound_cut names a b are over over' cc)
 claim_cut names (Within a) Holds are over over' e = absurd (heads_differ 119 104 _ _ refl e)
 claim_cut names (Within a) (Ranked qs) are over over' e = absurd (heads_differ 119 101 _ _ refl e)
+claim_cut names (Within a) Fits are over over' e = absurd (heads_differ 119 102 _ _ refl e)
 claim_cut names (Within a) Unknown are over over' e = absurd (heads_differ 119 117 _ _ refl e)
 claim_cut names Holds (Exactly z) are over over' e = absurd (heads_differ 104 101 _ _ refl e)
 claim_cut names Holds (Within b) are over over' e = absurd (heads_differ 104 119 _ _ refl e)
 claim_cut names Holds Holds are over over' e = refl
 claim_cut names Holds (Ranked qs) are over over' e = absurd (heads_differ 104 101 _ _ refl e)
+claim_cut names Holds Fits are over over' e = absurd (heads_differ 104 102 _ _ refl e)
 claim_cut names Holds Unknown are over over' e = absurd (heads_differ 104 117 _ _ refl e)
 claim_cut names (Ranked ps) (Exactly z) are over over' e = absurd (seconds_differ 101 110 120 _ _ refl e)
 claim_cut names (Ranked ps) (Within b) are over over' e = absurd (heads_differ 101 119 _ _ refl e)
 claim_cut names (Ranked ps) Holds are over over' e = absurd (heads_differ 101 104 _ _ refl e)
 claim_cut names (Ranked ps) (Ranked qs) are over over' e = ap Ranked (ranks_told names ps qs are over over' cc)
+claim_cut names (Ranked ps) Fits are over over' e = absurd (heads_differ 101 102 _ _ refl e)
 claim_cut names (Ranked ps) Unknown are over over' e = absurd (heads_differ 101 117 _ _ refl e)
+claim_cut names Fits (Exactly z) are over over' e = absurd (heads_differ 102 101 _ _ refl e)
+claim_cut names Fits (Within b) are over over' e = absurd (heads_differ 102 119 _ _ refl e)
+claim_cut names Fits Holds are over over' e = absurd (heads_differ 102 104 _ _ refl e)
+claim_cut names Fits (Ranked qs) are over over' e = absurd (heads_differ 102 101 _ _ refl e)
+claim_cut names Fits Fits are over over' e = refl
+claim_cut names Fits Unknown are over over' e = absurd (heads_differ 102 117 _ _ refl e)
 claim_cut names Unknown (Exactly z) are over over' e = absurd (heads_differ 117 101 _ _ refl e)
 claim_cut names Unknown (Within b) are over over' e = absurd (heads_differ 117 119 _ _ refl e)
 claim_cut names Unknown Holds are over over' e = absurd (heads_differ 117 104 _ _ refl e)
 claim_cut names Unknown (Ranked qs) are over over' e = absurd (heads_differ 117 101 _ _ refl e)
+claim_cut names Unknown Fits are over over' e = absurd (heads_differ 117 102 _ _ refl e)
 claim_cut names Unknown Unknown are over over' e = refl
 
 -- a row and what follows, by parts

@@ -3,7 +3,7 @@ use Rattle.std.specs.Prelude.{◌≡◌, ◌⊎◌, ℕ, ℤ, pos, ◌≤ℤ◌,
 use Rattle.linear_cons.specs.declared.affine.Affine.{Affine}
 use Rattle.linear_cons.specs.Functions.{value_at}
 use Rattle.line_text.specs.declared.claim.Claim.{Claim}
-use Rattle.line_text.specs.declared.claim.Claim.TheVariants.{Exactly, Within, Holds, Ranked, Unknown}
+use Rattle.line_text.specs.declared.claim.Claim.TheVariants.{Exactly, Within, Holds, Ranked, Fits, Unknown}
 use Rattle.line_text.specs.Names.{IsOver}
 use Rattle.line_text.specs.LineText.{line_text}
 
@@ -13,6 +13,7 @@ IsClaimOver names (Within bound) = IsOver names bound
 IsClaimOver names (Ranked functions) = (length functions ≡ 5) × All (IsOver names) functions
 IsClaimOver names (Exactly number) = ⊤
 IsClaimOver names Holds = ⊤
+IsClaimOver names Fits = ⊤
 IsClaimOver names Unknown = ⊤
 
 -- the line is the text of the condition and the claim, which are over the names

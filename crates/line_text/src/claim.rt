@@ -14,6 +14,8 @@ pub enum Claim {
     /// Every run ends, by a rank of these functions, of which the first stands before ω^4 and the last alone: the first whose value at the input
     /// isn't 0 says at most how often what bounds the steps, of a lower power, gives way to a new bound.
     Ranked([Affine; 5]),
+    /// No number of a run leaves 32 bits.
+    Fits,
     /// Nothing is claimed.
     Unknown,
 }

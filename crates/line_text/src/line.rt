@@ -78,6 +78,7 @@ pub fn push_claim(text: &mut Vec<u8>, claim: &Claim, names: &Names) -> Result<()
             text.extend_from_slice(b"ends, rank ")?;
             push_rank(text, shown(functions), names)
         }
+        Claim::Fits => text.extend_from_slice(b"fits"),
         Claim::Unknown => text.extend_from_slice(b"unknown"),
     }
 }

@@ -420,7 +420,7 @@ pub record KnownTexts (names : List (List ℕ)) : Type 0 where
 module _ {names : List (List ℕ)} (known : KnownTexts names) where
   -- ---- the texts of a section
 
-  section_lacks : (lines : List Line) (texts : List (List ℕ)) → All (IsTextAmong names lines) texts → All Lacks texts
+  pub section_lacks : (lines : List Line) (texts : List (List ℕ)) → All (IsTextAmong names lines) texts → All Lacks texts
   section_lacks lines texts = All-weaker (IsTextAmong names lines) Lacks (λ text among. known.newline text _ _ among.text_is.spells) texts
 
   section_plain : (lines : List Line) (texts : List (List ℕ)) → All (IsTextAmong names lines) texts → All OpensNothing texts
@@ -435,7 +435,7 @@ module _ {names : List (List ℕ)} (known : KnownTexts names) where
       All-cons (IsTextAmong names lines) text texts (record { line = line; line_in = inside line (0, omega arith, refl); text_is = all.0 })
       (zip_among lines part texts (λ other member. inside other (suc member.0, omega (arith, member.1), member.2)) all.1)
 
-  texts_among : (lines : List Line) (texts : List (List ℕ)) → AreTextsOf names lines texts → All (IsTextAmong names lines) texts
+  pub texts_among : (lines : List Line) (texts : List (List ℕ)) → AreTextsOf names lines texts → All (IsTextAmong names lines) texts
   texts_among lines texts are = All-permutation (IsTextAmong names lines) are.unsorted texts are.same (zip_among lines lines are.unsorted (λ line member. member) are.each)
 
   exact_among : (header : Header) (lines : List Line) (texts : List (List ℕ)) → AreExactTexts names header lines texts →

@@ -150,6 +150,9 @@ head_silent proved_head = record { free = tested (codes "proved:") refl; second 
 head_silent ranked_head = record { free = tested (codes "ranked:") refl; second = λ e. omega arith }
 head_silent unknown_head = record { free = tested (codes "unknown:") refl; second = λ e. omega arith }
 
+pub fits_silent : IsSilent (codes "fits:")
+fits_silent = record { free = tested (codes "fits:") refl; second = λ e. omega arith }
+
 pub verdict_silent : {A : Type 0} (unknown : List A) → IsSilent (verdict_line unknown)
 verdict_silent [] = record { free = tested (codes "verdict: all inputs") refl; second = λ e. omega arith }
 verdict_silent (line ∷ more) = record { free = tested (codes "verdict: some inputs") refl; second = λ e. omega arith }

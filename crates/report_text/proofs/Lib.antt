@@ -7,3 +7,5 @@ pub mod Cutting
 pub mod Trimming
 pub mod StandIns
 pub mod Over
+pub mod FitLines
+pub mod FitCutting

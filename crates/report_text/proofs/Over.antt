@@ -26,7 +26,7 @@ use Rattle.line_text.specs.Names.{IsOver}
 use Rattle.line_text.specs.Spells.{IsClaimOver}
 use Rattle.report_text.specs.declared.line.Line.{Line}
 use Rattle.report_text.specs.declared.line.Top.{Top}
-use Rattle.report_text.specs.declared.line.Top.TheVariants.{Bound, Exact, Plain}
+use Rattle.report_text.specs.declared.line.Top.TheVariants.{Bound, Exact, Fits, Plain}
 use Rattle.report_text.specs.Leaves.{AreLines, AreLinesOf, IsLineOf, claim_of, leaves_below, none, skipped, stands}
 use Rattle.report_text.specs.Printed.{IsLineOver}
 use Rattle.report_text.specs.Ranked.{AreRefined, IsRefined, IsTrimmedBy, done, kept, more, ordinal_claim, parted}
@@ -94,6 +94,7 @@ module _ (names : List (List ℕ)) (few : length names ≤ 15) where
   claim_over Exact rank over = tt
   claim_over Bound rank over = over
   claim_over Plain rank over = tt
+  claim_over Fits rank over = tt
 
   pub tree_lines_over : (claims : Top) (tree : Plan AffineRank) (lines : List Line) → IsTreeOver (length names) tree → AreLinesOf claims tree lines
       → All (IsLineOver names) lines

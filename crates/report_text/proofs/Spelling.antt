@@ -20,6 +20,7 @@ use Rattle.report_text.specs.declared.report.Header.{Header}
 use Rattle.report_text.specs.declared.report.Header.TheVariants.{Whole, Partial}
 use Rattle.report_text.specs.declared.report.Stop.{Stop}
 use Rattle.report_text.specs.declared.report.Report.{Report}
+use Rattle.report_text.specs.Fitting.{IsFitText}
 use Rattle.report_text.specs.Printed.{AreInOrder, AreRowTexts, AreTextsOf, Head, IsExactAdded, IsHeadedAdded, IsLineOver, IsReportText, IsSectionAdded, IsLineText, adviser_lines, cause_text, ended_lines, exact_part, explain_part, head_text, headed_if_any, heads_for, lines_under, proved_head, ranked_head, row_texts, section_lines, unknown_head, verdict_line}
 use Rattle.line_text.proofs.Joined.{bytes_more}
 
@@ -324,4 +325,24 @@ report_printed names report t0 t1 t2 t3 t4 t5 t6 is = record {
       (is.verdict ∙ ap (λ v. t5 ++ ended_lines (v ∷ [])) (verdict_is names report.unknown is.unknown.texts is.unknown.are))
       ∙ ap ended_lines (parts_are exact is.proved.texts is.unknown.texts explain (verdict_line is.unknown.texts)
       (by_head is.proved.texts is.ranked.texts is.unknown.texts) is.ranked.texts refl refl refl);
+}
+
+-- ---- a report on what fits
+
+pub fit_printed : (names : List (List ℕ)) (fits unknown : List Line) (t0 t1 t2 t3 : List ℕ) → t0 ≡ []
+    → IsHeadedAdded names (λ texts. codes "fits:" ∷ texts) fits t0 t1 → IsHeadedAdded names (λ texts. codes "unknown:" ∷ texts) unknown t1 t2
+    → t3 ≡ t2 ++ ended_lines (verdict_line unknown ∷ []) → IsFitText names fits unknown t3
+fit_printed names fits unknown t0 t1 t2 t3 empty first second last = record {
+  fits_texts = first.texts;
+  unknown_texts = second.texts;
+  fits_are = first.are;
+  unknown_are = second.are;
+  is =
+      let claimed = codes "fits:" ∷ first.texts in
+      let others = codes "unknown:" ∷ second.texts in
+      let verdict = verdict_line second.texts ∷ [] in
+      let at1 : t1 ≡ ended_lines claimed = first.appended ∙ ap (λ t. t ++ ended_lines claimed) empty in
+      let at2 = ended_more t1 t2 claimed others at1 second.appended in
+      ended_more t2 t3 (claimed ++ others) verdict at2 (last ∙ ap (λ v. t2 ++ ended_lines (v ∷ [])) (verdict_is names unknown second.texts second.are))
+      ∙ ap ended_lines (append_assoc claimed others verdict);
 }

@@ -20,7 +20,7 @@ use Rattle.line_text.specs.declared.claim.Claim.TheVariants.{Unknown}
 use Rattle.line_text.proofs.Rows.{met_as_condition}
 use Rattle.report_text.specs.declared.line.Line.{Line}
 use Rattle.report_text.specs.declared.line.Top.{Top}
-use Rattle.report_text.specs.declared.line.Top.TheVariants.{Bound, Exact, Plain}
+use Rattle.report_text.specs.declared.line.Top.TheVariants.{Bound, Exact, Fits, Plain}
 use Rattle.report_text.specs.Leaves.{AreLines, AreLinesOf, MeetsOneLine, NoneOf, OneOf, claim_at, claim_by, claim_of, claiming, claiming_nothing, is_unknown, leaves_below}
 use Rattle.report_text.specs.Ranked.{AreRefined, IsRefined, IsTrimmedBy, claim_else, claim_of_both, done, kept, more, ordinal_claim, parted}
 use Rattle.report_text.specs.Walk.{AreAdded, IsRefinedOnto}
@@ -150,6 +150,7 @@ known_claim : (claims : Top) (rank : AffineRank) → is_unknown (claim_of claims
 known_claim Exact rank = refl
 known_claim Bound rank = refl
 known_claim Plain rank = refl
+known_claim Fits rank = refl
 
 module _ (ranked : Plan OrdinalRank) (store : List ℤ) (lines refined : List Line) (stand : AreRefined ranked (claiming_nothing lines) refined) where
   abbrev Met : Line → Type 0

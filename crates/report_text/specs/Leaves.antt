@@ -11,16 +11,17 @@ use Rattle.decision_tree.specs.declared.affine_rank.AffineRank.{AffineRank}
 use Rattle.decision_tree.specs.Plans.{Plan, bottom, top, leaf, branch}
 use Rattle.decision_tree.specs.Paths.{MeetsPath}
 use Rattle.line_text.specs.declared.claim.Claim.{Claim}
-use Rattle.line_text.specs.declared.claim.Claim.TheVariants.{Exactly, Within, Holds, Unknown}
+use Rattle.line_text.specs.declared.claim.Claim.TheVariants.{Exactly, Within, Holds, Fits as FitsClaim, Unknown}
 use Rattle.report_text.specs.declared.line.Line.{Line}
 use Rattle.report_text.specs.declared.line.Top.{Top}
-use Rattle.report_text.specs.declared.line.Top.TheVariants.{Exact, Bound, Plain}
+use Rattle.report_text.specs.declared.line.Top.TheVariants.{Exact, Bound, Plain, Fits}
 
 -- what a defined leaf claims by its rank
 abbrev pub claim_of : Top → AffineRank → Claim
 claim_of Exact rank = Exactly rank.value.constant
 claim_of Bound rank = Within rank.value
 claim_of Plain rank = Holds
+claim_of Fits rank = FitsClaim
 
 -- what a leaf claims, by what one of a rank does: an undefined one nothing
 abbrev pub claim_by : {R : Type 0} → (R → Claim) → Plan R → Claim

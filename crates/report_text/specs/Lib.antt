@@ -1,3 +1,4 @@
+pub mod Fitting
 pub mod Leaves
 pub mod Ranked
 pub mod Walk

@@ -119,7 +119,7 @@ fn add_line(
 }
 
 /// The tightest rows of the way.
-fn condition(alloc: Global, trail: &Trail) -> Result<Rows, AllocError>
+pub(crate) fn condition(alloc: Global, trail: &Trail) -> Result<Rows, AllocError>
     ensures { IfOk result (λ rows. AreTightest (functions_of trail.now) rows) }
 {
     let rows = trail.rows().to_vec(alloc)?;
@@ -128,7 +128,7 @@ fn condition(alloc: Global, trail: &Trail) -> Result<Rows, AllocError>
 
 /// True only where no store meets the tightest rows, and false only where a point does or they lie beyond what
 /// the solver decides.
-fn has_no_store(alloc: Global, rows: &[Row]) -> Result<bool, AllocError>
+pub(crate) fn has_no_store(alloc: Global, rows: &[Row]) -> Result<bool, AllocError>
     requires { AreDistinct rows.now }
     ensures { IfOk result (λ empty. MatchBool empty (HasNoStore rows.now) (MayStand rows.now)) }
 {

@@ -8,6 +8,7 @@
 #![tactic(auto)]
 
 mod claims;
+mod fitting;
 pub mod laws;
 mod leaves;
 mod line;
@@ -16,9 +17,10 @@ mod printing;
 mod refining;
 mod report;
 
+pub use fitting::fit_lines;
 pub use leaves::lines;
 pub use line::{Line, Top};
 pub use line_list::Lines;
-pub use printing::print;
+pub use printing::{print, print_fit};
 pub use refining::refined;
 pub use report::{Counts, Explain, Header, Report, Stop};

@@ -12,6 +12,8 @@ pub enum Top {
     Bound,
     /// The formula holds.
     Plain,
+    /// No number of a run leaves 32 bits.
+    Fits,
 }
 
 impl Top {
@@ -26,6 +28,7 @@ impl Top {
             Top::Exact => Claim::Exactly(rank.value.constant),
             Top::Bound => Claim::Within(rank.value),
             Top::Plain => Claim::Holds,
+            Top::Fits => Claim::Fits,
         }
     }
 }

@@ -4,6 +4,7 @@ ghost use Rattle.line_text.specs.Buffer.{bytes_in};
 ghost use Rattle.line_text.specs.LineText.{functions_of};
 ghost use Rattle.line_text.specs.Names.{IsOver};
 ghost use Rattle.line_text.specs.Numeral.{numeral};
+ghost use Rattle.report_text.specs.Fitting.{IsFitText};
 ghost use Rattle.report_text.specs.Printed.{AreRowTexts, AreTextsOf, IsExactAdded, IsHeadedAdded, IsLineOver, IsReportOver, IsReportText, IsSectionAdded};
 ghost use Rattle.report_text.specs.Printed.{IsLineText, adviser_lines, cause_text, ended_lines, explain_part, headed_if_any, ranked_head, verdict_line};
 
@@ -29,6 +30,25 @@ pub fn print(alloc: Global, report: &Report, names: &Names) -> Result<Vec<u8>, A
     push_headed(alloc, &mut text, b"unknown:", &report.unknown, names)?;
     push_explain(&mut text, &report.explain)?;
     push_verdict(&mut text, &report.unknown)?;
+    Ok(text)
+}
+
+/// The text of a report on what fits: the lines that fit, the unknown ones, and the verdict, each line ended by a newline byte, in the same orders. The only
+/// error is want of memory.
+pub fn print_fit(
+    alloc: Global,
+    fits: &Lines,
+    unknown: &Lines,
+    names: &Names,
+) -> Result<Vec<u8>, AllocError>
+    requires fits { All (IsLineOver names.now) fits.now }
+    requires unknown { All (IsLineOver names.now) unknown.now }
+    ensures { IfOk result (λ text. IsFitText names.now fits.now unknown.now text.items) }
+{
+    let mut text = Vec::new(alloc);
+    push_headed(alloc, &mut text, b"fits:", fits, names)?;
+    push_headed(alloc, &mut text, b"unknown:", unknown, names)?;
+    push_verdict(&mut text, unknown)?;
     Ok(text)
 }
 

@@ -87,7 +87,7 @@ fn makes_claims(tree: &Tree<OrdinalRank>) -> bool
 }
 
 /// The walk down the rows.
-fn trail_of(alloc: Global, rows: &[Row]) -> Result<Trail, AllocError>
+pub(crate) fn trail_of(alloc: Global, rows: &[Row]) -> Result<Trail, AllocError>
     ensures { IfOk result (λ trail. trail ≡ rows.now) }
 {
     let mut trail = Trail::new(alloc);

@@ -101,6 +101,20 @@ ExpressionFits (divided division e b) = ⊤
 ExpressionFits (truth b) = ⊤
 ExpressionFits (negation c) = ⊤
 
+-- what is asked of `&&` and `||` is asked of their operands as tests, what is asked of a comparison of its operands as numbers
+abbrev pub OfOperands : Op2 → Type 0 → Type 0 → Type 0
+OfOperands And tests numbers = tests
+OfOperands Or tests numbers = tests
+OfOperands Add tests numbers = numbers
+OfOperands Sub tests numbers = numbers
+OfOperands Mul tests numbers = numbers
+OfOperands Less tests numbers = numbers
+OfOperands LessEqual tests numbers = numbers
+OfOperands Greater tests numbers = numbers
+OfOperands GreaterEqual tests numbers = numbers
+OfOperands Equal tests numbers = numbers
+OfOperands NotEqual tests numbers = numbers
+
 -- What follows has no part in the headline.
 
 -- the expressions `a - b`, and `a - b - 1`
@@ -118,20 +132,6 @@ pub record ComparisonFits (a b : Expression) : Type 0 where
   pub opposite : FunctionFits (less b a)
   pub strict_difference : FunctionFits (strictly_less a b)
   pub strict_opposite : FunctionFits (strictly_less b a)
-
--- what is asked of `&&` and `||` is asked of their operands as tests, what is asked of a comparison of its operands as numbers
-abbrev pub OfOperands : Op2 → Type 0 → Type 0 → Type 0
-OfOperands And tests numbers = tests
-OfOperands Or tests numbers = tests
-OfOperands Add tests numbers = numbers
-OfOperands Sub tests numbers = numbers
-OfOperands Mul tests numbers = numbers
-OfOperands Less tests numbers = numbers
-OfOperands LessEqual tests numbers = numbers
-OfOperands Greater tests numbers = numbers
-OfOperands GreaterEqual tests numbers = numbers
-OfOperands Equal tests numbers = numbers
-OfOperands NotEqual tests numbers = numbers
 
 -- a test's numbers fit: those of each comparison in it
 abbrev pub TestFits : Expression → Type 0

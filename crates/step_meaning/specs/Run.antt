@@ -24,12 +24,12 @@ abbrev pub Longest : ℕ → Configuration → Type 0
 Longest zero c = EndsWithin zero c
 Longest (suc n) c = EndsWithin (suc n) c × ¬ EndsWithin n c
 
--- What follows has no part in the headline.
-
 -- steps lead from `c` to `d`
 pub data Reaches : Configuration → Configuration → Type 0 where
   here : {c : Configuration} → Reaches c c
   by_step : {c d e : Configuration} → Step c d → Reaches d e → Reaches c e
+
+-- What follows has no part in the headline.
 
 -- steps lead to `c` from some input of a program of `vars` variables with this body
 abbrev pub IsReachable : ℕ → Statements → Configuration → Type 0

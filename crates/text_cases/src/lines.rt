@@ -54,6 +54,7 @@ fn read_claim(words: &mut Words<'_>) -> Claim {
             }
             Claim::Ranked(functions)
         }
+        "fits" => Claim::Fits,
         "unknown" => Claim::Unknown,
         _ => {
             words.fail("no claim");

@@ -2,11 +2,12 @@ use Rattle.std.proofs.Common.{◌≡◌, ◌∙◌, ℕ, List, Some, length, map
 use Rattle.std.proofs.lemmas.List.{length-map}
 use Rattle.ctl_rounds.proofs.Asking.{unasked}
 use Rattle.ctl_rounds.specs.Asked.{RoseBy}
-use Rattle.command_words.specs.Order.{analysis, demo, task_of}
+use Rattle.command_words.specs.Order.{analysis, demo, fit, task_of}
 use Rattle.function_top.specs.declared.status.Status.TheVariants.{AllInputs}
 use Rattle.function_top.specs.Output.{IsDueOn}
-use Rattle.function_top.proofs.Reading.{once, refused, served, shown}
-use Rattle.function_top.proofs.Running.{keeps_itself, numbers_rose, run_out, run_refused, run_settled, run_unread}
+use Rattle.function_top.proofs.FitReports.{fit_turns}
+use Rattle.function_top.proofs.Reading.{fitted, once, refused, served, shown}
+use Rattle.function_top.proofs.Running.{keeps_itself, numbers_rose, run_fit_unread, run_out, run_refused, run_settled, run_unread}
 use Rattle.function_top.proofs.top.run.Goals as goal
 
 -- the words as texts
@@ -45,7 +46,7 @@ returns-in-Ok-Some-clause-run g c =
     }) (rw c.deref.ensures.value at c.settle.ensures.settles)
 
 pub returns-in-Ok-Some-clause-unread : goal.returns-in-Ok-Some-clause-unread
-returns-in-Ok-Some-clause-unread g c = λ none.
+returns-in-Ok-Some-clause-unread g c = λ none no_fit.
     let order = c.in-Ok-Some-Analysis in
     absurd (none (task_of order.query) (served (texts c.args.words.now) order.field-0 order.ensures order.query (order.field-0-is ∙ ap Some order.field-0-0-is)))
 
@@ -58,7 +59,7 @@ returns-in-Ok-None-answer-clause-run g c =
     (served words order.field-0 order.ensures order.query (order.field-0-is ∙ ap Some order.field-0-0-is)) refl (rose, keeps_itself _)
 
 pub returns-in-Ok-None-answer-clause-unread : goal.returns-in-Ok-None-answer-clause-unread
-returns-in-Ok-None-answer-clause-unread g c = λ none.
+returns-in-Ok-None-answer-clause-unread g c = λ none no_fit.
     let order = c.in-Ok-Some-Analysis in
     absurd (none (task_of order.query) (served (texts c.args.words.now) order.field-0 order.ensures order.query (order.field-0-is ∙ ap Some order.field-0-0-is)))
 
@@ -66,7 +67,7 @@ pub returns-in-Err-answer-clause-run : goal.returns-in-Err-answer-clause-run
 returns-in-Err-answer-clause-run g c = run_out (texts c.args.words.now) _ refl (c.in-Err-answer.ensures.stays, keeps_itself _)
 
 pub returns-in-Err-answer-clause-unread : goal.returns-in-Err-answer-clause-unread
-returns-in-Err-answer-clause-unread g c = λ none.
+returns-in-Err-answer-clause-unread g c = λ none no_fit.
     let order = c.in-Ok-Some-Analysis in
     absurd (none (task_of order.query) (served (texts c.args.words.now) order.field-0 order.ensures order.query (order.field-0-is ∙ ap Some order.field-0-0-is)))
 
@@ -104,3 +105,57 @@ returns-in-Err-clause-run g c = run_out (texts c.args.words.now) _ refl (refl, k
 
 pub returns-in-Err-clause-asked : goal.returns-in-Err-clause-asked
 returns-in-Err-clause-asked g c = (0, omega (arith), unasked (λ a. (goal.Adviser-dyn g (a.vtable, a.value)).asked_of a.value) c.args.advisers.now.items)
+
+-- ---- where it is asked what fits
+
+pub returns-in-Ok-Some-fit_answer-clause-run : goal.returns-in-Ok-Some-fit_answer-clause-run
+returns-in-Ok-Some-fit_answer-clause-run g c =
+    let words = texts c.args.words.now in
+    let order = c.in-Ok-Some-Fit in
+    let due = rw c.in-Ok-Some-fit_answer.field-0-is at c.in-Ok-Some-fit_answer.ensures.due in
+    run_settled words _ c.texts_are_known.ensures (once words order.field-0 order.ensures) c.in-Ok-Some-fit_answer.due.status c.settle-in-Ok-Some-fit_answer.result
+    c.in-Ok-Some-fit_answer.due.bytes.items
+    (record {
+      request = fit order.domain;
+      asked = fitted words order.field-0 order.ensures order.domain (order.field-0-is ∙ ap Some order.field-0-0-is);
+      faultless = due.2;
+      turns = c.in-Ok-Some-fit_answer.due.turns;
+      due = (due.0, due.1, due.3);
+      rose = numbers_rose _ _ _ _ (subst (λ times. RoseBy (λ a. (goal.Adviser-dyn g (a.vtable, a.value)).asked_of a.value) times c.args.advisers.now.items c.args.advisers.now.items)
+          (sym (fit_turns due.3)) (unasked (λ a. (goal.Adviser-dyn g (a.vtable, a.value)).asked_of a.value) c.args.advisers.now.items));
+    }) (rw c.deref-in-Ok-Some-fit_answer.ensures.value at c.settle-in-Ok-Some-fit_answer.ensures.settles)
+
+pub returns-in-Ok-None-fit_answer-clause-run : goal.returns-in-Ok-None-fit_answer-clause-run
+returns-in-Ok-None-fit_answer-clause-run g c =
+    let words = texts c.args.words.now in
+    let order = c.in-Ok-Some-Fit in
+    let rose = rw c.in-Ok-None-fit_answer.field-0-is at c.in-Ok-None-fit_answer.ensures.due in
+    run_fit_unread words _ (once words order.field-0 order.ensures) order.domain
+    (fitted words order.field-0 order.ensures order.domain (order.field-0-is ∙ ap Some order.field-0-0-is)) refl (rose, keeps_itself _)
+
+pub returns-in-Err-fit_answer-clause-run : goal.returns-in-Err-fit_answer-clause-run
+returns-in-Err-fit_answer-clause-run g c = run_out (texts c.args.words.now) _ refl (c.in-Err-fit_answer.ensures.stays, keeps_itself _)
+
+pub returns-in-Ok-Some-fit_answer-clause-unread : goal.returns-in-Ok-Some-fit_answer-clause-unread
+returns-in-Ok-Some-fit_answer-clause-unread g c = λ none no_fit.
+    let order = c.in-Ok-Some-Fit in
+    absurd (no_fit order.domain (fitted (texts c.args.words.now) order.field-0 order.ensures order.domain (order.field-0-is ∙ ap Some order.field-0-0-is)))
+
+pub returns-in-Ok-Some-fit_answer-clause-asked : goal.returns-in-Ok-Some-fit_answer-clause-asked
+returns-in-Ok-Some-fit_answer-clause-asked g c = (0, omega (arith), unasked (λ a. (goal.Adviser-dyn g (a.vtable, a.value)).asked_of a.value) c.args.advisers.now.items)
+
+pub returns-in-Ok-None-fit_answer-clause-unread : goal.returns-in-Ok-None-fit_answer-clause-unread
+returns-in-Ok-None-fit_answer-clause-unread g c = λ none no_fit.
+    let order = c.in-Ok-Some-Fit in
+    absurd (no_fit order.domain (fitted (texts c.args.words.now) order.field-0 order.ensures order.domain (order.field-0-is ∙ ap Some order.field-0-0-is)))
+
+pub returns-in-Ok-None-fit_answer-clause-asked : goal.returns-in-Ok-None-fit_answer-clause-asked
+returns-in-Ok-None-fit_answer-clause-asked g c = (0, omega (arith), unasked (λ a. (goal.Adviser-dyn g (a.vtable, a.value)).asked_of a.value) c.args.advisers.now.items)
+
+pub returns-in-Err-fit_answer-clause-unread : goal.returns-in-Err-fit_answer-clause-unread
+returns-in-Err-fit_answer-clause-unread g c = λ none no_fit.
+    let order = c.in-Ok-Some-Fit in
+    absurd (no_fit order.domain (fitted (texts c.args.words.now) order.field-0 order.ensures order.domain (order.field-0-is ∙ ap Some order.field-0-0-is)))
+
+pub returns-in-Err-fit_answer-clause-asked : goal.returns-in-Err-fit_answer-clause-asked
+returns-in-Err-fit_answer-clause-asked g c = (0, omega (arith), unasked (λ a. (goal.Adviser-dyn g (a.vtable, a.value)).asked_of a.value) c.args.advisers.now.items)
