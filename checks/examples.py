@@ -10,7 +10,7 @@ from pathlib import Path
 
 TOP = Path(__file__).resolve().parent.parent
 
-USAGE = "usage: function [--ctl TEXT] [--domain boxes|octagons|polyhedra] [--delay N] [--at TEXT] [--explain] [--demo N] [--fit]\n"
+USAGE = "usage: function [--ctl TEXT] [--domain boxes|octagons|polyhedra] [--delay N] [--at TEXT] [--explain] [--demo N] [--fit] [--refine]\n"
 
 # Words, a text, the status, what is written, and what standard error tells.
 CALLS = [

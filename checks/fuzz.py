@@ -25,7 +25,7 @@ STACK = 8 * 2**20
 PIECES = """int main ( ) { } ; , x y n = == + - * / % ++ -- += < <= > >= != ! && || if else while do for return break continue ? true false 0 1 2 9223372036854775807
 9223372036854775808 [ ] inf -inf extern __VERIFIER_nondet_int void // /* */ & | @""".split()
 FORMULA_PIECES = "A E U W AX EX AF EF AG EG [ ] ( ) ! && || x y n exit true false == != < <= > >= + - * 0 1 7 9223372036854775807 9223372036854775808 @ ; ?".split()
-WORDS = ["--delay", "--domain", "--ctl", "0", "8", "9", "02", "-1", "boxes", "octagons", "polyhedra", "discs", "--help", "--", "-", "", "x", "--ctl=exit", "AF exit", "exit"]
+WORDS = ["--delay", "--domain", "--ctl", "--refine", "0", "8", "9", "02", "-1", "boxes", "octagons", "polyhedra", "discs", "--help", "--", "-", "", "x", "--ctl=exit", "AF exit", "exit"]
 COMPARISONS = {"<": int.__lt__, "<=": int.__le__, ">": int.__gt__, ">=": int.__ge__, "==": int.__eq__, "!=": int.__ne__}
 SECONDS = 60
 LONGEST_RUN = 2000
@@ -320,8 +320,9 @@ def broken(report, dice, maker, block):
 
 def are_refused(words):
     """Whether the words are none of the command line: options, each at most once, with their values, all of them text. A value is the next word,
-    unless that begins with a hyphen and has more than it, or stands behind `=`; a lone `--` ends the options."""
-    asked = {b"--domain": [b"boxes", b"octagons", b"polyhedra"], b"--delay": [b"%d" % number for number in range(9)], b"--ctl": None}
+    unless that begins with a hyphen and has more than it, or stands behind `=`; a lone `--` ends the options. `--refine` has no value, and `--ctl` doesn't stand with it."""
+    asked = {b"--domain": [b"boxes", b"octagons", b"polyhedra"], b"--delay": [b"%d" % number for number in range(9)], b"--ctl": None, b"--refine": []}
+    apart = {b"--ctl", b"--refine"}
     try:
         b" ".join(words).decode()
     except UnicodeDecodeError:
@@ -329,10 +330,13 @@ def are_refused(words):
     while words:
         word, *words = words
         if word == b"--":
-            return bool(words)
+            return bool(words) or not apart & asked.keys()
         name, is_given, value = word.partition(b"=")
         if name not in asked:
             return True
+        if name == b"--refine" and not is_given:
+            asked.pop(name)
+            continue
         if not is_given:
             if not words or words[0].startswith(b"-") and words[0] != b"-":
                 return True
@@ -340,7 +344,7 @@ def are_refused(words):
         values = asked.pop(name)
         if values is not None and value not in values:
             return True
-    return False
+    return not apart & asked.keys()
 
 
 def formula_in(words):
@@ -403,6 +407,8 @@ def words_of(maker, dice):
         options.append([b"--domain", dice.choice([b"boxes", b"octagons", b"polyhedra"])])
     if dice.random() < 0.3:
         options.append([b"--delay", str(dice.randint(0, 4)).encode()])
+    if formula is None and dice.random() < 0.2:
+        options.append([b"--refine"])
     dice.shuffle(options)
     return [word for option in options for word in option], formula
 

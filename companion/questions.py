@@ -53,8 +53,8 @@ class Question:
     as_is: bool = False
 
     def words(self, **more):
-        """The words for the command. A flag has the value True."""
-        return [f"--{name}" if value is True else f"--{name}={value}" for name, value in {**self.handed_on, **more}.items()]
+        """The words for the command, with more of them. A flag has the value True, and an option that is left out None."""
+        return [f"--{name}" if value is True else f"--{name}={value}" for name, value in {**self.handed_on, **more}.items() if value is not None]
 
 
 def answer(program, question, name, text, seconds=None):
@@ -133,7 +133,7 @@ def refused_words(question, text):
 def read_second(result, program, question, deadline):
     """Asks the second question, and takes what it answers from the unknown lines."""
     every = chooses_without_bounds(result.text)
-    words = question.words(ctl=EVERY_RUN if every else SOME_RUN)
+    words = question.words(ctl=EVERY_RUN if every else SOME_RUN, refine=None)
     second = ask(program, words, result.text, deadline)
     if second.status not in (0, 1):
         raise NotInForm(f"status {second.status} of the second question")

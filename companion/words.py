@@ -38,6 +38,7 @@ HANDED_ON = (
     HandedOn("delay", "N", delay, "a digit from 0 to 8: how long the exact part is, and when bounds are guessed"),
     HandedOn("at", "INPUT", str, "what is claimed of one input, as x=1,y=-2"),
     HandedOn("fit", None, None, "from which inputs do all numbers of its runs fit the 32 bits of C's int? --domain alone stands beside it", asks=True),
+    HandedOn("refine", None, None, "split regions in which a guess at a bound fails; stands without --ctl"),
 )
 
 
@@ -131,6 +132,8 @@ def parse(words):
         found.error("--inputs changes a text, and --as-is hands it on unchanged: take one of them")
     if read.fit and any(getattr(read, name) is not None for name in ("ctl", "delay", "at")):
         found.error("--fit asks one question, and of these options takes --domain alone")
+    if read.refine and read.ctl is not None:
+        found.error("--refine is about the end of each run, and --ctl asks about a formula: take one of them")
     if read.picture and (len(read.files) > 1 or read.recursive or read.json):
         found.error("--picture is of one file, and stands without --json")
     if not 0 < read.window[1] - read.window[0] <= MOST_WIDE:

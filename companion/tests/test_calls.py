@@ -17,6 +17,8 @@ FOR_EVER = "int main() { int x; while (x > 0) x = x + 1; }\n"
 CHOSEN = "int main() { int x; x = ?; while (x > 0) x = x - 1; }\n"
 # Nothing is read of a choice: no run that gets in ends.
 EACH = "int main() { int x, y; while (x > 0) y = ?; }\n"
+# Where y is above 5 no run that gets in ends.
+SPLIT = "int main() { int x, y; while (x > 0) { x = x - 1; if (y > 5) x = x + 2; } }\n"
 
 
 class OneFile(InFolder):
@@ -57,6 +59,14 @@ class OneFile(InFolder):
         # with one test of a loop only the inputs that fail it at once are exact
         self.write("f.c", ENDS)
         self.assertEqual(self.run_here("f.c", "--delay=1", "--domain", "octagons")[1], "f.c: ends from all inputs\n  x <= 0: exactly 1 step\n  x >= 1: within 2*x + 1 steps\n")
+
+    def test_refine_is_handed_on_with_the_first_question_alone(self):
+        self.write("f.c", SPLIT)
+        ends, goes_on = "  x <= 0: exactly 1 step\n", "  x >= 1 and y >= 6: never ends (some run)\n"
+        self.assertEqual(self.run_here("f.c", "--delay=1"),
+                         (1, f"f.c: ends from some inputs, never ends (some run) from some, unknown from the others\n{ends}{goes_on}  x >= 1 and y <= 5: unknown\n", ""))
+        self.assertEqual(self.run_here("f.c", "--delay=1", "--refine"),
+                         (1, f"f.c: ends from some inputs, never ends (some run) from all others\n{ends}  x >= 1 and y <= 5: within 4*x + 1 steps\n{goes_on}", ""))
 
     def test_an_exact_line_stands_for_a_proved_one_only_where_their_conditions_mean_the_same(self):
         def told(exact):
@@ -103,6 +113,7 @@ class Words(InFolder):
         self.assertEqual(self.refused("--timeout", "soon"), "terminates: error: argument --timeout: 'soon' is no number of seconds above 0")
         self.assertEqual(self.refused("--jobs", "0"), "terminates: error: argument --jobs: '0' is no number from 1 to 9999")
         self.assertEqual(self.refused("--delay", "1", "--delay", "2"), "terminates: error: argument --delay: stands twice")
+        self.assertEqual(self.refused("--refine", "--ctl", "AF exit"), "terminates: error: --refine is about the end of each run, and --ctl asks about a formula: take one of them")
         self.assertEqual(self.refused("--ctl"), "terminates: error: argument --ctl: expected one argument")
         self.assertEqual(self.refused("--inputs", "--as-is"), "terminates: error: --inputs changes a text, and --as-is hands it on unchanged: take one of them")
 

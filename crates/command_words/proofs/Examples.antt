@@ -47,6 +47,11 @@ not_given : value_in (behind []) (codes "explain") ≡ Some (codes "false")
 unfolding command clap_on_literals
 not_given = refl
 
+-- `--refine`
+refined : value_in (behind (codes "--refine" ∷ [])) (codes "refine") ≡ Some (codes "true")
+unfolding command clap_on_literals
+refined = refl
+
 -- what is refused, and why
 help : fault_of command (behind (codes "--help" ∷ [])) ≡ DisplayHelp ∷ []
 unfolding command clap_on_literals

@@ -105,7 +105,7 @@ defaults_pass rows (rule ∷ more) pass =
 
 rules_pass : AllPass rules
 unfolding rules command clap_on_literals
-rules_pass = (inl refl, (inl refl, (inl refl, (inl refl, (inr refl, (inl refl, (inr refl, (inl refl, tt))))))))
+rules_pass = (inl refl, (inl refl, (inl refl, (inl refl, (inr refl, (inl refl, (inr refl, (inr refl, (inl refl, tt)))))))))
 
 -- ---- the whole
 

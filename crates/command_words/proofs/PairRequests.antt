@@ -6,7 +6,7 @@ use Rattle.command_words.specs.Order.{Ask, IsAlone, IsDelay, IsDomain, IsFit, Is
 use Rattle.command_words.specs.Pairs.{ArePairs, IsOption, Pair, ctl, domain, delay, at, demo, spelled, value_among}
 use Rattle.command_words.specs.declared.order.Domain.{Domain}
 use Rattle.command_words.proofs.PairFaults.{AreReadAsPairs, reads_pairs}
-use Rattle.command_words.proofs.PairRows.{IsFlag, explaining, fitting, no_flag as not_flag}
+use Rattle.command_words.proofs.PairRows.{IsFlag, explaining, fitting, refining, no_flag as not_flag}
 
 no_flag : (flag : Text) → IsFlag flag → (pairs : List Pair) → ArePairs pairs → value_among pairs flag ≡ None
 no_flag flag is [] are = refl
@@ -30,6 +30,8 @@ module _ (f g : Text → Option Text) (same : (name : Text) → IsOption name �
     formula = is.formula ∙ same (codes "ctl") ctl;
     input = is.input ∙ same (codes "at") at;
     explain = flags (codes "explain") explaining task.explain is.explain;
+    refine = flags (codes "refine") refining task.refine is.refine;
+    alone = is.alone;
   }
 
   same_alone : IsAlone f → IsAlone g
@@ -41,7 +43,10 @@ module _ (f g : Text → Option Text) (same : (name : Text) → IsOption name �
         (sym (same (codes "ctl") ctl) ∙ without.1.1.0, (sym (same (codes "at") at) ∙ without.1.1.1.0, tt)),
       ),
     ),
-    (flags (codes "explain") explaining false unasked.0, (flags (codes "fit") fitting false unasked.1.0, tt)),
+    (
+      flags (codes "explain") explaining false unasked.0,
+      (flags (codes "fit") fitting false unasked.1.0, (flags (codes "refine") refining false unasked.1.1.0, tt)),
+    ),
   )
 
   same_fit : (over : Domain) → IsFit f over → IsFit g over
@@ -52,7 +57,7 @@ module _ (f g : Text → Option Text) (same : (name : Text) → IsOption name �
       sym (same (codes "delay") delay) ∙ is.without.0,
       (sym (same (codes "ctl") ctl) ∙ is.without.1.0, (sym (same (codes "at") at) ∙ is.without.1.1.0, tt)),
     );
-    unflagged = (flags (codes "explain") explaining false is.unflagged.0, tt);
+    unflagged = (flags (codes "explain") explaining false is.unflagged.0, (flags (codes "refine") refining false is.unflagged.1.0, tt));
   }
 
   same_requests : (request : Request) → Requests f request → Requests g request

@@ -122,12 +122,13 @@ never_stops rows pending (pair ∷ more) = never_stops (settled_rows rules pendi
 pub data IsFlag : Text → Type 0 where
   explaining : IsFlag (codes "explain")
   fitting : IsFlag (codes "fit")
+  refining : IsFlag (codes "refine")
 
 abbrev pub flag_row : Text → Row
 flag_row name = record { id = name; values = codes "false" ∷ []; count = None; source = Some DefaultValue; reading = AsWritten }
 
 abbrev pub flag_rows : List Row
-flag_rows = flag_row (codes "explain") ∷ flag_row (codes "fit") ∷ []
+flag_rows = flag_row (codes "explain") ∷ flag_row (codes "fit") ∷ flag_row (codes "refine") ∷ []
 
 pub first_among : (pairs : List Pair) (name : Text) → IsOption name → first_of name (rows_for pairs ++ flag_rows) ≡ value_among pairs name
 first_among [] name ctl = refl
@@ -154,6 +155,11 @@ no_flag flag name fitting domain = refl
 no_flag flag name fitting delay = refl
 no_flag flag name fitting at = refl
 no_flag flag name fitting demo = refl
+no_flag flag name refining ctl = refl
+no_flag flag name refining domain = refl
+no_flag flag name refining delay = refl
+no_flag flag name refining at = refl
+no_flag flag name refining demo = refl
 
 pub no_flag_row : (flag : Text) → IsFlag flag → (pairs : List Pair) → ArePairs pairs → has_row flag (rows_for pairs) ≡ false
 no_flag_row flag is [] all = refl
@@ -162,6 +168,7 @@ no_flag_row flag is (pair ∷ more) all = rw (no_flag flag pair.option is all.0)
 last_flag : (flag : Text) → IsFlag flag → first_of flag flag_rows ≡ Some (codes "false")
 last_flag flag explaining = refl
 last_flag flag fitting = refl
+last_flag flag refining = refl
 
 pub flag_is_last : (flag : Text) → IsFlag flag → (pairs : List Pair) → ArePairs pairs → first_of flag (rows_for pairs ++ flag_rows) ≡ Some (codes "false")
 flag_is_last flag is [] all = last_flag flag is
@@ -193,14 +200,22 @@ fit_default : (rows : List Row) → has_row (codes "fit") rows ≡ false → fol
 unfolding rules command clap_on_literals
 fit_default rows none = rw none (at_absent (codes "fit") (more_values DefaultValue (codes "false" ∷ [])) (flag_row (codes "fit") ∷ []) rows none)
 
+refine_default : (rows : List Row) → has_row (codes "refine") rows ≡ false → fold with_default rows (take 1 (drop 7 rules)) ≡ rows ++ flag_row (codes "refine") ∷ []
+unfolding rules command clap_on_literals
+refine_default rows none = rw none (at_absent (codes "refine") (more_values DefaultValue (codes "false" ∷ [])) (flag_row (codes "refine") ∷ []) rows none)
+
 pub finishes : (rows : List Row) → ((flag : Text) → IsFlag flag → has_row flag rows ≡ false) → fold with_default rows rules ≡ rows ++ flag_rows
 unfolding rules command clap_on_literals
 finishes rows none =
     let explained : List Row = rows ++ flag_row (codes "explain") ∷ [] in
     let unfit : has_row (codes "fit") explained ≡ false = has_row_behind (codes "fit") rows (flag_row (codes "explain")) (none (codes "fit") fitting) refl in
+    let unrefined : has_row (codes "refine") explained ≡ false = has_row_behind (codes "refine") rows (flag_row (codes "explain")) (none (codes "refine") refining) refl in
+    let fitted : List Row = explained ++ flag_row (codes "fit") ∷ [] in
     ap (λ t. fold with_default t (drop 4 rules)) (no_defaults rows (take 4 rules) (refl, (refl, (refl, (refl, tt)))))
     ∙ ap (λ t. fold with_default t (drop 5 rules)) (explain_default rows (none (codes "explain") explaining))
     ∙ ap (λ t. fold with_default t (drop 6 rules)) (no_defaults explained (take 1 (drop 5 rules)) (refl, tt))
     ∙ ap (λ t. fold with_default t (drop 7 rules)) (fit_default explained unfit)
-    ∙ no_defaults (explained ++ flag_row (codes "fit") ∷ []) (drop 7 rules) (refl, tt)
-    ∙ append_assoc rows (flag_row (codes "explain") ∷ []) (flag_row (codes "fit") ∷ [])
+    ∙ ap (λ t. fold with_default t (drop 8 rules)) (refine_default fitted (has_row_behind (codes "refine") explained (flag_row (codes "fit")) unrefined refl))
+    ∙ no_defaults (fitted ++ flag_row (codes "refine") ∷ []) (drop 8 rules) (refl, tt)
+    ∙ ap (λ t. t ++ flag_row (codes "refine") ∷ []) (append_assoc rows (flag_row (codes "explain") ∷ []) (flag_row (codes "fit") ∷ []))
+    ∙ append_assoc rows (flag_row (codes "explain") ∷ flag_row (codes "fit") ∷ []) (flag_row (codes "refine") ∷ [])

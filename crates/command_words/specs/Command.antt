@@ -14,9 +14,9 @@ flag name = record (new_rule name) { long = Some name; action = Some SetTrue }
 -- the command with its options; besides, `clap` gives each command the request `--help`
 unfoldable pub command : App
 command =
-    with_rule (with_rule (with_rule (with_rule (with_rule (with_rule (with_rule (new_app (codes "function"))
+    with_rule (with_rule (with_rule (with_rule (with_rule (with_rule (with_rule (with_rule (new_app (codes "function"))
     (option (codes "ctl"))) (option (codes "domain"))) (option (codes "delay"))) (option (codes "at"))) (flag (codes "explain")))
-    (option (codes "demo"))) (flag (codes "fit"))
+    (option (codes "demo"))) (flag (codes "fit"))) (flag (codes "refine"))
 
 -- `clap` takes the words, the program's name first: no step of its reading fails
 abbrev pub AreTaken : List Text → Type 0

@@ -10,13 +10,15 @@ use Rattle.command_words.specs.declared.order.Order.TheVariants.{Analysis, Demo,
 use Rattle.command_words.specs.declared.order.Query.{Query}
 
 -- What is asked of an analysis: what is kept of the stores with which a label is reached, how many tests of loops the exact part allows, the
--- text of a formula, where one is asked about, the text of an input, where one alone is asked for, and whether the report explains itself.
+-- text of a formula, where one is asked about, the text of an input, where one alone is asked for, whether the report explains itself, and whether
+-- families are added by splits.
 pub record Task : Type 0 where
   pub domain : Domain
   pub delay : ℕ
   pub formula : Option Text
   pub input : Option Text
   pub explain : Bool
+  pub refine : Bool
 
 -- what is asked of the command: an analysis; that of the demo program of a number; or from which inputs runs fit the numbers of 32 bits, over sets of a kind
 pub data Request : Type 0 where
@@ -45,13 +47,16 @@ abbrev pub IsGiven : Option Text → Bool → Type 0
 IsGiven value true = value ≡ Some (codes "true")
 IsGiven value false = ¬ (value ≡ Some (codes "true"))
 
--- the values, by the options' names, ask for this analysis; the texts of a formula and of an input are any
+-- The values, by the options' names, ask for this analysis; the texts of a formula and of an input are any. Families are added where no formula is asked
+-- about.
 pub record IsTask (value : Text → Option Text) (task : Task) : Type 0 where
   pub domain : IsDomain (value (codes "domain")) task.domain
   pub delay : IsDelay (value (codes "delay")) task.delay
   pub formula : task.formula ≡ value (codes "ctl")
   pub input : task.input ≡ value (codes "at")
   pub explain : IsGiven (value (codes "explain")) task.explain
+  pub refine : IsGiven (value (codes "refine")) task.refine
+  pub alone : task.refine ≡ true → task.formula ≡ None
 
 -- none of these options has a value
 abbrev pub Without : List Text → (Text → Option Text) → Type 0
@@ -63,10 +68,10 @@ abbrev pub Unflagged : List Text → (Text → Option Text) → Type 0
 Unflagged [] value = ⊤
 Unflagged (name ∷ more) value = IsGiven (value name) false × Unflagged more value
 
--- no option of an analysis is given, and `--fit` isn't
+-- no option of an analysis is given, and `--fit` and `--refine` aren't
 abbrev pub IsAlone : (Text → Option Text) → Type 0
 IsAlone value =
-    Without (codes "domain" ∷ (codes "delay" ∷ (codes "ctl" ∷ (codes "at" ∷ [])))) value × Unflagged (codes "explain" ∷ (codes "fit" ∷ [])) value
+    Without (codes "domain" ∷ (codes "delay" ∷ (codes "ctl" ∷ (codes "at" ∷ [])))) value × Unflagged (codes "explain" ∷ (codes "fit" ∷ (codes "refine" ∷ []))) value
 
 -- the number of a demo program, from 1 to 1000, by its numeral
 pub record IsCount (text : Text) (number : ℕ) : Type 0 where
@@ -83,7 +88,7 @@ pub record IsFit (value : Text → Option Text) (domain : Domain) : Type 0 where
   pub asked : IsGiven (value (codes "fit")) true
   pub over : IsDomain (value (codes "domain")) domain
   pub without : Without (codes "delay" ∷ (codes "ctl" ∷ (codes "at" ∷ []))) value
-  pub unflagged : Unflagged (codes "explain" ∷ []) value
+  pub unflagged : Unflagged (codes "explain" ∷ (codes "refine" ∷ [])) value
 
 -- the values ask for this
 abbrev pub Requests : (Text → Option Text) → Request → Type 0
@@ -105,6 +110,7 @@ task_of query = record {
   formula = option_map (λ text. text.now) query.formula;
   input = option_map (λ text. text.now) query.input;
   explain = query.explain;
+  refine = query.refine;
 }
 
 abbrev pub request_of : Order → Request

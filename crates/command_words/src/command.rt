@@ -37,7 +37,8 @@ fn command<'w>(alloc: Global) -> Result<Command<'w>, AllocError>
         .arg(option(alloc, "at"))?
         .arg(flag(alloc, "explain"))?
         .arg(option(alloc, "demo"))?
-        .arg(flag(alloc, "fit"))?;
+        .arg(flag(alloc, "fit"))?
+        .arg(flag(alloc, "refine"))?;
     Ok(command)
 }
 

@@ -43,6 +43,8 @@ pub struct Query<'w> {
     pub input: Option<&'w [u8]>,
     /// Whether the report says how it came about.
     pub explain: bool,
+    /// Whether families are added by splits, which is asked for without a formula alone.
+    pub refine: bool,
 }
 
 /// What the words ask for, the program's name first; `None` where they are refused. The only error is want of memory.
@@ -100,12 +102,13 @@ fn fit_of(matches: &ArgMatches<'_>) -> Option<Domain>
 /// Whether an option of an analysis but that of the domain is given.
 fn has_others(matches: &ArgMatches<'_>) -> bool
     ensures { IsFalse result ↔ (Without (codes "delay" ∷ (codes "ctl" ∷ (codes "at" ∷ []))) (values_of (found_of matches.now))
-        × Unflagged (codes "explain" ∷ []) (values_of (found_of matches.now))) }
+        × Unflagged (codes "explain" ∷ (codes "refine" ∷ [])) (values_of (found_of matches.now))) }
 {
     value_of(matches, "delay").is_some()
         || value_of(matches, "ctl").is_some()
         || value_of(matches, "at").is_some()
         || is_given(value_of(matches, "explain"))
+        || is_given(value_of(matches, "refine"))
 }
 
 /// The number of the demo program that the text says, where nothing else is given.
@@ -128,6 +131,7 @@ fn is_alone(matches: &ArgMatches<'_>) -> bool
         && value_of(matches, "at").is_none()
         && !is_given(value_of(matches, "explain"))
         && !is_given(value_of(matches, "fit"))
+        && !is_given(value_of(matches, "refine"))
 }
 
 /// The analysis that the values ask for.
@@ -137,12 +141,18 @@ fn query_of<'w>(matches: &ArgMatches<'w>) -> Option<Query<'w>>
 {
     let domain = domain_of(value_of(matches, "domain"))?;
     let delay = delay_of(value_of(matches, "delay"))?;
+    let formula = bytes_of(matches, "ctl");
+    let refine = is_given(value_of(matches, "refine"));
+    if refine && formula.is_some() {
+        return None;
+    }
     Some(Query {
         domain,
         delay,
-        formula: bytes_of(matches, "ctl"),
+        formula,
         input: bytes_of(matches, "at"),
         explain: is_given(value_of(matches, "explain")),
+        refine,
     })
 }
 

@@ -1,5 +1,7 @@
 -- What the covers of families keep of each of their trees.
 use Rattle.std.proofs.Common.{◌≡◌, ◌⊎◌, inl, inr, ⊎_elim, ℕ, ◌+◌, true, false, Option, None, Some, List, [], ◌∷◌, ◌++◌, All, map, refl, sym, ap, subst, ◌∙◌, arith}
+use Rattle.std.proofs.lemmas.Bool.{false≢true}
+use Rattle.std.proofs.lemmas.List.{map-append}
 use Rattle.std.proofs.lemmas.List.Elements.{All-cons, All-head, All-map, All-nil, All-tail}
 use Rattle.step_meaning.specs.Outcome.{Store}
 use Rattle.step_meaning.specs.Syntax.{Statements}
@@ -120,3 +122,33 @@ module _ (law : HasFirst) (vars : ℕ) (P : AffineRank → Store → Type 0) whe
   pub cover_holds : (body : Statements) (tops : List (Family AffineRank)) (cover : Plan AffineRank) → IsCover body tops cover
       → All (λ family. Holds (trees_in family.trees (entry_of body))) tops → Holds cover
   cover_holds = cover_has Holds nothing_holds either_holds
+
+-- ---- what a cover claims, that of more families claims
+
+module _ (law : HasFirst) (store : Store) (end : Plan AffineRank) (defined : is_defined end ≡ true) where
+  abbrev EndsAt : Option (Plan AffineRank) → Type 0
+  EndsAt cover = eval (claims_of cover) store ≡ end
+
+  extends_keeps : (old : Option (Plan AffineRank)) (tree : Plan AffineRank) (new : Option (Plan AffineRank)) → Extends old tree new → EndsAt old → EndsAt new
+  extends_keeps None tree new more is = absurd (false≢true (ap is_defined is ∙ defined))
+  extends_keeps (Some cover) tree new (inl joined) is = subst EndsAt (sym joined.1) (law.first cover tree store (ap is_defined is ∙ defined) ∙ is)
+  extends_keeps (Some cover) tree new (inr left_out) is = subst EndsAt (sym left_out.1) is
+
+  covers_keep : (trees : List (Plan AffineRank)) (begun made : Option (Plan AffineRank)) → Covers begun trees made → EndsAt begun → EndsAt made
+  covers_keep [] begun made same is = subst EndsAt (sym same) is
+  covers_keep (tree ∷ more) begun made covers is = covers_keep more covers.0 made covers.2 (extends_keeps begun tree covers.0 covers.1 is)
+
+  covers_grow : (trees more : List (Plan AffineRank)) (begun old new : Option (Plan AffineRank)) → Covers begun trees old → Covers begun (trees ++ more) new
+      → EndsAt old → EndsAt new
+  covers_grow [] more begun old new same covers is = covers_keep more begun new covers (subst EndsAt same is)
+  covers_grow (tree ∷ rest) more begun old new one two is =
+      covers_grow rest more one.0 old new one.2
+      (subst (λ next. Covers next (rest ++ more) new) (extends_once begun tree two.0 one.0 two.1 one.1) two.2) is
+
+  pub cover_keeps : (body : Statements) (tops more : List (Family AffineRank)) (old new : Plan AffineRank) → IsCover body tops old
+      → IsCover body (tops ++ more) new → eval old store ≡ end → eval new store ≡ end
+  cover_keeps body tops more old new one two is =
+      ap (λ tree. eval tree store) two.2
+      ∙ covers_grow (at_entry body tops) (at_entry body more) None one.0 two.0 one.1
+      (subst (λ trees. Covers None trees two.0) (map-append (λ (family : Family AffineRank). trees_in family.trees (entry_of body)) tops more) two.1)
+      (ap (λ tree. eval tree store) (sym one.2) ∙ is)

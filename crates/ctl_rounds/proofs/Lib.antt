@@ -13,3 +13,4 @@ pub mod Fitted
 pub mod Exactly
 pub mod Within
 pub mod Narrowly
+mod Lengthening

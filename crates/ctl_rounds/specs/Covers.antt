@@ -2,7 +2,7 @@
 use Rattle.std.specs.Prelude.{◌≡◌, ◌⊎◌, ◌≤◌, List, [], ◌∷◌, Option, None, Some, map}
 use Rattle.step_meaning.specs.Syntax.{Statements}
 use Rattle.control_flow.specs.Labels.{entry_of}
-use Rattle.decision_tree.specs.Extent.{ComplementsFit}
+use Rattle.decision_tree.specs.Extent.{ComplementsFit, IsWhole}
 use Rattle.decision_tree.specs.declared.affine_rank.AffineRank.{AffineRank}
 use Rattle.decision_tree.specs.declared.family.Family.{Family}
 use Rattle.decision_tree.specs.Plans.{Plan, bottom, size_of}
@@ -49,6 +49,10 @@ at_entry body tops = map (λ family. trees_in family.trees (entry_of body)) tops
 -- the tree is the cover of the families
 abbrev pub IsCover : Statements → List (Family AffineRank) → Plan AffineRank → Type 0
 IsCover body tops tree = (cover : Option (Plan AffineRank)) × Covers None (at_entry body tops) cover × (tree ≡ claims_of cover)
+
+-- a leaf of the families' cover is undefined
+abbrev pub LeavesOpen : Statements → List (Family AffineRank) → Type 0
+LeavesOpen body tops = (cover : Plan AffineRank) × IsCover body tops cover × (IsWhole cover → ⊥)
 
 -- no leaf of the family was given up, and its tree at the entry has at most 4,096 nodes
 abbrev pub IsFitToBegin : Statements → Family AffineRank → Type 0

@@ -9,3 +9,4 @@ pub mod Certified
 pub mod Finding
 pub mod Asked
 pub mod Growing
+pub mod Refined

@@ -221,7 +221,7 @@ impl<'a, D: NumDomain> Inquiry<'a, D> {
 }
 
 /// Whether the formula is `AF exit`.
-fn is_af_exit(formula: &Formula) -> bool
+pub(crate) fn is_af_exit(formula: &Formula) -> bool
     ensures { IsTrue result ↔ (ctl formula.now ≡ af_exit) }
 {
     match formula {

@@ -1,5 +1,9 @@
 //! What an analysis answers.
-use decision_tree::{AffineRank, FamilyList};
+ghost use Rattle.std.specs.Prelude.{◌≡◌, ◌∷◌, ◌++◌, [], OnErr, OnOk};
+
+use decision_tree::{AffineRank, Family, FamilyList};
+use std::alloc::{AllocError, Global};
+use std::mem;
 
 /// Families that show the parts of a formula, each of which the check left so or needs no check.
 #[derive(Drop)]
@@ -10,4 +14,24 @@ pub struct Certificate {
     pub tops: FamilyList<AffineRank>,
     /// The turns of advice, each of which asked each adviser once.
     pub turns: u32,
+}
+
+impl Certificate {
+    /// Adds a family of the whole formula behind the others. The only error is want of memory; then none is added.
+    pub(crate) fn add(
+        &mut self,
+        alloc: Global,
+        family: Family<AffineRank>,
+    ) -> Result<(), AllocError>
+        ensures parts { self.new.parts ≡ self.old.parts }
+        ensures turns { self.new.turns ≡ self.old.turns }
+        ensures added { OnOk result (self.new.tops ≡ self.old.tops ++ family ∷ []) }
+        ensures kept { OnErr result (self.new.tops ≡ self.old.tops) }
+    {
+        let mut tops = mem::replace(&mut self.tops, FamilyList::of(Vec::new(alloc))).into_vec();
+        let pushed = tops.push(family);
+        self.tops = FamilyList::of(tops);
+        pushed?;
+        Ok(())
+    }
 }

@@ -5,7 +5,7 @@ ghost use Rattle.control_flow.specs.Labels.{all_labels, entry_of};
 ghost use Rattle.decision_tree.specs.Extent.{ComplementsFit, IsWhole};
 ghost use Rattle.decision_tree.specs.Plans.{plan_of};
 ghost use Rattle.tree_support.specs.Setting.{trees_in};
-ghost use Rattle.ctl_rounds.specs.Covers.{Extends, IsCover, claims_of};
+ghost use Rattle.ctl_rounds.specs.Covers.{Extends, IsCover, LeavesOpen, claims_of};
 ghost use Rattle.ctl_rounds.specs.Growing.{next_of};
 
 use crate::certificate::Certificate;
@@ -50,6 +50,19 @@ pub(crate) fn tree_at_entry<'f>(
 {
     edges_lead_to_labels();
     &family.trees.items()[graph.entry() as usize]
+}
+
+/// Whether the cover of the certificate's families has an undefined leaf. The only error is want of memory.
+pub(crate) fn is_open(
+    alloc: Global,
+    certificate: &Certificate,
+    graph: &Graph,
+) -> Result<bool, AllocError>
+    requires labels { All (λ family. length family.trees ≡ length (all_labels (statements graph.now.body))) certificate.now.tops }
+    ensures { IfOk result (λ leaves. IsTrue leaves → LeavesOpen (statements graph.now.body) certificate.now.tops) }
+{
+    let cover = cover(alloc, certificate, graph)?;
+    Ok(!is_whole(&cover))
 }
 
 // What a cover claims.

@@ -6,7 +6,7 @@
 //! program has a candidate (`count_down`); for any other formula or program a family of the whole is proposed (`part_trees`), and for an
 //! `A[f U g]` the advisers' hints propose more (`loop_facts`, `advice`). Linear programs propose more for any until or weak until (`rank_synthesis`). Whoever proposes it, what is
 //! answered is what the check leaves of it.
-//! The front door: `analyse`, which answers a `Certificate`, `cover`, the first claim of its families for each input, `Premises`, which answers
+//! The front door: `analyse`, which answers a `Certificate`, `refine`, which adds families to one, `cover`, the first claim of its families for each input, `Premises`, which answers
 //! the families of the smaller parts alone, and `laws`, which says why the cover is true.
 #![tactic(auto)]
 
@@ -19,6 +19,7 @@ mod inquiry;
 mod known;
 pub mod laws;
 mod premises;
+mod refining;
 mod rounds;
 mod showing;
 mod smaller;
@@ -30,4 +31,5 @@ pub use analysis::{analyse, synthesises};
 pub use certificate::Certificate;
 pub use covering::cover;
 pub use premises::Premises;
+pub use refining::refine;
 pub use smaller::SmallerParts;

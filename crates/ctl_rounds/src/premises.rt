@@ -24,8 +24,8 @@ use forward_inv::Inv;
 use num_domain::NumDomain;
 use part_trees::proposed;
 use std::alloc::{AllocError, Global};
-use tree_check::check_over;
 use tree_check::laws::eliminations_spare_places;
+use tree_check::{Dropped, check_over};
 
 /// What is known of a program whatever formula it is asked about: its graph with the number of labels, sets that have the states that are
 /// reached, and what is done at each label; after how many sweeps those that propose trees widen them; and whether linear programs may propose some.
@@ -38,6 +38,13 @@ pub struct Premises<'a, D: NumDomain> {
     pub labels: u32,
     pub delay: u32,
     pub synthesises: bool,
+}
+
+/// What the check leaves of trees, and the leaf that it gave up first, if it gave one up.
+#[derive(Drop)]
+pub(crate) struct Checked {
+    pub(crate) family: Family<AffineRank>,
+    pub(crate) first: Option<Dropped>,
 }
 
 impl<'a, D: NumDomain> Premises<'a, D> {
@@ -57,22 +64,45 @@ impl<'a, D: NumDomain> Premises<'a, D> {
             (setting_of (statements self.now.graph.now.body) (told_on D.NumDomain.own self.now) (ctl formula.now)
             (families_of smaller.now.operands.items)) (trees_in trees) drops (trees_in family.trees)) }
     {
+        let checked = self.examined(formula, smaller.number, &smaller.operands, trees)?;
+        Ok(checked.family)
+    }
+
+    /// The same, as a family with the number, beside the leaf that the check gave up first.
+    pub(crate) fn examined(
+        &self,
+        formula: &Formula,
+        number: u32,
+        operands: &[Family<AffineRank>],
+        trees: TreeList<AffineRank>,
+    ) -> Result<Checked, AllocError>
+        requires premises { ArePremises D.NumDomain.own self.now }
+        requires fit { All (IsFit (length self.now.graph.now.names)) trees }
+        requires labels { length trees ≡ self.now.labels }
+        ensures shows { IfOk result (λ checked. Shows self.now.graph.now (told_on D.NumDomain.own self.now) (ctl formula.now) number operands.now
+            checked.family) }
+        ensures legal { IfOk result (λ checked. (drops : List Dropped) × Eliminates affine_ranks
+            (setting_of (statements self.now.graph.now.body) (told_on D.NumDomain.own self.now) (ctl formula.now)
+            (families_of operands.now)) (trees_in trees) drops (trees_in checked.family.trees)) }
+    {
         eliminations_spare_places();
         let mut family = Family {
-            part: smaller.number,
+            part: number,
             trees,
         };
-        // The drops show that what was given up was given up legally; no one reads them beyond that.
-        let _dropped = check_over(
+        let dropped = check_over(
             self.alloc,
             self.graph,
             self.inv,
             self.transitions,
             formula,
-            &smaller.operands,
+            operands,
             &mut family,
         )?;
-        Ok(family)
+        Ok(Checked {
+            family,
+            first: first_of(&dropped),
+        })
     }
 
     /// The same of trees of which nothing is known: one that can't be printed is given up.
@@ -131,6 +161,11 @@ impl<'a, D: NumDomain> Premises<'a, D> {
     {
         has_head(self.transitions)
     }
+}
+
+/// The first of the leaves that were given up; nothing is said of it, since nothing rests on it.
+fn first_of(dropped: &[Dropped]) -> Option<Dropped> {
+    Some(*dropped.first()?)
 }
 
 /// Whether some label is that of a loop's head.

@@ -25,3 +25,4 @@ pub mod MetOnce
 pub mod Counted
 mod Refusing
 pub mod ProvedLines
+pub mod Refined

@@ -23,7 +23,7 @@ summary_lines number bytes labels proved =
 
 -- what is asked of an analysis where nothing is chosen
 abbrev pub defaults : Task
-defaults = record { domain = Boxes; delay = 2; formula = None; input = None; explain = false }
+defaults = record { domain = Boxes; delay = 2; formula = None; input = None; explain = false; refine = false }
 
 -- the demo program of a number, and that each of its runs ends
 abbrev pub demo_subject : ℕ → Subject

@@ -4,7 +4,7 @@ use Rattle.line_text.specs.Numeral.{numeral}
 
 -- the usage line, and its text with the newline byte that ends it
 abbrev pub usage_line : List ℕ
-usage_line = codes "usage: function [--ctl TEXT] [--domain boxes|octagons|polyhedra] [--delay N] [--at TEXT] [--explain] [--demo N] [--fit]"
+usage_line = codes "usage: function [--ctl TEXT] [--domain boxes|octagons|polyhedra] [--delay N] [--at TEXT] [--explain] [--demo N] [--fit] [--refine]"
 
 -- the line of a fault: what has it, a program or a formula, its number and its offset
 abbrev pub fault_line : List ℕ → ℕ → ℕ → List ℕ

@@ -35,6 +35,7 @@ const DEFAULTS: Query<'static> = Query {
     formula: None,
     input: None,
     explain: false,
+    refine: false,
 };
 
 /// The summary of the report on the demo program of a number, analysed with the defaults. The only error is want of memory; the advisers may have

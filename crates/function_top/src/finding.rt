@@ -5,10 +5,14 @@ ghost use Rattle.step_meaning.specs.Syntax.{statements};
 ghost use Rattle.ctl_formula.specs.Formulas.{Ctl, normal, until};
 ghost use Rattle.ctl_formula.specs.Mirror.{ctl};
 ghost use Rattle.decision_tree.specs.Extent.{IsWhole};
-ghost use Rattle.decision_tree.specs.Plans.{bottom, plan_of};
+ghost use Rattle.decision_tree.specs.declared.affine_rank.AffineRank.{AffineRank};
+ghost use Rattle.decision_tree.specs.Plans.{Plan, bottom, plan_of};
 ghost use Rattle.control_flow.specs.Invariants.{AreInvariants};
 ghost use Rattle.ordinal_rank.specs.Families.{BoundsEnds, IsFit};
-ghost use Rattle.ctl_rounds.specs.Asked.{AreAskedAlike};
+ghost use Rattle.control_flow.specs.Told.{told_by};
+ghost use Rattle.ctl_rounds.specs.Asked.{AreAskedAlike, IsAdvised};
+ghost use Rattle.ctl_rounds.specs.Certified.{Certifies};
+ghost use Rattle.ctl_rounds.specs.Covers.{IsCover};
 ghost use Rattle.normal_form.specs.Operators.{HasNoNegation};
 ghost use Rattle.normal_form.specs.Rows.{RowsAreOver};
 ghost use Rattle.exact_families.specs.Completeness.{IsLoopless};
@@ -27,7 +31,7 @@ use command_words::Query;
 use control_flow::Graph;
 use ctl_formula::{Formula, normal_forms_mean_the_same};
 use ctl_rounds::laws::{covers_can_be_printed, covers_hold};
-use ctl_rounds::{analyse, cover, synthesises};
+use ctl_rounds::{Certificate, analyse, cover, refine, synthesises};
 use decision_tree::{AffineRank, Tree};
 use forward_inv::{Inv, invariants};
 use num_domain::NumDomain;
@@ -116,7 +120,7 @@ fn covered<D: NumDomain>(
     ensures strong { IfOk result (λ covered. IsStrongCover (ctl formula.now) (statements graph.now.body) (plan_of covered.0)) }
 {
     let inv: Inv<D> = invariants(alloc, graph)?;
-    let certificate = analyse(alloc, graph, &inv, formula, advisers, query.delay)?;
+    let certificate = certified(alloc, query, formula, graph, &inv, advisers)?;
     invariants_tell_the_truth::<D>();
     covers_hold();
     covers_can_be_printed();
@@ -125,6 +129,42 @@ fn covered<D: NumDomain>(
     let may = synthesises(advisers.len(), query.delay);
     let ranked = ranked_beyond(alloc, query, graph, &inv, &cover, may)?;
     Ok((cover, certificate.turns, families, ranked))
+}
+
+/// A certificate of the formula, with the families that are added by splits where this is asked for.
+fn certified<D: NumDomain>(
+    alloc: Global,
+    query: &Query,
+    formula: &Formula,
+    graph: &Graph,
+    inv: &Inv<D>,
+    advisers: &mut Vec<Box<dyn Adviser>>,
+) -> Result<Certificate, AllocError>
+    requires invariants { AreInvariants D.has (length graph.now.names) (statements graph.now.body) inv.now }
+    requires patient { All (λ adviser. asked_of adviser ≤ 2 ^ 32) advisers.old.items }
+    ensures certified { IfOk result (λ certificate. Certifies (length graph.now.names) (statements graph.now.body)
+        (told_by D.told_bounds D.told_rows D.seen_empty inv.now) (ctl formula.now) certificate.parts certificate.tops) }
+    ensures narrow { IsLoopless (statements graph.now.body) → HasNoNegation (ctl formula.now)
+        → IsWithin (length graph.now.names) (statements graph.now.body) (ctl formula.now) → IfOk result (λ certificate. (cover : Plan AffineRank)
+        → IsCover (statements graph.now.body) certificate.tops cover
+        → CoversInputs (length graph.now.names) (statements graph.now.body) (ctl formula.now) cover) }
+    ensures narrow_ways { IsLoopless (statements graph.now.body) → HasNoNegation (ctl formula.now)
+        → IsWithin (length graph.now.names) (statements graph.now.body) (ctl formula.now) → ctl_growth (statements graph.now.body) (ctl formula.now) ≤ 2 ^ 60
+        → IfOk result (λ certificate. (cover : Plan AffineRank) → IsCover (statements graph.now.body) certificate.tops cover
+        → FindsInputs (length graph.now.names) (statements graph.now.body) (ctl formula.now) cover) }
+    ensures asked { AreAskedAlike (λ adviser. asked_of adviser) advisers.old.items advisers.new.items (λ times. IfOk result (λ certificate. certificate.turns ≡ times)) }
+    ensures turns { IsAdvised (ctl formula.now) → IfOk result (λ certificate. (cover : Plan AffineRank)
+        → IsCover (statements graph.now.body) certificate.tops cover → IsWhole cover ⊎ (certificate.turns ≡ 8)) }
+    ensures unadvised { (IsAdvised (ctl formula.now) → ⊥) → IfOk result (λ certificate. certificate.turns ≡ 0) }
+    ensures strong { IfOk result (λ certificate. (cover : Plan AffineRank) → IsCover (statements graph.now.body) certificate.tops cover
+        → IsStrongCover (ctl formula.now) (statements graph.now.body) cover) }
+{
+    let mut certificate = analyse(alloc, graph, inv, formula, advisers, query.delay)?;
+    if !query.refine {
+        return Ok(certificate);
+    }
+    refine(alloc, graph, inv, formula, &mut certificate)?;
+    Ok(certificate)
 }
 
 /// The tree of ordinal ranks at the entry of the program, where no formula is asked about and the cover leaves some input open, and else one that makes no

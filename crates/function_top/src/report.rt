@@ -20,7 +20,7 @@ use step_meaning::Names;
 pub fn usage() -> &'static [u8]
     ensures { result.now ≡ usage_text }
 {
-    b"usage: function [--ctl TEXT] [--domain boxes|octagons|polyhedra] [--delay N] [--at TEXT] [--explain] [--demo N] [--fit]\n"
+    b"usage: function [--ctl TEXT] [--domain boxes|octagons|polyhedra] [--delay N] [--at TEXT] [--explain] [--demo N] [--fit] [--refine]\n"
 }
 
 /// The text of the report of what was found of a program with these names, with what explains it, and its status. The only error is want of

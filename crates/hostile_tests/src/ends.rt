@@ -12,7 +12,7 @@ use std::test::Fail;
 
 /// What is written for words that are refused.
 const USAGE: &str =
-    "usage: function [--ctl TEXT] [--domain boxes|octagons|polyhedra] [--delay N] [--at TEXT] [--explain] [--demo N] [--fit]\n";
+    "usage: function [--ctl TEXT] [--domain boxes|octagons|polyhedra] [--delay N] [--at TEXT] [--explain] [--demo N] [--fit] [--refine]\n";
 
 // Gives one byte a call.
 #[derive(Drop)]

@@ -1,17 +1,24 @@
-//! What is seen of the loops of a program: functions that fall in each turn, and families of trees that a hint on a loop proposes.
+//! What is seen of the loops of a program: functions that fall in each turn, families of trees that a hint on a loop proposes, guesses at such hints, and
+//! how a point that refutes a family splits it.
 //!
 //! Nothing is promised of a fact or a proposal but that a proposal has a tree for each label; the check decides. It stands on
 //! `control_flow` for the bodies of loops, on `backward_sweeps` for the step from label to label, and on `advice` for facts and hints. The
-//! front door: `Facts`, `proposal` and `holds_under`.
+//! front door: `Facts`, `proposal`, `holds_under`, `guesses` and `split`.
 #![tactic(auto)]
 
 mod body;
 mod facts;
 mod falls;
+mod guessing;
 mod proposing;
 mod raising;
+mod refuting;
+mod splitting;
 mod under;
 
 pub use facts::Facts;
+pub use guessing::{Guess, guesses};
 pub use proposing::proposal;
+pub use refuting::Point;
+pub use splitting::{Fallen, split};
 pub use under::holds_under;

@@ -96,12 +96,7 @@ pub returns-clause-asked : goal.returns-clause-asked
 returns-clause-asked g c = c.in_ok-certificate.ensures.asked
 
 pub returns-clause-strong : goal.returns-clause-strong
-returns-clause-strong g c =
-    let cover = plan_of c.in_ok-cover.cover in record {
-      countdown = λ ends counted. c.in_ok-certificate.ensures.countdown ends counted cover (covers g c);
-      loopless = λ ends free. c.in_ok-certificate.ensures.loopless ends free cover (covers g c);
-      ways = λ ends counted little. c.in_ok-certificate.ensures.ways ends counted little cover (covers g c);
-    }
+returns-clause-strong g c = c.in_ok-certificate.ensures.strong (plan_of c.in_ok-cover.cover) (covers g c)
 
 pub returns-clause-advised : goal.returns-clause-advised
 returns-clause-advised g c =
