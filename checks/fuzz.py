@@ -7,7 +7,7 @@ It is no part of the gate. Texts are made at random from a seed: programs, of wh
 programs up to the limits and past them. Of the words of the command line some are none, and some have a formula, which may be damaged or long too. Each answer comes within
 60 seconds and 8 MB of stack, it has a status with its text, and on standard error nothing but words on a refusal, with its line and column; a report has, for each of some inputs, exactly one line of `proved`, `ranked` and
 `unknown` together and at most one of the exact part; and, of a program without a formula, some runs from the input, with what they choose made at random, end within each bound that
-its lines claim. A second run of the command gives the same bytes. It ends with 1 where something fell short. What formulas mean is looked at by `formulas.py`.
+its lines claim. A second run of the command gives the same bytes. It ends with 1 where something fell short. What formulas mean is looked at by `formulas.py`, what `--fit` claims by `fitting.py`.
 """
 import argparse
 import random
@@ -25,7 +25,7 @@ STACK = 8 * 2**20
 PIECES = """int main ( ) { } ; , x y n = == + - * / % ++ -- += < <= > >= != ! && || if else while do for return break continue ? true false 0 1 2 9223372036854775807
 9223372036854775808 [ ] inf -inf extern __VERIFIER_nondet_int void // /* */ & | @""".split()
 FORMULA_PIECES = "A E U W AX EX AF EF AG EG [ ] ( ) ! && || x y n exit true false == != < <= > >= + - * 0 1 7 9223372036854775807 9223372036854775808 @ ; ?".split()
-WORDS = ["--delay", "--domain", "--ctl", "--refine", "0", "8", "9", "02", "-1", "boxes", "octagons", "polyhedra", "discs", "--help", "--", "-", "", "x", "--ctl=exit", "AF exit", "exit"]
+WORDS = ["--delay", "--domain", "--ctl", "--fit", "--refine", "0", "8", "9", "02", "-1", "boxes", "octagons", "polyhedra", "discs", "--help", "--", "-", "", "x", "--ctl=exit", "AF exit", "exit"]
 COMPARISONS = {"<": int.__lt__, "<=": int.__le__, ">": int.__gt__, ">=": int.__ge__, "==": int.__eq__, "!=": int.__ne__}
 SECONDS = 60
 LONGEST_RUN = 2000
@@ -320,9 +320,10 @@ def broken(report, dice, maker, block):
 
 def are_refused(words):
     """Whether the words are none of the command line: options, each at most once, with their values, all of them text. A value is the next word,
-    unless that begins with a hyphen and has more than it, or stands behind `=`; a lone `--` ends the options. `--refine` has no value, and `--ctl` doesn't stand with it."""
-    asked = {b"--domain": [b"boxes", b"octagons", b"polyhedra"], b"--delay": [b"%d" % number for number in range(9)], b"--ctl": None, b"--refine": []}
-    apart = {b"--ctl", b"--refine"}
+    unless that begins with a hyphen and has more than it, or stands behind `=`; a lone `--` ends the options. `--refine` and `--fit` have no
+    value; `--ctl` doesn't stand with `--refine`, and with `--fit` nothing but `--domain` does."""
+    asked = {b"--domain": [b"boxes", b"octagons", b"polyhedra"], b"--delay": [b"%d" % number for number in range(9)], b"--ctl": None, b"--refine": [], b"--fit": []}
+    given = set()
     try:
         b" ".join(words).decode()
     except UnicodeDecodeError:
@@ -330,11 +331,12 @@ def are_refused(words):
     while words:
         word, *words = words
         if word == b"--":
-            return bool(words) or not apart & asked.keys()
+            return bool(words) or are_apart(given)
         name, is_given, value = word.partition(b"=")
         if name not in asked:
             return True
-        if name == b"--refine" and not is_given:
+        given.add(name)
+        if name in (b"--refine", b"--fit") and not is_given:
             asked.pop(name)
             continue
         if not is_given:
@@ -344,7 +346,12 @@ def are_refused(words):
         values = asked.pop(name)
         if values is not None and value not in values:
             return True
-    return not apart & asked.keys()
+    return are_apart(given)
+
+
+def are_apart(given):
+    """Whether two of these options don't stand together."""
+    return given >= {b"--ctl", b"--refine"} or (b"--fit" in given and bool(given - {b"--fit", b"--domain"}))
 
 
 def formula_in(words):
@@ -366,7 +373,7 @@ def out_of_form(words, text, formula, ended):
         return None if (status, written[:len(USAGE)], written[-1:]) == (2, USAGE, b"\n") else "refused words without the usage line"
     if status in (0, 1):
         verdict = b"verdict: all inputs\n" if status == 0 else b"verdict: some inputs\n"
-        if not written.startswith(b"exact" if formula is None else b"proved:\n"):
+        if not written.startswith(b"fits:\n" if b"--fit" in words else b"exact" if formula is None else b"proved:\n"):
             return "a report that begins otherwise"
         return None if written.endswith(b"\n" + verdict) else "a status without its verdict"
     kind, most = (b"program", len(text)) if status == 3 else (b"formula", len(formula or b""))
@@ -401,6 +408,8 @@ def words_of(maker, dice):
     if dice.random() < 0.04:
         words = [dice.choice(WORDS).encode() for _ in range(dice.randint(1, 5))]
         return words, None if are_refused(words) else formula_in(words)
+    if dice.random() < 0.1:
+        return [b"--fit", *([b"--domain", dice.choice([b"boxes", b"octagons", b"polyhedra"])] if dice.random() < 0.4 else [])], None
     formula = formula_of(maker, dice) if dice.random() < 0.4 else None
     options = [[b"--ctl=" + formula] if formula.startswith(b"-") else [b"--ctl", formula]] if formula is not None else []
     if dice.random() < 0.4:
@@ -439,7 +448,7 @@ def case(number, seed, command):
     why = out_of_form(words, text, formula, ended)
     if (ended.returncode, ended.stdout) != (again.returncode, again.stdout):
         why = "two answers"
-    if not why and ended.returncode in (0, 1):
+    if not why and ended.returncode in (0, 1) and b"--fit" not in words:
         why = broken(ended.stdout.decode(), dice, maker, block if formula is None else None)
     return (text, words, why) if why else None
 

@@ -11,7 +11,8 @@ pub enum WordFault {
     NoOption,
     /// The option has no value, or one that it doesn't take.
     Value,
-    /// The option doesn't stand beside those before it: it is there already, one of the two is `--demo`, or they are `--ctl` and `--refine`.
+    /// The option doesn't stand beside those before it: it is there already, one of the two is `--demo`, or `--fit` beside another than `--domain`, or they are
+    /// `--ctl` and `--refine`.
     Company,
 }
 
