@@ -1,0 +1,3 @@
+pub mod Inlined
+pub mod Moved
+pub mod Starts

@@ -1,0 +1,8 @@
+//! Programs without calls in place of programs of several functions: the bodies of functions stand in the places of their calls. The runs of both are in step.
+#![tactic(auto)]
+
+mod laws;
+mod moving;
+
+pub use laws::framed_runs_are_runs_of_the_inlined_program;
+pub use moving::moved;

@@ -1,0 +1,10 @@
+pub mod Frames
+pub mod Reads
+pub mod Runs
+pub mod Sorts
+pub mod Systems
+pub mod Tables
+pub mod Units
+pub mod Valid
+pub mod Validity
+pub mod ValidOnce
