@@ -9,7 +9,7 @@ use Rattle.linear_cons.proofs.Forms.{products_same}
 use Rattle.linear_cons.proofs.Ring.{zero_mul}
 use Rattle.linear_cons.proofs.Sums.{value_is}
 use Rattle.step_meaning.specs.Outcome.{Store}
-use Rattle.step_meaning.specs.Step.{Configuration}
+use Rattle.step_meaning.specs.Step.{Configuration, programs}
 use Rattle.step_meaning.specs.Run as runs
 use Rattle.ctl_formula.specs.Formulas.{Ctl}
 use Rattle.ctl_formula.specs.Satisfaction as satisfaction
@@ -20,11 +20,13 @@ use Rattle.call_inline.proofs.OneStore.{Shared}
 use Rattle.call_inline.proofs.OneStore as shared
 use Rattle.call_meaning.specs.Reads.{Places, all_of, IsTidy}
 use Rattle.call_meaning.specs.Validity.{AreRoutines}
-use Rattle.call_meaning.specs.Runs.{framed, programs}
-use Rattle.call_meaning.specs.Systems.{EndsWithin, Longest, Sat, Within, EachRow, IsBisimulation}
+use Rattle.call_meaning.specs.Runs.{framed}
+use Rattle.step_meaning.specs.Systems.{EndsWithin, Longest}
+use Rattle.ctl_formula.specs.Systems.{Sat, Within}
+use Rattle.ctl_formula.specs.Bisimulations.{EachRow, IsBisimulation}
 use Rattle.call_inline.proofs.Standing.{FramesStand}
 use Rattle.call_inline.proofs.Stepping.{InStep}
-use Rattle.call_inline.proofs.Agreeing.{flipped, same_ends, same_sat, same_within}
+use Rattle.ctl_formula.proofs.Agreeing.{flipped, same_ends, same_sat, same_within}
 use Rattle.call_inline.proofs.Whole.{in_step, starts}
 use Rattle.call_inline.proofs.Setting.{none, TodoSet, todo_before, always}
 use Rattle.call_inline.proofs.Owning.{bare, Known, StackAgrees, Joined, out_steps, in_steps, settle_out, settle_in, done_out, done_in}

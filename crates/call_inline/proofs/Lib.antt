@@ -4,7 +4,6 @@ pub mod Image
 pub mod Standing
 pub mod Replacing
 pub mod Stepping
-pub mod Agreeing
 pub mod Settling
 pub mod Whole
 pub mod Setting

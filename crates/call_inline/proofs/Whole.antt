@@ -1,20 +1,18 @@
 -- Framed runs and runs of the program without calls are in step.
-use Rattle.std.proofs.Common.{◌≡◌, ℕ, [], refl, sym, ap, ◌∙◌, subst, append-nil, arith}
+use Rattle.std.proofs.Common.{ℕ, [], refl, sym, ap, ◌∙◌, subst, append-nil, arith}
 use Rattle.linear_cons.specs.declared.affine.Affine.{Affine}
 use Rattle.linear_cons.specs.Functions.{value_at}
 use Rattle.step_meaning.specs.Outcome.{Store}
-use Rattle.step_meaning.specs.Step.{Configuration, front, items_of, StepsFrom}
+use Rattle.step_meaning.specs.Step.{front, items_of, StepsFrom, programs}
 use Rattle.step_meaning.specs.Run as runs
-use Rattle.ctl_formula.specs.Formulas.{Ctl}
-use Rattle.ctl_formula.specs.Satisfaction as satisfaction
 use Rattle.call_meaning.specs.Units.{Table}
 use Rattle.call_inline.specs.Inlined.{inlined_body, callees, ends}
 use Rattle.call_meaning.specs.Frames.{tasks_of}
 use Rattle.call_inline.proofs.OneStore.{Shared, start}
 use Rattle.call_inline.proofs.OneStore as framed
 use Rattle.call_meaning.specs.Validity.{AreRoutines}
-use Rattle.call_meaning.specs.Runs.{programs}
-use Rattle.call_meaning.specs.Systems.{System, EndsWithin, Sat, IsBisimulation}
+use Rattle.step_meaning.specs.Systems.{System}
+use Rattle.ctl_formula.specs.Bisimulations.{IsBisimulation}
 use Rattle.call_inline.proofs.Image.{image, image_tasks, image_body}
 use Rattle.call_inline.proofs.Standing.{TasksStand, before_tasks}
 use Rattle.call_inline.proofs.Replacing.{settled_keeps}
@@ -65,10 +63,3 @@ module _ (table : Table) (main : ℕ) (routines : AreRoutines table main) where
             ∙ sym (append-nil (image_tasks table (callees table main) (table main).base ends 0 (tasks_of body))));
         store = refl;
       }
-
--- the definitions over systems are those of programs
-same_ends_within : (n : ℕ) (c : Configuration) → EndsWithin programs n c ≡ runs.EndsWithin n c
-same_ends_within n c = refl
-
-same_satisfaction : (f : Ctl) (c : Configuration) → Sat programs f c ≡ satisfaction.Sat f c
-same_satisfaction f c = refl

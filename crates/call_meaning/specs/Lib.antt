@@ -2,7 +2,6 @@ pub mod Frames
 pub mod Reads
 pub mod Runs
 pub mod Sorts
-pub mod Systems
 pub mod Tables
 pub mod Units
 pub mod Valid

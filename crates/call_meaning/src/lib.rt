@@ -2,12 +2,10 @@
 //! of any system that steps and has stores.
 #![tactic(auto)]
 
-mod laws;
 mod lists;
 mod statement;
 mod unit;
 
-pub use laws::{same_ends_within, same_satisfaction};
 pub use lists::{ExprList, FuncList};
 pub use statement::{Func, UnitBlock, UnitKind, UnitStmt};
 pub use unit::Unit;

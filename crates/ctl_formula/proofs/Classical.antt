@@ -3,7 +3,8 @@
 use Rattle.std.specs.Prelude.{ℕ, zero, suc, Bool, true, false, not}
 use Rattle.std.proofs.Common.{inl, inr}
 use Rattle.step_meaning.specs.Step.{Configuration}
-use Rattle.ctl_formula.specs.Satisfaction.{Classically, Ahead, UntilIn, WeakIn}
+use Rattle.ctl_formula.specs.Satisfaction.{Ahead, UntilIn, WeakIn}
+use Rattle.ctl_formula.specs.Systems.{Classically}
 
 abbrev pub Property : Type 1
 Property = Configuration → Type 0

@@ -1,3 +1,4 @@
+pub mod Agreeing
 pub mod Alike
 pub mod Classical
 pub mod Duality

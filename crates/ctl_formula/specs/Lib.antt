@@ -1,4 +1,6 @@
 pub mod Formulas
 pub mod Mirror
 pub mod Parts
+pub mod Systems
 pub mod Satisfaction
+pub mod Bisimulations

@@ -11,7 +11,8 @@ use Rattle.decision_tree.specs.Plans.{Plan, bottom, branch, is_defined, leaf, to
 use Rattle.decision_tree.specs.declared.affine_rank.AffineRank.{AffineRank}
 use Rattle.decision_tree.specs.declared.reason.Pick.TheVariants.{Yes, No}
 use Rattle.decision_tree.specs.declared.reason.Why.{Why}
-use Rattle.ctl_formula.specs.Satisfaction.{Ahead, Classically, WeakIn}
+use Rattle.ctl_formula.specs.Satisfaction.{Ahead, WeakIn}
+use Rattle.ctl_formula.specs.Systems.{Classically}
 use Rattle.tree_unify.specs.Shapes.{joined}
 use Rattle.tree_unify.specs.declared.join.Join.TheVariants.{Later}
 use Rattle.tree_support.specs.Certificates.{affine_ranks}

@@ -4,7 +4,8 @@ use Rattle.std.proofs.lemmas.Bool.{false≢true}
 use Rattle.linear_cons.specs.Functions.{value_at}
 use Rattle.step_meaning.specs.Step.{Configuration, IsFinal, Next, Step, StepsFrom, front}
 use Rattle.ctl_formula.specs.Formulas.{Ctl, truth, falsity, exit, not_exit, always, never, least, negation, both, either, next, until, weak}
-use Rattle.ctl_formula.specs.Satisfaction.{Ahead, Classically, Sat, UntilIn, WeakIn}
+use Rattle.ctl_formula.specs.Satisfaction.{Ahead, Sat, UntilIn, WeakIn}
+use Rattle.ctl_formula.specs.Systems.{Classically}
 
 -- a Bool is decided
 pub stable : (t : Bool) → Classically (t ≡ true) → t ≡ true

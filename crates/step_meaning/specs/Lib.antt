@@ -1,5 +1,6 @@
 pub mod Syntax
 pub mod Outcome
+pub mod Systems
 pub mod Step
 pub mod Run
 pub mod Valid

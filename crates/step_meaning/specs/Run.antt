@@ -3,7 +3,8 @@ use Rattle.std.specs.Prelude.{◌≡◌, ℕ, zero, suc, ◌≤◌, ℤ, pos, ne
 use Rattle.step_meaning.specs.Syntax.{Statements, assign, skip, return, break, continue, if_else, while_loop, do_while}
 use Rattle.linear_cons.specs.Numbers.{number_at}
 use Rattle.step_meaning.specs.Outcome.{Store}
-use Rattle.step_meaning.specs.Step.{Configuration, Todo, one, turn, items_of, Step, IsFinal, front}
+use Rattle.step_meaning.specs.Step.{Configuration, Todo, one, turn, items_of, Step, IsFinal, front, programs}
+use Rattle.step_meaning.specs.Systems as systems
 
 -- an input of a program of `vars` variables: sixteen whole numbers, of which those past the variables are 0
 pub record IsInput (vars : ℕ) (input : Store) : Type 0 where
@@ -14,15 +15,13 @@ pub record IsInput (vars : ℕ) (input : Store) : Type 0 where
 abbrev pub start : Statements → Store → Configuration
 start body input = record { todo = items_of body; store = input }
 
--- every run from `c` ends within `n` steps: `c` is final, or some step is left and every successor ends within one step less
+-- every run from `c` ends within `n` steps
 abbrev pub EndsWithin : ℕ → Configuration → Type 0
-EndsWithin zero c = IsFinal c
-EndsWithin (suc n) c = IsFinal c ⊎ ((d : Configuration) → Step c d → EndsWithin n d)
+EndsWithin n c = systems.EndsWithin programs n c
 
 -- the longest run from `c` has exactly `n` steps
 abbrev pub Longest : ℕ → Configuration → Type 0
-Longest zero c = EndsWithin zero c
-Longest (suc n) c = EndsWithin (suc n) c × ¬ EndsWithin n c
+Longest n c = systems.Longest programs n c
 
 -- steps lead from `c` to `d`
 pub data Reaches : Configuration → Configuration → Type 0 where

@@ -2,6 +2,8 @@
 use Rattle.std.specs.Prelude.{◌≡◌, ℤ, true, false, ◌⊎◌, List, [], ◌∷◌, ◌++◌, slice_set}
 use Rattle.step_meaning.specs.Syntax.{Expression, Statement, Statements, assign, skip, return, break, continue, if_else, while_loop, do_while, empty, sequence}
 use Rattle.step_meaning.specs.Outcome.{Store, May, MayTest}
+use Rattle.step_meaning.specs.Systems as systems
+use Rattle.step_meaning.specs.Systems.{System}
 
 -- An item of what is still to do: a statement, or the mark of a loop whose body is being done. A mark has what the loop is: its test, its
 -- body and its step.
@@ -91,6 +93,12 @@ Step c d = StepsFrom (front c.todo) c.store d
 abbrev pub IsFinal : Configuration → Type 0
 IsFinal c = front c.todo ≡ []
 
+-- programs as transition systems
+abbrev pub programs : System
+programs = record { State = Configuration; Step = Step; IsFinal = IsFinal; store = λ c. c.store }
+
+-- What follows has no part in the headline.
+
 -- the successor relation in which a final configuration has itself as its only successor, so that each has one
 abbrev pub Next : Configuration → Configuration → Type 0
-Next c d = Step c d ⊎ (IsFinal c × (d ≡ c))
+Next c d = systems.Next programs c d
