@@ -22,7 +22,7 @@ use std::marker::Model;
 use step_meaning::{Block, Expr, Program};
 
 /// The most labels of a program, label 0 included.
-pub(crate) const LABELS: u32 = 1024;
+pub const LABELS: u32 = 1024;
 
 /// The labels of a program and the edges between them. Label 0 is the end; each statement has one of the others, in the order of the
 /// tree: a statement stands before its parts, the first part of an `if` before the second, a body before its step; the label of a `do`

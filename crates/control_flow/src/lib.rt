@@ -26,7 +26,7 @@ mod transition;
 pub use action::Action;
 pub use edge::{Choice, Edge, EdgeKind};
 pub use fault::FlowFault;
-pub use graph::Graph;
+pub use graph::{Graph, LABELS};
 pub use linear_forms::{affine_of, conjunctions, linearise, spread};
 pub use measure::{anywhere, greatest_number};
 pub use place::{CHOSEN_PLACE, Place};

@@ -9,16 +9,13 @@ ghost use Rattle.fit_check.specs.Safety.{IsFitTree};
 
 use crate::family::fit_family;
 use control_flow::laws::edges_lead_to_labels;
-use control_flow::{FlowFault, Graph};
+use control_flow::{FlowFault, Graph, LABELS};
 use decision_tree::{AffineRank, Family, Tree};
 use forward_inv::{Inv, invariants};
 use int_fit::{guard, narrow, what_fits_behind_the_guard_fits};
 use num_domain::NumDomain;
 use std::alloc::{AllocError, Global};
 use step_meaning::Program;
-
-/// The most labels of a program.
-const LABELS: u32 = 1_024;
 
 /// A tree: where it is defined at an input, the runs of the program from there stay within the numbers of 32 bits, where each `?` that is a number is one
 /// of these. The program has so many labels; where there is room for one more, the invariants know that each variable is such a number, since the

@@ -9,7 +9,7 @@ mod made;
 mod programs;
 
 use crate::fault::Fault;
-use control_flow::Graph;
+use control_flow::{Graph, LABELS};
 use ctl_formula::Formula;
 use decision_tree::{AffineRank, Family, Tree, TreeList};
 use forward_inv::{Inv, invariants};
@@ -18,9 +18,6 @@ use made::{Claims, line_trees, loop_trees, parts, value_trees};
 use programs::{line, loops};
 use std::alloc::{AllocError, Global};
 use tree_check::check;
-
-/// The most labels of a program, the end included.
-const LABELS: u32 = 1024;
 
 /// The labels of a loop of one assignment: the end, the test and the assignment.
 const OF_A_LOOP: u32 = 3;
