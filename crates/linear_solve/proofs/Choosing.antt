@@ -1,5 +1,5 @@
 -- The choice of the next place, one place at a time.
-use Rattle.std.proofs.Common.{◌≡◌, ◌⊎◌, inl, inr, ℕ, ◌+◌, ◌<◌, ◌≤◌, ◌∙◌, List, sym, ap, subst, arith, below_more, Option, None, Some, MatchOption, true, false}
+use Rattle.std.proofs.Common.{◌≡◌, ◌⊎◌, inl, inr, ℕ, ◌+◌, ◌<◌, ◌≤◌, ◌∙◌, List, sym, ap, subst, arith, below_more, Option, None, Some, IfSome, MatchOption, true, false}
 use Rattle.std.proofs.lemmas.Bool.{false≢true}
 use Rattle.linear_cons.specs.declared.row.Row.{Row}
 use Rattle.linear_solve.specs.Elimination.{pairs_of}
@@ -51,3 +51,11 @@ choice_same rows n (Some old) none before = record {
   pairs = before.pairs;
   fewest = below_more (λ other. occurs other rows ≡ true → old.pairs ≤ pairs_of other rows) n before.fewest (λ is. absurd (false≢true (sym none ∙ is)));
 }
+
+-- the choice with fewer pairs is one of the two
+pub fewer_is : (P : Choice → Type 0) (best : Option Choice) (next result : Choice)
+    → MatchOption best (result ≡ next) (λ old. ((result ≡ next) × (next.pairs < old.pairs)) ⊎ ((result ≡ old) × (old.pairs ≤ next.pairs)))
+    → IfSome best P → P next → P result
+fewer_is P None next result same some here = subst P (sym same) here
+fewer_is P (Some old) next result (inl both) some here = subst P (sym both.0) here
+fewer_is P (Some old) next result (inr both) some here = subst P (sym both.0) some

@@ -6,3 +6,4 @@ pub mod Points
 pub mod Solving
 pub mod Findings
 pub mod Counts
+pub mod Choices

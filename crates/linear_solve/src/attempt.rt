@@ -1,13 +1,14 @@
 //! A first attempt to decide rows, of which nothing is believed but what is checked.
-ghost use Rattle.std.specs.Prelude.{◌<◌, IfOk, MatchOption, IsTrue, ⊤};
+ghost use Rattle.std.specs.Prelude.{◌≡◌, ◌<◌, IfOk, MatchOption, IsTrue, true, ⊤};
 ghost use Rattle.linear_solve.specs.Answers.{IsPointOf};
 ghost use Rattle.linear_solve.specs.Findings.{IsFinding, IsProposal};
+ghost use Rattle.linear_solve.specs.Systems.{occurs};
 
 use crate::answer::Stop;
 use crate::certificate::{adds_up, meets_all};
 use crate::eliminate::eliminate;
 use crate::opposed::{meets_opposed, opposes_one};
-use crate::order::{next_place, sides};
+use crate::order::{next_exact_place, next_place, sides};
 use crate::point::Point;
 use crate::tableau::{Claim, pivoted};
 use linear_cons::Row;
@@ -34,6 +35,21 @@ enum Way {
     Pivots,
     /// It is eliminated as long as it stays short.
     Eliminations,
+}
+
+impl Way {
+    /// The place that is eliminated next. Eliminations take first those that lose no whole number.
+    fn next(self, rows: &[Row]) -> Option<u8>
+        ensures { MatchOption result ⊤ (λ place. (place < 16) × (occurs place rows.now ≡ true)) }
+    {
+        match self {
+            Way::Pivots => next_place(rows),
+            Way::Eliminations => match next_exact_place(rows) {
+                Some(place) => Some(place),
+                None => next_place(rows),
+            },
+        }
+    }
 }
 
 /// What a look at the rows finds, which may come in any order: the origin, where no row has a constant below
@@ -141,7 +157,7 @@ fn search(alloc: Global, rows: &[Row], way: Way) -> Result<Option<Finding>, Allo
     if has_origin(rows) {
         return Ok(Some(Finding::Point(Point::origin())));
     }
-    let place = match next_place(rows) {
+    let place = match way.next(rows) {
         Some(place) => place,
         None => return Ok(None),
     };

@@ -1,7 +1,8 @@
 //! Which place is eliminated next.
-ghost use Rattle.std.specs.Prelude.{◌≡◌, ◌<◌, ◌+◌, ◌≤◌, ◌⊎◌, ℕ, MatchOption, length, false};
+ghost use Rattle.std.specs.Prelude.{◌≡◌, ◌<◌, ◌+◌, ◌≤◌, ◌⊎◌, ℕ, IfSome, MatchOption, length, false, true};
 ghost use Rattle.linear_cons.specs.Functions.{coefficient};
 ghost use Rattle.linear_solve.specs.Counts.{AreRaised, HaveRoom, count_at};
+ghost use Rattle.linear_solve.specs.Choices.{IsAmong};
 ghost use Rattle.linear_solve.specs.Elimination.{IsNext, lowers_of, one_above, one_below, uppers_of};
 ghost use Rattle.linear_solve.specs.Systems.{occurs};
 
@@ -90,6 +91,57 @@ pub(crate) fn next_place(rows: &[Row]) -> Option<u8>
         Some(choice) => Some(choice.place),
         None => None,
     }
+}
+
+/// Of the places that occur and whose elimination loses no whole number, the least of those with the fewest pairs. `None` where there is none.
+pub(crate) fn next_exact_place(rows: &[Row]) -> Option<u8>
+    ensures { IfSome result (λ place. (place < 16) × (occurs place rows.now ≡ true)) }
+{
+    let mut best = None;
+    for place in 0..PLACES as u8 {
+        if let Some(choice) = exact_choice(rows, place) {
+            best = Some(fewer(best, choice));
+        }
+    }
+    match best {
+        Some(choice) => Some(choice.place),
+        None => None,
+    }
+}
+
+/// The place, where it occurs and its elimination loses no whole number: where all rows that bound it from one side have the coefficient 1
+/// or -1 there (Pugh, "The Omega test", 1991).
+fn exact_choice(rows: &[Row], place: u8) -> Option<Choice>
+    requires { place < 16 }
+    ensures { IfSome result (λ choice. IsAmong rows.now choice) }
+{
+    let (lowers, uppers) = sides(rows, place);
+    if lowers + uppers == 0 {
+        return None;
+    }
+    if !is_exact(rows, place) {
+        return None;
+    }
+    let pairs = lowers as u128 * uppers as u128;
+    Some(Choice { place, pairs })
+}
+
+/// Whether each row from below has the coefficient 1 at the place, or each from above -1.
+fn is_exact(rows: &[Row], place: u8) -> bool
+    requires { place < 16 }
+{
+    let mut from_below = true;
+    let mut from_above = true;
+    for row in rows {
+        let coefficient = row.affine.coef[place as usize];
+        if coefficient > 1 {
+            from_below = false;
+        }
+        if coefficient < -1 {
+            from_above = false;
+        }
+    }
+    from_below || from_above
 }
 
 /// The choice with fewer pairs; the older where both have as many.
