@@ -1,5 +1,5 @@
 -- Rows that imply all of some others: what they give as a reason these give, and two of these are opposed only where two of them are.
-use Rattle.std.proofs.Common.{◌+◌, ◌*◌, ◌≤◌, ◌^◌, ◌≡◌, ℤ, true, List, [], ◌∷◌, ◌++◌, length, Contains, refl, ap, arith}
+use Rattle.std.proofs.Common.{inl, inr, ◌+◌, ◌*◌, ◌≤◌, ◌^◌, ◌≡◌, ℤ, true, List, [], ◌∷◌, ◌++◌, length, Contains, refl, ap, arith}
 use Rattle.std.proofs.lemmas.Int.{ints}
 use Rattle.std.proofs.lemmas.List.{length-append}
 use Rattle.std.proofs.lemmas.List.Elements.{All-append, All-push, All-weaker, Contains-append_left, Contains-append_right}
@@ -17,6 +17,8 @@ use Rattle.linear_solve.proofs.Solved.{after_mono, after_more}
 use Rattle.linear_solve.proofs.Tightening.{looser_met}
 use Rattle.linear_solve.specs.Answers.{IsPointOf, MayOutgrow, MayOverflow}
 use Rattle.linear_solve.specs.Systems.{HasOpposed, IsOctagonList, IsOctagonRow, IsSized, occurring}
+use Rattle.integer_point.proofs.Hardness as hardness
+use Rattle.constraint_stack.specs.Reasons.{IsReasonable}
 use Rattle.constraint_stack.specs.Stacks.{Cover}
 
 -- ---- one row that is implied
@@ -107,6 +109,18 @@ cover_overflows rows all cover many =
     let p = after_mono (occurring rows) (length rows) (length all) cover.few in
     let q = after_more (occurring rows) (occurring all) (length all) (cover_occurs rows all cover) in
     omega (arith, p, q, many)
+
+cover_hard : (rows all : List Row) → Cover rows all → hardness.Cover all rows
+cover_hard rows all cover = record {
+  among = in_all rows all cover;
+  implies = λ num den positive met. cover_met rows all num den cover (record { positive = positive; meets = met });
+  short = cover.few;
+}
+
+pub cover_reasonable : (rows all : List Row) (den : ℤ) → Cover rows all → IsReasonable rows den → IsReasonable all den
+cover_reasonable rows all den cover (inl whole) = inl whole
+cover_reasonable rows all den cover (inr (inl hard)) = inr (inl (hardness.hard_kept all rows (cover_hard rows all cover) hard))
+cover_reasonable rows all den cover (inr (inr many)) = inr (inr (let few = cover.few in omega (arith, many, few)))
 
 pub covered_opposed : (rows : List Row) (row other : Row) → IsCovered rows row.affine → IsCovered rows other.affine → AreOpposed row other → HasOpposed rows
 covered_opposed rows row other first second opposed = record {

@@ -15,7 +15,7 @@ use Rattle.constraint_stack.specs.declared.reason.Reason.TheVariants.{Point, Wid
 use Rattle.constraint_stack.specs.Reasons.{IsOpen, IsSeen, IsWhole, Justifies, Shows, row_in_kind, rows_in, rows_of}
 use Rattle.constraint_stack.specs.Forming.{Formed, FormsWhole, exact}
 use Rattle.constraint_stack.specs.Claims.{ClaimFits, choices, kinds_of, System}
-use Rattle.constraint_stack.proofs.Covering.{cover_met, cover_octagons, cover_outgrows, cover_overflows, covered_opposed}
+use Rattle.constraint_stack.proofs.Covering.{cover_met, cover_octagons, cover_outgrows, cover_overflows, cover_reasonable, covered_opposed}
 use Rattle.constraint_stack.specs.Stacks.{Cover, Gives, GivesWith, Held, IsFormed, Item, Refutes, all_asked, all_chosen, asked, chosen, kind_of, kinds, unformed}
 
 kinds_asked : (asks : List Formed) → kinds (all_asked asks) ≡ map (λ a. row_kind_of (exact a)) asks
@@ -76,8 +76,9 @@ module _ {R : Type 0} (ranks : Ranks R) where
 
   by_rows : (s : System R) (choice : List RowKind) (items : List Item) (rows : List Row) (reason : Reason) → Stands s choice items → Held items rows None → Gives rows reason → IsSeen ranks s choice → Contains (choices ranks s.claim) choice → kinds items ≡ kinds_of ranks s choice → Justifies ranks reason s
   by_rows s choice items rows (Point num den) stands held gives seen member all =
-      let kinds_met = point_kinds (kinds items) num den (held.whole refl).1 (cover_met rows (rows_in (kinds items)) num den (held.whole refl).0 gives) in
-      (gives.positive, (choice, member, subst (λ each. All (λ kind. PointMeetsKind num den kind) each) all kinds_met))
+      let kinds_met = point_kinds (kinds items) num den (held.whole refl).1 (cover_met rows (rows_in (kinds items)) num den (held.whole refl).0 gives.0) in
+      let reasonable = cover_reasonable rows (rows_of ranks s choice) den (rows_cover s choice items rows stands held) gives.1 in
+      (gives.0.positive, (choice, member, subst (λ each. All (λ kind. PointMeetsKind num den kind) each) all kinds_met, reasonable))
   by_rows s choice items rows (TooWide w) stands held gives seen member all =
       let cover = rows_cover s choice items rows stands held in
       let all = rows_of ranks s choice in

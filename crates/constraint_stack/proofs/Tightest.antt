@@ -1,5 +1,5 @@
 -- The tightest of some rows: what they give as a reason all of them give, and a row that they refute is opposed to one of them.
-use Rattle.std.proofs.Common.{◌+◌, ◌*◌, ◌≤◌, ◌^◌, List, [], ◌∷◌, ◌++◌, length, Contains, subst, sym, arith, ⊎_elim}
+use Rattle.std.proofs.Common.{◌+◌, ◌*◌, ◌≤◌, ◌^◌, ℤ, inl, inr, Option, None, Some, MatchOption, List, [], ◌∷◌, ◌++◌, length, Contains, subst, sym, arith, ⊎_elim}
 use Rattle.std.proofs.lemmas.Int.{ints}
 use Rattle.std.proofs.lemmas.List.Elements.{Contains-push_cases}
 use Rattle.linear_cons.specs.declared.row.Row.{Row}
@@ -7,16 +7,20 @@ use Rattle.linear_cons.specs.Rows.{AreOpposed}
 use Rattle.linear_cons.specs.Settling.{functions_of_rows}
 use Rattle.linear_cons.specs.Tightest.{IsCovered}
 use Rattle.linear_cons.proofs.Dividing.{zeros_not_primitive}
-use Rattle.linear_solve.proofs.Deciding.{kept_occurs, kept_sized}
+use Rattle.linear_solve.proofs.Deciding.{kept_occurs, kept_point, kept_sized, no_store_of_kept}
 use Rattle.linear_solve.proofs.Lists.{all_of, in_map, member_of}
 use Rattle.linear_solve.proofs.Modest.{power_le}
 use Rattle.linear_solve.proofs.Solved.{after_mono, after_more}
 use Rattle.linear_solve.proofs.Tightening.{stand_for}
-use Rattle.linear_solve.specs.Answers.{MayOutgrow, MayOverflow}
+use Rattle.linear_solve.specs.Answers.{HasNoStore, MayOutgrow, MayOverflow}
 use Rattle.linear_solve.specs.Elimination.{StandFor}
 use Rattle.linear_solve.specs.Systems.{IsOctagonList, IsOctagonRow, IsOpposedToOne, occurring}
+use Rattle.integer_point.proofs.Hardness as hardness
 use Rattle.decision_tree.specs.Trails.{AreTightestOf}
-use Rattle.constraint_stack.specs.Stacks.{KeepsApart}
+use Rattle.constraint_stack.specs.declared.reason.Reason.{Reason}
+use Rattle.constraint_stack.specs.declared.reason.Reason.TheVariants.{Point, Wide as TooWide, Rows}
+use Rattle.constraint_stack.specs.Reasons.{IsReasonable}
+use Rattle.constraint_stack.specs.Stacks.{Gives, KeepsApart}
 
 pub held_stands : (way held : List Row) → AreTightestOf way held → StandFor way held
 held_stands way held tightest = stand_for way held tightest.tightest tightest.few
@@ -39,6 +43,27 @@ overflows way held tightest many =
     let p = after_mono (occurring held) (length held) (length way) stand.short in
     let q = after_more (occurring held) (occurring way) (length way) (kept_occurs way held stand) in
     omega (arith, p, q, many)
+
+-- ---- what the tightest give as a reason all give
+
+reasonable_way : (way held : List Row) (den : ℤ) → AreTightestOf way held → IsReasonable held den → IsReasonable way den
+reasonable_way way held den tightest (inl whole) = inl whole
+reasonable_way way held den tightest (inr (inl hard)) =
+    let stand = held_stands way held tightest in
+    inr (inl (hardness.hard_kept way held (record { among = stand.among; implies = stand.implies; short = stand.short }) hard))
+reasonable_way way held den tightest (inr (inr many)) = inr (inr (let short = (held_stands way held tightest).short in omega (arith, many, short)))
+
+pub gives_way : (way held : List Row) → AreTightestOf way held → (reason : Reason) → Gives held reason → Gives way reason
+gives_way way held tightest (Point num den) gives =
+    (kept_point way held num den (held_stands way held tightest) gives.0, reasonable_way way held den tightest gives.1)
+gives_way way held tightest (TooWide operands) gives =
+    (gives.0, no_octagons way held tightest gives.1, outgrows way held tightest gives.2)
+gives_way way held tightest (Rows count) (above, inl many) = (above, inl (let short = (held_stands way held tightest).short in omega (arith, many, short)))
+gives_way way held tightest (Rows count) (above, inr may) = (above, inr (no_octagons way held tightest may.0, overflows way held tightest may.1))
+
+pub found_way : (way held : List Row) → AreTightestOf way held → (found : Option Reason) → MatchOption found (HasNoStore held) (Gives held) → MatchOption found (HasNoStore way) (Gives way)
+found_way way held tightest None none = no_store_of_kept way held (held_stands way held tightest) none
+found_way way held tightest (Some reason) gives = gives_way way held tightest reason gives
 
 -- ---- opposed rows
 

@@ -1,5 +1,5 @@
 -- When a reason holds against a system.
-use Rattle.std.specs.Prelude.{◌≡◌, ◌⊎◌, ◌<◌, pos, ◌<ℤ◌, List, [], length, All, Contains, Option, None, Some}
+use Rattle.std.specs.Prelude.{◌≡◌, ◌⊎◌, ◌<◌, ℤ, pos, ◌<ℤ◌, List, [], length, All, Contains, Option, None, Some}
 use Rattle.std.specs.List.{filter_map}
 use Rattle.linear_cons.specs.declared.row.Row.{Row}
 use Rattle.linear_cons.specs.declared.row.RowKind.{RowKind}
@@ -8,6 +8,7 @@ use Rattle.linear_cons.specs.Exact.{IsOutside}
 use Rattle.linear_cons.specs.Rows.{AreOpposed, PointMeetsKind, row_kind_of}
 use Rattle.linear_solve.specs.Answers.{MayOutgrow, MayOverflow}
 use Rattle.linear_solve.specs.Systems.{IsOctagonList, occurring}
+use Rattle.integer_point.specs.Hard.{IsHard}
 use Rattle.decision_tree.specs.declared.rank.Rank.{Ghosts as Ranks}
 use Rattle.constraint_stack.specs.declared.reason.Reason.{Reason}
 use Rattle.constraint_stack.specs.declared.reason.Reason.TheVariants.{Point, Wide as TooWide, Rows}
@@ -22,6 +23,11 @@ row_in_kind (Kept row) = Some row
 
 abbrev pub rows_in : List RowKind → List Row
 rows_in kinds = filter_map row_in_kind kinds
+
+-- A point with this denominator is a reason against rows that it meets: it is a store, or splits don't tell whether a store meets the rows, or these are too
+-- many to be split.
+abbrev pub IsReasonable : List Row → ℤ → Type 0
+IsReasonable rows den = (den ≡ pos 1) ⊎ IsHard rows ⊎ (4086 < length rows)
 
 module _ {R : Type 0} (ranks : Ranks R) where
   -- the rows of a system with one list of its claim
@@ -48,13 +54,14 @@ module _ {R : Type 0} (ranks : Ranks R) where
   abbrev pub IsWhole : System R → Type 0
   IsWhole system = All FormsWhole system.asks × ClaimFits ranks system.claim
 
-  -- The reason holds for the system: the point meets every row; a number that is formed for it lies outside 128 bits, or may do so in the
+  -- The reason holds for the system: the point meets every row, and is a store where splits tell; a number that is formed for it lies outside 128 bits, or may do so in the
   -- elimination; its rows are too many, or may come to be.
   abbrev pub Justifies : Reason → System R → Type 0
   Justifies (Point num den) system =
       (pos 0 <ℤ den)
       × ((choice : List RowKind) × Contains (choices ranks system.claim) choice
-      × All (λ kind. PointMeetsKind num den kind) (kinds_of ranks system choice))
+      × All (λ kind. PointMeetsKind num den kind) (kinds_of ranks system choice)
+      × IsReasonable (rows_of system choice) den)
   Justifies (TooWide operands) system =
       IsOutside operands
       × ((choice : List RowKind) × IsSeen system choice × IsOpen system choice

@@ -12,7 +12,7 @@ use Rattle.linear_solve.specs.Answers.{IsPointOf, MayOutgrow, MayOverflow}
 use Rattle.linear_solve.specs.Systems.{HasOpposed, IsOctagonList, IsOpposedToOne, occurring}
 use Rattle.constraint_stack.specs.declared.reason.Reason.{Reason}
 use Rattle.constraint_stack.specs.declared.reason.Reason.TheVariants.{Point, Wide as TooWide, Rows}
-use Rattle.constraint_stack.specs.Reasons.{rows_in}
+use Rattle.constraint_stack.specs.Reasons.{IsReasonable, rows_in}
 use Rattle.constraint_stack.specs.Forming.{Formed, FormsWhole, exact}
 use Rattle.constraint_stack.specs.declared.finding.Finding.{Finding}
 
@@ -114,10 +114,10 @@ Adds (Ok (Kept row)) rows wide true new wider = (new ≡ rows ++ row ∷ []) × 
 Adds (Ok (Kept row)) rows wide false new wider = IsOpposedToOne row rows × (new ≡ rows) × (wider ≡ wide)
 Adds (Err w) rows wide added new wider = (added ≡ true) × (new ≡ rows) × (wider ≡ first_of wide w)
 
--- what the rows give as a reason: a point that meets them; operands that left 128 bits where they may be left in eliminating; or that there
+-- what the rows give as a reason: a point that meets them, a store where splits tell; operands that left 128 bits where they may be left in eliminating; or that there
 -- are too many of them, or may come to be
 abbrev pub Gives : List Row → Reason → Type 0
-Gives rows (Point num den) = IsPointOf rows num den
+Gives rows (Point num den) = IsPointOf rows num den × IsReasonable rows den
 Gives rows (TooWide w) = IsOutside w × (¬ IsOctagonList rows) × MayOutgrow (occurring rows) rows
 Gives rows (Rows count) =
     (4096 < count) × ((4096 < length rows) ⊎ ((¬ IsOctagonList rows) × MayOverflow (occurring rows) rows))

@@ -2,12 +2,13 @@
 ghost use Rattle.std.specs.Prelude.{◌≡◌, [], true, IfOk, None, Ok, MatchOption, length, take};
 ghost use Rattle.linear_cons.specs.declared.row.RowKind.TheVariants.{Row as Kept};
 ghost use Rattle.linear_cons.specs.Settling.{settles};
-ghost use Rattle.linear_solve.specs.Answers.{HasNoStore};
+ghost use Rattle.linear_solve.specs.Answers.{HasNoStore, IsPointOf};
 ghost use Rattle.constraint_stack.specs.Stacks.{Adds, Gives, IsToldByOne, IsTried, is_there, restored};
 
 use crate::finding::Finding;
 use crate::reason::Reason;
 use decision_tree::Trail;
+use integer_point::{MOST_TO_SPLIT, Whole, decide_whole};
 use linear_cons::{MOST_ROWS, Row, RowKind, Wide};
 use linear_solve::{Answer, decide_tightest, opposes_one};
 use std::alloc::{AllocError, Global};
@@ -144,9 +145,34 @@ impl ConstraintStack {
         }
         match decide_tightest(self.alloc, rows)? {
             Answer::Empty => Ok(None),
-            Answer::Point { num, den } => Ok(Some(Reason::Point { num, den })),
+            Answer::Point { num, den } => {
+                let reason = by_point(self.alloc, rows, num, den)?;
+                Ok(reason)
+            }
             Answer::Wide(wide) => Ok(Some(Reason::Wide(wide))),
             Answer::Rows { count } => Ok(Some(Reason::Rows { count })),
         }
+    }
+}
+
+/// What a point that meets the rows gives as a reason: where it is no store, one is looked for. `None` where no store meets the rows.
+fn by_point(
+    alloc: Global,
+    rows: &[Row],
+    num: [i128; 16],
+    den: i128,
+) -> Result<Option<Reason>, AllocError>
+    requires { IsPointOf rows.now num den }
+    ensures { IfOk result (λ found. MatchOption found (HasNoStore rows.now) (Gives rows.now)) }
+{
+    if den == 1 || rows.len() > MOST_TO_SPLIT {
+        return Ok(Some(Reason::Point { num, den }));
+    }
+    match decide_whole(alloc, rows)? {
+        Whole::Empty => Ok(None),
+        Whole::Store(store) => Ok(Some(Reason::Point { num: store, den: 1 })),
+        Whole::Deep { path: _ } => Ok(Some(Reason::Point { num, den })),
+        Whole::Wide(_) => Ok(Some(Reason::Point { num, den })),
+        Whole::Rows { count: _ } => Ok(Some(Reason::Point { num, den })),
     }
 }

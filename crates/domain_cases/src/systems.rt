@@ -1,6 +1,7 @@
 //! Calls of the solver. `decide R and R ..` says what it finds of rows, `project x from R and R ..` which rows are left without a variable, `decide without x
-//! from ..` what it finds of those, and `tightest R and R ..` which are the tightest.
+//! from ..` what it finds of those, `tightest R and R ..` which are the tightest, and `whole R and R ..` whether splits find a store, with its x, y and z.
 use case_text::{Answer, Words, read_rows};
+use integer_point::{MOST_TO_SPLIT, Whole, decide_whole};
 use linear_cons::{MOST_ROWS, PLACES, Row};
 use linear_solve::{Answer as Solved, Projected, decide, project, tightest};
 use std::alloc::{AllocError, Global};
@@ -16,6 +17,10 @@ pub fn answers(
         "decide" => {
             let rows = rows_left(alloc, words)?;
             answer.push(decided(alloc, &rows)?);
+        }
+        "whole" => {
+            let rows = rows_left(alloc, words)?;
+            push_whole(alloc, &rows, answer)?;
         }
         "project" => answer.push_rows(projected(alloc, words)?.as_slice()),
         "tightest" => answer.push_rows(tightest(read_rows(alloc, words)?).as_slice()),
@@ -58,6 +63,30 @@ fn decided(alloc: Global, rows: &[Row]) -> Result<&'static str, AllocError> {
         Solved::Wide(_) => "wide",
         Solved::Rows { .. } => "too many rows",
     })
+}
+
+/// Writes what splits at fractions find of the rows. A store counts once it is seen to meet them.
+fn push_whole(alloc: Global, rows: &[Row], answer: &mut Answer) -> Result<(), AllocError> {
+    if rows.len() > MOST_TO_SPLIT {
+        answer.push("more rows than can be split");
+        return Ok(());
+    }
+    match &decide_whole(alloc, rows)? {
+        Whole::Empty => answer.push("empty"),
+        Whole::Store(store) if !meets(rows, store, 1) => {
+            answer.push("a store that doesn't meet them");
+        }
+        Whole::Store(store) => {
+            for (name, place) in [("x = ", 0), (", y = ", 1), (", z = ", 2)] {
+                answer.push(name);
+                answer.push_number(store[place]);
+            }
+        }
+        Whole::Deep { .. } => answer.push("deep"),
+        Whole::Wide(_) => answer.push("wide"),
+        Whole::Rows { .. } => answer.push("too many rows"),
+    }
+    Ok(())
 }
 
 /// True only where `num / den` is a point that meets every row.

@@ -1,9 +1,9 @@
-//! Advisers whose hints say nothing, or are false.
+//! Advisers whose hints say nothing, or are false, or are refuted by points with fractions alone.
 ghost use Rattle.std.specs.Prelude.{◌≡◌, ◌≤◌, ◌^◌, All, IsTrue};
 
 use advice::{Adviser, Hint, LoopFact};
 use function_top::Status;
-use linear_cons::Affine;
+use linear_cons::{Affine, Row, RowKind};
 use memory_runs::{
     COUNT_UP, COUNT_UP_REPORT, COUNTDOWN, NO_OPTIONS, TWO_SPEEDS, outcome_by, unadvised,
 };
@@ -14,6 +14,7 @@ use std::test::Fail;
 struct Hinting {
     asked: u64,
     label: u32,
+    split: Option<Row>,
     turns: Affine,
     rises: bool,
 }
@@ -31,7 +32,7 @@ impl Adviser for Hinting {
         }
         Some(Hint {
             label: self.label,
-            split: [None; 4],
+            split: [self.split, None, None, None],
             turns,
         })
     }
@@ -48,6 +49,7 @@ fn steady(label: u32, turns: Affine) -> Hinting
     Hinting {
         asked: 0,
         label,
+        split: None,
         turns,
         rises: false,
     }
@@ -101,6 +103,42 @@ fn nobody_need_advise(rt: HostRuntime) -> Result<(), Fail> {
     assert_eq!(rt; written.as_slice(), COUNT_UP_REPORT.as_bytes());
     assert_eq!(rt; status, Status::SomeInputs);
     Ok(())
+}
+
+/// Loops whose first branch no store takes, though points with fractions do: by a parity, and by Pugh's example ("The Omega test", 1991).
+const BRANCHES_NOT_TAKEN: [&str; 2] = [
+    "int main() { int x, y, z; while (x > 0) { if (x <= 3 && y == 2*x && y == 2*z + 1) x = x + 1; else x = x - 1; } }",
+    "int main() { int x, y; while (x > 0) { if (11*x + 13*y >= 27 && 11*x + 13*y <= 45 && 7*x - 9*y >= -10 && 7*x - 9*y <= 4) x = x + 1; else x = x - 1; } }",
+];
+
+// The loop makes x turns from where x is at least 1.
+#[test]
+fn a_hint_stands_where_no_store_refutes_it(rt: HostRuntime) -> Result<(), Fail> {
+    let alloc = rt.alloc();
+    for text in BRANCHES_NOT_TAKEN {
+        let mut adviser = steady(1, Affine::var(0));
+        adviser.split = at_least_one();
+        assert!(rt; adviser.split.is_some());
+        let mut advisers: Vec<Box<dyn Adviser>> = Vec::with_capacity(alloc, 1)?;
+        advisers.push(Box::new(alloc, adviser)?)?;
+        let (status, report) = outcome_by(alloc, NO_OPTIONS, text.as_bytes(), &mut advisers)?;
+        assert_eq!(rt; status, Status::AllInputs, "on {text}");
+        assert!(rt;
+            report
+                .as_slice()
+                .ends_with(b"unknown:\nverdict: all inputs\n"),
+            "on {text}"
+        );
+    }
+    Ok(())
+}
+
+// x - 1 >= 0.
+fn at_least_one() -> Option<Row> {
+    match Affine::var(0).plus(-1).map(Row::of) {
+        Ok(RowKind::Row(row)) => Some(row),
+        _ => None,
+    }
 }
 
 /// Hints of a label and of turns, where these are so many times x and a constant: on the loop that there is that it makes no turns, or one; on a loop

@@ -15,6 +15,7 @@ use Rattle.linear_cons.specs.Tightest.{AreTightest}
 use Rattle.linear_cons.proofs.Forms.{value_constant, value_difference, value_sum, value_variable}
 use Rattle.linear_cons.proofs.Over.{over_constant}
 use Rattle.linear_solve.specs.Answers.{HasNoStore}
+use Rattle.integer_point.specs.Hard.{MayHaveStore}
 use Rattle.decision_tree.specs.declared.affine_rank.AffineRank.{AffineRank}
 use Rattle.decision_tree.specs.Evaluation.{eval}
 use Rattle.decision_tree.specs.Extent.{ComplementsFit, IsTreeOver}
@@ -26,7 +27,7 @@ use Rattle.line_text.proofs.Rows.{met_as_condition}
 use Rattle.report_text.specs.declared.line.Line.{Line}
 use Rattle.report_text.specs.declared.line.Top.TheVariants.{Fits}
 use Rattle.report_text.specs.Fitting.{AreFitLines, AreLeft, IsAddedIfMet, IsMadeOf, ListsFit, goes, none, plain, stays}
-use Rattle.report_text.specs.Leaves.{MayStand, MeetsOneLine, NoneOf, OneOf, claim_at, is_unknown}
+use Rattle.report_text.specs.Leaves.{MeetsOneLine, NoneOf, OneOf, claim_at, is_unknown}
 use Rattle.report_text.specs.Printed.{IsLineOver}
 use Rattle.report_text.proofs.Over.{tree_lines_over}
 use Rattle.report_text.proofs.Standing.{one_line_met, one_of_parts}
@@ -169,7 +170,7 @@ one_down rows ranges old new i row low item before after =
     ∙ ap (λ t. rows ++ t) (sym (take_snoc ranges i row low item))
 
 pub both_met_nowhere : (rows ranges way kept : List Row) (nowhere : Bool) → way ≡ rows ++ ranges → AreTightest (functions_of way) kept
-    → MatchBool nowhere (HasNoStore kept) (MayStand kept) → nowhere ≡ true → (store : List ℤ) → MeetsAll store rows → ¬ MeetsAll store ranges
+    → MatchBool nowhere (HasNoStore kept) (MayHaveStore kept) → nowhere ≡ true → (store : List ℤ) → MeetsAll store rows → ¬ MeetsAll store ranges
 both_met_nowhere rows ranges way kept true is tightest empty holds store met other =
     let both : MeetsAll store way = subst (MeetsAll store) (sym is) (All-append (Meets store) rows ranges met other) in
     empty store ((tightest_met (functions_of way) kept store tightest).1 ((met_as_condition store way).0 both))

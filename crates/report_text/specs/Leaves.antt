@@ -1,11 +1,9 @@
 -- The lines of a tree: one for each leaf, but for leaves whose condition is known to be met nowhere.
-use Rattle.std.specs.Prelude.{◌≡◌, ◌⊎◌, ◌<◌, ℤ, List, [], ◌∷◌, ◌++◌, length, filter, Bool, true, false, not, ⊤}
+use Rattle.std.specs.Prelude.{◌≡◌, ◌⊎◌, ℤ, List, [], ◌∷◌, ◌++◌, filter, Bool, true, false, not, ⊤}
 use Rattle.linear_cons.specs.declared.affine.Affine.{Affine}
-use Rattle.linear_cons.specs.declared.row.Row.{Row}
 use Rattle.linear_cons.specs.Functions.{IsConstant, complement_of}
 use Rattle.linear_cons.specs.Rows.{MeetsAll}
-use Rattle.linear_solve.specs.Answers.{IsAnswerTo, IsEmpty}
-use Rattle.linear_solve.specs.declared.answer.Answer.{Answer}
+use Rattle.integer_point.specs.Hard.{MayHaveStore}
 use Rattle.linear_cons.specs.Tightest.{AreTightest}
 use Rattle.decision_tree.specs.declared.affine_rank.AffineRank.{AffineRank}
 use Rattle.decision_tree.specs.Plans.{Plan, bottom, top, leaf, branch}
@@ -49,21 +47,11 @@ claiming_nothing lines = filter (λ line. is_unknown line.claim) lines
 abbrev pub IsMetNowhere : List Affine → Type 0
 IsMetNowhere path = (store : List ℤ) → MeetsPath store path → ⊥
 
--- the solver may give the rows another answer than that no store meets them: a point, or by the bounds of its contract none
-pub record HasOtherAnswer (rows : List Row) : Type 0 where
-  pub answer : Answer
-  pub is : IsAnswerTo rows answer
-  pub other : ¬ IsEmpty answer
-
--- the solver may answer otherwise than that no store meets the rows, or they are more than it takes
-abbrev pub MayStand : List Row → Type 0
-MayStand rows = HasOtherAnswer rows ⊎ (4096 < length rows)
-
 -- the line of a leaf: the tightest rows of its path, and its claim
 pub record IsLineOf (path : List Affine) (claim : Claim) (line : Line) : Type 0 where
   pub rows : AreTightest path line.rows
   pub claims : line.claim ≡ claim
-  pub stands : MayStand line.rows
+  pub stands : MayHaveStore line.rows
 
 -- the leaves of a tree below the functions of a path, in their order: each with the functions of its own path and with what it claims
 abbrev pub leaves_below : {R : Type 0} → (R → Claim) → List Affine → Plan R → List (List Affine × Claim)

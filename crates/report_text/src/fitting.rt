@@ -8,11 +8,12 @@ ghost use Rattle.decision_tree.specs.Plans.{plan_of};
 ghost use Rattle.int_fit.specs.Fitting.{AreInts, FitsInt};
 ghost use Rattle.report_text.specs.Fitting.{AreFitLines, AreLeft, IsAddedIfMet, IsMadeOf, ListsFit, plain};
 
-use crate::leaves::{condition, has_no_store, lines};
+use crate::leaves::{condition, lines};
 use crate::line::{Line, Top};
 use crate::line_list::Lines;
 use crate::refining::trail_of;
 use decision_tree::{AffineRank, Tree, Why};
+use integer_point::has_no_store;
 use linear_cons::{Affine, Row, RowKind, Rows, Wide};
 use std::alloc::{AllocError, Global};
 use tree_unify::laws::trimming_keeps_the_leaves_on_the_path;

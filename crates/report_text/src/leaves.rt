@@ -1,11 +1,10 @@
 //! The lines of a tree's leaves, and those behind a line of which nothing is claimed.
-ghost use Rattle.std.specs.Prelude.{◌≡◌, List, [], ◌∷◌, ◌++◌, IfOk, OnOk, MatchBool};
+ghost use Rattle.std.specs.Prelude.{◌≡◌, List, [], ◌∷◌, ◌++◌, IfOk, OnOk};
 ghost use Rattle.linear_cons.specs.Functions.{NumbersFit, complement_of};
-ghost use Rattle.linear_solve.specs.Answers.{HasNoStore};
-ghost use Rattle.linear_cons.specs.Tightest.{AreDistinct, AreTightest};
+ghost use Rattle.linear_cons.specs.Tightest.{AreTightest};
 ghost use Rattle.decision_tree.specs.Plans.{plan_of};
 ghost use Rattle.report_text.specs.declared.line.Top.{Top};
-ghost use Rattle.report_text.specs.Leaves.{AreLinesOf, HasConstantRanks, MayStand, claim_of, leaves_below};
+ghost use Rattle.report_text.specs.Leaves.{AreLinesOf, HasConstantRanks, claim_of, leaves_below};
 ghost use Rattle.decision_tree.specs.Extent.{ComplementsFit};
 ghost use Rattle.report_text.specs.Walk.{AreAdded};
 ghost use Rattle.decision_tree.specs.Trails.{IsTurned};
@@ -17,13 +16,13 @@ use crate::claims::Claims;
 use crate::line::{Line, Top};
 use crate::line_list::Lines;
 use decision_tree::{AffineRank, PathFault, Trail, Tree};
+use integer_point::has_no_store;
 use line_text::Claim;
-use linear_cons::{MOST_ROWS, Row, Rows};
-use linear_solve::{Answer, decide_tightest};
+use linear_cons::{Row, Rows};
 use std::alloc::{AllocError, Global};
 
-/// One line for each leaf of the tree whose condition the solver doesn't answer as empty, in the
-/// order of the leaves. The condition is the tightest rows of the leaf's path. A defined leaf claims
+/// One line for each leaf of the tree whose condition isn't seen to have no store, in the order of
+/// the leaves. The condition is the tightest rows of the leaf's path. A defined leaf claims
 /// what `top` says, an undefined one nothing. The only error is want of memory.
 pub fn lines(alloc: Global, tree: &Tree<AffineRank>, top: Top) -> Result<Lines, AllocError>
     requires fits { ComplementsFit (plan_of tree.now) }
@@ -124,19 +123,4 @@ pub(crate) fn condition(alloc: Global, trail: &Trail) -> Result<Rows, AllocError
 {
     let rows = trail.rows().to_vec(alloc)?;
     Ok(Rows::of(rows))
-}
-
-/// True only where no store meets the tightest rows, and false only where a point does or they lie beyond what
-/// the solver decides.
-pub(crate) fn has_no_store(alloc: Global, rows: &[Row]) -> Result<bool, AllocError>
-    requires { AreDistinct rows.now }
-    ensures { IfOk result (λ empty. MatchBool empty (HasNoStore rows.now) (MayStand rows.now)) }
-{
-    if rows.len() > MOST_ROWS {
-        return Ok(false);
-    }
-    match decide_tightest(alloc, rows)? {
-        Answer::Empty => Ok(true),
-        Answer::Point { .. } | Answer::Wide(_) | Answer::Rows { .. } => Ok(false),
-    }
 }

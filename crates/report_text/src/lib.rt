@@ -1,7 +1,7 @@
 //! The lines of a tree's leaves, the text of a report, and a report's text cut into its sections.
 //!
-//! It stands on `decision_tree` (leaves and their paths), `linear_solve` (conditions that are met
-//! nowhere) and `line_text` (the text of one line). The front door: `lines`, `print` and the types of a
+//! It stands on `decision_tree` (leaves and their paths), `integer_point` (conditions that no
+//! store meets) and `line_text` (the text of one line). The front door: `lines`, `print` and the types of a
 //! report; the words `AreLinesOf`, `IsReportText` and `lines_in`; and the laws that each store meets
 //! exactly one of a tree's lines, and that a printed report, or a front of it, is cut into what was
 //! printed.

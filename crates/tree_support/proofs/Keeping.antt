@@ -1,10 +1,10 @@
 -- What a set of leaves shows of itself keeps it whole in each elimination whose reasons would refute it.
-use Rattle.std.proofs.Common.{◌≡◌, ℕ, ◌+◌, ◌<◌, ℤ, pos, ◌<ℤ◌, inl, inr, Bool, true, false, cond, if◌then◌else◌, List, [], ◌∷◌, ◌++◌, get_or, map, Option, All, refl, sym, subst, ap, ◌∙◌, arith}
+use Rattle.std.proofs.Common.{◌≡◌, ℕ, ◌+◌, ◌<◌, ℤ, pos, ◌<ℤ◌, inl, inr, Bool, true, false, cond, if◌then◌else◌, List, [], ◌∷◌, ◌++◌, get_or, map, Option, All, refl, sym, subst, ap, ◌∙◌, arith, ⊎_elim}
 use Rattle.std.specs.List.{flat_map}
 use Rattle.std.proofs.Math.Path.{fun_ext}
 use Rattle.std.proofs.lemmas.Bool.{false≢true}
 use Rattle.std.proofs.lemmas.List.Concat.{flat_map-cons}
-use Rattle.std.proofs.lemmas.List.Elements.{All-append, All-contains, All-tail}
+use Rattle.std.proofs.lemmas.List.Elements.{All-append, All-cons, All-contains, All-nil, All-tail}
 use Rattle.linear_cons.specs.declared.affine.Affine.{Affine}
 use Rattle.linear_cons.specs.declared.row.RowKind.{RowKind}
 use Rattle.linear_cons.specs.Functions.{complement_of}
@@ -21,7 +21,7 @@ use Rattle.control_flow.specs.declared.edge.Choice.TheVariants.{Branch, Range}
 use Rattle.ctl_formula.specs.Formulas.{Ctl, until, weak}
 use Rattle.tree_support.specs.declared.dropped.Dropped.{Dropped}
 use Rattle.constraint_stack.specs.declared.reason.Reason.TheVariants.{Point}
-use Rattle.tree_support.specs.Elimination.{EachOfSet, Eliminates, IsByPoint, IsByStore, IsDrop, IsElsewhere, KeepsSet, cause_of, restricted, within, without_dropped}
+use Rattle.tree_support.specs.Elimination.{EachOfSet, Eliminates, AreTold, IsByPoint, IsByStore, IsDrop, IsElsewhere, IsTold, KeepsSet, cause_of, restricted, within, without_dropped}
 use Rattle.constraint_stack.specs.Reasons.{Justifies}
 use Rattle.tree_support.specs.Arcs.{Arc, rows_given}
 use Rattle.constraint_stack.specs.Forming.{Formed, exact, given}
@@ -266,3 +266,24 @@ module _ {R : Type 0} (ranks : Ranks R) where
 
     pub supported_sets_are_kept : EachOfSet set IsByStore drops → IsSupported ranks base (within set old) → KeepsSet set old new
     supported_sets_are_kept by supported = kept ranks (HasNoStore ranks) no_store_loosens IsByStore store_refutes base set drops old new legal by supported
+
+  -- where splits tell of the leaf's systems, a drop by a point shows a store
+  told_shows : (at : Setting R) (family : Trees R) (dropped : Dropped) → IsDrop ranks at family dropped → IsByPoint dropped → IsTold ranks at family dropped.label dropped.leaf → IsByStore dropped
+  told_shows at family dropped drop by told =
+      let met : Justifies ranks (Point by.0 by.1) drop.system = subst (λ reason. Justifies ranks reason drop.system) by.2 drop.justified in
+      ⊎_elim
+      (λ whole. (by.0, subst (λ den. dropped.reason ≡ Point by.0 den) whole by.2))
+      (λ hard. absurd (told drop.system drop.system_in met.1.0 met.1.1 hard))
+      met.1.3
+
+  told_by_stores : (at : Setting R) (set : ℕ → ℕ → Bool) (old new : Trees R) (drops : List Dropped) → Eliminates ranks at old drops new → AreTold ranks at set old drops → EachOfSet set IsByStore drops
+  told_by_stores at set old new [] legal told = All-nil (λ dropped. set dropped.label dropped.leaf ≡ true → IsByStore dropped)
+  told_by_stores at set old new (dropped ∷ rest) legal told =
+      All-cons (λ dropped. set dropped.label dropped.leaf ≡ true → IsByStore dropped) dropped rest
+      (λ inside. let by = told.0 inside in told_shows at old dropped legal.0 by.0 by.1)
+      (told_by_stores at set (without_dropped old dropped) new rest legal.1 told.1)
+
+  pub told_sets_are_kept : (at : Setting R) (set : ℕ → ℕ → Bool) (old new : Trees R) (drops : List Dropped) → Eliminates ranks at old drops new → AreTold ranks at set old drops
+      → IsSupported ranks at (within set old) → KeepsSet set old new
+  told_sets_are_kept at set old new drops legal told supported =
+      supported_sets_are_kept at set old new drops legal (told_by_stores at set old new drops legal told) supported

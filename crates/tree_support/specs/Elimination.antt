@@ -1,5 +1,7 @@
 -- Legal eliminations: leaves are given up one after the other, each for a reason that holds for one of its systems at that moment.
-use Rattle.std.specs.Prelude.{◌≡◌, ℕ, ◌+◌, ◌<◌, ◌==◌, ℤ, pos, List, [], ◌∷◌, All, Contains, Bool, true, if◌then◌else◌}
+use Rattle.std.specs.Prelude.{◌≡◌, ◌⊎◌, ℕ, ◌+◌, ◌<◌, ◌==◌, ℤ, pos, List, [], ◌∷◌, length, All, Contains, Bool, true, if◌then◌else◌, ⊤}
+use Rattle.linear_cons.specs.declared.row.RowKind.{RowKind}
+use Rattle.integer_point.specs.Hard.{IsHard}
 use Rattle.decision_tree.specs.declared.rank.Rank.{Ghosts as Ranks}
 use Rattle.decision_tree.specs.declared.reason.Cause.{Cause}
 use Rattle.decision_tree.specs.declared.reason.Cause.TheVariants as cause
@@ -9,8 +11,8 @@ use Rattle.tree_support.specs.declared.dropped.Dropped.{Dropped}
 use Rattle.constraint_stack.specs.declared.reason.Reason.{Reason}
 use Rattle.constraint_stack.specs.declared.reason.Reason.TheVariants.{Point, Wide as TooWide, Rows}
 use Rattle.tree_support.specs.Setting.{Setting, Trees}
-use Rattle.constraint_stack.specs.Claims.{System}
-use Rattle.constraint_stack.specs.Reasons.{Justifies}
+use Rattle.constraint_stack.specs.Claims.{System, choices}
+use Rattle.constraint_stack.specs.Reasons.{Justifies, rows_of}
 use Rattle.tree_support.specs.Systems.{systems}
 
 -- the cause that a leaf given up for a reason has
@@ -35,6 +37,10 @@ restricted keeps (leaf why rank) = if keeps 0 then leaf why rank else bottom
 abbrev pub within : {R : Type 0} → (ℕ → ℕ → Bool) → Trees R → Trees R
 within set family label = restricted (set label) (family label)
 
+-- the drop shows a point
+abbrev pub IsByPoint : Dropped → Type 0
+IsByPoint dropped = (num : List ℤ) × (den : ℤ) × (dropped.reason ≡ Point num den)
+
 module _ {R : Type 0} (ranks : Ranks R) where
   -- the leaf may be given up: its reason holds for one of its systems, of the edge that is named
   pub record IsDrop (at : Setting R) (family : Trees R) (dropped : Dropped) : Type 0 where
@@ -50,9 +56,19 @@ module _ {R : Type 0} (ranks : Ranks R) where
   Eliminates at old [] new = (label : ℕ) → new label ≡ old label
   Eliminates at old (dropped ∷ rest) new = IsDrop at old dropped × Eliminates at (without_dropped old dropped) rest new
 
--- the drop shows a point
-abbrev pub IsByPoint : Dropped → Type 0
-IsByPoint dropped = (num : List ℤ) × (den : ℤ) × (dropped.reason ≡ Point num den)
+  -- splits tell of each system of the leaf whether a store meets it
+  abbrev pub IsTold : Setting R → Trees R → ℕ → ℕ → Type 0
+  IsTold at family label place =
+      (system : System R) → Contains (systems at family label place) system
+      → (choice : List RowKind) → Contains (choices ranks system.claim) choice
+      → IsHard (rows_of ranks system choice) ⊎ (4086 < length (rows_of ranks system choice)) → ⊥
+
+  -- each drop of a leaf of the set shows a point, when splits tell of the leaf's systems
+  abbrev pub AreTold : Setting R → (ℕ → ℕ → Bool) → Trees R → List Dropped → Type 0
+  AreTold at set family [] = ⊤
+  AreTold at set family (dropped ∷ rest) =
+      (set dropped.label dropped.leaf ≡ true → IsByPoint dropped × IsTold at family dropped.label dropped.leaf)
+      × AreTold at set (without_dropped family dropped) rest
 
 -- the drop is of another leaf than this one
 abbrev pub IsElsewhere : ℕ → ℕ → Dropped → Type 0

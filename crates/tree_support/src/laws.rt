@@ -8,7 +8,7 @@ ghost use Rattle.decision_tree.specs.Paths.{leaf_numbered, path_of};
 ghost use Rattle.decision_tree.specs.Plans.{leaves_of, top};
 ghost use Rattle.control_flow.specs.Invariants.{AreInvariants};
 ghost use Rattle.tree_support.specs.Certificates.{IsShown, SmallerAreShown, operands_from};
-ghost use Rattle.tree_support.specs.Elimination.{EachOfSet, Eliminates, IsByPoint, IsByStore, IsElsewhere, KeepsSet, cause_of, within};
+ghost use Rattle.tree_support.specs.Elimination.{AreTold, EachOfSet, Eliminates, IsByPoint, IsByStore, IsElsewhere, KeepsSet, cause_of, within};
 ghost use Rattle.tree_support.specs.Setting.{Setting, Trees};
 ghost use Rattle.tree_support.specs.Soundness.{IsSound, IsSoundWithin};
 ghost use Rattle.tree_support.specs.declared.dropped.Dropped.{Dropped};
@@ -55,10 +55,13 @@ pub fn eliminations_give_up_what_they_list<R: Rank>()
 
 /// A firmly supported set of leaves is kept whole by each legal elimination in which every drop of a leaf of the set shows a point: only
 /// numbers outside 128 bits and too many rows cost more. A set that is supported, firmly or not, is kept whole where every such drop
-/// shows a store, a point with denominator 1: where the first of its leaves to be dropped shows a point, that is none.
+/// shows a store, a point with denominator 1: where the first of its leaves to be dropped shows a point, that is none. And it is kept whole where every such
+/// drop shows a point while splits at fractions tell of each system of the leaf whether a store meets it.
 pub fn what_supports_itself_is_kept<R: Rank>()
     ensures firm { (at : Setting R) (set : ℕ → ℕ → Bool) (old new : Trees R) (drops : List Dropped) → Eliminates R.Rank.own at old drops new
         → EachOfSet set IsByPoint drops → IsFirm R.Rank.own at (within set old) → KeepsSet set old new }
     ensures supported { (at : Setting R) (set : ℕ → ℕ → Bool) (old new : Trees R) (drops : List Dropped) → Eliminates R.Rank.own at old drops new
         → EachOfSet set IsByStore drops → IsSupported R.Rank.own at (within set old) → KeepsSet set old new }
+    ensures told { (at : Setting R) (set : ℕ → ℕ → Bool) (old new : Trees R) (drops : List Dropped) → Eliminates R.Rank.own at old drops new
+        → AreTold R.Rank.own at set old drops → IsSupported R.Rank.own at (within set old) → KeepsSet set old new }
 {}

@@ -1,8 +1,8 @@
 use Rattle.std.proofs.Common.{inr, rules}
 use Rattle.std.proofs.lemmas.Int.{to_z-of_z}
 use Rattle.linear_cons.specs.Numbers.{Fits128}
-use Rattle.linear_solve.proofs.Deciding.{kept_point, no_store_of_kept}
-use Rattle.constraint_stack.proofs.Tightest.{held_stands, no_octagons, outgrows, overflows}
+use Rattle.linear_solve.proofs.Deciding.{no_store_of_kept}
+use Rattle.constraint_stack.proofs.Tightest.{found_way, held_stands, no_octagons, outgrows, overflows}
 use Rattle.constraint_stack.proofs.stack.ConstraintStack.reason.Goals as goal
 
 pub returns-in-Empty : goal.returns-in-Empty
@@ -10,11 +10,14 @@ returns-in-Empty c =
     no_store_of_kept c.args.self.now.rows c.rows-rows.result.now (held_stands c.args.self.now.rows c.rows-rows.result.now c.rows-rows.ensures)
     (rw c.in-Empty.is at c.in_ok-decide_tightest.ensures)
 
-pub returns-in-Point : goal.returns-in-Point
-returns-in-Point c =
-    let point = rw c.in-Point.is at c.in_ok-decide_tightest.ensures in
+pub by_point-requires : goal.by_point-requires
+by_point-requires c =
     let den : Fits128 c.in-Point.den = search rules in
-    simp to_z-of_z (kept_point c.args.self.now.rows c.rows-rows.result.now c.in-Point.num c.in-Point.den (held_stands c.args.self.now.rows c.rows-rows.result.now c.rows-rows.ensures) point)
+    let point = rw c.in-Point.is at c.in_ok-decide_tightest.ensures in
+    simp to_z-of_z point
+
+pub returns-in_ok-reason-in-Point : goal.returns-in_ok-reason-in-Point
+returns-in_ok-reason-in-Point c = found_way c.args.self.now.rows c.rows-rows.result.now c.rows-rows.ensures c.in_ok-reason-in-Point.reason c.in_ok-reason-in-Point.ensures
 
 pub returns-in-Wide : goal.returns-in-Wide
 returns-in-Wide c =
