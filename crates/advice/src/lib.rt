@@ -7,12 +7,10 @@
 mod adviser;
 mod consulting;
 mod fact;
-mod guard;
+mod fact_adviser;
 mod memory;
-mod range;
 
 pub use adviser::Adviser;
 pub use consulting::consult;
 pub use fact::{FactKind, Hint, LoopFact};
-pub use guard::GuardAdviser;
-pub use range::RangeAdviser;
+pub use fact_adviser::FactAdviser;

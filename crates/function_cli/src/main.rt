@@ -8,7 +8,7 @@ mod telling;
 
 use crate::keeping::{KeepingSink, KeepingSource};
 use crate::telling::{Streams, tell};
-use advice::{Adviser, GuardAdviser, RangeAdviser};
+use advice::{Adviser, FactAdviser, FactKind};
 use function_top::{Status, run};
 use outside::{StreamSink, StreamSource};
 use std::alloc::AllocError;
@@ -85,8 +85,8 @@ fn status_of(rt: &HostRuntime, words: &[String]) -> Status {
 // How the run ends, with an adviser on rows of loops' tests and one on ranges of variables; the error is want of memory before it.
 fn status_or_no_memory(rt: &HostRuntime, words: &[String]) -> Result<Status, AllocError> {
     let words: Vec<&str> = words.iter().map(|word| word.as_str()).collect(rt.alloc())?;
-    let guards = Box::new(rt.alloc(), GuardAdviser::new())?;
-    let ranges = Box::new(rt.alloc(), RangeAdviser::new())?;
+    let guards = Box::new(rt.alloc(), FactAdviser::on(FactKind::Guard))?;
+    let ranges = Box::new(rt.alloc(), FactAdviser::on(FactKind::Range))?;
     run_with(rt, &words, guards, ranges)
 }
 

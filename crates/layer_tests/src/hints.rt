@@ -2,7 +2,7 @@
 
 ghost use Rattle.std.specs.Prelude.{◌<◌, ◌-◌, ◌^◌};
 
-use advice::{Adviser, FactKind, GuardAdviser, Hint, LoopFact, RangeAdviser, consult};
+use advice::{Adviser, FactAdviser, FactKind, Hint, LoopFact, consult};
 use linear_cons::{Affine, PLACES, Row, RowKind};
 use std::alloc::{AllocError, Global};
 use std::test::Fail;
@@ -53,8 +53,8 @@ fn hints_of_facts(rt: HostRuntime) -> Result<(), Fail> {
     let range = fact(2, FactKind::Range, function((1, 0, 0)), None);
     let counting = split(1, split_row((1, 0, -1)), falling, function((1, 0, 0)));
     let distance = split(2, split_row((1, 0, 0)), None, function((1, 0, 1)));
-    let mut first = GuardAdviser::new();
-    let mut second = RangeAdviser::new();
+    let mut first = FactAdviser::on(FactKind::Guard);
+    let mut second = FactAdviser::on(FactKind::Range);
     first.observe(3, &guard);
     second.observe(3, &guard);
     assert_eq!(rt; first.hint(3), counting);
@@ -99,20 +99,20 @@ fn hints_come_in_the_order_of_the_advisers(rt: HostRuntime) -> Result<(), Fail> 
     let range = fact(2, FactKind::Range, function((1, 0, 0)), None);
     let counting = split(1, split_row((1, 0, -1)), None, function((1, 0, 0)));
     let distance = split(2, split_row((1, 0, 0)), None, function((1, 0, 1)));
-    let guards = Box::new(rt.alloc(), GuardAdviser::new())?;
-    let ranges = Box::new(rt.alloc(), RangeAdviser::new())?;
+    let guards = Box::new(rt.alloc(), FactAdviser::on(FactKind::Guard))?;
+    let ranges = Box::new(rt.alloc(), FactAdviser::on(FactKind::Range))?;
     let hints = consulted(rt.alloc(), &[range, guard], guards, ranges)?;
     assert_eq!(rt; hints.len(), 2);
     assert_eq!(rt; hints.get(0).copied(), counting);
     assert_eq!(rt; hints.get(1).copied(), distance);
-    let guards = Box::new(rt.alloc(), GuardAdviser::new())?;
-    let ranges = Box::new(rt.alloc(), RangeAdviser::new())?;
+    let guards = Box::new(rt.alloc(), FactAdviser::on(FactKind::Guard))?;
+    let ranges = Box::new(rt.alloc(), FactAdviser::on(FactKind::Range))?;
     let hints = consulted(rt.alloc(), &[range, guard], ranges, guards)?;
     assert_eq!(rt; hints.get(0).copied(), distance);
     assert_eq!(rt; hints.get(1).copied(), counting);
     // Who has no hint leaves no gap.
-    let guards = Box::new(rt.alloc(), GuardAdviser::new())?;
-    let ranges = Box::new(rt.alloc(), RangeAdviser::new())?;
+    let guards = Box::new(rt.alloc(), FactAdviser::on(FactKind::Guard))?;
+    let ranges = Box::new(rt.alloc(), FactAdviser::on(FactKind::Range))?;
     let hints = consulted(rt.alloc(), &[range], guards, ranges)?;
     assert_eq!(rt; hints.len(), 1);
     assert_eq!(rt; hints.get(0).copied(), distance);

@@ -1,7 +1,7 @@
 //! The status and the bytes of a run.
 ghost use Rattle.std.specs.Prelude.{◌≤◌, ◌^◌, All};
 
-use advice::{Adviser, GuardAdviser, RangeAdviser};
+use advice::{Adviser, FactAdviser, FactKind};
 use function_top::{Status, run};
 use outside::{MemorySink, MemorySource, Source};
 use std::alloc::{AllocError, Global};
@@ -38,8 +38,8 @@ pub fn outcome_within<S: Source>(
     source: &mut S,
     room: u32,
 ) -> Result<(Status, Vec<u8>), AllocError> {
-    let guards = Box::new(alloc, GuardAdviser::new())?;
-    let ranges = Box::new(alloc, RangeAdviser::new())?;
+    let guards = Box::new(alloc, FactAdviser::on(FactKind::Guard))?;
+    let ranges = Box::new(alloc, FactAdviser::on(FactKind::Range))?;
     outcome_with(alloc, words, source, room, guards, ranges)
 }
 
