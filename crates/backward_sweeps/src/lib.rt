@@ -8,6 +8,7 @@
 #![tactic(auto)]
 
 mod claiming;
+mod family_size;
 mod moving;
 mod operands;
 mod pass;
@@ -16,6 +17,7 @@ mod starting;
 mod sweep;
 
 pub use claiming::taken_over;
+pub use family_size::FamilySize;
 pub use moving::{at_once, moved_back};
 pub use operands::Operands;
 pub use pass::{begun, follow};

@@ -4,6 +4,7 @@ ghost use Rattle.backward_transfer.specs.AffineShapes.{plans};
 ghost use Rattle.control_flow.specs.Transitions.{AreOnward, HasNoHead, LeadsWithin, is_head, is_idle};
 ghost use Rattle.backward_sweeps.specs.Remaking.{AreEndsGiven, AreEndsStarted, AreKept, AreRemadeFrom, parts_of};
 
+use crate::family_size::FamilySize;
 use crate::operands::Operands;
 use crate::pass::{begun, follow, is_idle};
 use crate::remaking::{given_up, remade};
@@ -115,8 +116,9 @@ impl<'a, D: NumDomain> Sweeps<'a, D> {
         ensures ends { OnOk result (AreKept is_idle self.now.transitions.now (plans trees.old) (plans trees.new)) }
     {
         let mut changed = vec![in self.alloc; true; self.transitions.len()]?;
+        let mut size = FamilySize::of(self.alloc, trees)?;
         for number in 1..=self.count {
-            if !self.sweep(number, trees, &mut changed)? {
+            if !self.sweep(number, trees, &mut size, &mut changed)? {
                 break;
             }
         }
@@ -124,11 +126,12 @@ impl<'a, D: NumDomain> Sweeps<'a, D> {
     }
 
     /// Makes the trees anew, the greatest label first; true where one differs from what it was. A flag of `changed` says whether the tree
-    /// at its place differed when it was made last.
+    /// at its place differed when it was made last, or was given up since then.
     fn sweep(
         &self,
         number: u32,
         trees: &mut [Tree<AffineRank>],
+        size: &mut FamilySize,
         changed: &mut [bool],
     ) -> Result<bool, AllocError>
         requires states { length self.now.inv.now ≡ length self.now.transitions.now }
@@ -145,8 +148,34 @@ impl<'a, D: NumDomain> Sweeps<'a, D> {
             let differs = self.is_due(number, label, changed) && self.remake(number, label, trees)?;
             changed[label as usize] = differs;
             any = any || differs;
+            if differs {
+                size.note(label, &trees[label as usize]);
+                self.give_up_greatest(trees, size, changed);
+            }
         }
         Ok(any)
+    }
+
+    /// Gives up the greatest trees until all have no more than 2^20 nodes together, or no more can be given up.
+    fn give_up_greatest(
+        &self,
+        trees: &mut [Tree<AffineRank>],
+        size: &mut FamilySize,
+        changed: &mut [bool],
+    )
+        requires few { length self.now.transitions.now ≤ 1024 }
+        requires trees { length trees.old ≡ length self.now.transitions.now }
+        requires flags { length changed.old ≡ length self.now.transitions.now }
+        ensures trees { length trees.new ≡ length trees.old }
+        ensures flags { length changed.new ≡ length changed.old }
+        ensures ends { AreKept is_idle self.now.transitions.now (plans trees.old) (plans trees.new) }
+    {
+        for _ in 0..self.transitions.len() {
+            let Some(label) = size.give_up_greatest(self.transitions, trees) else {
+                return;
+            };
+            changed[label as usize] = true;
+        }
     }
 
     /// Whether the tree of the label may differ from what it was: that of a successor did, or it was or begins to be widened.

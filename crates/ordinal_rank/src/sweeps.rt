@@ -4,6 +4,7 @@ ghost use Rattle.control_flow.specs.Transitions.{AreOnward, LeadsWithin};
 
 use crate::jump::{Power, back_jump};
 use crate::ordinal::{OrdinalRank, at_once};
+use backward_sweeps::FamilySize;
 use backward_transfer::{back_assign, back_range, back_skip, back_test};
 use control_flow::{Choice, Transition};
 use decision_tree::{Cause, Tree, Why};
@@ -32,9 +33,17 @@ pub(crate) fn swept<D: NumDomain>(
     ensures labels { IfOk result (λ trees. length trees.items ≡ length transitions.now) }
 {
     let mut trees = begun(alloc, transitions)?;
+    let mut size = FamilySize::of(alloc, &trees)?;
     let first = delay.max(1).saturating_add(1);
     for number in 1..=SWEEPS {
-        if !sweep(alloc, inv, transitions, number >= first, &mut trees)? {
+        if !sweep(
+            alloc,
+            inv,
+            transitions,
+            number >= first,
+            &mut trees,
+            &mut size,
+        )? {
             break;
         }
     }
@@ -70,6 +79,7 @@ fn sweep<D: NumDomain>(
     transitions: &[Transition],
     widening: bool,
     trees: &mut [Tree<OrdinalRank>],
+    size: &mut FamilySize,
 ) -> Result<bool, AllocError>
     requires states { length inv.now ≡ length transitions.now }
     requires few { length transitions.now ≤ 1024 }
@@ -79,10 +89,30 @@ fn sweep<D: NumDomain>(
 {
     let mut any = false;
     for label in (0..transitions.len() as u32).rev() {
-        let differs = remake(alloc, inv, transitions, widening, label, trees)?;
-        any = any || differs;
+        if remake(alloc, inv, transitions, widening, label, trees)? {
+            any = true;
+            size.note(label, &trees[label as usize]);
+            give_up_greatest(transitions, trees, size);
+        }
     }
     Ok(any)
+}
+
+/// Gives up the greatest trees until all have no more than 2^20 nodes together, or no more can be given up.
+fn give_up_greatest(
+    transitions: &[Transition],
+    trees: &mut [Tree<OrdinalRank>],
+    size: &mut FamilySize,
+)
+    requires few { length transitions.now ≤ 1024 }
+    requires trees { length trees.old ≡ length transitions.now }
+    ensures trees { length trees.new ≡ length trees.old }
+{
+    for _ in 0..transitions.len() {
+        if size.give_up_greatest(transitions, trees).is_none() {
+            return;
+        }
+    }
 }
 
 /// Makes the tree of the label anew, where something is done there; true where it differs from what it was.
