@@ -5,4 +5,8 @@ pub mod Languages
 pub mod Pieces
 pub mod Limits
 pub mod Comes
+pub mod Grammars
 pub mod Laws
+pub mod Failures
+pub mod Texts
+pub mod TextLaws

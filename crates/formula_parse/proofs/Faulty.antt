@@ -5,8 +5,8 @@ use Rattle.derivation.specs.declared.rule.Rule.{Rule as SyntaxRule}
 use Rattle.source_lex.specs.Laws.{TokensAreUnique}
 use Rattle.source_lex.specs.declared.fault.LexFault.{LexFault}
 use Rattle.source_lex.specs.declared.fault.LexFault.TheVariants.{BadByte, BigNumber, OpenComment, Memory as LexMemory}
-use Rattle.formula_syntax.specs.declared.fault.SyntaxFault.{SyntaxFault}
-use Rattle.formula_syntax.specs.declared.fault.SyntaxFault.TheVariants as S
+use Rattle.derivation.specs.declared.fault.SyntaxFault.{SyntaxFault}
+use Rattle.derivation.specs.declared.fault.SyntaxFault.TheVariants as S
 use Rattle.formula_syntax.specs.Trees.{Formula}
 use Rattle.formula_syntax.specs.Laws.{IsMemory as IsSyntaxMemory, IsSameFault as IsSameSyntaxFault, FormulasHaveNoFault as SyntaxHasNoFault, TreesAreUnique, FirstFaultsAgree}
 use Rattle.formula_syntax.specs.Texts.{IsFaultOf as IsSyntaxFaultOf, offset_in}

@@ -11,7 +11,7 @@ use Rattle.formula_syntax.specs.declared.sign.Comparison.TheVariants as R
 use Rattle.formula_syntax.specs.declared.sign.Connective.TheVariants as C
 use Rattle.formula_syntax.specs.declared.sign.Prefix.{Prefix}
 use Rattle.formula_syntax.specs.declared.sign.Prefix.TheVariants as P
-use Rattle.formula_syntax.specs.declared.fault.SyntaxFault.TheVariants as S
+use Rattle.derivation.specs.declared.fault.SyntaxFault.TheVariants as S
 use Rattle.derivation.specs.declared.rule.Rule.TheVariants as Syntax
 use Rattle.formula_syntax.specs.Trees.{Part, prefixed, quantified, truth, exit, compared, grouped, Chain, done, joined}
 use Rattle.formula_syntax.specs.Laws.{TreesAreUnique, FormulasHaveNoFault as SyntaxHasNoFault}

@@ -1,46 +1,28 @@
 -- The readers' answers as steps of the calculus.
-use Rattle.std.proofs.Common.{◌≡◌, ℕ, ◌≤◌, ℤ, List, ◌∷◌, Some, Result, Ok, Err, refl, sym, ap, ◌∙◌, subst, arith}
-use Rattle.std.specs.Result.{IsErr, IsErrAnd}
+use Rattle.std.proofs.Common.{◌≡◌, ℕ, ◌≤◌, List, ◌∷◌, Some, refl, sym, ap, ◌∙◌, subst, arith}
 use Rattle.derivation.specs.declared.rule.Rule.{Rule}
 use Rattle.derivation.specs.declared.rule.Rule.TheVariants.{Expected, Nesting, Operators}
 use Rattle.derivation.specs.Comes.{IsNext}
 use Rattle.formula_syntax.specs.declared.sign.Sign.{Sign}
 use Rattle.formula_syntax.specs.declared.lexeme.Lexeme.{Lexeme}
-use Rattle.formula_syntax.specs.declared.fault.Fault.{Fault}
-use Rattle.formula_syntax.specs.declared.fault.Failure.{Failure}
-use Rattle.formula_syntax.specs.Words.{sign, number as numbered}
+use Rattle.derivation.specs.declared.fault.Fault.{Fault}
+use Rattle.formula_syntax.specs.Words.{sign}
 use Rattle.formula_syntax.specs.Language.{Token, Rest, IsQuiet, rest_from}
-use Rattle.formula_syntax.specs.Failures.{OnFault, IfFault}
-use Rattle.formula_syntax.specs.Spelling.{plain, mark, opening}
-use Rattle.formula_syntax.specs.Pending.{Pending, exactly, bytes_of_a_name, TreeOf, Sequence, first_read, then_read}
-use Rattle.formula_syntax.specs.Leads.{Leads, Stops}
+use Rattle.formula_syntax.specs.Spelling.{mark, opening}
+use Rattle.formula_syntax.specs.Pending.{Pending, exactly, bytes_of_a_name, TreeOf, Sequence, first_read, then_read, Leads, Stops}
 use Rattle.formula_syntax.specs.Reads.{Reads, MissesSign, MissesOpening, MissesName}
-use Rattle.formula_syntax.proofs.Sums.{token_read, token_missed, token_breaks, bytes_missed}
-
--- the same where memory may run out instead
-pub failed_on : {X : Type 0} (r : Result X Failure) (f : Fault) (P : Fault → Type 0) → IsErr r × IsErrAnd r (λ e. e ≡ Failure.Fault f) → P f → IfFault r P
-failed_on (Ok x) f P h k = tt
-failed_on (Err (Failure.Fault g)) f P h k = let same : f ≡ g = cc in subst P same k
-failed_on (Err (Failure.Memory e)) f P h k = tt
-
--- a failure that is handed on, with what its fault says of a part
-pub passed_on : {X : Type 0} (r : Result X Failure) (f : Failure) (P Q : Fault → Type 0) → IsErr r × IsErrAnd r (λ e. e ≡ f) → OnFault f P
-    → ((fault : Fault) → P fault → Q fault) → IfFault r Q
-passed_on (Ok x) f P Q h k turn = tt
-passed_on (Err (Failure.Memory e)) f P Q h k turn = tt
-passed_on (Err (Failure.Fault g)) f P Q h k turn = turn g (subst (λ f. OnFault f P) (sym h.1) k)
+use Rattle.derivation.proofs.Grammars.{read, exceeds}
+use Rattle.formula_syntax.proofs.Completions.{lawful}
+use Rattle.formula_syntax.proofs.Sums.{tokens, token_missed, bytes_missed}
 
 module _ {c : ℕ} {S : Sequence} {from to : Rest} where
   pub mark_reads : (s : Sign) (quiet : IsQuiet (Some (sign s))) → IsNext (sign s) from to
       → Leads c (then_read (exactly (mark s) quiet) S) from c S to (λ g. (tt, g))
-  mark_reads s quiet e = token_read c (mark s) quiet S from to e (omega arith, tt)
+  mark_reads s quiet e = read (tokens (mark s) quiet S) e (omega arith, tt)
 
   pub opening_reads : (s : Sign) (level : ℕ) (quiet : IsQuiet (Some (sign s))) → IsNext (sign s) from to → level ≤ 64
       → Leads c (then_read (exactly (opening s level) quiet) S) from c S to (λ g. (tt, g))
-  opening_reads s level quiet e shallow = token_read c (opening s level) quiet S from to e (shallow, tt)
-
-  pub number_reads : {z : ℤ} → IsNext (numbered z) from to → Leads c (then_read (exactly (plain (numbered z)) (refl, refl)) S) from c S to (λ g. (tt, g))
-  number_reads {z} e = token_read c (plain (numbered z)) (refl, refl) S from to e (omega arith, tt)
+  opening_reads s level quiet e shallow = read (tokens (opening s level) quiet S) e (shallow, tt)
 
 -- the same for faults
 missed : (c : ℕ) (t : Token) (quiet : IsQuiet (Some t.word)) (S : Sequence) (from : Rest) (s : Sign) (rule : Rule) → t.word ≡ sign s
@@ -53,7 +35,7 @@ missed_opening : (c : ℕ) (t : Token) (quiet : IsQuiet (Some t.word)) (S : Sequ
     → MissesOpening from s t.level rule → Stops c (then_read (exactly t quiet) S) from rule from
 missed_opening c t quiet S from s Expected e h = token_missed c t quiet S from (λ to same. h to (same ∙ ap (λ w. w ∷ to) e))
 missed_opening c t quiet S from s Nesting e h =
-    token_breaks c t quiet S from Nesting h.0.0 (h.0.1.0 ∙ ap (λ w. w ∷ h.0.0.words) (sym e), h.0.1.1) (λ e. cc) h.1
+    exceeds (tokens t quiet S) lawful {to = h.0.0} (h.0.1.0 ∙ ap (λ w. w ∷ h.0.0.words) (sym e), h.0.1.1) Nesting (λ e. cc) h.1
 missed_opening c t quiet S from s Operators e h = absurd h
 
 there : (c : ℕ) (lexemes : List Lexeme) (at : ℕ) (fault : Fault) (A : Sequence) → fault.at ≡ at

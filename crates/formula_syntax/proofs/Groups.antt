@@ -8,12 +8,11 @@ use Rattle.formula_syntax.specs.Language.{Rest}
 use Rattle.formula_syntax.specs.Openings.{opening_of_part, IsProper}
 use Rattle.formula_syntax.specs.Trees.{Sum, Part, compared, grouped, Formula}
 use Rattle.formula_syntax.specs.Spelling.{mark}
-use Rattle.formula_syntax.specs.Pending.{Inner, of_formula, of_sum, InnerEnd, compares, exactly, a_tail, a_right, a_part, a_chain, a_formula, an_inner, an_inner_end, a_group, Sequence, first_read, then_read}
+use Rattle.formula_syntax.specs.Pending.{Inner, of_formula, of_sum, InnerEnd, compares, exactly, a_tail, a_right, a_part, a_chain, a_formula, an_inner, an_inner_end, a_group, Sequence, first_read, then_read, Leads}
 use Rattle.formula_syntax.specs.Inners.{inner_of}
-use Rattle.formula_syntax.specs.Leads.{Leads}
 use Rattle.formula_syntax.specs.Reads.{Reads}
-use Rattle.formula_syntax.proofs.Calculus.{over}
-use Rattle.formula_syntax.proofs.Choices.{goes, left_out, not_next}
+use Rattle.derivation.proofs.Grammars.{over}
+use Rattle.derivation.proofs.Choices.{goes, left_out, not_next}
 use Rattle.formula_syntax.proofs.Parts.{summing, parts, inners, inner_ends}
 
 -- the group that was read is one of a formula, or of a sum

@@ -1,6 +1,4 @@
-pub mod Calculus
 pub mod Completions
-pub mod Choices
 pub mod Sums
 pub mod Parts
 pub mod Words
@@ -9,4 +7,3 @@ pub mod Reading
 pub mod Groups
 mod Whole
 mod OneTree
-mod FaultLaws

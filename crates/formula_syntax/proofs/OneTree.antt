@@ -1,118 +1,32 @@
 -- Words are what at most one tree spells.
-use Rattle.std.proofs.Common.{◌≡◌, ◌≢◌, ℕ, ◌+◌, List, [], ◌∷◌, ◌++◌, Option, None, Some, Bool, true, false, refl, sym, ap, ◌∙◌, subst}
-use Rattle.derivation.specs.Pieces.{token, look, number_behind, spelling, first, first_before, FitsBefore, Fits}
-use Rattle.derivation.proofs.Calculus.{cancel, spelling-append, fits-behind, first_spelling}
+use Rattle.std.proofs.Common.{◌≡◌, ℕ, ◌+◌, List, Some, Bool, true, false, refl, sym, ap, ◌∙◌}
+use Rattle.derivation.specs.Pieces.{spelling, Fits}
+use Rattle.derivation.proofs.Calculus.{first_spelling}
+use Rattle.derivation.proofs.OneTree.{IsOnly as IsOnlyIn, own, fitting, through, headed_one, chosen, begun, not_begun, numbered_one}
 use Rattle.formula_syntax.specs.declared.sign.Comparison.{Comparison}
 use Rattle.formula_syntax.specs.declared.sign.Prefix.{Prefix}
 use Rattle.formula_syntax.specs.declared.sign.Sign.TheVariants as Mark
 use Rattle.formula_syntax.specs.declared.opening.Opening.TheVariants as Opening
 use Rattle.formula_syntax.specs.declared.opening.FactorOpening.TheVariants as FactorOpening
-use Rattle.formula_syntax.specs.Words.{Word, name as named}
-use Rattle.formula_syntax.specs.Language.{Token, Rest, is_at, operator_of, connective_of, IsQuiet}
-use Rattle.formula_syntax.specs.Openings.{opening_of_factor, comparison_of, until_of}
+use Rattle.formula_syntax.specs.Language.{Token, operator_of, connective_of, IsQuiet}
 use Rattle.formula_syntax.specs.Trees.{Factor, factor_at, FactorKind, number, name, signed, summed, Tail, ended, further, Sum, Part, prefixed, quantified, truth, exit, compared, grouped, Chain, done, joined, Formula}
-use Rattle.formula_syntax.specs.Spelling.{plain, mark, counted, counted_opening, sign_of}
-use Rattle.formula_syntax.specs.Pending.{Right, Inner, of_formula, of_sum, InnerEnd, closed, compares, Group, exactly, bytes_of_a_name, a_factor, a_factor_kind, a_tail, a_sum, a_right, an_until, a_part, a_chain, a_formula, an_inner, an_inner_end, a_group, Sequence, nothing, first_read, then_read, Trees, pieces}
-use Rattle.formula_syntax.specs.Leads.{Leads}
-use Rattle.formula_syntax.proofs.Choices.{begins, Choice, Fork, Held, placed, goes, this_side, left_out}
-use Rattle.formula_syntax.proofs.Sums.{located_factors, factors, bytes_view, until_view, right_view, opening_of_sign, signed_view, tail_ends, operator_view, sum_goes}
-use Rattle.formula_syntax.proofs.Parts.{located_groups, parts, inners, inner_ends, chain_ends, connective_view, formula_goes}
+use Rattle.formula_syntax.specs.Spelling.{mark}
+use Rattle.formula_syntax.specs.Pending.{Right, Inner, of_formula, of_sum, InnerEnd, closed, compares, Group, exactly, bytes_of_a_name, a_factor, a_factor_kind, a_tail, a_sum, a_right, an_until, a_part, a_chain, a_formula, an_inner, an_inner_end, a_group, Sequence, nothing, first_read, then_read, Trees, pieces, grammar}
+use Rattle.formula_syntax.proofs.Sums.{located_factors, factors, tokens, names, untils, rights, signs, operators, tail_ends, sum_goes}
+use Rattle.formula_syntax.proofs.Parts.{located_groups, parts, inners, inner_ends, chain_ends, connectives, formula_goes}
 
--- all trees that spell the words of these are these, whatever the number of their first token
-record IsOnly (A : Sequence) (trees : Trees A) : Type 0 where
-  same : (n : ℕ) (others : Trees A) → Fits n (pieces A trees) → Fits n (pieces A others) → spelling (pieces A trees) ≡ spelling (pieces A others)
-      → others ≡ trees
-
-abbrev own : ℕ → (A : Sequence) → Trees A → Rest
-own n A trees = record { number = n; words = spelling (pieces A trees) }
-
--- what may be known of the trees: that they fit
-fitting : {A : Sequence} {trees : Trees A} → ((n : ℕ) → Fits n (pieces A trees) → IsOnly A trees) → IsOnly A trees
-fitting h = record { same = λ n others fits others_fit e. (h n fits).same n others fits others_fit e }
-
--- where reading its own words is reading something else
-through : {A B : Sequence} {c : ℕ} {fill : Trees B → Trees A} (g : Trees B)
-    → ((n : ℕ) → Leads 0 A (own n A (fill g)) c B (own n A (fill g)) fill) → IsOnly B g → IsOnly A (fill g)
-through {A} {B} {c} {fill} g goes d = record {
-  same = λ n others fits others_fit words.
-      let x = (goes n).comes in
-      let mine : pieces A (fill g) ≡ x.front ++ pieces B g = x.spells g in
-      let left : spelling (pieces A (fill g)) ≡ spelling (pieces B g) =
-      cancel (spelling x.front) (sym x.parted ∙ ap spelling mine ∙ spelling-append x.front (pieces B g)) in
-      let found = x.only others others_fit (spelling (pieces A (fill g))) (sym words ∙ x.parted) refl in
-      let theirs : pieces A others ≡ x.front ++ pieces B found.0 = ap (pieces A) found.1 ∙ x.spells found.0 in
-      let their_left : spelling (pieces A (fill g)) ≡ spelling (pieces B found.0) =
-      cancel (spelling x.front) (sym x.parted ∙ words ∙ ap spelling theirs ∙ spelling-append x.front (pieces B found.0)) in
-      let here : (trees : Trees B) → FitsBefore (number_behind n x.front) (pieces B trees) None → Fits n (pieces B trees) =
-      (λ trees h. subst (λ m. Fits m (pieces B trees)) (sym x.numbered) h) in
-      found.1 ∙ ap fill (d.same n found.0 (here g (fits-behind x.front (pieces B g) n None (subst (Fits n) mine fits)))
-      (here found.0 (fits-behind x.front (pieces B found.0) n None (subst (Fits n) theirs others_fit))) (sym left ∙ their_left));
-}
-
--- where a token is its first word
-behind : {A B : Sequence} {fill : Trees B → Trees A} (t : Token) (g : Trees B) → ((h : Trees B) → pieces A (fill h) ≡ token t ∷ pieces B h)
-    → ((n : ℕ) (f : Trees A) → Fits n (pieces A f) → first_before (pieces A f) None ≡ Some t.word → (h : Trees B) × (f ≡ fill h))
-    → IsOnly B g → IsOnly A (fill g)
-behind {A} {B} {fill} t g spells view d = record {
-  same = λ n others fits others_fit words.
-      let mine : pieces A (fill g) ≡ token t ∷ pieces B g = spells g in
-      let next : first_before (pieces A others) None ≡ Some t.word =
-      sym (first_spelling (pieces A others)) ∙ ap first (sym words) ∙ ap (λ ps. first (spelling ps)) mine in
-      let found = view n others others_fit next in
-      let theirs : pieces A others ≡ token t ∷ pieces B found.0 = ap (pieces A) found.1 ∙ spells found.0 in
-      let all : t.word ∷ spelling (pieces B g) ≡ t.word ∷ spelling (pieces B found.0) = sym (ap spelling mine) ∙ words ∙ ap spelling theirs in
-      found.1 ∙ ap fill (d.same (n + 1) found.0 (subst (Fits n) mine fits) (subst (Fits n) theirs others_fit) (cancel (t.word ∷ []) all));
-}
-
--- what opens in one of several ways
-chosen : {Opening : Type 0} {A : Sequence} {classify : Option Word → Opening} {IsOpen : Opening → Type 0} {rest : Opening → Sequence}
-    {fill : (o : Opening) → Trees (rest o) → Trees A} (x : Choice A classify IsOpen rest fill) (o : Opening) (g : Trees (rest o))
-    → classify (begins A (fill o g)) ≡ o → IsOnly (rest o) g → IsOnly A (fill o g)
-chosen {Opening} {A} {classify} {IsOpen} {rest} {fill} x o g is d =
-    through g (λ n. goes x 0 (own n A (fill o g)) o (sym (ap classify (first_spelling (pieces A (fill o g))) ∙ is))) d
-
--- what begins with a token, or not
-module _ {A : Sequence} {t : Token} {B : Sequence} {fill : Trees B → Trees A} {C : Sequence} {other : Trees C → Trees A}
-    (x : Fork A t B fill C other) where
-  begun : (g : Trees B) → IsOnly B g → IsOnly A (fill g)
-  begun g d = behind t g x.spells (λ n f fits next. this_side x f next) d
-
-  not_begun : (g : Trees C) → begins A (other g) ≢ Some t.word → IsOnly C g → IsOnly A (other g)
-  not_begun g differs d =
-      through g (λ n. left_out x {c = 0} {from = own n A (other g)} (λ e. differs (sym (first_spelling (pieces A (other g))) ∙ e))) d
-
--- what holds its number
-numbered_one : {A : Sequence} {B : ℕ → Sequence} {fill : (m : ℕ) → Trees (B m) → Trees A} (x : Held A B fill) (m : ℕ) (g : Trees (B m)) → IsOnly (B m) g → IsOnly A (fill m g)
-numbered_one {A} {B} {fill} x m g d = record {
-  same = λ n others fits others_fit words.
-      let parts : Fits n (look (is_at m) ∷ pieces (B m) g) = subst (Fits n) (x.spells m g) fits in
-      let theirs = placed x n others others_fit in
-      let spelled : spelling (pieces (B m) g) ≡ spelling (pieces (B n) theirs.0) =
-      sym (ap spelling (x.spells m g)) ∙ words ∙ ap spelling (ap (pieces A) theirs.1 ∙ x.spells n theirs.0) in
-      theirs.1 ∙ at_one n m (sym parts.0) g d theirs.0 parts.1 theirs.2 spelled;
-}
-  where
-    at_one : (n k : ℕ) → n ≡ k → (g : Trees (B k)) → IsOnly (B k) g → (h : Trees (B n)) → Fits n (pieces (B k) g) → Fits n (pieces (B n) h)
-        → spelling (pieces (B k) g) ≡ spelling (pieces (B n) h) → fill n h ≡ fill k g
-    at_one n k e =
-        subst (λ k. (g : Trees (B k)) → IsOnly (B k) g → (h : Trees (B n)) → Fits n (pieces (B k) g) → Fits n (pieces (B n) h)
-        → spelling (pieces (B k) g) ≡ spelling (pieces (B n) h) → fill n h ≡ fill k g) e
-        (λ g d h fits other_fits words. ap (fill n) (d.same n h fits other_fits words))
-
-nowhere : Rest
-nowhere = record { number = 0; words = [] }
+-- all trees that spell the words of these are these
+abbrev IsOnly : (A : Sequence) → Trees A → Type 0
+IsOnly = IsOnlyIn grammar
 
 exactly_one : (t : Token) (quiet : IsQuiet (Some t.word)) (S : Sequence) (rest : Trees S) → IsOnly S rest → IsOnly (then_read (exactly t quiet) S) (tt, rest)
-exactly_one t quiet S rest d = behind {fill = λ g. (tt, g)} t rest (λ h. refl) (λ n f fits next. (f.1, refl)) d
+exactly_one t quiet S rest d = headed_one (tokens t quiet S) rest d
 
 bytes_one : (x : List ℕ) (S : List ℕ → Sequence) (rest : Trees (S x)) → IsOnly (S x) rest → IsOnly (first_read bytes_of_a_name S) (x, rest)
-bytes_one x S rest d =
-    behind {A = first_read bytes_of_a_name S} {B = S x} {fill = λ g. (x, g)} (plain (named x)) rest (λ h. refl) (λ n f fits next. bytes_view S x f.0 f.1 (cc)) d
+bytes_one x S rest d = headed_one (names x S) rest d
 
 until_one : (weak : Bool) (S : Bool → Sequence) (rest : Trees (S weak)) → IsOnly (S weak) rest → IsOnly (first_read an_until S) (weak, rest)
-until_one weak S rest d =
-    behind {A = first_read an_until S} {B = S weak} {fill = λ g. (weak, g)} (mark (Mark.Until weak)) rest (λ h. refl)
-    (λ n f fits next. until_view S weak f.0 f.1 (ap until_of next)) d
+until_one weak S rest d = headed_one (untils S weak) rest d
 
 -- sums
 sum_step : (n : ℕ) (s : Sum) (S : Sum → Sequence) (rest : Trees (S s))
@@ -121,7 +35,7 @@ sum_step : (n : ℕ) (s : Sum) (S : Sum → Sequence) (rest : Trees (S s))
 sum_step n s S rest d =
     through {A = first_read (a_sum n) S} {B = first_read (a_factor n) (λ e. first_read (a_tail n) (λ t. S (record { factor = e; tail = t })))}
     {fill = λ g. (record { factor = g.0; tail = g.1.0 }, g.1.1)} (s.factor, (s.tail, rest))
-    (λ m. sum_goes n 0 S (own m (first_read (a_sum n) S) (s, rest))) d
+    (λ m. sum_goes n 0 S (own grammar m (first_read (a_sum n) S) (s, rest))) d
 
 mutual
   factor_one : (n : ℕ) (e : Factor) (S : Factor → Sequence) (rest : Trees (S e)) → IsOnly (S e) rest → IsOnly (first_read (a_factor n) S) (e, rest)
@@ -131,10 +45,7 @@ mutual
   factor_kind_one n (number z) S rest d = chosen (factors n S) (FactorOpening.Number z) (tt, rest) refl (exactly_one _ _ _ rest d)
   factor_kind_one n (name x) S rest d = chosen (factors n S) FactorOpening.Name (x, rest) refl (bytes_one x _ rest d)
   factor_kind_one n (signed negative e) S rest d =
-      behind {A = first_read (a_factor_kind n) S} {B = first_read (a_factor (n + 1)) (λ e. S (signed negative e))} {fill = λ g. (signed negative g.0, g.1)}
-      (counted_opening (Mark.Operator (sign_of negative)) (n + 1)) (e, rest) (λ h. refl)
-      (λ m f fits next. signed_view n S negative f.0 f.1 (ap opening_of_factor next ∙ opening_of_sign n S negative))
-      (factor_one (n + 1) e _ rest d)
+      headed_one (signs n S negative) (e, rest) (factor_one (n + 1) e _ rest d)
   factor_kind_one n (summed e more) S rest d =
       chosen (factors n S) FactorOpening.Parenthesis (tt, (record { factor = e; tail = more }, (tt, rest))) refl
       (exactly_one _ _ _ _ (sum_step (n + 1) (record { factor = e; tail = more }) _ _
@@ -143,21 +54,16 @@ mutual
   tail_one : (n : ℕ) (t : Tail) (S : Tail → Sequence) (rest : Trees (S t)) → IsOnly (S t) rest → IsOnly (first_read (a_tail n) S) (t, rest)
   tail_one n ended S rest d =
       fitting (λ at fits. through {A = first_read (a_tail n) S} {B = S ended} {fill = λ g. (ended, g)} rest
-      (λ m. tail_ends n 0 S (own m (first_read (a_tail n) S) (ended, rest)) (sym (ap operator_of (first_spelling (pieces (S ended) rest)) ∙ fits.0))) d)
+      (λ m. tail_ends n 0 S (own grammar m (first_read (a_tail n) S) (ended, rest)) (sym (ap operator_of (first_spelling (pieces (S ended) rest)) ∙ fits.0))) d)
   tail_one n (further op e more) S rest d =
-      behind {A = first_read (a_tail n) S} {B = first_read (a_factor n) (λ e. first_read (a_tail n) (λ t. S (further op e t)))} {fill = λ g. (further op g.0 g.1.0, g.1.1)}
-      (counted (Mark.Operator op)) (e, (more, rest)) (λ h. refl)
-      (λ m f fits next. operator_view n 0 S (record { number = m; words = [] }) op f.0 f.1 fits (ap operator_of next))
-      (factor_one n e _ _ (tail_one n more _ rest d))
+      headed_one (operators n S op) (e, (more, rest)) (factor_one n e _ _ (tail_one n more _ rest d))
 
 sum_one : (n : ℕ) (s : Sum) (S : Sum → Sequence) (rest : Trees (S s)) → IsOnly (S s) rest → IsOnly (first_read (a_sum n) S) (s, rest)
 sum_one n s S rest d = sum_step n s S rest (factor_one n s.factor _ _ (tail_one n s.tail _ rest d))
 
 right_one : (n : ℕ) (r : Right) (S : Right → Sequence) (rest : Trees (S r)) → IsOnly (S r) rest → IsOnly (first_read (a_right n) S) (r, rest)
 right_one n r S rest d =
-    behind {A = first_read (a_right n) S} {B = first_read (a_sum n) (λ s. S (record { comparison = r.comparison; sum = s }))}
-    {fill = λ g. (record { comparison = r.comparison; sum = g.0 }, g.1)} (counted (Mark.Comparison r.comparison)) (r.sum, rest) (λ h. refl)
-    (λ m f fits next. right_view n 0 S nowhere r.comparison f.0 f.1 (ap comparison_of next)) (sum_one n r.sum _ rest d)
+    headed_one (rights n S r.comparison) (r.sum, rest) (sum_one n r.sum _ rest d)
 
 -- what stands in parentheses behind a sum
 end_closed : (n : ℕ) (S : InnerEnd → Sequence) (rest : Trees (S closed)) → IsOnly (S closed) rest → IsOnly (first_read (an_inner_end n) S) (closed, rest)
@@ -197,7 +103,7 @@ formula_step : (n : ℕ) (f : Part) (c : Chain) (S : Formula → Sequence) (rest
 formula_step n f c S rest d =
     through {A = first_read (a_formula n) S} {B = first_read (a_part n) (λ f. first_read (a_chain n) (λ t. S (record { part = f; chain = t })))}
     {fill = λ g. (record { part = g.0; chain = g.1.0 }, g.1.1)} (f, (c, rest))
-    (λ m. formula_goes n 0 S (own m (first_read (a_formula n) S) (record { part = f; chain = c }, rest))) d
+    (λ m. formula_goes n 0 S (own grammar m (first_read (a_formula n) S) (record { part = f; chain = c }, rest))) d
 
 compared_one : (n m : ℕ) (kind : FactorKind) (t : Tail) (c : Comparison) (s : Sum) (S : Part → Sequence)
     (rest : Trees (S (compared (record { factor = factor_at m kind; tail = t }) c s))) → IsOnly (S (compared (record { factor = factor_at m kind; tail = t }) c s)) rest
@@ -275,12 +181,9 @@ mutual
   chain_one : (n : ℕ) (c : Chain) (S : Chain → Sequence) (rest : Trees (S c)) → IsOnly (S c) rest → IsOnly (first_read (a_chain n) S) (c, rest)
   chain_one n done S rest d =
       fitting (λ at fits. through {A = first_read (a_chain n) S} {B = S done} {fill = λ g. (done, g)} rest
-      (λ m. chain_ends n 0 S (own m (first_read (a_chain n) S) (done, rest)) (sym (ap connective_of (first_spelling (pieces (S done) rest)) ∙ fits.0))) d)
+      (λ m. chain_ends n 0 S (own grammar m (first_read (a_chain n) S) (done, rest)) (sym (ap connective_of (first_spelling (pieces (S done) rest)) ∙ fits.0))) d)
   chain_one n (joined connective f more) S rest d =
-      behind {A = first_read (a_chain n) S} {B = first_read (a_part n) (λ f. first_read (a_chain n) (λ t. S (joined connective f t)))} {fill = λ g. (joined connective g.0 g.1.0, g.1.1)}
-      (counted (Mark.Connective connective)) (f, (more, rest)) (λ h. refl)
-      (λ m f fits next. connective_view n 0 S (record { number = m; words = [] }) connective f.0 f.1 fits (ap connective_of next))
-      (part_one n f _ _ (chain_one n more _ rest d))
+      headed_one (connectives n S connective) (f, (more, rest)) (part_one n f _ _ (chain_one n more _ rest d))
 
   inner_one : (n : ℕ) (f : Part) (c : Chain)
       → ((K : Chain → Sequence) (rest : Trees (K c)) → IsOnly (K c) rest → IsOnly (first_read (a_chain n) K) (c, rest)) → (S : Inner → Sequence)

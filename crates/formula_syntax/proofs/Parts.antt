@@ -1,23 +1,19 @@
 -- How the reading of formulas and their parts goes on, by the next word.
-use Rattle.std.proofs.Common.{◌≡◌, inl, inr, ℕ, ◌+◌, ◌<◌, ◌≤◌, [], ◌∷◌, None, Some, true, false, refl, sym, ap, ◌∙◌, subst, arith}
-use Rattle.derivation.specs.declared.rule.Rule.TheVariants.{Operators}
+use Rattle.std.proofs.Common.{◌≡◌, inl, inr, ℕ, ◌+◌, [], ◌∷◌, None, Some, true, false, refl, sym, ap, ◌∙◌, subst}
 use Rattle.derivation.specs.Pieces.{look, first, first_before, Fits}
-use Rattle.derivation.specs.Comes.{IsNext}
 use Rattle.formula_syntax.specs.declared.sign.Comparison.{Comparison}
 use Rattle.formula_syntax.specs.declared.sign.Connective.{Connective}
 use Rattle.formula_syntax.specs.declared.sign.Sign.TheVariants as Mark
 use Rattle.formula_syntax.specs.declared.opening.Opening.{Opening}
-use Rattle.formula_syntax.specs.Words.{sign}
 use Rattle.formula_syntax.specs.Language.{Rest, connective_of, no_connective}
 use Rattle.formula_syntax.specs.Openings.{opening_of_part, IsPart}
 use Rattle.formula_syntax.specs.Trees.{Factor, factor_at, number, name, signed, summed, Tail, Sum, Part, prefixed, quantified, truth, exit, compared, grouped, Chain, done, joined, Formula}
 use Rattle.formula_syntax.specs.Spelling.{mark, opening, counted, counted_opening}
-use Rattle.formula_syntax.specs.Pending.{Inner, of_formula, of_sum, InnerEnd, closed, compares, Group, exactly, a_tail, a_sum, a_right, an_until, a_part, a_chain, a_formula, an_inner, an_inner_end, a_group, Sequence, first_read, then_read, Trees, pieces}
+use Rattle.formula_syntax.specs.Pending.{Inner, of_formula, of_sum, InnerEnd, closed, compares, Group, exactly, a_tail, a_sum, a_right, an_until, a_part, a_chain, a_formula, an_inner, an_inner_end, a_group, Sequence, first_read, then_read, Trees, pieces, grammar, Leads}
 use Rattle.formula_syntax.specs.Inners.{inner_of}
-use Rattle.formula_syntax.specs.Leads.{Leads, Stops}
-use Rattle.formula_syntax.proofs.Calculus.{opens, reads, exceeds}
-use Rattle.formula_syntax.proofs.Completions.{complete, completes}
-use Rattle.formula_syntax.proofs.Choices.{begins, Way, Choice, Sides, Fork, Held}
+use Rattle.derivation.proofs.Grammars.{opens, becomes, Headed}
+use Rattle.formula_syntax.proofs.Completions.{lawful}
+use Rattle.derivation.proofs.Choices.{begins, Way, Choice, Sides, Fork, Held}
 use Rattle.formula_syntax.proofs.Sums.{Same}
 
 -- a sum in parentheses, as a factor and what stands behind it
@@ -27,7 +23,7 @@ summing at s tail = record { factor = factor_at at (summed s.factor s.tail); tai
 module _ (n : ℕ) where
   -- parentheses, with the number of the first
   pub located_groups : (K : Group → Sequence)
-      → Held (first_read (a_group n) K)
+      → Held lawful (first_read (a_group n) K)
       (λ m. then_read (exactly (opening Mark.OpenParenthesis (n + 1)) (refl, refl)) (first_read (an_inner (n + 1)) (λ i. K (record { at = m; inner = i }))))
       (λ m g. (record { at = m; inner = g.1.0 }, g.1.1))
   located_groups K = record { spells = λ m g. refl; view = λ f. (f.0.at, (tt, (f.0.inner, f.1)), refl) }
@@ -64,7 +60,7 @@ module _ (n : ℕ) where
     part_tree Opening.Exit g = (exit, g.1)
     part_tree Opening.Nothing g = g
 
-    pub parts : Choice (first_read (a_part n) K) opening_of_part IsPart part_rest part_tree
+    pub parts : Choice grammar (first_read (a_part n) K) opening_of_part IsPart part_rest part_tree
     parts = record { spells = spells; view = λ f. view f.0 f.1 }
       where
         spells_group : (at : ℕ) (i : Inner) (g : Trees (behind_group at i))
@@ -82,8 +78,8 @@ module _ (n : ℕ) where
         spells Opening.Nothing g = refl
 
         compared_view : (e : Factor) (t : Tail) (c : Comparison) (s : Sum) (rest : Trees (K (compared (record { factor = e; tail = t }) c s)))
-            → Way (first_read (a_part n) K) IsPart part_rest part_tree
-            (opening_of_part (begins (first_read (a_part n) K) (compared (record { factor = e; tail = t }) c s, rest)))
+            → Way grammar (first_read (a_part n) K) IsPart part_rest part_tree
+            (opening_of_part (begins grammar (first_read (a_part n) K) (compared (record { factor = e; tail = t }) c s, rest)))
             (compared (record { factor = e; tail = t }) c s, rest)
         compared_view (factor_at m (number z)) t c s rest = (tt, (record { factor = factor_at m (number z); tail = t }, (record { comparison = c; sum = s }, rest)), refl)
         compared_view (factor_at m (name x)) t c s rest = (tt, (record { factor = factor_at m (name x); tail = t }, (record { comparison = c; sum = s }, rest)), refl)
@@ -93,7 +89,7 @@ module _ (n : ℕ) where
             (tt, (record { at = m; inner = of_sum (record { factor = e; tail = more }) }, (t, (record { comparison = c; sum = s }, rest))), refl)
 
         view : (f : Part) (rest : Trees (K f))
-            → Way (first_read (a_part n) K) IsPart part_rest part_tree (opening_of_part (begins (first_read (a_part n) K) (f, rest))) (f, rest)
+            → Way grammar (first_read (a_part n) K) IsPart part_rest part_tree (opening_of_part (begins grammar (first_read (a_part n) K) (f, rest))) (f, rest)
         view (prefixed p f) rest = (tt, (tt, (f, rest)), refl)
         view (quantified all f c weak g d) rest =
             (tt, (tt, (tt, (record { part = f; chain = c }, (weak, (record { part = g; chain = d }, (tt, rest)))))), refl)
@@ -135,12 +131,12 @@ module _ (n : ℕ) where
     inner_tree Opening.Nothing g = g
 
     abbrev WayOf : (i : Inner) → Trees (K i) → Type 0
-    WayOf i rest = Way (first_read (an_inner n) K) IsPart inner_rest inner_tree (opening_of_part (begins (first_read (an_inner n) K) (i, rest))) (i, rest)
+    WayOf i rest = Way grammar (first_read (an_inner n) K) IsPart inner_rest inner_tree (opening_of_part (begins grammar (first_read (an_inner n) K) (i, rest))) (i, rest)
 
     abbrev comparing : Factor → Tail → Comparison → Sum → Chain → Inner
     comparing e t c s chain = of_formula (record { part = compared (record { factor = e; tail = t }) c s; chain = chain })
 
-    pub inners : Choice (first_read (an_inner n) K) opening_of_part IsPart inner_rest inner_tree
+    pub inners : Choice grammar (first_read (an_inner n) K) opening_of_part IsPart inner_rest inner_tree
     inners = record { spells = spells; view = λ f. view f.0 f.1 }
       where
         spells_end : (s : Sum) (e : InnerEnd) (g : Trees (K (inner_of s e)))
@@ -200,13 +196,13 @@ module _ (n : ℕ) where
 
   -- what stands there behind a sum
   pub inner_ends : (K : InnerEnd → Sequence)
-      → Fork (first_read (an_inner_end n) K) (mark Mark.CloseParenthesis) (K closed) (λ g. (closed, g))
+      → Fork grammar (first_read (an_inner_end n) K) (mark Mark.CloseParenthesis) (K closed) (λ g. (closed, g))
       (first_read (a_right n) (λ r. first_read (a_chain n) (λ c. then_read (exactly (mark Mark.CloseParenthesis) (refl, refl)) (K (compares r c)))))
       (λ g. (compares g.0 g.1.0, g.1.1.1))
   inner_ends K = record { spells = λ g. refl; spells_other = λ g. refl; view = λ f. view f.0 f.1 }
     where
       view : (e : InnerEnd) (rest : Trees (K e))
-          → Sides (first_read (an_inner_end n) K) (mark Mark.CloseParenthesis) (K closed) (λ g. (closed, g))
+          → Sides grammar (first_read (an_inner_end n) K) (mark Mark.CloseParenthesis) (K closed) (λ g. (closed, g))
           (first_read (a_right n) (λ r. first_read (a_chain n) (λ c. then_read (exactly (mark Mark.CloseParenthesis) (refl, refl)) (K (compares r c)))))
           (λ g. (compares g.0 g.1.0, g.1.1.1)) (e, rest)
       view closed rest = inl (rest, refl)
@@ -217,7 +213,7 @@ module _ (n c : ℕ) (K : Chain → Sequence) (from : Rest) where
   pub chain_ends : None ≡ connective_of (first from.words)
       → Leads c (first_read (a_chain n) K) from c (K done) from (λ g. (done, g))
   chain_ends e =
-      opens (first_read (a_chain n) K) (K done) c from (λ next. connective_of next ≡ None) (look no_connective ∷ []) (λ g. (done, g)) refl refl tt refl
+      opens grammar (first_read (a_chain n) K) (K done) c from (λ next. connective_of next ≡ None) (look no_connective ∷ []) (λ g. (done, g)) refl refl tt refl
       (sym e, tt) (λ g. refl) (λ f fits none. view f.0 f.1 none) (sym e)
     where
       view : (t : Chain) (rest : Trees (K t)) → connective_of (first_before (pieces (first_read (a_chain n) K) (t, rest)) None) ≡ None
@@ -225,40 +221,28 @@ module _ (n c : ℕ) (K : Chain → Sequence) (from : Rest) where
       view done rest none = (rest, refl)
       view (joined connective t more) rest none = absurd (cc)
 
+-- a connective there
+module _ (n : ℕ) (K : Chain → Sequence) where
   abbrev connective_rest : Connective → Sequence
   connective_rest connective = first_read (a_part n) (λ f. first_read (a_chain n) (λ t. K (joined connective f t)))
 
-  pub connective_view : (connective : Connective) (t : Chain) (rest : Trees (K t)) → Fits from.number (pieces (first_read (a_chain n) K) (t, rest))
-      → connective_of (first_before (pieces (first_read (a_chain n) K) (t, rest)) None) ≡ Some connective
-      → (g : Trees (connective_rest connective)) × Same (first_read (a_chain n) K) (t, rest) (joined connective g.0 g.1.0, g.1.1)
-  connective_view connective done rest fits found = absurd (let both = sym fits.0 ∙ found in cc)
-  connective_view connective (joined other f more) rest fits found =
-      let same : other ≡ connective = cc in
-      subst (λ o. (g : Trees (connective_rest o)) × Same (first_read (a_chain n) K) (joined other f more, rest) (joined o g.0 g.1.0, g.1.1)) same
-      ((f, (more, rest)), refl)
-
-  module _ (to : Rest) (connective : Connective) (e : IsNext (sign (Mark.Connective connective)) from to) where
-    pub connective_read : c + 1 ≤ 64
-        → Leads c (first_read (a_chain n) K) from (c + 1) (first_read (a_part n) (λ f. first_read (a_chain n) (λ t. K (joined connective f t)))) to
-        (λ g. (joined connective g.0 g.1.0, g.1.1))
-    connective_read few =
-        reads (first_read (a_chain n) K) (connective_rest connective) c from to (counted (Mark.Connective connective)) (λ g. (joined connective g.0 g.1.0, g.1.1)) e
-        (omega arith, few) (λ g. refl) (λ f fits next. connective_view connective f.0 f.1 fits (ap connective_of next))
-
-    pub connective_too_many : 64 < c + 1 → Stops c (first_read (a_chain n) K) from Operators from
-    connective_too_many many =
-        let inner = complete (from.number + 1) (connective_rest connective) in
-        exceeds (first_read (a_chain n) K) c from (counted (Mark.Connective connective)) (pieces (connective_rest connective) inner) Operators
-        (joined connective inner.0 inner.1.0, inner.1.1)
-        (completes (from.number + 1) (connective_rest connective)).0 refl (ap first e.0) (λ e. cc) (omega arith, many)
-        (λ f fits next. let found = connective_view connective f.0 f.1 fits (ap connective_of next) in
-        (pieces (connective_rest connective) found.0, ap (pieces (first_read (a_chain n) K)) found.1))
+  pub connectives : (connective : Connective) → Headed grammar (first_read (a_chain n) K) (counted (Mark.Connective connective))
+      (first_read (a_part n) (λ f. first_read (a_chain n) (λ t. K (joined connective f t)))) (λ g. (joined connective g.0 g.1.0, g.1.1))
+  connectives connective = record { spells = λ g. refl; view = λ m f fits next. view m f.0 f.1 fits (ap connective_of next) }
+    where
+      view : (m : ℕ) (t : Chain) (rest : Trees (K t)) → Fits m (pieces (first_read (a_chain n) K) (t, rest))
+          → connective_of (begins grammar (first_read (a_chain n) K) (t, rest)) ≡ Some connective
+          → (g : Trees (connective_rest connective)) × Same (first_read (a_chain n) K) (t, rest) (joined connective g.0 g.1.0, g.1.1)
+      view m done rest fits found = absurd (let both = sym fits.0 ∙ found in cc)
+      view m (joined other f more) rest fits found =
+          let same : other ≡ connective = cc in
+          subst (λ o. (g : Trees (connective_rest o)) × Same (first_read (a_chain n) K) (joined other f more, rest) (joined o g.0 g.1.0, g.1.1)) same
+          ((f, (more, rest)), refl)
 
 -- a formula is a part and what stands behind it
 pub formula_goes : (n c : ℕ) (K : Formula → Sequence) (from : Rest)
     → Leads c (first_read (a_formula n) K) from c (first_read (a_part n) (λ f. first_read (a_chain n) (λ t. K (record { part = f; chain = t })))) from
     (λ g. (record { part = g.0; chain = g.1.0 }, g.1.1))
 formula_goes n c K from =
-    opens (first_read (a_formula n) K) (first_read (a_part n) (λ f. first_read (a_chain n) (λ t. K (record { part = f; chain = t })))) c from
-    (λ next. Unit {0}) [] (λ g. (record { part = g.0; chain = g.1.0 }, g.1.1)) refl refl tt refl tt (λ g. refl)
-    (λ f fits any. ((f.0.part, (f.0.chain, f.1)), refl)) tt
+    becomes grammar (first_read (a_formula n) K) (first_read (a_part n) (λ f. first_read (a_chain n) (λ t. K (record { part = f; chain = t })))) c from
+    (λ g. (record { part = g.0; chain = g.1.0 }, g.1.1)) (λ g. refl) (λ f. ((f.0.part, (f.0.chain, f.1)), refl))

@@ -4,10 +4,8 @@ pub mod Trees
 pub mod Mirror
 pub mod Spelling
 pub mod Pending
-pub mod Leads
 pub mod Openings
 pub mod Reads
 pub mod Inners
-pub mod Failures
 pub mod Texts
 pub mod Laws

@@ -1,10 +1,12 @@
 -- What is still to be read: things one behind the other, each with its trees, where what stands behind one may depend on its tree.
 use Rattle.std.specs.Prelude.{ℕ, ◌+◌, Bool, Some, List, [], ◌∷◌}
+use Rattle.derivation.specs.declared.rule.Rule.{Rule}
 use Rattle.derivation.specs.Pieces.{token, look}
+use Rattle.derivation.specs.Grammars.{Grammar, Leads as LeadsIn, Stops as StopsIn}
 use Rattle.formula_syntax.specs.declared.sign.Comparison.{Comparison}
 use Rattle.formula_syntax.specs.declared.sign.Sign.TheVariants as S
 use Rattle.formula_syntax.specs.Words.{name as named}
-use Rattle.formula_syntax.specs.Language.{Token, Piece, Phrase, is_at, IsQuiet}
+use Rattle.formula_syntax.specs.Language.{language, Token, Piece, Phrase, Rest, is_at, IsQuiet}
 use Rattle.formula_syntax.specs.Trees.{Factor, FactorKind, Tail, Sum, Part, Chain, Formula}
 use Rattle.formula_syntax.specs.Spelling.{plain, mark, opening, counted, factor_pieces, factor_kind_pieces, tail_pieces, sum_pieces, part_pieces, chain_pieces, formula_pieces}
 
@@ -108,3 +110,13 @@ pieces (first_read p more) trees = pieces_of p trees.0 (pieces (more trees.0) tr
 
 abbrev pub phrase : Sequence → Phrase
 phrase all = record { Tree = Trees all; pieces = pieces all }
+
+-- formulas as a grammar of the calculus
+abbrev pub grammar : Grammar
+grammar = record { language = language; Sequence = Sequence; phrase = phrase }
+
+abbrev pub Leads : (count : ℕ) (these : Sequence) (from : Rest) (now : ℕ) (those : Sequence) (to : Rest) → (Trees those → Trees these) → Type 0
+Leads = LeadsIn grammar
+
+abbrev pub Stops : (count : ℕ) (these : Sequence) (from : Rest) → Rule → Rest → Type 0
+Stops = StopsIn grammar

@@ -7,8 +7,7 @@ use Rattle.formula_syntax.specs.declared.sign.Sign.{Sign}
 use Rattle.formula_syntax.specs.declared.lexeme.Lexeme.{Lexeme}
 use Rattle.formula_syntax.specs.Words.{Word, sign, name as named}
 use Rattle.formula_syntax.specs.Language.{Rest}
-use Rattle.formula_syntax.specs.Pending.{Pending, TreeOf, Sequence, first_read}
-use Rattle.formula_syntax.specs.Leads.{Leads, Stops}
+use Rattle.formula_syntax.specs.Pending.{Pending, TreeOf, Sequence, first_read, Leads, Stops}
 
 -- the words up to `to` are this tree of a `p`, and its operators raise the count from `count` to `now`
 pub record Reads (count : ℕ) (p : Pending) (tree : TreeOf p) (from : Rest) (now : ℕ) (to : Rest) : Type 0 where

@@ -66,11 +66,11 @@ word_of SignKind bytes = sign_word (found signs bytes)
 abbrev pub word : List ℕ → Token → Word
 word text token = word_of token.kind (lexeme text token)
 
+-- What follows has no part in the headline.
+
 -- the words that the tokens of this text are
 abbrev pub words : List ℕ → List Token → List Word
 words text tokens = map (word text) tokens
-
--- What follows has no part in the headline.
 
 -- the words that the reader's own lexemes are
 abbrev pub spelled : Lexeme → Word

@@ -5,14 +5,13 @@ ghost use Rattle.derivation.specs.Comes.{FirstFault, IsSpelledBy};
 ghost use Rattle.formula_syntax.specs.Words.{words, all_spelled, words_from};
 ghost use Rattle.source_lex.specs.Tokens.{TokensOf};
 ghost use Rattle.formula_syntax.specs.Mirror.{formula as formula_tree};
-ghost use Rattle.formula_syntax.specs.Failures.{IfFault};
+ghost use Rattle.derivation.specs.Failures.{IfFault};
 ghost use Rattle.formula_syntax.specs.Texts.{formulas, offset_in, IsFormulaText, IsFaultOf};
 
-use crate::fault::{Failure, Fault, SyntaxFault};
 use crate::lexeme::{Lexeme, lexemes};
 use crate::part::formula;
 use crate::tree::Formula;
-use derivation::Rule;
+use derivation::{Failure, Fault, Rule, SyntaxFault};
 use source_lex::{LexFault, Token, lex, start_of};
 use std::alloc::Global;
 

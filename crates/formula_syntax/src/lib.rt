@@ -4,7 +4,6 @@
 //! of a text (Texts).
 #![tactic(auto)]
 
-mod fault;
 mod front;
 mod laws;
 mod lexeme;
@@ -15,7 +14,7 @@ mod sign;
 mod sum;
 mod tree;
 
-pub use fault::SyntaxFault;
+pub use derivation::SyntaxFault;
 pub use front::{Syntax, offset_in, read_syntax};
 pub use laws::{first_faults_agree, formulas_have_no_fault, trees_are_unique};
 pub use sign::{Comparison, Connective, Operator, Prefix, Sign};

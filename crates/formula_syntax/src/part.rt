@@ -11,18 +11,17 @@ ghost use Rattle.formula_syntax.specs.Inners.{inner as inner_tree, inner_end as 
 ghost use Rattle.formula_syntax.specs.Openings.{opening_of_part, IsProper};
 ghost use Rattle.formula_syntax.specs.declared.sign.Sign.TheVariants.{CloseParenthesis};
 ghost use Rattle.formula_syntax.specs.declared.opening.Opening.TheVariants.{Sum as OpensSum, Parenthesis, Prefix as OpensPrefix, Quantifier};
-ghost use Rattle.formula_syntax.specs.Failures.{IfFault};
+ghost use Rattle.derivation.specs.Failures.{IfFault};
 ghost use Rattle.formula_syntax.specs.Pending.{a_part, a_chain, a_formula, an_inner, an_inner_end, a_group};
 ghost use Rattle.formula_syntax.specs.Reads.{Reads, Refuses, IsFrom};
 
-use crate::fault::{Failure, Fault};
 use crate::lexeme::{Lexeme, after};
 use crate::opening::{Opening, connective_of, opening_of_part};
 use crate::reader::{MOST_OPERATORS, opening, sign, until};
 use crate::sign::{Connective, Prefix, Sign};
 use crate::sum::{right, sum, tail};
 use crate::tree::{Chain, Factor, FactorKind, Formula, Inner, InnerEnd, Part, Sum};
-use derivation::{MOST_LEVELS, Rule};
+use derivation::{Failure, Fault, MOST_LEVELS, Rule};
 use std::alloc::{AllocError, Global};
 
 /// Reads a formula.

@@ -4,15 +4,14 @@ ghost use Rattle.std.specs.Prelude.{◌≡◌, ◌≤◌, IfOk, IfErr, ℕ};
 ghost use Rattle.derivation.specs.Comes.{IsNext};
 ghost use Rattle.formula_syntax.specs.Words.{sign as sign_word, name as named, IsBehind};
 ghost use Rattle.formula_syntax.specs.Language.{rest_from};
-ghost use Rattle.formula_syntax.specs.Failures.{IfFault};
+ghost use Rattle.derivation.specs.Failures.{IfFault};
 ghost use Rattle.formula_syntax.specs.Pending.{an_until};
 ghost use Rattle.formula_syntax.specs.Reads.{Reads, Refuses, MissesSign, MissesOpening, MissesName};
 
-use crate::fault::{Failure, Fault};
 use crate::lexeme::{Lexeme, after};
 use crate::opening::until_of;
 use crate::sign::Sign;
-use derivation::{MOST_LEVELS, Rule};
+use derivation::{Failure, Fault, MOST_LEVELS, Rule};
 use std::alloc::Global;
 
 /// How many operators a formula may have.

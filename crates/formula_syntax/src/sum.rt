@@ -8,17 +8,16 @@ ghost use Rattle.formula_syntax.specs.Language.{rest_from, operator_of};
 ghost use Rattle.formula_syntax.specs.Mirror.{factor as factor_tree, factor_kind as kind_tree, tail as tail_tree, sum as sum_tree};
 ghost use Rattle.formula_syntax.specs.Openings.{opening_of_factor, comparison_of};
 ghost use Rattle.formula_syntax.specs.declared.opening.FactorOpening.TheVariants.{Signed, Parenthesis};
-ghost use Rattle.formula_syntax.specs.Failures.{IfFault};
+ghost use Rattle.derivation.specs.Failures.{IfFault};
 ghost use Rattle.formula_syntax.specs.Pending.{a_factor, a_factor_kind, a_tail, a_sum, a_right};
 ghost use Rattle.formula_syntax.specs.Reads.{Reads, Refuses, IsFrom};
 
-use crate::fault::{Failure, Fault};
 use crate::lexeme::Lexeme;
 use crate::opening::{FactorOpening, comparison_of, opening_of_factor, operator_of};
 use crate::reader::{MOST_OPERATORS, opening, owned_name, sign};
 use crate::sign::{Comparison, Operator, Sign};
 use crate::tree::{Factor, FactorKind, Sum, Tail};
-use derivation::{MOST_LEVELS, Rule};
+use derivation::{Failure, Fault, MOST_LEVELS, Rule};
 use std::alloc::Global;
 
 /// Reads a sum.

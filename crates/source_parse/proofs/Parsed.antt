@@ -1,7 +1,7 @@
 -- A text is one program, or has one fault.
 use Rattle.std.proofs.Common.{◌≡◌, ℕ, List, [], Contains, sym, ap, ◌∙◌, subst, arith}
 use Rattle.step_meaning.specs.Syntax.{Statements}
-use Rattle.source_syntax.specs.declared.fault.SyntaxFault.TheVariants as S
+use Rattle.derivation.specs.declared.fault.SyntaxFault.TheVariants as S
 use Rattle.derivation.specs.declared.rule.Rule.TheVariants as SyntaxRule
 use Rattle.source_syntax.specs.Laws.{ProgramsHaveNoFault as SyntaxHasNoFault, TreesAreUnique}
 use Rattle.elaboration.specs.declared.fault.Rule.{Rule}

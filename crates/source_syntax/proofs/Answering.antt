@@ -1,6 +1,5 @@
 -- The readers' answers as steps of the calculus.
-use Rattle.std.proofs.Common.{◌≡◌, inl, inr, ℕ, ◌≤◌, ℤ, List, [], ◌∷◌, Some, Result, Ok, Err, refl, sym, ap, ◌∙◌, subst, arith, IfErr}
-use Rattle.std.specs.Result.{IsErr, IsErrAnd}
+use Rattle.std.proofs.Common.{◌≡◌, inl, inr, ℕ, ◌≤◌, ℤ, List, [], ◌∷◌, Some, refl, sym, ap, ◌∙◌, subst, arith}
 use Rattle.derivation.specs.declared.rule.Rule.{Rule}
 use Rattle.derivation.specs.declared.rule.Rule.TheVariants.{Expected, Nesting, Operators}
 use Rattle.derivation.specs.declared.symbol.Symbol.{Symbol}
@@ -8,67 +7,47 @@ use Rattle.derivation.specs.declared.lexeme.Lexeme.{Lexeme}
 use Rattle.derivation.specs.Word.{symbol, name as named, number as numbered}
 use Rattle.derivation.specs.Comes.{IsNext}
 use Rattle.source_syntax.specs.Language.{Token, Rest, IsQuiet, rest_from}
-use Rattle.source_syntax.specs.declared.fault.Fault.{Fault}
-use Rattle.source_syntax.specs.declared.fault.Failure.{Failure}
-use Rattle.source_syntax.specs.Failures.{OnFault, IfFault}
+use Rattle.derivation.specs.declared.fault.Fault.{Fault}
 use Rattle.source_syntax.specs.Spelling.{plain, sign, leading, opening, leading_opening}
-use Rattle.source_syntax.specs.Pending.{Pending, exactly, exactly_at, a_name, bytes_of_a_name, a_number, a_number_at, Trees}
-use Rattle.source_syntax.specs.Leads.{Leads, Stops}
+use Rattle.source_syntax.specs.Pending.{Pending, exactly, exactly_at, a_name, bytes_of_a_name, a_number, a_number_at, Trees, Leads, Stops}
 use Rattle.source_syntax.specs.Reads.{MissesSign, MissesOpening, MissesName, MissesNumber, AreNext, MissesOne}
-use Rattle.source_syntax.proofs.Calculus.{over, fails, stay}
-use Rattle.source_syntax.proofs.Choices.{held}
-use Rattle.source_syntax.proofs.Expressions.{token_read, token_missed, token_too_deep, located_tokens, names, bytes_read, bytes_missed, located_numbers, number_read, number_missed}
-
--- a fault that is handed on
-pub handed_on : {X : Type 0} (r : Result X Fault) (f : Fault) (P : Fault → Type 0) → IsErr r × IsErrAnd r (λ e. e ≡ f) → P f → IfErr r P
-handed_on (Ok x) f P h k = tt
-handed_on (Err e) f P h k = subst P (sym h.1) k
-
--- the same where memory may run out instead
-pub failed_on : {X : Type 0} (r : Result X Failure) (f : Fault) (P : Fault → Type 0) → IsErr r × IsErrAnd r (λ e. e ≡ Failure.Fault f) → P f → IfFault r P
-failed_on (Ok x) f P h k = tt
-failed_on (Err (Failure.Fault g)) f P h k = let same : f ≡ g = cc in subst P same k
-failed_on (Err (Failure.Memory e)) f P h k = tt
-
--- a failure that is handed on, with what its fault says of a part
-pub passed_on : {X : Type 0} (r : Result X Failure) (f : Failure) (P Q : Fault → Type 0) → IsErr r × IsErrAnd r (λ e. e ≡ f) → OnFault f P
-    → ((fault : Fault) → P fault → Q fault) → IfFault r Q
-passed_on (Ok x) f P Q h k turn = tt
-passed_on (Err (Failure.Memory e)) f P Q h k turn = tt
-passed_on (Err (Failure.Fault g)) f P Q h k turn = turn g (subst (λ f. OnFault f P) (sym h.1) k)
+use Rattle.derivation.proofs.Grammars.{over, fails, stay, read, exceeds}
+use Rattle.derivation.proofs.Choices.{held}
+use Rattle.source_syntax.proofs.Completions.{lawful}
+use Rattle.source_syntax.proofs.Expressions.{tokens, token_missed, located_tokens, names, name_bytes, bytes_missed, located_numbers, numbers, number_missed}
 
 module _ {c : ℕ} {S : List Pending} {from to : Rest} where
   pub sign_reads : (s : Symbol) (quiet : IsQuiet (Some (symbol s))) → IsNext (symbol s) from to
       → Leads c ((exactly (sign s) quiet ∷ S)) from c S to (λ g. (tt, g))
-  sign_reads s quiet e = token_read c (sign s) quiet S from to e (omega arith, tt)
+  sign_reads s quiet e = read (tokens (sign s) quiet S) e (omega arith, tt)
 
   pub leading_reads : (s : Symbol) (quiet : IsQuiet (Some (symbol s))) → IsNext (symbol s) from to
       → Leads c ((exactly (leading s) quiet ∷ S)) from 0 S to (λ g. (tt, g))
-  leading_reads s quiet e = token_read c (leading s) quiet S from to e (omega arith, tt)
+  leading_reads s quiet e = read (tokens (leading s) quiet S) e (omega arith, tt)
 
   pub opening_reads : (s : Symbol) (level : ℕ) (quiet : IsQuiet (Some (symbol s))) → IsNext (symbol s) from to → level ≤ 64
       → Leads c ((exactly (opening s level) quiet ∷ S)) from c S to (λ g. (tt, g))
-  opening_reads s level quiet e shallow = token_read c (opening s level) quiet S from to e (shallow, tt)
+  opening_reads s level quiet e shallow = read (tokens (opening s level) quiet S) e (shallow, tt)
 
   pub leading_opening_reads : (s : Symbol) (level : ℕ) (quiet : IsQuiet (Some (symbol s))) → IsNext (symbol s) from to → level ≤ 64
       → Leads c ((exactly (leading_opening s level) quiet ∷ S)) from 0 S to (λ g. (tt, g))
-  leading_opening_reads s level quiet e shallow = token_read c (leading_opening s level) quiet S from to e (shallow, tt)
+  leading_opening_reads s level quiet e shallow = read (tokens (leading_opening s level) quiet S) e (shallow, tt)
 
   pub number_reads : {z : ℤ} → IsNext (numbered z) from to → Leads c ((exactly (plain (numbered z)) (refl, refl) ∷ S)) from c S to (λ g. (tt, g))
-  number_reads {z} e = token_read c (plain (numbered z)) (refl, refl) S from to e (omega arith, tt)
+  number_reads {z} e = read (tokens (plain (numbered z)) (refl, refl) S) e (omega arith, tt)
 
   pub sign_at_reads : (s : Symbol) (quiet : IsQuiet (Some (symbol s))) → IsNext (symbol s) from to
       → Leads c ((exactly_at (sign s) quiet ∷ S)) from c S to (λ g. (from.number, g))
   sign_at_reads s quiet e = over (held (located_tokens (sign s) quiet S) c from) (sign_reads s quiet e)
 
   pub bytes_reads : {x : List ℕ} → IsNext (named x) from to → Leads c (bytes_of_a_name ∷ S) from c S to (λ g. (x, g))
-  bytes_reads {x} e = bytes_read c S from x to e
+  bytes_reads {x} e = read (name_bytes x S) e (omega arith, tt)
 
   pub name_reads : {x : List ℕ} → IsNext (named x) from to → Leads c (a_name ∷ S) from c S to (λ g. (record { at = from.number; bytes = x }, g))
   name_reads {x} e = over (held (names S) c from) (bytes_reads e)
 
   pub number_at_reads : {z : ℤ} → IsNext (numbered z) from to → Leads c (a_number_at ∷ S) from c S to (λ g. ((from.number, z), g))
-  number_at_reads {z} e = over (held (located_numbers S) c from) (number_read c S from z to e)
+  number_at_reads {z} e = over (held (located_numbers S) c from) (read (numbers z S) e (omega arith, tt))
 
 -- the same for faults
 missed : (c : ℕ) (t : Token) (quiet : IsQuiet (Some t.word)) (S : List Pending) (from : Rest) (s : Symbol) (rule : Rule) → t.word ≡ symbol s
@@ -80,7 +59,7 @@ missed c t quiet S from s Operators e h = absurd h
 missed_opening : (c : ℕ) (t : Token) (quiet : IsQuiet (Some t.word)) (S : List Pending) (from : Rest) (s : Symbol) (rule : Rule) → t.word ≡ symbol s
     → MissesOpening from s t.level rule → Stops c ((exactly t quiet ∷ S)) from rule from
 missed_opening c t quiet S from s Expected e h = token_missed c t quiet S from (λ to same. h to (same ∙ ap (λ w. w ∷ to) e))
-missed_opening c t quiet S from s Nesting e h = token_too_deep c t quiet S from h.0.0 (h.0.1.0 ∙ ap (λ w. w ∷ h.0.0.words) (sym e), h.0.1.1) h.1
+missed_opening c t quiet S from s Nesting e h = exceeds (tokens t quiet S) lawful {to = h.0.0} (h.0.1.0 ∙ ap (λ w. w ∷ h.0.0.words) (sym e), h.0.1.1) Nesting (λ e. cc) h.1
 missed_opening c t quiet S from s Operators e h = absurd h
 
 there : (c : ℕ) (lexemes : List Lexeme) (at : ℕ) (fault : Fault) (A : List Pending) → fault.at ≡ at

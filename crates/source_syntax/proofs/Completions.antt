@@ -1,10 +1,13 @@
 -- Whatever is still to be read can be completed, by words that no end forbids.
-use Rattle.std.proofs.Common.{ℕ, ◌+◌, pos, List, [], ◌∷◌, None, Some, false, refl}
+use Rattle.std.proofs.Common.{ℕ, ◌+◌, pos, List, [], ◌∷◌, Option, None, Some, false, refl}
 use Rattle.derivation.specs.Pieces.{first_before, number_behind, Fits}
-use Rattle.source_syntax.specs.Language.{IsQuiet}
+use Rattle.derivation.specs.Comes.{MayStandFor}
+use Rattle.derivation.specs.Word.{Word}
+use Rattle.derivation.proofs.Grammars.{Lawful}
+use Rattle.source_syntax.specs.Language.{language, Look, is_at, no_operator, no_else, Meets, IsQuiet}
 use Rattle.concrete_syntax.specs.declared.sign.Step.TheVariants as Step
 use Rattle.concrete_syntax.specs.Trees.{operand_at, number, ended, Expression, Name, steps, steps_before, starts_with_nothing, statement_at, skip, without, none}
-use Rattle.source_syntax.specs.Pending.{Pending, exactly, exactly_at, a_name, bytes_of_a_name, a_size, an_end, a_number, a_number_at, a_divisor, an_operand, an_operand_kind, a_tail, an_expression, an_optional, a_test, an_action, a_simple, a_part_end, parts, a_declaration, a_start, a_finish, a_statement, a_statement_kind, an_otherwise, items, a_void, a_program, TreeOf, pieces_of, Trees, pieces}
+use Rattle.source_syntax.specs.Pending.{Pending, exactly, exactly_at, a_name, bytes_of_a_name, a_size, an_end, a_number, a_number_at, a_divisor, an_operand, an_operand_kind, a_tail, an_expression, an_optional, a_test, an_action, a_simple, a_part_end, parts, a_declaration, a_start, a_finish, a_statement, a_statement_kind, an_otherwise, items, a_void, a_program, TreeOf, pieces_of, Trees, pieces, grammar}
 
 abbrev zero_at : ℕ → Expression
 zero_at at = record { operand = operand_at at (number (pos 0)); tail = ended }
@@ -13,7 +16,7 @@ abbrev empty_name : ℕ → Name
 empty_name at = record { at = at; bytes = [] }
 
 -- a short tree of each, from the token of this number on
-abbrev pub short : ℕ → (p : Pending) → TreeOf p
+abbrev short : ℕ → (p : Pending) → TreeOf p
 short at (exactly t quiet) = tt
 short at (exactly_at t quiet) = at
 short at a_name = empty_name at
@@ -43,7 +46,7 @@ short at (items n) = none
 short at a_void = false
 short at a_program = record { preludes = []; void = false; items = none }
 
-abbrev pub complete : ℕ → (all : List Pending) → Trees all
+abbrev complete : ℕ → (all : List Pending) → Trees all
 complete at [] = tt
 complete at (p ∷ more) = (short at p, complete (number_behind at (pieces_of p (short at p) [])) more)
 
@@ -78,3 +81,22 @@ completes at (an_otherwise n ∷ more) = (((completes at more).1.1, (completes a
 completes at (items n ∷ more) = ((completes _ more).0, (refl, refl))
 completes at (a_void ∷ more) = ((completes _ more).0, (refl, refl))
 completes at (a_program ∷ more) = ((completes _ more).0, (refl, refl))
+
+-- a word that no end forbids may stand for each
+pub quiet_stands : (next other : Option Word) → IsQuiet next → MayStandFor language next other
+quiet_stands next other quiet = stands
+  where
+    stands : (l : Look) (n : ℕ) → Meets l n other → Meets l n next
+    stands (is_at m) n meets = meets
+    stands no_operator n meets = quiet.0
+    stands no_else n meets = quiet.1
+
+abbrev pub lawful : Lawful grammar
+lawful = record {
+  complete = complete;
+  fits = λ at all. (completes at all).0;
+  stands = λ at all next. quiet_stands _ next (completes at all).1;
+  is_at = is_at;
+  met = λ n next. refl;
+  tells = λ m n next same. same;
+}

@@ -1,99 +1,78 @@
 -- How the reading of expressions goes on, by the next word.
-use Rattle.std.proofs.Common.{◌≡◌, subst, ◌≢◌, inl, inr, ℕ, ◌+◌, ◌<◌, ◌≤◌, ℤ, List, [], ◌∷◌, Option, None, Some, Bool, true, false, refl, sym, ap, ◌∙◌, arith}
+use Rattle.std.proofs.Common.{◌≡◌, ◌≢◌, inl, inr, ℕ, ◌+◌, ℤ, List, [], ◌∷◌, Option, None, Some, Bool, true, false, refl, sym, ap, ◌∙◌}
 use Rattle.concrete_syntax.specs.declared.sign.Division.{Division}
 use Rattle.concrete_syntax.specs.declared.sign.Operator.{Operator}
-use Rattle.derivation.specs.declared.rule.Rule.TheVariants.{Expected, Nesting, Operators}
+use Rattle.derivation.specs.declared.rule.Rule.TheVariants.{Expected}
 use Rattle.derivation.specs.declared.symbol.Symbol.TheVariants as Sym
 use Rattle.derivation.specs.Word.{Word, symbol, name as named, number as numbered}
-use Rattle.derivation.specs.Pieces.{token, look, first, first_before, Fits}
-use Rattle.derivation.specs.Limits.{IsWithin}
-use Rattle.derivation.specs.Comes.{IsNext}
+use Rattle.derivation.specs.Pieces.{token, look, first, Fits}
 use Rattle.source_syntax.specs.Language.{Token, Rest, link_opening, no_operator, IsQuiet}
 use Rattle.source_syntax.specs.declared.opening.LinkOpening.{LinkOpening}
 use Rattle.source_syntax.specs.declared.opening.LinkOpening.TheVariants as Link
 use Rattle.source_syntax.specs.Reads.{right_of, link_of}
 use Rattle.source_syntax.proofs.Words.{link_sign}
-use Rattle.source_syntax.specs.Leads.{Leads, Stops}
-use Rattle.source_syntax.proofs.Calculus.{opens, reads, sticks, exceeds}
+use Rattle.source_syntax.specs.Pending.{Leads, Stops, Pending, exactly, exactly_at, a_name, bytes_of_a_name, a_size, an_end, a_number, a_number_at, a_divisor, an_operand, an_operand_kind, a_tail, an_expression, Trees, pieces, grammar}
+use Rattle.derivation.proofs.Grammars.{opens, becomes, sticks, Headed}
 use Rattle.concrete_syntax.specs.declared.sign.Prefix.{Prefix}
 use Rattle.source_syntax.specs.declared.opening.OperandOpening.{OperandOpening}
 use Rattle.source_syntax.specs.declared.opening.SizeOpening.{SizeOpening}
 use Rattle.source_syntax.specs.Openings.{opening_of_operand, size_opening}
 use Rattle.concrete_syntax.specs.Trees.{Operand, operand_at, OperandKind, number, name, truth, unknown, call, signed, parentheses, range, operation, division, Tail, ended, further}
 use Rattle.source_syntax.specs.Spelling.{plain, sign, opening, counted, prefix_sign, truth_word}
-use Rattle.source_syntax.specs.Pending.{Pending, exactly, exactly_at, a_name, bytes_of_a_name, a_size, an_end, a_number, a_number_at, a_divisor, an_operand, an_operand_kind, a_tail, an_expression, Trees, pieces}
-use Rattle.source_syntax.proofs.Completions.{complete, completes}
-use Rattle.source_syntax.proofs.Choices.{begins, Way, Choice, Sides, Fork, Held, not_next}
+use Rattle.source_syntax.proofs.Completions.{lawful}
+use Rattle.derivation.proofs.Choices.{begins, Way, Choice, Sides, Fork, Held, not_next}
 
 abbrev pub Same : (all : List Pending) → Trees all → Trees all → Type 0
 Same all x y = x ≡ y
 
--- a token that has to stand here does, doesn't, or breaks the limit of nesting
-module _ (c : ℕ) (t : Token) (quiet : IsQuiet (Some t.word)) (S : List Pending) (from : Rest) where
-  pub token_read : (to : Rest) → IsNext t.word from to → IsWithin c t
-      → Leads c ((exactly t quiet ∷ S)) from (Rattle.derivation.specs.Limits.count_on c t.counting) S to (λ g. (tt, g))
-  token_read to e within =
-      reads ((exactly t quiet ∷ S)) S c from to t (λ g. (tt, g)) e within (λ g. refl) (λ f fits next. (f.1, refl))
+-- a token that has to stand here
+pub tokens : (t : Token) (quiet : IsQuiet (Some t.word)) (S : List Pending) → Headed grammar (exactly t quiet ∷ S) t S (λ g. (tt, g))
+tokens t quiet S = record { spells = λ g. refl; view = λ n f fits next. (f.1, refl) }
 
-  pub token_missed : ((to : List Word) → from.words ≢ t.word ∷ to) → Stops c ((exactly t quiet ∷ S)) from Expected from
-  token_missed h =
-      sticks (exactly t quiet ∷ S) c from (λ next. next ≢ Some t.word) (complete from.number (exactly t quiet ∷ S))
-      (completes from.number (exactly t quiet ∷ S)).0 (completes from.number (exactly t quiet ∷ S)).1 (λ f fits other. other refl)
-      (not_next t.word from.words h)
-
-  pub token_too_deep : (to : Rest) → IsNext t.word from to → 64 < t.level → Stops c ((exactly t quiet ∷ S)) from Nesting from
-  token_too_deep to e deep =
-      exceeds ((exactly t quiet ∷ S)) c from t (pieces S (complete (from.number + 1) S)) Nesting (complete from.number (exactly t quiet ∷ S))
-      (completes from.number (exactly t quiet ∷ S)).0 refl (ap first e.0) (λ e. cc) deep (λ f fits next. (pieces S f.1, refl))
+pub token_missed : (c : ℕ) (t : Token) (quiet : IsQuiet (Some t.word)) (S : List Pending) (from : Rest) → ((to : List Word) → from.words ≢ t.word ∷ to)
+    → Stops c (exactly t quiet ∷ S) from Expected from
+token_missed c t quiet S from h =
+    sticks lawful (exactly t quiet ∷ S) c from (λ next. next ≢ Some t.word) (λ f fits other. other refl) (not_next t.word from.words h)
 
 -- a token with its number
 pub located_tokens : (t : Token) (quiet : IsQuiet (Some t.word)) (S : List Pending)
-    → Held (exactly_at t quiet ∷ S) (exactly t quiet ∷ S) (λ m g. (m, g.1))
+    → Held lawful (exactly_at t quiet ∷ S) (λ m. exactly t quiet ∷ S) (λ m g. (m, g.1))
 located_tokens t quiet S = record { spells = λ m g. refl; view = λ f. (f.0, (tt, f.1), refl) }
 
 -- names
-pub names : (S : List Pending) → Held (a_name ∷ S) (bytes_of_a_name ∷ S) (λ m g. (record { at = m; bytes = g.0 }, g.1))
+pub names : (S : List Pending) → Held lawful (a_name ∷ S) (λ m. bytes_of_a_name ∷ S) (λ m g. (record { at = m; bytes = g.0 }, g.1))
 names S = record { spells = λ m g. refl; view = λ f. (f.0.at, (f.0.bytes, f.1), refl) }
 
-module _ (c : ℕ) (S : List Pending) (from : Rest) where
-  pub bytes_read : (x : List ℕ) (to : Rest) → IsNext (named x) from to
-      → Leads c ((bytes_of_a_name ∷ S)) from c S to (λ g. (x, g))
-  bytes_read x to e =
-      reads ((bytes_of_a_name ∷ S)) S c from to (plain (named x)) (λ g. (x, g)) e (omega arith, tt) (λ g. refl)
-      (λ f fits next. (f.1, let same : f.0 ≡ x = cc in ap (λ y. (y, f.1)) same))
+pub name_bytes : (x : List ℕ) (S : List Pending) → Headed grammar (bytes_of_a_name ∷ S) (plain (named x)) S (λ g. (x, g))
+name_bytes x S = record { spells = λ g. refl; view = λ n f fits next. (f.1, let same : f.0 ≡ x = cc in ap (λ y. (y, f.1)) same) }
 
-  pub bytes_missed : ((x : List ℕ) (to : List Word) → from.words ≢ named x ∷ to) → Stops c ((bytes_of_a_name ∷ S)) from Expected from
-  bytes_missed h =
-      sticks (bytes_of_a_name ∷ S) c from (λ next. (x : List ℕ) → next ≢ Some (named x)) (complete from.number (bytes_of_a_name ∷ S))
-      (completes from.number (bytes_of_a_name ∷ S)).0 (completes from.number (bytes_of_a_name ∷ S)).1 (λ f fits other. other f.0 refl)
-      (λ x. not_next (named x) from.words (h x))
+pub bytes_missed : (c : ℕ) (S : List Pending) (from : Rest) → ((x : List ℕ) (to : List Word) → from.words ≢ named x ∷ to) → Stops c (bytes_of_a_name ∷ S) from Expected from
+bytes_missed c S from h =
+    sticks lawful (bytes_of_a_name ∷ S) c from (λ next. (x : List ℕ) → next ≢ Some (named x)) (λ f fits other. other f.0 refl)
+    (λ x. not_next (named x) from.words (h x))
 
 -- numbers
-pub located_numbers : (S : List Pending) → Held (a_number_at ∷ S) (a_number ∷ S) (λ m g. ((m, g.0), g.1))
+pub located_numbers : (S : List Pending) → Held lawful (a_number_at ∷ S) (λ m. a_number ∷ S) (λ m g. ((m, g.0), g.1))
 located_numbers S = record { spells = λ m g. refl; view = λ f. (f.0.0, (f.0.1, f.1), refl) }
 
-module _ (c : ℕ) (S : List Pending) (from : Rest) where
-  pub number_read : (z : ℤ) (to : Rest) → IsNext (numbered z) from to → Leads c ((a_number ∷ S)) from c S to (λ g. (z, g))
-  number_read z to e =
-      reads ((a_number ∷ S)) S c from to (plain (numbered z)) (λ g. (z, g)) e (omega arith, tt) (λ g. refl)
-      (λ f fits next. (f.1, let same : f.0 ≡ z = cc in ap (λ y. (y, f.1)) same))
+pub numbers : (z : ℤ) (S : List Pending) → Headed grammar (a_number ∷ S) (plain (numbered z)) S (λ g. (z, g))
+numbers z S = record { spells = λ g. refl; view = λ n f fits next. (f.1, let same : f.0 ≡ z = cc in ap (λ y. (y, f.1)) same) }
 
-  pub number_missed : ((z : ℤ) (to : List Word) → from.words ≢ numbered z ∷ to) → Stops c ((a_number ∷ S)) from Expected from
-  number_missed h =
-      sticks (a_number ∷ S) c from (λ next. (z : ℤ) → next ≢ Some (numbered z)) (complete from.number (a_number ∷ S))
-      (completes from.number (a_number ∷ S)).0 (completes from.number (a_number ∷ S)).1 (λ f fits other. other f.0 refl)
-      (λ z. not_next (numbered z) from.words (h z))
+pub number_missed : (c : ℕ) (S : List Pending) (from : Rest) → ((z : ℤ) (to : List Word) → from.words ≢ numbered z ∷ to) → Stops c (a_number ∷ S) from Expected from
+number_missed c S from h =
+    sticks lawful (a_number ∷ S) c from (λ next. (z : ℤ) → next ≢ Some (numbered z)) (λ f fits other. other f.0 refl)
+    (λ z. not_next (numbered z) from.words (h z))
 
 -- a divisor, with a `-` and without
 module _ (S : List Pending) where
   abbrev pub divisor_of : Bool → Trees (a_number_at ∷ S) → Trees (a_divisor ∷ S)
   divisor_of negative g = (record { negative = negative; at = g.0.0; size = g.0.1 }, g.1)
 
-  pub divisors : Fork (a_divisor ∷ S) (sign Sym.Minus) (a_number_at ∷ S) (divisor_of true) (a_number_at ∷ S) (divisor_of false)
+  pub divisors : Fork grammar (a_divisor ∷ S) (sign Sym.Minus) (a_number_at ∷ S) (divisor_of true) (a_number_at ∷ S) (divisor_of false)
   divisors = record { spells = λ g. refl; spells_other = λ g. refl; view = λ f. view f.0.negative ((f.0.at, f.0.size), f.1) }
     where
       view : (negative : Bool) (g : Trees (a_number_at ∷ S))
-          → Sides (a_divisor ∷ S) (sign Sym.Minus) (a_number_at ∷ S) (divisor_of true) (a_number_at ∷ S) (divisor_of false) (divisor_of negative g)
+          → Sides grammar (a_divisor ∷ S) (sign Sym.Minus) (a_number_at ∷ S) (divisor_of true) (a_number_at ∷ S) (divisor_of false) (divisor_of negative g)
       view true g = inl (g, refl)
       view false g = inr (g, refl, λ e. cc)
 
@@ -113,7 +92,7 @@ size_tree SizeOpening.Infinite S g = (None, g.1)
 size_tree SizeOpening.Nothing S g = g
 
 module _ (S : List Pending) where
-  pub sizes : Choice (a_size ∷ S) size_opening IsSize (λ o. size_rest o S) (λ o. size_tree o S)
+  pub sizes : Choice grammar (a_size ∷ S) size_opening IsSize (λ o. size_rest o S) (λ o. size_tree o S)
   sizes = record { spells = spells; view = view }
     where
       spells : (o : SizeOpening) → (g : Trees (size_rest o S)) → pieces (a_size ∷ S) (size_tree o S g) ≡ pieces (size_rest o S) g
@@ -121,17 +100,17 @@ module _ (S : List Pending) where
       spells SizeOpening.Infinite g = refl
       spells SizeOpening.Nothing g = refl
 
-      view : (f : Trees (a_size ∷ S)) → Way (a_size ∷ S) IsSize (λ o. size_rest o S) (λ o. size_tree o S) (size_opening (begins (a_size ∷ S) f)) f
+      view : (f : Trees (a_size ∷ S)) → Way grammar (a_size ∷ S) IsSize (λ o. size_rest o S) (λ o. size_tree o S) (size_opening (begins grammar (a_size ∷ S) f)) f
       view (Some z, rest) = (tt, (tt, rest), refl)
       view (None, rest) = (tt, (tt, rest), refl)
 
   -- with a `-` and without
-  pub ends : Fork (an_end ∷ S) (sign Sym.Minus) (a_size ∷ S) (λ g. (record { negative = true; size = g.0 }, g.1))
+  pub ends : Fork grammar (an_end ∷ S) (sign Sym.Minus) (a_size ∷ S) (λ g. (record { negative = true; size = g.0 }, g.1))
       (a_size ∷ S) (λ g. (record { negative = false; size = g.0 }, g.1))
   ends = record { spells = λ g. refl; spells_other = λ g. refl; view = λ f. view f.0.negative f.0.size f.1 }
     where
       view : (negative : Bool) (size : Option ℤ) (rest : Trees S)
-          → Sides (an_end ∷ S) (sign Sym.Minus) (a_size ∷ S) (λ g. (record { negative = true; size = g.0 }, g.1))
+          → Sides grammar (an_end ∷ S) (sign Sym.Minus) (a_size ∷ S) (λ g. (record { negative = true; size = g.0 }, g.1))
           (a_size ∷ S) (λ g. (record { negative = false; size = g.0 }, g.1)) (record { negative = negative; size = size }, rest)
       view true size rest = inl ((size, rest), refl)
       view false (Some z) rest = inr ((Some z, rest), refl, λ e. cc)
@@ -175,7 +154,7 @@ module _ (n : ℕ) where
   operand_tree OperandOpening.Nothing S g = g
 
   module _ (S : List Pending) where
-    pub operands : Choice (an_operand_kind n ∷ S) opening_of_operand IsOperand (λ o. operand_rest o S) (λ o. operand_tree o S)
+    pub operands : Choice grammar (an_operand_kind n ∷ S) opening_of_operand IsOperand (λ o. operand_rest o S) (λ o. operand_tree o S)
     operands = record { spells = spells; view = view }
       where
         spells : (o : OperandOpening) → (g : Trees (operand_rest o S)) → pieces (an_operand_kind n ∷ S) (operand_tree o S g) ≡ pieces (operand_rest o S) g
@@ -190,7 +169,7 @@ module _ (n : ℕ) where
         spells OperandOpening.Nothing g = refl
 
         view : (f : Trees (an_operand_kind n ∷ S))
-            → Way (an_operand_kind n ∷ S) IsOperand (λ o. operand_rest o S) (λ o. operand_tree o S) (opening_of_operand (begins (an_operand_kind n ∷ S) f)) f
+            → Way grammar (an_operand_kind n ∷ S) IsOperand (λ o. operand_rest o S) (λ o. operand_tree o S) (opening_of_operand (begins grammar (an_operand_kind n ∷ S) f)) f
         view (number z, rest) = (tt, (tt, rest), refl)
         view (name x, rest) = (tt, (x, rest), refl)
         view (truth true, rest) = (tt, (tt, rest), refl)
@@ -203,52 +182,33 @@ module _ (n : ℕ) where
         view (parentheses t more, rest) = (tt, (tt, (record { operand = t; tail = more }, (tt, rest))), refl)
         view (range lo hi, rest) = (tt, (tt, (lo, (tt, (hi, (tt, rest))))), refl)
 
-  pub located_operands : (S : List Pending) → Held (an_operand n ∷ S) (an_operand_kind n ∷ S) (λ m g. (operand_at m g.0, g.1))
+  pub located_operands : (S : List Pending) → Held lawful (an_operand n ∷ S) (λ m. an_operand_kind n ∷ S) (λ m g. (operand_at m g.0, g.1))
   located_operands S = record { spells = λ m g. refl; view = λ f. view f.0 f.1 }
     where
       view : (e : Operand) (rest : Trees S) → (m : ℕ) × (g : Trees (an_operand_kind n ∷ S)) × Same (an_operand n ∷ S) (e, rest) (operand_at m g.0, g.1)
       view (operand_at m kind) rest = (m, (kind, rest), refl)
 
-  pub operand_begins : (S : List Pending) (e : Operand) (rest : Trees S) → IsOperand (opening_of_operand (begins (an_operand n ∷ S) (e, rest)))
+  pub operand_begins : (S : List Pending) (e : Operand) (rest : Trees S) → IsOperand (opening_of_operand (begins grammar (an_operand n ∷ S) (e, rest)))
   operand_begins S (operand_at m kind) rest = ((operands S).view (kind, rest)).0
 
-  module _ (c : ℕ) (S : List Pending) (from : Rest) where
-    -- which operands begin with a sign
-    pub opening_of_prefix : (p : Prefix) → opening_of_operand (Some (symbol (prefix_sign p))) ≡ OperandOpening.Signed p
-    opening_of_prefix Prefix.Plus = refl
-    opening_of_prefix Prefix.Minus = refl
-    opening_of_prefix Prefix.Not = refl
+  -- operands that begin with a sign
+  opening_of_prefix : (p : Prefix) → opening_of_operand (Some (symbol (prefix_sign p))) ≡ OperandOpening.Signed p
+  opening_of_prefix Prefix.Plus = refl
+  opening_of_prefix Prefix.Minus = refl
+  opening_of_prefix Prefix.Not = refl
 
-    pub prefix_view : (prefix : Prefix) (t : OperandKind) (rest : Trees S) → opening_of_operand (first_before (pieces (an_operand_kind n ∷ S) (t, rest)) None) ≡ OperandOpening.Signed prefix
-        → (g : Trees (an_operand (n + 1) ∷ S)) × Same (an_operand_kind n ∷ S) (t, rest) (signed prefix g.0, g.1)
-    prefix_view prefix (number z) rest e = absurd (cc)
-    prefix_view prefix (name x) rest e = absurd (cc)
-    prefix_view prefix (truth true) rest e = absurd (cc)
-    prefix_view prefix (truth false) rest e = absurd (cc)
-    prefix_view prefix unknown rest e = absurd (cc)
-    prefix_view prefix call rest e = absurd (cc)
-    prefix_view prefix (signed Prefix.Plus t) rest e = ((t, rest), let same : Prefix.Plus ≡ prefix = cc in ap (λ p. (signed p t, rest)) same)
-    prefix_view prefix (signed Prefix.Minus t) rest e = ((t, rest), let same : Prefix.Minus ≡ prefix = cc in ap (λ p. (signed p t, rest)) same)
-    prefix_view prefix (signed Prefix.Not t) rest e = ((t, rest), let same : Prefix.Not ≡ prefix = cc in ap (λ p. (signed p t, rest)) same)
-    prefix_view prefix (parentheses t more) rest e = absurd (cc)
-    prefix_view prefix (range lo hi) rest e = absurd (cc)
-
-    -- behind a sign, and at one that opens level 65
-    pub prefix_read : (prefix : Prefix) (to : Rest) → IsNext (symbol (prefix_sign prefix)) from to → n + 1 ≤ 64
-        → Leads c ((an_operand_kind n ∷ S)) from c ((an_operand (n + 1) ∷ S)) to (λ g. (signed prefix g.0, g.1))
-    prefix_read prefix to e shallow =
-        reads ((an_operand_kind n ∷ S)) ((an_operand (n + 1) ∷ S)) c from to (opening (prefix_sign prefix) (n + 1))
-        (λ g. (signed prefix g.0, g.1)) e (shallow, tt) (λ g. refl)
-        (λ f fits next. prefix_view prefix f.0 f.1 (ap opening_of_operand next ∙ opening_of_prefix prefix))
-
-    pub prefix_too_deep : (prefix : Prefix) (to : Rest) → IsNext (symbol (prefix_sign prefix)) from to → 64 < n + 1
-        → Stops c ((an_operand_kind n ∷ S)) from Nesting from
-    prefix_too_deep prefix to e deep =
-        let inner = complete (from.number + 1) (an_operand (n + 1) ∷ S) in
-        exceeds ((an_operand_kind n ∷ S)) c from (opening (prefix_sign prefix) (n + 1)) (pieces (an_operand (n + 1) ∷ S) inner)
-        Nesting (signed prefix inner.0, inner.1) (completes (from.number + 1) (an_operand (n + 1) ∷ S)).0 refl (ap first e.0) (λ e. cc) deep
-        (λ f fits next. let found = prefix_view prefix f.0 f.1 (ap opening_of_operand next ∙ opening_of_prefix prefix) in
-        (pieces (an_operand (n + 1) ∷ S) found.0, ap (pieces (an_operand_kind n ∷ S)) found.1))
+  pub prefixes : (S : List Pending) (prefix : Prefix)
+      → Headed grammar (an_operand_kind n ∷ S) (opening (prefix_sign prefix) (n + 1)) (an_operand (n + 1) ∷ S) (λ g. (signed prefix g.0, g.1))
+  prefixes S prefix = record { spells = λ g. refl; view = λ m f fits next. view f.0 f.1 (ap opening_of_operand next ∙ opening_of_prefix prefix) }
+    where
+      view : (t : OperandKind) (rest : Trees S) → opening_of_operand (begins grammar (an_operand_kind n ∷ S) (t, rest)) ≡ OperandOpening.Signed prefix
+          → (g : Trees (an_operand (n + 1) ∷ S)) × Same (an_operand_kind n ∷ S) (t, rest) (signed prefix g.0, g.1)
+      view (signed Prefix.Plus t) rest e = ((t, rest), let same : Prefix.Plus ≡ prefix = cc in ap (λ p. (signed p t, rest)) same)
+      view (signed Prefix.Minus t) rest e = ((t, rest), let same : Prefix.Minus ≡ prefix = cc in ap (λ p. (signed p t, rest)) same)
+      view (signed Prefix.Not t) rest e = ((t, rest), let same : Prefix.Not ≡ prefix = cc in ap (λ p. (signed p t, rest)) same)
+      view (truth true) rest e = absurd (cc)
+      view (truth false) rest e = absurd (cc)
+      view _ rest e = absurd (cc)
 
 -- the links behind the first operand
 pub reads_back : (o : LinkOpening) → link_opening (Some (symbol (link_sign o))) ≡ Some o
@@ -271,64 +231,50 @@ module _ (n c : ℕ) (S : List Pending) (from : Rest) where
   pub tail_ends : None ≡ link_opening (first from.words)
       → Leads c ((a_tail n ∷ S)) from c S from (λ g. (ended, g))
   tail_ends e =
-      opens (a_tail n ∷ S) S c from (λ next. link_opening next ≡ None) (look no_operator ∷ []) (λ g. (ended, g)) refl refl tt refl
+      opens grammar (a_tail n ∷ S) S c from (λ next. link_opening next ≡ None) (look no_operator ∷ []) (λ g. (ended, g)) refl refl tt refl
       (sym e, tt) (λ g. refl) (λ f fits none. view f.0 f.1 none) (sym e)
     where
-      view : (t : Tail) (rest : Trees S) → link_opening (first_before (pieces (a_tail n ∷ S) (t, rest)) None) ≡ None
+      view : (t : Tail) (rest : Trees S) → link_opening (begins grammar (a_tail n ∷ S) (t, rest)) ≡ None
           → (g : Trees S) × Same (a_tail n ∷ S) (t, rest) (ended, g)
       view ended rest none = (rest, refl)
       view (further (operation op t) more) rest none = absurd (let both = sym (reads_back (Link.Operation op)) ∙ none in cc)
       view (further (division sign d) more) rest none = absurd (let both = sym (reads_back (Link.Division sign)) ∙ none in cc)
 
-  -- a tail that begins with a link, of which the sign is told
-  abbrev pub tail_with : (o : LinkOpening) → Trees (right_of n o ∷ a_tail n ∷ S) → Trees (a_tail n ∷ S)
-  tail_with o g = (further (link_of n o g.0) g.1.0, g.1.1)
-
-  pub link_spells : (o : LinkOpening) (g : Trees (right_of n o ∷ a_tail n ∷ S))
-      → pieces (a_tail n ∷ S) (tail_with o g) ≡ token (counted (link_sign o)) ∷ pieces (right_of n o ∷ a_tail n ∷ S) g
-  link_spells (Link.Operation op) g = refl
-  link_spells (Link.Division sign) g = refl
-
-  -- which tails begin so
-  pub link_view : (o : LinkOpening) (t : Tail) (rest : Trees S) → Fits from.number (pieces (a_tail n ∷ S) (t, rest))
-      → link_opening (first_before (pieces (a_tail n ∷ S) (t, rest)) None) ≡ Some o
-      → (g : Trees (right_of n o ∷ a_tail n ∷ S)) × Same (a_tail n ∷ S) (t, rest) (tail_with o g)
-  link_view o ended rest fits found = absurd (let both = sym fits.0 ∙ found in cc)
-  link_view (Link.Operation op) (further (operation other t) more) rest fits found = (
-    (t, (more, rest)),
-    let both : Some (Link.Operation other) ≡ Some (Link.Operation op) = sym (reads_back (Link.Operation other)) ∙ found in
-        let same : other ≡ op = cc in ap (λ o. (further (operation o t) more, rest)) same,
-  )
-  link_view (Link.Operation op) (further (division other d) more) rest fits found =
-      absurd (let both : Some (Link.Division other) ≡ Some (Link.Operation op) = sym (reads_back (Link.Division other)) ∙ found in cc)
-  link_view (Link.Division sign) (further (operation other t) more) rest fits found =
-      absurd (let both : Some (Link.Operation other) ≡ Some (Link.Division sign) = sym (reads_back (Link.Operation other)) ∙ found in cc)
-  link_view (Link.Division sign) (further (division other d) more) rest fits found = (
-    (d, (more, rest)),
-    let both : Some (Link.Division other) ≡ Some (Link.Division sign) = sym (reads_back (Link.Division other)) ∙ found in
-        let same : other ≡ sign = cc in ap (λ o. (further (division o d) more, rest)) same,
-  )
-
-  pub link_read : (o : LinkOpening) (to : Rest) → IsNext (symbol (link_sign o)) from to → c + 1 ≤ 256
-      → Leads c ((a_tail n ∷ S)) from (c + 1) ((right_of n o ∷ a_tail n ∷ S)) to (tail_with o)
-  link_read o to e few =
-      reads ((a_tail n ∷ S)) ((right_of n o ∷ a_tail n ∷ S)) c from to (counted (link_sign o)) (tail_with o) e
-      (omega arith, few) (link_spells o) (λ f fits next. link_view o f.0 f.1 fits (ap link_opening next ∙ reads_back o))
-
-  pub link_too_many : (o : LinkOpening) (to : Rest) → IsNext (symbol (link_sign o)) from to → 256 < c + 1
-      → Stops c ((a_tail n ∷ S)) from Operators from
-  link_too_many o to e many =
-      let inner = complete (from.number + 1) (right_of n o ∷ a_tail n ∷ S) in
-      exceeds ((a_tail n ∷ S)) c from (counted (link_sign o)) (pieces (right_of n o ∷ a_tail n ∷ S) inner) Operators (tail_with o inner)
-      (subst (Fits from.number) (sym (link_spells o inner)) (completes (from.number + 1) (right_of n o ∷ a_tail n ∷ S)).0) (link_spells o inner)
-      (ap first e.0) (λ e. cc) (omega arith, many)
-      (λ f fits next. let found = link_view o f.0 f.1 fits (ap link_opening next ∙ reads_back o) in
-      (pieces (right_of n o ∷ a_tail n ∷ S) found.0, ap (pieces (a_tail n ∷ S)) found.1 ∙ link_spells o found.0))
-
   -- an expression is an operand and what stands behind it
   pub expression_goes : Leads c ((an_expression n ∷ S)) from c ((an_operand n ∷ a_tail n ∷ S)) from
       (λ g. (record { operand = g.0; tail = g.1.0 }, g.1.1))
   expression_goes =
-      opens (an_expression n ∷ S) (an_operand n ∷ a_tail n ∷ S) c from (λ next. Unit {0}) []
-      (λ g. (record { operand = g.0; tail = g.1.0 }, g.1.1)) refl refl tt refl tt (λ g. refl)
-      (λ f fits any. ((f.0.operand, (f.0.tail, f.1)), refl)) tt
+      becomes grammar (an_expression n ∷ S) (an_operand n ∷ a_tail n ∷ S) c from (λ g. (record { operand = g.0; tail = g.1.0 }, g.1.1)) (λ g. refl)
+      (λ f. ((f.0.operand, (f.0.tail, f.1)), refl))
+
+-- a tail that begins with a link
+module _ (n : ℕ) (S : List Pending) where
+  abbrev pub tail_with : (o : LinkOpening) → Trees (right_of n o ∷ a_tail n ∷ S) → Trees (a_tail n ∷ S)
+  tail_with o g = (further (link_of n o g.0) g.1.0, g.1.1)
+
+  pub link_signs : (o : LinkOpening) → Headed grammar (a_tail n ∷ S) (counted (link_sign o)) (right_of n o ∷ a_tail n ∷ S) (tail_with o)
+  link_signs o = record { spells = spells o; view = λ m f fits next. view m o f.0 f.1 fits (ap link_opening next ∙ reads_back o) }
+    where
+      spells : (o : LinkOpening) (g : Trees (right_of n o ∷ a_tail n ∷ S))
+          → pieces (a_tail n ∷ S) (tail_with o g) ≡ token (counted (link_sign o)) ∷ pieces (right_of n o ∷ a_tail n ∷ S) g
+      spells (Link.Operation op) g = refl
+      spells (Link.Division sign) g = refl
+
+      view : (m : ℕ) (o : LinkOpening) (t : Tail) (rest : Trees S) → Fits m (pieces (a_tail n ∷ S) (t, rest))
+          → link_opening (begins grammar (a_tail n ∷ S) (t, rest)) ≡ Some o
+          → (g : Trees (right_of n o ∷ a_tail n ∷ S)) × Same (a_tail n ∷ S) (t, rest) (tail_with o g)
+      view m o ended rest fits found = absurd (let both = sym fits.0 ∙ found in cc)
+      view m (Link.Operation op) (further (operation other t) more) rest fits found = (
+        (t, (more, rest)),
+        let both : Some (Link.Operation other) ≡ Some (Link.Operation op) = sym (reads_back (Link.Operation other)) ∙ found in
+            let same : other ≡ op = cc in ap (λ o. (further (operation o t) more, rest)) same,
+      )
+      view m (Link.Operation op) (further (division other d) more) rest fits found =
+          absurd (let both : Some (Link.Division other) ≡ Some (Link.Operation op) = sym (reads_back (Link.Division other)) ∙ found in cc)
+      view m (Link.Division sign) (further (operation other t) more) rest fits found =
+          absurd (let both : Some (Link.Operation other) ≡ Some (Link.Division sign) = sym (reads_back (Link.Operation other)) ∙ found in cc)
+      view m (Link.Division sign) (further (division other d) more) rest fits found = (
+        (d, (more, rest)),
+        let both : Some (Link.Division other) ≡ Some (Link.Division sign) = sym (reads_back (Link.Division other)) ∙ found in
+            let same : other ≡ sign = cc in ap (λ o. (further (division o d) more, rest)) same,
+      )

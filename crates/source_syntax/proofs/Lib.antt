@@ -1,6 +1,4 @@
-pub mod Calculus
 pub mod Completions
-pub mod Choices
 pub mod Expressions
 pub mod Statements
 pub mod Words
@@ -9,4 +7,3 @@ pub mod Reading
 pub mod Loops
 pub mod Whole
 pub mod OneTree
-pub mod FaultLaws

@@ -18,8 +18,8 @@ use Rattle.concrete_syntax.specs.Mirror.{item, part, prelude}
 use Rattle.concrete_syntax.proofs.Chains.{items_of-append}
 use Rattle.source_syntax.specs.Pending.{Pending, a_declaration, a_statement, items, a_program, TreeOf}
 use Rattle.source_syntax.specs.Reads.{Reads, ReadsLeading, Refuses, Continues, behind_preludes, ReadsPart, RefusesPart, ComesToParts}
-use Rattle.source_syntax.proofs.Calculus.{over, fails, stay, refilled}
-use Rattle.source_syntax.proofs.Choices.{goes, not_next, taken, left_out}
+use Rattle.derivation.proofs.Grammars.{over, fails, stay, refilled}
+use Rattle.derivation.proofs.Choices.{goes, not_next, taken, left_out}
 use Rattle.source_syntax.proofs.Statements.{all_items, declaration_goes, further_parts}
 use Rattle.source_syntax.proofs.Answering.{sign_reads, leading_reads}
 

@@ -1,16 +1,14 @@
 -- Words are what at most one tree spells.
-use Rattle.std.proofs.Common.{◌≡◌, ◌≢◌, ℕ, ◌+◌, ℤ, List, [], ◌∷◌, ◌++◌, Option, None, Some, Bool, true, false, refl, sym, ap, ◌∙◌, subst}
+use Rattle.std.proofs.Common.{◌≡◌, ℕ, ◌+◌, ℤ, List, [], ◌∷◌, Option, None, Some, Bool, true, false, refl, sym, ap, ◌∙◌, subst}
 use Rattle.derivation.specs.declared.symbol.Symbol.{Symbol}
 use Rattle.derivation.specs.declared.symbol.Symbol.TheVariants as Sym
-use Rattle.derivation.specs.Word.{Word, symbol, name as named, number as numbered}
+use Rattle.derivation.specs.Word.{symbol}
 use Rattle.std.specs.Bool.{IsFalse}
-use Rattle.derivation.specs.Pieces.{token, look, number_behind, spelling, first, first_before, FitsBefore, Fits}
-use Rattle.source_syntax.specs.Language.{Token, Rest, is_at, link_opening, is_else, IsQuiet}
-use Rattle.source_syntax.specs.declared.opening.LinkOpening.{LinkOpening}
+use Rattle.derivation.specs.Pieces.{spelling, Fits}
+use Rattle.source_syntax.specs.Language.{Token, link_opening, is_else, IsQuiet}
 use Rattle.source_syntax.specs.declared.opening.LinkOpening.TheVariants as Link
-use Rattle.source_syntax.specs.Reads.{right_of}
-use Rattle.source_syntax.proofs.Words.{link_sign}
-use Rattle.derivation.proofs.Calculus.{cancel, spelling-append, fits-behind, first_spelling}
+use Rattle.derivation.proofs.Calculus.{first_spelling}
+use Rattle.derivation.proofs.OneTree.{IsOnly as IsOnlyIn, own, fitting, through, headed_one, chosen, begun, not_begun, numbered_one}
 use Rattle.concrete_syntax.specs.declared.sign.Assignment.{Assignment}
 use Rattle.concrete_syntax.specs.declared.sign.Step.{Step}
 use Rattle.source_syntax.specs.declared.opening.OperandOpening.TheVariants as OperandOpening
@@ -21,95 +19,20 @@ use Rattle.source_syntax.specs.declared.opening.SimpleOpening.{SimpleOpening}
 use Rattle.source_syntax.specs.declared.opening.StatementOpening.{StatementOpening}
 use Rattle.source_syntax.specs.declared.opening.ItemOpening.{ItemOpening}
 use Rattle.source_syntax.specs.declared.opening.StartOpening.{StartOpening}
-use Rattle.source_syntax.specs.Openings.{opening_of_operand, opening_of_simple, opening_of_action}
+use Rattle.source_syntax.specs.Openings.{opening_of_simple, opening_of_action}
 use Rattle.concrete_syntax.specs.Trees.{Divisor, End, Operand, operand_at, OperandKind, number, name, truth, unknown, call, signed, parentheses, range, Tail, ended, further, Expression, Name, Action, assigns, steps, Simple, acts, steps_before, Part, Declaration, Start, starts_with_nothing, starts_with, declares, Statement, statement_at, StatementKind, simple, skip, braces, conditional, while_loop, do_loop, for_loop, return, break, continue, Otherwise, without, otherwise, Items, none, declaration, statement, Prelude, extern_call, typedef_bool, Program, operation, division}
-use Rattle.source_syntax.specs.Spelling.{plain, sign, leading, opening, counted, prefix_sign, assignment_sign, step_sign}
-use Rattle.source_syntax.specs.Pending.{Pending, exactly, exactly_at, a_name, bytes_of_a_name, a_size, an_end, a_number, a_number_at, a_divisor, an_operand, an_operand_kind, a_tail, an_expression, an_optional, a_test, an_action, a_simple, a_part_end, parts, a_declaration, a_start, a_finish, a_statement, a_statement_kind, an_otherwise, items, a_void, a_program, Trees, pieces}
-use Rattle.source_syntax.specs.Leads.{Leads}
+use Rattle.source_syntax.specs.Spelling.{sign, leading, opening, assignment_sign, step_sign}
+use Rattle.source_syntax.specs.Pending.{Pending, exactly, exactly_at, a_name, bytes_of_a_name, a_size, an_end, a_number, a_number_at, a_divisor, an_operand, an_operand_kind, a_tail, an_expression, an_optional, a_test, an_action, a_simple, a_part_end, parts, a_declaration, a_start, a_finish, a_statement, a_statement_kind, an_otherwise, items, a_void, a_program, Trees, pieces, grammar}
 use Rattle.source_syntax.proofs.Answering.{AreQuiet, in_turn, units}
-use Rattle.source_syntax.proofs.Choices.{begins, Choice, Fork, Held, placed, goes, this_side, left_out}
-use Rattle.source_syntax.proofs.Expressions.{located_tokens, names, located_numbers, divisor_of, divisors, sizes, ends, operands, located_operands, opening_of_prefix, prefix_view, reads_back, tail_ends, tail_with, link_spells, link_view, expression_goes}
-use Rattle.source_syntax.proofs.Statements.{actions, simples, simple_begins, opens_simply, part_ends, further_parts, declaration_goes, test_goes, no_semicolon, optionals, starts, no_parenthesis, finishes, statements, located_statements, statement_among, all_items, voids, extern_signs, extern_quiet, typedef_signs, typedef_quiet, main_signs, main_quiet, beginnings, otherwise_ends, else_view}
+use Rattle.source_syntax.proofs.Expressions.{located_tokens, names, located_numbers, divisor_of, divisors, sizes, ends, operands, located_operands, tokens, name_bytes, numbers, prefixes, link_signs, tail_ends, expression_goes}
+use Rattle.source_syntax.proofs.Statements.{actions, simples, simple_begins, opens_simply, part_ends, further_parts, declaration_goes, test_goes, no_semicolon, optionals, starts, no_parenthesis, finishes, statements, located_statements, statement_among, all_items, voids, extern_signs, extern_quiet, typedef_signs, typedef_quiet, main_signs, main_quiet, beginnings, otherwise_ends, elses}
 
--- all trees that spell the words of these are these, whatever the number of their first token
-record IsOnly (A : List Pending) (trees : Trees A) : Type 0 where
-  same : (n : ℕ) (others : Trees A) → Fits n (pieces A trees) → Fits n (pieces A others) → spelling (pieces A trees) ≡ spelling (pieces A others)
-      → others ≡ trees
-
-abbrev own : ℕ → (A : List Pending) → Trees A → Rest
-own n A trees = record { number = n; words = spelling (pieces A trees) }
-
--- what may be known of the trees: that they fit
-fitting : {A : List Pending} {trees : Trees A} → ((n : ℕ) → Fits n (pieces A trees) → IsOnly A trees) → IsOnly A trees
-fitting h = record { same = λ n others fits others_fit e. (h n fits).same n others fits others_fit e }
-
--- where reading its own words is reading something else
-through : {A B : List Pending} {c : ℕ} {fill : Trees B → Trees A} (g : Trees B)
-    → ((n : ℕ) → Leads 0 A (own n A (fill g)) c B (own n A (fill g)) fill) → IsOnly B g → IsOnly A (fill g)
-through {A} {B} {c} {fill} g goes d = record {
-  same = λ n others fits others_fit words.
-      let x = (goes n).comes in
-      let mine : pieces A (fill g) ≡ x.front ++ pieces B g = x.spells g in
-      let left : spelling (pieces A (fill g)) ≡ spelling (pieces B g) =
-      cancel (spelling x.front) (sym x.parted ∙ ap spelling mine ∙ spelling-append x.front (pieces B g)) in
-      let found = x.only others others_fit (spelling (pieces A (fill g))) (sym words ∙ x.parted) refl in
-      let theirs : pieces A others ≡ x.front ++ pieces B found.0 = ap (pieces A) found.1 ∙ x.spells found.0 in
-      let their_left : spelling (pieces A (fill g)) ≡ spelling (pieces B found.0) =
-      cancel (spelling x.front) (sym x.parted ∙ words ∙ ap spelling theirs ∙ spelling-append x.front (pieces B found.0)) in
-      let here : (trees : Trees B) → FitsBefore (number_behind n x.front) (pieces B trees) None → Fits n (pieces B trees) =
-      (λ trees h. subst (λ m. Fits m (pieces B trees)) (sym x.numbered) h) in
-      found.1 ∙ ap fill (d.same n found.0 (here g (fits-behind x.front (pieces B g) n None (subst (Fits n) mine fits)))
-      (here found.0 (fits-behind x.front (pieces B found.0) n None (subst (Fits n) theirs others_fit))) (sym left ∙ their_left));
-}
-
--- where a token is its first word
-behind : {A B : List Pending} {fill : Trees B → Trees A} (t : Token) (g : Trees B) → ((h : Trees B) → pieces A (fill h) ≡ token t ∷ pieces B h)
-    → ((n : ℕ) (f : Trees A) → Fits n (pieces A f) → first_before (pieces A f) None ≡ Some t.word → (h : Trees B) × (f ≡ fill h))
-    → IsOnly B g → IsOnly A (fill g)
-behind {A} {B} {fill} t g spells view d = record {
-  same = λ n others fits others_fit words.
-      let mine : pieces A (fill g) ≡ token t ∷ pieces B g = spells g in
-      let next : first_before (pieces A others) None ≡ Some t.word =
-      sym (first_spelling (pieces A others)) ∙ ap first (sym words) ∙ ap (λ ps. first (spelling ps)) mine in
-      let found = view n others others_fit next in
-      let theirs : pieces A others ≡ token t ∷ pieces B found.0 = ap (pieces A) found.1 ∙ spells found.0 in
-      let all : t.word ∷ spelling (pieces B g) ≡ t.word ∷ spelling (pieces B found.0) = sym (ap spelling mine) ∙ words ∙ ap spelling theirs in
-      found.1 ∙ ap fill (d.same (n + 1) found.0 (subst (Fits n) mine fits) (subst (Fits n) theirs others_fit) (cancel (t.word ∷ []) all));
-}
-
--- what opens in one of several ways
-chosen : {Opening : Type 0} {A : List Pending} {classify : Option Word → Opening} {IsOpen : Opening → Type 0} {rest : Opening → List Pending}
-    {fill : (o : Opening) → Trees (rest o) → Trees A} (x : Choice A classify IsOpen rest fill) (o : Opening) (g : Trees (rest o))
-    → classify (begins A (fill o g)) ≡ o → IsOnly (rest o) g → IsOnly A (fill o g)
-chosen {Opening} {A} {classify} {IsOpen} {rest} {fill} x o g is d =
-    through g (λ n. goes x 0 (own n A (fill o g)) o (sym (ap classify (first_spelling (pieces A (fill o g))) ∙ is))) d
-
--- what begins with a token, or not
-module _ {A : List Pending} {t : Token} {B : List Pending} {fill : Trees B → Trees A} {C : List Pending} {other : Trees C → Trees A}
-    (x : Fork A t B fill C other) where
-  begun : (g : Trees B) → IsOnly B g → IsOnly A (fill g)
-  begun g d = behind t g x.spells (λ n f fits next. this_side x f next) d
-
-  not_begun : (g : Trees C) → begins A (other g) ≢ Some t.word → IsOnly C g → IsOnly A (other g)
-  not_begun g differs d =
-      through g (λ n. left_out x {c = 0} {from = own n A (other g)} (λ e. differs (sym (first_spelling (pieces A (other g))) ∙ e))) d
-
--- what holds its number
-numbered_one : {A B : List Pending} {fill : ℕ → Trees B → Trees A} (x : Held A B fill) (m : ℕ) (g : Trees B) → IsOnly B g → IsOnly A (fill m g)
-numbered_one {A} {B} {fill} x m g d = record {
-  same = λ n others fits others_fit words.
-      let parts : Fits n (look (is_at m) ∷ pieces B g) = subst (Fits n) (x.spells m g) fits in
-      let theirs = placed x n others others_fit in
-      let spelled : spelling (pieces B g) ≡ spelling (pieces B theirs.0) =
-      sym (ap spelling (x.spells m g)) ∙ words ∙ ap spelling (ap (pieces A) theirs.1 ∙ x.spells n theirs.0) in
-      theirs.1 ∙ ap (λ k. fill k theirs.0) (sym parts.0) ∙ ap (fill m) (d.same n theirs.0 parts.1 theirs.2 spelled);
-}
-
-nowhere : Rest
-nowhere = record { number = 0; words = [] }
+-- all trees that spell the words of these are these
+abbrev IsOnly : (A : List Pending) → Trees A → Type 0
+IsOnly = IsOnlyIn grammar
 
 exactly_one : (t : Token) (quiet : IsQuiet (Some t.word)) (S : List Pending) (rest : Trees S) → IsOnly S rest → IsOnly (exactly t quiet ∷ S) (tt, rest)
-exactly_one t quiet S rest d = behind {fill = λ g. (tt, g)} t rest (λ h. refl) (λ n f fits next. (f.1, refl)) d
+exactly_one t quiet S rest d = headed_one (tokens t quiet S) rest d
 
 signs_one : (all : List Symbol) (quiet : AreQuiet all) (S : List Pending) (rest : Trees S) → IsOnly S rest
     → IsOnly (in_turn all quiet S) (units all quiet S rest)
@@ -121,8 +44,7 @@ exactly_at_one : (t : Token) (quiet : IsQuiet (Some t.word)) (at : ℕ) (S : Lis
 exactly_at_one t quiet at S rest d = numbered_one (located_tokens t quiet S) at (tt, rest) (exactly_one t quiet S rest d)
 
 bytes_one : (x : List ℕ) (S : List Pending) (rest : Trees S) → IsOnly S rest → IsOnly (bytes_of_a_name ∷ S) (x, rest)
-bytes_one x S rest d =
-    behind {fill = λ g. (x, g)} (plain (named x)) rest (λ h. refl) (λ n f fits next. (f.1, let same : f.0 ≡ x = cc in ap (λ y. (y, f.1)) same)) d
+bytes_one x S rest d = headed_one (name_bytes x S) rest d
 
 name_one : (x : Name) (S : List Pending) (rest : Trees S) → IsOnly S rest → IsOnly (a_name ∷ S) (x, rest)
 name_one x S rest d = numbered_one (names S) x.at (x.bytes, rest) (bytes_one x.bytes S rest d)
@@ -141,8 +63,7 @@ end_one : (e : End) (S : List Pending) (rest : Trees S) → IsOnly S rest → Is
 end_one e S rest d = end_of e.negative e.size S rest d
 
 number_one : (z : ℤ) (S : List Pending) (rest : Trees S) → IsOnly S rest → IsOnly (a_number ∷ S) (z, rest)
-number_one z S rest d =
-    behind {fill = λ g. (z, g)} (plain (numbered z)) rest (λ h. refl) (λ n f fits next. (f.1, let same : f.0 ≡ z = cc in ap (λ y. (y, f.1)) same)) d
+number_one z S rest d = headed_one (numbers z S) rest d
 
 number_at_one : (x : ℕ × ℤ) (S : List Pending) (rest : Trees S) → IsOnly S rest → IsOnly (a_number_at ∷ S) (x, rest)
 number_at_one x S rest d = numbered_one (located_numbers S) x.0 (x.1, rest) (number_one x.1 S rest d)
@@ -155,15 +76,9 @@ divisor_one : (x : Divisor) (S : List Pending) (rest : Trees S) → IsOnly S res
 divisor_one x S rest d = divisor_of_sign x.negative (x.at, x.size) S rest d
 
 -- expressions
-link_one : (n : ℕ) (o : LinkOpening) (S : List Pending) (g : Trees (right_of n o ∷ a_tail n ∷ S)) → IsOnly (right_of n o ∷ a_tail n ∷ S) g
-    → IsOnly (a_tail n ∷ S) (tail_with n 0 S nowhere o g)
-link_one n o S g d =
-    behind {fill = tail_with n 0 S nowhere o} (counted (link_sign o)) g (link_spells n 0 S nowhere o)
-    (λ m f fits next. link_view n 0 S (record { number = m; words = [] }) o f.0 f.1 fits (ap link_opening next ∙ reads_back o)) d
-
 expression_step : (n : ℕ) (e : Expression) (S : List Pending) (rest : Trees S) → IsOnly (an_operand n ∷ a_tail n ∷ S) (e.operand, (e.tail, rest))
     → IsOnly (an_expression n ∷ S) (e, rest)
-expression_step n e S rest d = through (e.operand, (e.tail, rest)) (λ m. expression_goes n 0 S (own m (an_expression n ∷ S) (e, rest))) d
+expression_step n e S rest d = through (e.operand, (e.tail, rest)) (λ m. expression_goes n 0 S (own grammar m (an_expression n ∷ S) (e, rest))) d
 
 mutual
   operand_one : (n : ℕ) (t : Operand) (S : List Pending) (rest : Trees S) → IsOnly S rest → IsOnly (an_operand n ∷ S) (t, rest)
@@ -179,9 +94,7 @@ mutual
       chosen (operands n S) OperandOpening.Call (tt, (tt, (tt, rest))) refl
       (exactly_one _ _ _ _ (exactly_one _ _ _ _ (exactly_one _ _ S rest d)))
   operand_kind_one n (signed prefix e) S rest d =
-      behind {fill = λ g. (signed prefix g.0, g.1)} (opening (prefix_sign prefix) (n + 1)) (e, rest) (λ h. refl)
-      (λ m f fits next. prefix_view n 0 S nowhere prefix f.0 f.1 (ap opening_of_operand next ∙ opening_of_prefix n 0 S nowhere prefix))
-      (operand_one (n + 1) e S rest d)
+      headed_one (prefixes n S prefix) (e, rest) (operand_one (n + 1) e S rest d)
   operand_kind_one n (parentheses e more) S rest d =
       chosen (operands n S) OperandOpening.Parenthesis (tt, (record { operand = e; tail = more }, (tt, rest))) refl
       (exactly_one _ _ _ _ (expression_step (n + 1) (record { operand = e; tail = more }) _ _
@@ -192,10 +105,10 @@ mutual
 
   tail_one : (n : ℕ) (t : Tail) (S : List Pending) (rest : Trees S) → IsOnly S rest → IsOnly (a_tail n ∷ S) (t, rest)
   tail_one n ended S rest d =
-      fitting (λ at fits. through rest (λ m. tail_ends n 0 S (own m (a_tail n ∷ S) (ended, rest))
+      fitting (λ at fits. through rest (λ m. tail_ends n 0 S (own grammar m (a_tail n ∷ S) (ended, rest))
       (sym (ap link_opening (first_spelling (pieces S rest)) ∙ fits.0))) d)
-  tail_one n (further (operation op e) more) S rest d = link_one n (Link.Operation op) S (e, (more, rest)) (operand_one n e _ _ (tail_one n more S rest d))
-  tail_one n (further (division sign x) more) S rest d = link_one n (Link.Division sign) S (x, (more, rest)) (divisor_one x _ _ (tail_one n more S rest d))
+  tail_one n (further (operation op e) more) S rest d = headed_one (link_signs n S (Link.Operation op)) (e, (more, rest)) (operand_one n e _ _ (tail_one n more S rest d))
+  tail_one n (further (division sign x) more) S rest d = headed_one (link_signs n S (Link.Division sign)) (x, (more, rest)) (divisor_one x _ _ (tail_one n more S rest d))
 
 expression_one : (n : ℕ) (e : Expression) (S : List Pending) (rest : Trees S) → IsOnly S rest → IsOnly (an_expression n ∷ S) (e, rest)
 expression_one n e S rest d = expression_step n e S rest (operand_one n e.operand _ _ (tail_one n e.tail S rest d))
@@ -206,7 +119,7 @@ optional_one n (Some e) S rest d = not_begun (optionals n S) (e, (tt, rest)) (no
 
 test_one : (n : ℕ) (e : Expression) (S : List Pending) (rest : Trees S) → IsOnly S rest → IsOnly (a_test n ∷ S) (e, rest)
 test_one n e S rest d =
-    through (tt, (e, (tt, rest))) (λ m. test_goes n 0 S (own m (a_test n ∷ S) (e, rest)))
+    through (tt, (e, (tt, rest))) (λ m. test_goes n 0 S (own grammar m (a_test n ∷ S) (e, rest)))
     (exactly_one _ _ _ _ (expression_one (n + 1) e _ _ (exactly_one _ _ S rest d)))
 
 -- simple statements
@@ -246,7 +159,7 @@ parts_one n (part ∷ more) S rest d =
 
 declaration_one : (n : ℕ) (d : Declaration) (S : List Pending) (rest : Trees S) → IsOnly S rest → IsOnly (a_declaration n ∷ S) (d, rest)
 declaration_one n d S rest h =
-    through (tt, (d.part.declared, ((d.part.initialiser, d.more), rest))) (λ m. declaration_goes n 0 S (own m (a_declaration n ∷ S) (d, rest)))
+    through (tt, (d.part.declared, ((d.part.initialiser, d.more), rest))) (λ m. declaration_goes n 0 S (own grammar m (a_declaration n ∷ S) (d, rest)))
     (exactly_one _ _ _ _ (name_one d.part.declared _ _ (part_end_step n d.part.initialiser d.more S rest (parts_one n d.more S rest h))))
 
 start_one : (n : ℕ) (start : Start) (S : List Pending) (rest : Trees S) → IsOnly S rest → IsOnly (a_start n ∷ S) (start, rest)
@@ -294,11 +207,10 @@ mutual
 
   otherwise_one : (n : ℕ) (other : Otherwise) (S : List Pending) (rest : Trees S) → IsOnly S rest → IsOnly (an_otherwise n ∷ S) (other, rest)
   otherwise_one n without S rest d =
-      fitting (λ at fits. through rest (λ m. otherwise_ends n 0 S (own m (an_otherwise n ∷ S) (without, rest))
+      fitting (λ at fits. through rest (λ m. otherwise_ends n 0 S (own grammar m (an_otherwise n ∷ S) (without, rest))
       (subst (λ next. IsFalse (is_else next)) (sym (first_spelling (pieces S rest))) fits.0)) d)
   otherwise_one n (otherwise part) S rest d =
-      behind {fill = λ g. (otherwise g.0, g.1)} (opening Sym.Else (n + 1)) (part, rest) (λ h. refl)
-      (λ m f fits next. else_view n 0 S (record { number = m; words = [] }) f.0 f.1 fits next) (statement_one (n + 1) part S rest d)
+      headed_one (elses n S) (part, rest) (statement_one (n + 1) part S rest d)
 
   items_one : (n : ℕ) (all : Items) (S : List Pending) (rest : Trees S) → IsOnly S rest → IsOnly (items n ∷ S) (all, rest)
   items_one n none S rest d = chosen (all_items n S) ItemOpening.Close (tt, rest) refl (exactly_one _ _ S rest d)

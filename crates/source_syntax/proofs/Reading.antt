@@ -1,11 +1,10 @@
 -- Readings of a single word that the next word opens.
-use Rattle.std.proofs.Common.{◌≡◌, ℕ, ◌+◌, ◌<◌, ◌≤◌, ℤ, List, [], ◌∷◌, ◌++◌, subst, Some, None, Bool, refl, sym, ap, ◌∙◌, arith}
+use Rattle.std.proofs.Common.{◌≡◌, ℕ, ◌+◌, ℤ, List, [], ◌∷◌, ◌++◌, subst, Some, None, Bool, refl, sym, ap, ◌∙◌}
 use Rattle.derivation.specs.declared.rule.Rule.{Rule}
-use Rattle.derivation.specs.declared.rule.Rule.TheVariants.{Nesting, Operators}
 use Rattle.derivation.specs.declared.symbol.Symbol.{Symbol}
 use Rattle.derivation.specs.declared.symbol.Symbol.TheVariants as Sym
 use Rattle.derivation.specs.declared.lexeme.Lexeme.{Lexeme}
-use Rattle.derivation.specs.Word.{Word, symbol, number as numbered}
+use Rattle.derivation.specs.Word.{symbol}
 use Rattle.derivation.specs.Spelled.{words_from, IsBehind}
 use Rattle.derivation.specs.Pieces.{first}
 use Rattle.derivation.specs.Comes.{IsNext}
@@ -14,7 +13,6 @@ use Rattle.source_syntax.specs.declared.opening.LinkOpening.{LinkOpening}
 use Rattle.source_syntax.specs.declared.opening.LinkOpening.TheVariants as Link
 use Rattle.concrete_syntax.specs.declared.sign.Division.{Division}
 use Rattle.concrete_syntax.specs.declared.sign.Operator.{Operator}
-use Rattle.concrete_syntax.specs.declared.sign.Prefix.{Prefix}
 use Rattle.source_syntax.specs.declared.opening.OperandOpening.{OperandOpening}
 use Rattle.source_syntax.specs.declared.opening.SizeOpening.{SizeOpening}
 use Rattle.source_syntax.specs.Openings.{opening_of_operand, size_opening}
@@ -23,119 +21,57 @@ use Rattle.concrete_syntax.specs.declared.expression.Link.{Link as RustLink}
 use Rattle.concrete_syntax.specs.Chains.{tail_of}
 use Rattle.concrete_syntax.specs.Mirror.{link, links}
 use Rattle.concrete_syntax.proofs.Chains.{tail_of-append}
-use Rattle.concrete_syntax.specs.Trees.{Divisor, Operand, Link, operation, division, Tail, number, truth, unknown, signed, further, ended}
-use Rattle.source_syntax.specs.Spelling.{truth_word, prefix_sign}
-use Rattle.source_syntax.specs.Pending.{Pending, a_size, a_divisor, an_operand, an_operand_kind, a_tail, an_expression, TreeOf}
-use Rattle.source_syntax.specs.Leads.{Leads, Stops}
+use Rattle.concrete_syntax.specs.Trees.{Divisor, Operand, Link, operation, division, Tail, number, truth, unknown, further, ended}
+use Rattle.source_syntax.specs.Spelling.{truth_word}
+use Rattle.source_syntax.specs.Pending.{Pending, a_size, a_divisor, an_operand, an_operand_kind, a_tail, an_expression, TreeOf, Leads}
 use Rattle.source_syntax.specs.Reads.{ReadsCounting, RefusesCounting, ReadsRight, RefusesRight, ComesToTail, right_of, link_of}
-use Rattle.source_syntax.proofs.Calculus.{over, refilled}
-use Rattle.source_syntax.proofs.Expressions.{sizes, operands, prefix_read, prefix_too_deep, link_read, link_too_many, tail_ends, expression_goes, truth_quiet}
-use Rattle.source_syntax.proofs.Choices.{goes}
-use Rattle.source_syntax.proofs.Words.{stands_at, operand_word, size_word, link_word, link_sign}
+use Rattle.derivation.proofs.Grammars.{over, refilled}
+use Rattle.source_syntax.proofs.Expressions.{sizes, operands, tail_ends, expression_goes, truth_quiet}
+use Rattle.derivation.proofs.Choices.{goes}
+use Rattle.source_syntax.proofs.Words.{next_word, one_behind, operand_word, size_word}
 use Rattle.source_syntax.proofs.Answering.{sign_reads, number_reads}
-
--- behind one word
-pub one_behind : (lexemes : List Lexeme) (at : ℕ) (w : Word) (rest : List Word) → words_from lexemes at ≡ w ∷ rest → IsBehind lexemes at (at + 1)
-one_behind lexemes at w rest e = record { forward = omega arith; inside = omega (arith, (stands_at lexemes at w rest e).0) }
-
-pub next_of : (lexemes : List Lexeme) (at : ℕ) (w : Word) (rest : List Word) → words_from lexemes at ≡ w ∷ rest
-    → IsNext w (rest_from lexemes at) (rest_from lexemes (at + 1))
-next_of lexemes at w rest e = (e ∙ ap (λ ws. w ∷ ws) (sym (stands_at lexemes at w rest e).1), refl)
 
 module _ (lexemes : List Lexeme) (at : ℕ) where
   pub size_number : (z : ℤ) → SizeOpening.Number z ≡ size_opening (first (words_from lexemes at))
       → ((count : ℕ) → ReadsCounting count a_size (Some z) (rest_from lexemes at) count (rest_from lexemes (at + 1))) × IsBehind lexemes at (at + 1)
   size_number z e =
-      let w = size_word (words_from lexemes at) (SizeOpening.Number z) e in (
-        λ count. record {
-          comes = λ behind. over (goes (sizes behind) count (rest_from lexemes at) (SizeOpening.Number z) e)
-              (number_reads (next_of lexemes at (numbered z) w.0 w.1));
-        },
-        one_behind lexemes at (numbered z) w.0 w.1,
+      let w = size_word _ (SizeOpening.Number z) e in (
+        λ count. record { comes = λ behind. over (goes (sizes behind) count (rest_from lexemes at) (SizeOpening.Number z) e) (number_reads (next_word lexemes at w)) },
+        one_behind lexemes at w,
       )
 
   pub size_infinite : SizeOpening.Infinite ≡ size_opening (first (words_from lexemes at))
       → ((count : ℕ) → ReadsCounting count a_size None (rest_from lexemes at) count (rest_from lexemes (at + 1))) × IsBehind lexemes at (at + 1)
   size_infinite e =
-      let w = size_word (words_from lexemes at) SizeOpening.Infinite e in (
+      let w = size_word _ SizeOpening.Infinite e in (
         λ count. record {
-          comes = λ behind. over (goes (sizes behind) count (rest_from lexemes at) SizeOpening.Infinite e)
-              (sign_reads Sym.Infinite (refl, refl) (next_of lexemes at (symbol Sym.Infinite) w.0 w.1));
+          comes = λ behind. over (goes (sizes behind) count (rest_from lexemes at) SizeOpening.Infinite e) (sign_reads Sym.Infinite (refl, refl) (next_word lexemes at w));
         },
-        one_behind lexemes at (symbol Sym.Infinite) w.0 w.1,
+        one_behind lexemes at w,
       )
 
 -- operands of one word
 module _ (lexemes : List Lexeme) (at n : ℕ) where
   pub operand_number : (z : ℤ) → OperandOpening.Number z ≡ opening_of_operand (first (words_from lexemes at))
-      → ((count : ℕ) → ReadsCounting count (an_operand_kind n) (number z) (rest_from lexemes at) count (rest_from lexemes (at + 1))) × IsBehind lexemes at (at + 1)
-  operand_number z e =
-      let w = operand_word (words_from lexemes at) (OperandOpening.Number z) e in (
-        λ count. record {
-          comes = λ behind. over (goes (operands n behind) count (rest_from lexemes at) (OperandOpening.Number z) e)
-              (number_reads (next_of lexemes at (numbered z) w.0 w.1));
-        },
-        one_behind lexemes at (numbered z) w.0 w.1,
-      )
+      → (count : ℕ) → ReadsCounting count (an_operand_kind n) (number z) (rest_from lexemes at) count (rest_from lexemes (at + 1))
+  operand_number z e count = record {
+    comes = λ behind. over (goes (operands n behind) count (rest_from lexemes at) (OperandOpening.Number z) e)
+        (number_reads (next_word lexemes at (operand_word _ (OperandOpening.Number z) e)));
+  }
 
   pub operand_truth : (b : Bool) → OperandOpening.Truth b ≡ opening_of_operand (first (words_from lexemes at))
-      → ((count : ℕ) → ReadsCounting count (an_operand_kind n) (truth b) (rest_from lexemes at) count (rest_from lexemes (at + 1))) × IsBehind lexemes at (at + 1)
-  operand_truth b e =
-      let w = operand_word (words_from lexemes at) (OperandOpening.Truth b) e in (
-        λ count. record {
-          comes = λ behind. over (goes (operands n behind) count (rest_from lexemes at) (OperandOpening.Truth b) e)
-              (sign_reads (truth_word b) (truth_quiet b) (next_of lexemes at (symbol (truth_word b)) w.0 w.1));
-        },
-        one_behind lexemes at (symbol (truth_word b)) w.0 w.1,
-      )
+      → (count : ℕ) → ReadsCounting count (an_operand_kind n) (truth b) (rest_from lexemes at) count (rest_from lexemes (at + 1))
+  operand_truth b e count = record {
+    comes = λ behind. over (goes (operands n behind) count (rest_from lexemes at) (OperandOpening.Truth b) e)
+        (sign_reads (truth_word b) (truth_quiet b) (next_word lexemes at (operand_word _ (OperandOpening.Truth b) e)));
+  }
 
   pub operand_unknown : OperandOpening.Unknown ≡ opening_of_operand (first (words_from lexemes at))
-      → ((count : ℕ) → ReadsCounting count (an_operand_kind n) unknown (rest_from lexemes at) count (rest_from lexemes (at + 1))) × IsBehind lexemes at (at + 1)
-  operand_unknown e =
-      let w = operand_word (words_from lexemes at) OperandOpening.Unknown e in (
-        λ count. record {
-          comes = λ behind. over (goes (operands n behind) count (rest_from lexemes at) OperandOpening.Unknown e)
-              (sign_reads Sym.Question (refl, refl) (next_of lexemes at (symbol Sym.Question) w.0 w.1));
-        },
-        one_behind lexemes at (symbol Sym.Question) w.0 w.1,
-      )
-
-  -- a sign before an operand
-  pub behind_prefix : (prefix : Prefix) → OperandOpening.Signed prefix ≡ opening_of_operand (first (words_from lexemes at)) → n + 1 ≤ 64
-      → ((count : ℕ) (behind : List Pending) → Leads count (an_operand_kind n ∷ behind) (rest_from lexemes at) count (an_operand (n + 1) ∷ behind)
-      (rest_from lexemes (at + 1)) (λ g. (signed prefix g.0, g.1)))
-      × IsBehind lexemes at (at + 1)
-  behind_prefix prefix e shallow =
-      let w = operand_word (words_from lexemes at) (OperandOpening.Signed prefix) e in (
-        λ count behind. prefix_read n count behind (rest_from lexemes at) prefix (rest_from lexemes (at + 1))
-            (next_of lexemes at (symbol (prefix_sign prefix)) w.0 w.1) shallow,
-        one_behind lexemes at (symbol (prefix_sign prefix)) w.0 w.1,
-      )
-
-  pub prefix_stops : (prefix : Prefix) → OperandOpening.Signed prefix ≡ opening_of_operand (first (words_from lexemes at)) → 64 < n + 1
-      → (count : ℕ) (behind : List Pending) → Stops count (an_operand_kind n ∷ behind) (rest_from lexemes at) Nesting (rest_from lexemes at)
-  prefix_stops prefix e deep count behind =
-      let w = operand_word (words_from lexemes at) (OperandOpening.Signed prefix) e in
-      prefix_too_deep n count behind (rest_from lexemes at) prefix (rest_from lexemes (at + 1))
-      (next_of lexemes at (symbol (prefix_sign prefix)) w.0 w.1) deep
-
-  -- a link behind an operand
-  pub behind_link : (o : LinkOpening) → Some o ≡ link_opening (first (words_from lexemes at)) → (count : ℕ) → count + 1 ≤ 256
-      → ((behind : List Pending) → Leads count (a_tail n ∷ behind) (rest_from lexemes at) (count + 1) (right_of n o ∷ a_tail n ∷ behind)
-      (rest_from lexemes (at + 1)) (λ g. (further (link_of n o g.0) g.1.0, g.1.1)))
-      × IsBehind lexemes at (at + 1)
-  behind_link o e count few =
-      let w = link_word (words_from lexemes at) (Some o) e in (
-        λ behind. link_read n count behind (rest_from lexemes at) o (rest_from lexemes (at + 1)) (next_of lexemes at (symbol (link_sign o)) w.0 w.1) few,
-        one_behind lexemes at (symbol (link_sign o)) w.0 w.1,
-      )
-
-  pub link_stops : (o : LinkOpening) → Some o ≡ link_opening (first (words_from lexemes at)) → (count : ℕ) → 256 < count + 1
-      → (behind : List Pending) → Stops count (a_tail n ∷ behind) (rest_from lexemes at) Operators (rest_from lexemes at)
-  link_stops o e count many behind =
-      let w = link_word (words_from lexemes at) (Some o) e in
-      link_too_many n count behind (rest_from lexemes at) o (rest_from lexemes (at + 1))
-      (next_of lexemes at (symbol (link_sign o)) w.0 w.1) many
+      → (count : ℕ) → ReadsCounting count (an_operand_kind n) unknown (rest_from lexemes at) count (rest_from lexemes (at + 1))
+  operand_unknown e count = record {
+    comes = λ behind. over (goes (operands n behind) count (rest_from lexemes at) OperandOpening.Unknown e)
+        (sign_reads Sym.Question (refl, refl) (next_word lexemes at (operand_word _ OperandOpening.Unknown e)));
+  }
 
 -- what stands behind the sign of a link that is told by an equation
 module _ {count levels : ℕ} {opening : LinkOpening} {from to : Rest} where

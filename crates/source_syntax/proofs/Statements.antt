@@ -1,15 +1,13 @@
 -- How the reading of statements, declarations and programs goes on, by the next word.
-use Rattle.std.proofs.Common.{◌≡◌, ◌≢◌, inl, inr, ℕ, ◌+◌, ◌<◌, ◌≤◌, List, [], ◌∷◌, Option, None, Some, Bool, true, false, refl, sym, ap, subst}
+use Rattle.std.proofs.Common.{◌≡◌, ◌≢◌, inl, inr, ℕ, ◌+◌, List, [], ◌∷◌, Option, None, Some, Bool, true, false, refl, sym, subst}
 use Rattle.std.specs.Bool.{IsFalse}
-use Rattle.derivation.specs.declared.rule.Rule.TheVariants.{Expected, Nesting}
 use Rattle.derivation.specs.declared.symbol.Symbol.{Symbol}
 use Rattle.derivation.specs.declared.symbol.Symbol.TheVariants as Sym
 use Rattle.derivation.specs.Word.{Word, symbol, name as named, number as numbered, unknown as unreadable}
 use Rattle.derivation.specs.Pieces.{look, first, Fits}
-use Rattle.derivation.specs.Comes.{IsNext}
 use Rattle.source_syntax.specs.Language.{Rest, is_else, no_else, IsQuiet}
-use Rattle.source_syntax.specs.Leads.{Leads, Stops}
-use Rattle.source_syntax.proofs.Calculus.{opens, reads, sticks, exceeds}
+use Rattle.source_syntax.specs.Pending.{Leads, Pending, exactly, exactly_at, a_name, a_tail, an_expression, an_optional, a_test, an_action, a_simple, a_part_end, parts, a_declaration, a_start, a_finish, a_statement, a_statement_kind, an_otherwise, items, a_void, a_program, Trees, pieces, grammar}
+use Rattle.derivation.proofs.Grammars.{opens, becomes, Headed}
 use Rattle.concrete_syntax.specs.declared.sign.Assignment.{Assignment}
 use Rattle.concrete_syntax.specs.declared.sign.Step.{Step}
 use Rattle.source_syntax.specs.declared.opening.ActionOpening.{ActionOpening}
@@ -21,10 +19,9 @@ use Rattle.source_syntax.specs.declared.opening.PreludeOpening.{PreludeOpening}
 use Rattle.source_syntax.specs.Openings.{opening_of_simple, opening_of_action, opening_of_statement, opening_of_item, opening_of_start, opening_of_prelude, opening_of_operand}
 use Rattle.concrete_syntax.specs.Trees.{Expression, assigns, steps, Simple, acts, steps_before, Part, starts_with_nothing, starts_with, declares, Statement, statement_at, simple, skip, braces, conditional, while_loop, do_loop, for_loop, return, break, continue, Otherwise, without, otherwise, Items, none, declaration, statement, Prelude, extern_call, typedef_bool}
 use Rattle.source_syntax.specs.Spelling.{sign, leading, opening, leading_opening, assignment_sign, step_sign}
-use Rattle.source_syntax.specs.Pending.{Pending, exactly, exactly_at, a_name, a_tail, an_expression, an_optional, a_test, an_action, a_simple, a_part_end, parts, a_declaration, a_start, a_finish, a_statement, a_statement_kind, an_otherwise, items, a_void, a_program, Trees, pieces}
-use Rattle.source_syntax.proofs.Completions.{complete, completes}
+use Rattle.source_syntax.proofs.Completions.{lawful}
 use Rattle.source_syntax.proofs.Answering.{AreQuiet, in_turn, units, behind_units}
-use Rattle.source_syntax.proofs.Choices.{begins, Way, Choice, Sides, Fork, Held}
+use Rattle.derivation.proofs.Choices.{begins, Way, Choice, Sides, Fork, Held}
 use Rattle.source_syntax.proofs.Expressions.{Same, IsOperand, operand_begins}
 
 pub assignment_quiet : (a : Assignment) → IsQuiet (Some (symbol (assignment_sign a)))
@@ -53,7 +50,7 @@ module _ (n : ℕ) where
   action_tree (ActionOpening.Steps s) S g = (steps s, g.1)
   action_tree ActionOpening.Nothing S g = g
 
-  pub actions : (S : List Pending) → Choice (an_action n ∷ S) opening_of_action IsAction (λ o. action_rest o S) (λ o. action_tree o S)
+  pub actions : (S : List Pending) → Choice grammar (an_action n ∷ S) opening_of_action IsAction (λ o. action_rest o S) (λ o. action_tree o S)
   actions S = record { spells = spells; view = view }
     where
       spells : (o : ActionOpening) → (g : Trees (action_rest o S)) → pieces (an_action n ∷ S) (action_tree o S g) ≡ pieces (action_rest o S) g
@@ -62,7 +59,7 @@ module _ (n : ℕ) where
       spells ActionOpening.Nothing g = refl
 
       view : (f : Trees (an_action n ∷ S))
-          → Way (an_action n ∷ S) IsAction (λ o. action_rest o S) (λ o. action_tree o S) (opening_of_action (begins (an_action n ∷ S) f)) f
+          → Way grammar (an_action n ∷ S) IsAction (λ o. action_rest o S) (λ o. action_tree o S) (opening_of_action (begins grammar (an_action n ∷ S) f)) f
       view (assigns Assignment.Assign x, rest) = (tt, (tt, (x, rest)), refl)
       view (assigns Assignment.Add x, rest) = (tt, (tt, (x, rest)), refl)
       view (assigns Assignment.Subtract x, rest) = (tt, (tt, (x, rest)), refl)
@@ -86,7 +83,7 @@ module _ (n : ℕ) where
   simple_tree (SimpleOpening.Steps s) S g = (steps_before g.0 s g.1.0, g.1.1)
   simple_tree SimpleOpening.Nothing S g = g
 
-  pub simples : (S : List Pending) → Choice (a_simple n ∷ S) opening_of_simple IsSimple (λ o. simple_rest o S) (λ o. simple_tree o S)
+  pub simples : (S : List Pending) → Choice grammar (a_simple n ∷ S) opening_of_simple IsSimple (λ o. simple_rest o S) (λ o. simple_tree o S)
   simples S = record { spells = spells; view = view }
     where
       spells : (o : SimpleOpening) → (g : Trees (simple_rest o S)) → pieces (a_simple n ∷ S) (simple_tree o S g) ≡ pieces (simple_rest o S) g
@@ -95,69 +92,69 @@ module _ (n : ℕ) where
       spells SimpleOpening.Nothing g = refl
 
       view : (f : Trees (a_simple n ∷ S))
-          → Way (a_simple n ∷ S) IsSimple (λ o. simple_rest o S) (λ o. simple_tree o S) (opening_of_simple (begins (a_simple n ∷ S) f)) f
+          → Way grammar (a_simple n ∷ S) IsSimple (λ o. simple_rest o S) (λ o. simple_tree o S) (opening_of_simple (begins grammar (a_simple n ∷ S) f)) f
       view (acts x action, rest) = (tt, (x, (action, rest)), refl)
       view (steps_before at Step.Increment x, rest) = (tt, (at, (x, rest)), refl)
       view (steps_before at Step.Decrement x, rest) = (tt, (at, (x, rest)), refl)
 
 module _ (n : ℕ) (S : List Pending) where
   -- what stands behind a declared name: an initialiser or none, and further parts
-  pub part_ends : Fork (a_part_end n ∷ S) (leading Sym.Assign) (an_expression n ∷ parts n ∷ S) (λ g. ((Some g.0, g.1.0), g.1.1))
+  pub part_ends : Fork grammar (a_part_end n ∷ S) (leading Sym.Assign) (an_expression n ∷ parts n ∷ S) (λ g. ((Some g.0, g.1.0), g.1.1))
       (parts n ∷ S) (λ g. ((None, g.0), g.1))
   part_ends = record { spells = λ g. refl; spells_other = λ g. refl; view = λ f. view f.0.0 f.0.1 f.1 }
     where
       view : (i : Option Expression) (more : List Part) (rest : Trees S)
-          → Sides (a_part_end n ∷ S) (leading Sym.Assign) (an_expression n ∷ parts n ∷ S) (λ g. ((Some g.0, g.1.0), g.1.1))
+          → Sides grammar (a_part_end n ∷ S) (leading Sym.Assign) (an_expression n ∷ parts n ∷ S) (λ g. ((Some g.0, g.1.0), g.1.1))
           (parts n ∷ S) (λ g. ((None, g.0), g.1)) ((i, more), rest)
       view (Some x) more rest = inl ((x, (more, rest)), refl)
       view None [] rest = inr (([], rest), refl, λ e. cc)
       view None (part ∷ more) rest = inr ((part ∷ more, rest), refl, λ e. cc)
 
   -- further parts of a declaration
-  pub further_parts : Fork (parts n ∷ S) (sign Sym.Comma) (a_name ∷ a_part_end n ∷ S) (λ g. (record { declared = g.0; initialiser = g.1.0.0 } ∷ g.1.0.1, g.1.1))
+  pub further_parts : Fork grammar (parts n ∷ S) (sign Sym.Comma) (a_name ∷ a_part_end n ∷ S) (λ g. (record { declared = g.0; initialiser = g.1.0.0 } ∷ g.1.0.1, g.1.1))
       (exactly (leading Sym.Semicolon) (refl, refl) ∷ S) (λ g. ([], g.1))
   further_parts = record { spells = λ g. refl; spells_other = λ g. refl; view = view }
     where
-      view : (f : Trees (parts n ∷ S)) → Sides (parts n ∷ S) (sign Sym.Comma) (a_name ∷ a_part_end n ∷ S)
+      view : (f : Trees (parts n ∷ S)) → Sides grammar (parts n ∷ S) (sign Sym.Comma) (a_name ∷ a_part_end n ∷ S)
           (λ g. (record { declared = g.0; initialiser = g.1.0.0 } ∷ g.1.0.1, g.1.1)) (exactly (leading Sym.Semicolon) (refl, refl) ∷ S) (λ g. ([], g.1)) f
       view (part ∷ more, rest) = inl ((part.declared, ((part.initialiser, more), rest)), refl)
       view ([], rest) = inr ((tt, rest), refl, λ e. cc)
 
   -- an expression that may be missing, and the `;` behind it
-  pub no_semicolon : (e : Expression) (rest : Trees S) → begins (an_optional n ∷ S) (Some e, rest) ≢ Some (symbol Sym.Semicolon)
+  pub no_semicolon : (e : Expression) (rest : Trees S) → begins grammar (an_optional n ∷ S) (Some e, rest) ≢ Some (symbol Sym.Semicolon)
   no_semicolon e rest is =
       subst (λ next. IsOperand (opening_of_operand next)) is
       (operand_begins n (a_tail n ∷ exactly (sign Sym.Semicolon) (refl, refl) ∷ S) e.operand (e.tail, (tt, rest)))
 
-  pub optionals : Fork (an_optional n ∷ S) (sign Sym.Semicolon) S (λ g. (None, g))
+  pub optionals : Fork grammar (an_optional n ∷ S) (sign Sym.Semicolon) S (λ g. (None, g))
       (an_expression n ∷ exactly (sign Sym.Semicolon) (refl, refl) ∷ S) (λ g. (Some g.0, g.1.1))
   optionals = record { spells = λ g. refl; spells_other = λ g. refl; view = view }
     where
-      view : (f : Trees (an_optional n ∷ S)) → Sides (an_optional n ∷ S) (sign Sym.Semicolon) S (λ g. (None, g))
+      view : (f : Trees (an_optional n ∷ S)) → Sides grammar (an_optional n ∷ S) (sign Sym.Semicolon) S (λ g. (None, g))
           (an_expression n ∷ exactly (sign Sym.Semicolon) (refl, refl) ∷ S) (λ g. (Some g.0, g.1.1)) f
       view (None, rest) = inl (rest, refl)
       view (Some x, rest) = inr ((x, (tt, rest)), refl, no_semicolon x rest)
 
   -- the last part of a `for`, and the `)` behind it
-  pub no_parenthesis : (s : Simple) (rest : Trees S) → begins (a_finish n ∷ S) (Some s, rest) ≢ Some (symbol Sym.CloseParenthesis)
+  pub no_parenthesis : (s : Simple) (rest : Trees S) → begins grammar (a_finish n ∷ S) (Some s, rest) ≢ Some (symbol Sym.CloseParenthesis)
   no_parenthesis s rest is =
       subst (λ next. IsSimple (opening_of_simple next)) is ((simples n (exactly (sign Sym.CloseParenthesis) (refl, refl) ∷ S)).view (s, (tt, rest))).0
 
-  pub finishes : Fork (a_finish n ∷ S) (sign Sym.CloseParenthesis) S (λ g. (None, g))
+  pub finishes : Fork grammar (a_finish n ∷ S) (sign Sym.CloseParenthesis) S (λ g. (None, g))
       (a_simple n ∷ exactly (sign Sym.CloseParenthesis) (refl, refl) ∷ S) (λ g. (Some g.0, g.1.1))
   finishes = record { spells = λ g. refl; spells_other = λ g. refl; view = view }
     where
-      view : (f : Trees (a_finish n ∷ S)) → Sides (a_finish n ∷ S) (sign Sym.CloseParenthesis) S (λ g. (None, g))
+      view : (f : Trees (a_finish n ∷ S)) → Sides grammar (a_finish n ∷ S) (sign Sym.CloseParenthesis) S (λ g. (None, g))
           (a_simple n ∷ exactly (sign Sym.CloseParenthesis) (refl, refl) ∷ S) (λ g. (Some g.0, g.1.1)) f
       view (None, rest) = inl (rest, refl)
       view (Some s, rest) = inr ((s, (tt, rest)), refl, no_parenthesis s rest)
 
 -- a `)`, and before it perhaps the word `void`
-pub voids : (S : List Pending) → Fork (a_void ∷ S) (sign Sym.Void) (exactly (sign Sym.CloseParenthesis) (refl, refl) ∷ S) (λ g. (true, g.1))
+pub voids : (S : List Pending) → Fork grammar (a_void ∷ S) (sign Sym.Void) (exactly (sign Sym.CloseParenthesis) (refl, refl) ∷ S) (λ g. (true, g.1))
     (exactly (sign Sym.CloseParenthesis) (refl, refl) ∷ S) (λ g. (false, g.1))
 voids S = record { spells = λ g. refl; spells_other = λ g. refl; view = view }
   where
-    view : (f : Trees (a_void ∷ S)) → Sides (a_void ∷ S) (sign Sym.Void) (exactly (sign Sym.CloseParenthesis) (refl, refl) ∷ S) (λ g. (true, g.1))
+    view : (f : Trees (a_void ∷ S)) → Sides grammar (a_void ∷ S) (sign Sym.Void) (exactly (sign Sym.CloseParenthesis) (refl, refl) ∷ S) (λ g. (true, g.1))
         (exactly (sign Sym.CloseParenthesis) (refl, refl) ∷ S) (λ g. (false, g.1)) f
     view (true, rest) = inl ((tt, rest), refl)
     view (false, rest) = inr ((tt, rest), refl, λ e. cc)
@@ -167,19 +164,18 @@ module _ (n c : ℕ) (S : List Pending) (from : Rest) where
   pub declaration_goes : Leads c ((a_declaration n ∷ S)) from c ((exactly (sign Sym.Int) (refl, refl) ∷ a_name ∷ a_part_end n ∷ S)) from
       (λ g. (record { part = record { declared = g.1.0; initialiser = g.1.1.0.0 }; more = g.1.1.0.1 }, g.1.1.1))
   declaration_goes =
-      opens (a_declaration n ∷ S) (exactly (sign Sym.Int) (refl, refl) ∷ a_name ∷ a_part_end n ∷ S) c from (λ next. Unit {0}) []
-      (λ g. (record { part = record { declared = g.1.0; initialiser = g.1.1.0.0 }; more = g.1.1.0.1 }, g.1.1.1)) refl refl tt refl tt (λ g. refl)
-      (λ f fits any. ((tt, (f.0.part.declared, ((f.0.part.initialiser, f.0.more), f.1))), refl)) tt
+      becomes grammar (a_declaration n ∷ S) (exactly (sign Sym.Int) (refl, refl) ∷ a_name ∷ a_part_end n ∷ S) c from
+      (λ g. (record { part = record { declared = g.1.0; initialiser = g.1.1.0.0 }; more = g.1.1.0.1 }, g.1.1.1)) (λ g. refl)
+      (λ f. ((tt, (f.0.part.declared, ((f.0.part.initialiser, f.0.more), f.1))), refl))
 
   -- the test of an `if` or a loop
   pub test_goes : Leads c ((a_test n ∷ S)) from c
       ((exactly (leading_opening Sym.OpenParenthesis (n + 1)) (refl, refl) ∷ an_expression (n + 1) ∷ exactly (sign Sym.CloseParenthesis) (refl, refl) ∷ S)) from
       (λ g. (g.1.0, g.1.1.1))
   test_goes =
-      opens (a_test n ∷ S)
+      becomes grammar (a_test n ∷ S)
       (exactly (leading_opening Sym.OpenParenthesis (n + 1)) (refl, refl) ∷ an_expression (n + 1) ∷ exactly (sign Sym.CloseParenthesis) (refl, refl) ∷ S)
-      c from (λ next. Unit {0}) [] (λ g. (g.1.0, g.1.1.1)) refl refl tt refl tt (λ g. refl)
-      (λ f fits any. ((tt, (f.0, (tt, f.1))), refl)) tt
+      c from (λ g. (g.1.0, g.1.1.1)) (λ g. refl) (λ f. ((tt, (f.0, (tt, f.1))), refl))
 
 -- how what begins with a simple statement opens
 pub opens_simply : (next : Option Word) → IsSimple (opening_of_simple next)
@@ -192,7 +188,7 @@ opens_simply (Some (symbol Sym.Increment)) h = (refl, refl)
 opens_simply (Some (symbol Sym.Decrement)) h = (refl, refl)
 opens_simply (Some (symbol _)) h = absurd h
 
-pub simple_begins : (n : ℕ) (S : List Pending) (s : Simple) (rest : Trees S) → IsSimple (opening_of_simple (begins (a_simple n ∷ S) (s, rest)))
+pub simple_begins : (n : ℕ) (S : List Pending) (s : Simple) (rest : Trees S) → IsSimple (opening_of_simple (begins grammar (a_simple n ∷ S) (s, rest)))
 simple_begins n S s rest = ((simples n S).view (s, rest)).0
 
 -- what stands before the first `;` of a `for`
@@ -207,7 +203,7 @@ module _ (n : ℕ) where
   start_tree StartOpening.Declaration S g = (declares g.0, g.1)
   start_tree StartOpening.Simple S g = (starts_with g.0, g.1.1)
 
-  pub starts : (S : List Pending) → Choice (a_start n ∷ S) opening_of_start (λ o. Unit {0}) (λ o. start_rest o S) (λ o. start_tree o S)
+  pub starts : (S : List Pending) → Choice grammar (a_start n ∷ S) opening_of_start (λ o. Unit {0}) (λ o. start_rest o S) (λ o. start_tree o S)
   starts S = record { spells = spells; view = view }
     where
       spells : (o : StartOpening) → (g : Trees (start_rest o S)) → pieces (a_start n ∷ S) (start_tree o S g) ≡ pieces (start_rest o S) g
@@ -216,11 +212,11 @@ module _ (n : ℕ) where
       spells StartOpening.Simple g = refl
 
       view : (f : Trees (a_start n ∷ S))
-          → Way (a_start n ∷ S) (λ o. Unit {0}) (λ o. start_rest o S) (λ o. start_tree o S) (opening_of_start (begins (a_start n ∷ S) f)) f
+          → Way grammar (a_start n ∷ S) (λ o. Unit {0}) (λ o. start_rest o S) (λ o. start_tree o S) (opening_of_start (begins grammar (a_start n ∷ S) f)) f
       view (starts_with_nothing, rest) = (tt, (tt, rest), refl)
       view (declares d, rest) = (tt, (d, rest), refl)
       view (starts_with s, rest) =
-          subst (λ o. Way (a_start n ∷ S) (λ o. Unit {0}) (λ o. start_rest o S) (λ o. start_tree o S) o (starts_with s, rest))
+          subst (λ o. Way grammar (a_start n ∷ S) (λ o. Unit {0}) (λ o. start_rest o S) (λ o. start_tree o S) o (starts_with s, rest))
           (sym (opens_simply _ (simple_begins n (exactly (leading Sym.Semicolon) (refl, refl) ∷ S) s (tt, rest))).1) (tt, (s, (tt, rest)), refl)
 
 -- a word that jumps, and the `;` behind it
@@ -268,7 +264,7 @@ module _ (n : ℕ) where
   statement_tree StatementOpening.Continue S g = (continue, g.1.1)
   statement_tree StatementOpening.Nothing S g = g
 
-  pub statements : (S : List Pending) → Choice (a_statement_kind n ∷ S) opening_of_statement IsStatement (λ o. statement_rest o S) (λ o. statement_tree o S)
+  pub statements : (S : List Pending) → Choice grammar (a_statement_kind n ∷ S) opening_of_statement IsStatement (λ o. statement_rest o S) (λ o. statement_tree o S)
   statements S = record { spells = spells; view = view }
     where
       spells : (o : StatementOpening) → (g : Trees (statement_rest o S)) → pieces (a_statement_kind n ∷ S) (statement_tree o S g) ≡ pieces (statement_rest o S) g
@@ -285,10 +281,10 @@ module _ (n : ℕ) where
       spells StatementOpening.Nothing g = refl
 
       view : (f : Trees (a_statement_kind n ∷ S))
-          → Way (a_statement_kind n ∷ S) IsStatement (λ o. statement_rest o S) (λ o. statement_tree o S)
-          (opening_of_statement (begins (a_statement_kind n ∷ S) f)) f
+          → Way grammar (a_statement_kind n ∷ S) IsStatement (λ o. statement_rest o S) (λ o. statement_tree o S)
+          (opening_of_statement (begins grammar (a_statement_kind n ∷ S) f)) f
       view (simple s, rest) =
-          subst (λ o. Way (a_statement_kind n ∷ S) IsStatement (λ o. statement_rest o S) (λ o. statement_tree o S) o (simple s, rest))
+          subst (λ o. Way grammar (a_statement_kind n ∷ S) IsStatement (λ o. statement_rest o S) (λ o. statement_tree o S) o (simple s, rest))
           (sym (opens_simply _ (simple_begins n (exactly (sign Sym.Semicolon) (refl, refl) ∷ S) s (tt, rest))).0) (tt, (s, (tt, rest)), refl)
       view (skip, rest) = (tt, (tt, rest), refl)
       view (braces all, rest) = (tt, (tt, (all, rest)), refl)
@@ -300,7 +296,7 @@ module _ (n : ℕ) where
       view (break, rest) = (tt, (tt, (tt, rest)), refl)
       view (continue, rest) = (tt, (tt, (tt, rest)), refl)
 
-  pub located_statements : (S : List Pending) → Held (a_statement n ∷ S) (a_statement_kind n ∷ S) (λ m g. (statement_at m g.0, g.1))
+  pub located_statements : (S : List Pending) → Held lawful (a_statement n ∷ S) (λ m. a_statement_kind n ∷ S) (λ m g. (statement_at m g.0, g.1))
   located_statements S = record { spells = λ m g. refl; view = λ f. view f.0 f.1 }
     where
       view : (s : Statement) (rest : Trees S)
@@ -329,10 +325,10 @@ module _ (n : ℕ) where
   items_tree ItemOpening.Declaration S g = (declaration g.0 g.1.0, g.1.1)
   items_tree ItemOpening.Statement S g = (statement g.0 g.1.0, g.1.1)
 
-  pub statement_among : (S : List Pending) (s : Statement) (rest : Trees S) → opening_of_item (begins (a_statement n ∷ S) (s, rest)) ≡ ItemOpening.Statement
+  pub statement_among : (S : List Pending) (s : Statement) (rest : Trees S) → opening_of_item (begins grammar (a_statement n ∷ S) (s, rest)) ≡ ItemOpening.Statement
   statement_among S (statement_at at kind) rest = is_statement _ ((statements n S).view (kind, rest)).0
 
-  pub all_items : (S : List Pending) → Choice (items n ∷ S) opening_of_item (λ o. Unit {0}) (λ o. items_rest o S) (λ o. items_tree o S)
+  pub all_items : (S : List Pending) → Choice grammar (items n ∷ S) opening_of_item (λ o. Unit {0}) (λ o. items_rest o S) (λ o. items_tree o S)
   all_items S = record { spells = spells; view = view }
     where
       spells : (o : ItemOpening) → (g : Trees (items_rest o S)) → pieces (items n ∷ S) (items_tree o S g) ≡ pieces (items_rest o S) g
@@ -341,11 +337,11 @@ module _ (n : ℕ) where
       spells ItemOpening.Statement g = refl
 
       view : (f : Trees (items n ∷ S))
-          → Way (items n ∷ S) (λ o. Unit {0}) (λ o. items_rest o S) (λ o. items_tree o S) (opening_of_item (begins (items n ∷ S) f)) f
+          → Way grammar (items n ∷ S) (λ o. Unit {0}) (λ o. items_rest o S) (λ o. items_tree o S) (opening_of_item (begins grammar (items n ∷ S) f)) f
       view (none, rest) = (tt, (tt, rest), refl)
       view (declaration d more, rest) = (tt, (d, (more, rest)), refl)
       view (statement s more, rest) =
-          subst (λ o. Way (items n ∷ S) (λ o. Unit {0}) (λ o. items_rest o S) (λ o. items_tree o S) o (statement s more, rest))
+          subst (λ o. Way grammar (items n ∷ S) (λ o. Unit {0}) (λ o. items_rest o S) (λ o. items_tree o S) o (statement s more, rest))
           (sym (statement_among (items n ∷ S) s (more, rest))) (tt, (s, (more, rest)), refl)
 
 -- a program, and what stands before its `main`
@@ -383,7 +379,7 @@ program_tree PreludeOpening.Main S g =
     let h = behind_units main_signs main_quiet (a_void ∷ exactly (opening Sym.OpenBrace 1) (refl, refl) ∷ items 1 ∷ S) g in
     (record { preludes = []; void = h.0; items = h.1.1.0 }, h.1.1.1)
 
-pub beginnings : (S : List Pending) → Choice (a_program ∷ S) opening_of_prelude (λ o. Unit {0}) (λ o. program_rest o S) (λ o. program_tree o S)
+pub beginnings : (S : List Pending) → Choice grammar (a_program ∷ S) opening_of_prelude (λ o. Unit {0}) (λ o. program_rest o S) (λ o. program_tree o S)
 beginnings S = record { spells = spells; view = λ f. view f.0.preludes f.0.void f.0.items f.1 }
   where
     spells : (o : PreludeOpening) → (g : Trees (program_rest o S)) → pieces (a_program ∷ S) (program_tree o S g) ≡ pieces (program_rest o S) g
@@ -391,8 +387,8 @@ beginnings S = record { spells = spells; view = λ f. view f.0.preludes f.0.void
     spells PreludeOpening.Typedef g = refl
     spells PreludeOpening.Main g = refl
 
-    view : (before : List Prelude) (v : Bool) (all : Items) (rest : Trees S) → Way (a_program ∷ S) (λ o. Unit {0}) (λ o. program_rest o S) (λ o. program_tree o S)
-        (opening_of_prelude (begins (a_program ∷ S) (record { preludes = before; void = v; items = all }, rest))) (record { preludes = before; void = v; items = all }, rest)
+    view : (before : List Prelude) (v : Bool) (all : Items) (rest : Trees S) → Way grammar (a_program ∷ S) (λ o. Unit {0}) (λ o. program_rest o S) (λ o. program_tree o S)
+        (opening_of_prelude (begins grammar (a_program ∷ S) (record { preludes = before; void = v; items = all }, rest))) (record { preludes = before; void = v; items = all }, rest)
     view (extern_call w ∷ more) v all rest =
         (tt, units extern_signs extern_quiet (a_void ∷ exactly (sign Sym.Semicolon) (refl, refl) ∷ a_program ∷ S) (w, (tt, (record { preludes = more; void = v; items = all }, rest))), refl)
     view (typedef_bool ∷ more) v all rest = (tt, units typedef_signs typedef_quiet (a_program ∷ S) (record { preludes = more; void = v; items = all }, rest), refl)
@@ -402,49 +398,25 @@ beginnings S = record { spells = spells; view = λ f. view f.0.preludes f.0.void
 module _ (n c : ℕ) (S : List Pending) (from : Rest) where
   pub otherwise_ends : IsFalse (is_else (first from.words)) → Leads c (an_otherwise n ∷ S) from c S from (λ g. (without, g))
   otherwise_ends e =
-      opens (an_otherwise n ∷ S) S c from (λ next. IsFalse (is_else next)) (look no_else ∷ []) (λ g. (without, g)) refl refl tt refl
+      opens grammar (an_otherwise n ∷ S) S c from (λ next. IsFalse (is_else next)) (look no_else ∷ []) (λ g. (without, g)) refl refl tt refl
       (e, tt) (λ g. refl) (λ f fits missing. view f.0 f.1 missing) e
     where
-      view : (t : Otherwise) (rest : Trees S) → IsFalse (is_else (begins (an_otherwise n ∷ S) (t, rest)))
+      view : (t : Otherwise) (rest : Trees S) → IsFalse (is_else (begins grammar (an_otherwise n ∷ S) (t, rest)))
           → (g : Trees S) × Same (an_otherwise n ∷ S) (t, rest) (without, g)
       view without rest missing = (rest, refl)
       view (otherwise part) rest missing = absurd (cc)
 
-  -- which second parts begin with an `else`
-  pub else_view : (t : Otherwise) (rest : Trees S) → Fits from.number (pieces (an_otherwise n ∷ S) (t, rest))
-      → begins (an_otherwise n ∷ S) (t, rest) ≡ Some (symbol Sym.Else)
-      → (g : Trees (a_statement (n + 1) ∷ S)) × Same (an_otherwise n ∷ S) (t, rest) (otherwise g.0, g.1)
-  else_view without rest fits found = absurd (let seen = subst (λ next. IsFalse (is_else next)) found fits.0 in cc)
-  else_view (otherwise part) rest fits found = ((part, rest), refl)
-
-  pub else_read : (to : Rest) → IsNext (symbol Sym.Else) from to → n + 1 ≤ 64
-      → Leads c ((an_otherwise n ∷ S)) from c ((a_statement (n + 1) ∷ S)) to (λ g. (otherwise g.0, g.1))
-  else_read to e shallow =
-      reads ((an_otherwise n ∷ S)) ((a_statement (n + 1) ∷ S)) c from to (opening Sym.Else (n + 1)) (λ g. (otherwise g.0, g.1)) e
-      (shallow, tt) (λ g. refl) (λ f fits next. else_view f.0 f.1 fits next)
-
-  pub else_too_deep : (to : Rest) → IsNext (symbol Sym.Else) from to → 64 < n + 1
-      → Stops c ((an_otherwise n ∷ S)) from Nesting from
-  else_too_deep to e deep =
-      let inner = complete (from.number + 1) (a_statement (n + 1) ∷ S) in
-      exceeds ((an_otherwise n ∷ S)) c from (opening Sym.Else (n + 1)) (pieces (a_statement (n + 1) ∷ S) inner)
-      Nesting (otherwise inner.0, inner.1) (completes (from.number + 1) (a_statement (n + 1) ∷ S)).0 refl (ap first e.0) (λ e. cc) deep
-      (λ f fits next. let found = else_view f.0 f.1 fits next in
-      (pieces (a_statement (n + 1) ∷ S) found.0, ap (pieces (an_otherwise n ∷ S)) found.1))
+-- a second part that begins with an `else`
+pub elses : (n : ℕ) (S : List Pending) → Headed grammar (an_otherwise n ∷ S) (opening Sym.Else (n + 1)) (a_statement (n + 1) ∷ S) (λ g. (otherwise g.0, g.1))
+elses n S = record { spells = λ g. refl; view = λ m f fits next. view m f.0 f.1 fits next }
+  where
+    view : (m : ℕ) (t : Otherwise) (rest : Trees S) → Fits m (pieces (an_otherwise n ∷ S) (t, rest))
+        → begins grammar (an_otherwise n ∷ S) (t, rest) ≡ Some (symbol Sym.Else)
+        → (g : Trees (a_statement (n + 1) ∷ S)) × Same (an_otherwise n ∷ S) (t, rest) (otherwise g.0, g.1)
+    view m without rest fits found = absurd (let seen = subst (λ next. IsFalse (is_else next)) found fits.0 in cc)
+    view m (otherwise part) rest fits found = ((part, rest), refl)
 
 -- where the next word isn't `else`
 pub not_else : (ws : List Word) → ((to : List Word) → ws ≢ symbol Sym.Else ∷ to) → IsFalse (is_else (first ws))
-not_else [] h = refl
-not_else (named x ∷ ws) h = refl
-not_else (numbered z ∷ ws) h = refl
-not_else (unreadable ∷ ws) h = refl
 not_else (symbol Sym.Else ∷ ws) h = absurd (h ws refl)
-not_else (symbol _ ∷ ws) h = refl
-
--- behind a program nothing follows
-pub trailing : (c : ℕ) (from : Rest) → from.words ≢ [] → Stops c [] from Expected from
-trailing c from h = sticks [] c from (λ next. next ≢ None) tt tt (refl, refl) (λ f fits some. some refl) (some from.words h)
-  where
-    some : (ws : List Word) → ws ≢ [] → first ws ≢ None
-    some [] k e = k refl
-    some (w ∷ ws) k e = cc
+not_else _ h = refl

@@ -2,8 +2,10 @@
 use Rattle.std.specs.Prelude.{ℕ, ℤ, Bool, Option, Some, List, [], ◌∷◌}
 use Rattle.derivation.specs.declared.symbol.Symbol.TheVariants as S
 use Rattle.derivation.specs.Word.{name as named, number as numbered}
+use Rattle.derivation.specs.declared.rule.Rule.{Rule}
 use Rattle.derivation.specs.Pieces.{token, look}
-use Rattle.source_syntax.specs.Language.{Token, Piece, Phrase, is_at, IsQuiet}
+use Rattle.derivation.specs.Grammars.{Grammar, Leads as LeadsIn, Stops as StopsIn}
+use Rattle.source_syntax.specs.Language.{language, Token, Piece, Phrase, Rest, is_at, IsQuiet}
 use Rattle.concrete_syntax.specs.Trees.{Divisor, End, Operand, OperandKind, Tail, Expression, Name, Action, Simple, Part, Declaration, Start, Statement, StatementKind, Otherwise, Items, Program}
 use Rattle.source_syntax.specs.Spelling.{plain, sign, size_pieces, end_pieces, divisor_pieces, operand_pieces, operand_kind_pieces, tail_pieces, expression_pieces, optional_pieces, name_pieces, action_pieces, simple_pieces, initialiser_pieces, parts_pieces, declaration_pieces, start_pieces, finish_pieces, test_pieces, statement_pieces, statement_kind_pieces, otherwise_pieces, items_pieces, void_pieces, program_pieces}
 
@@ -111,3 +113,13 @@ pieces (p ∷ more) trees = pieces_of p trees.0 (pieces more trees.1)
 
 abbrev pub phrase : List Pending → Phrase
 phrase all = record { Tree = Trees all; pieces = pieces all }
+
+-- programs as a grammar of the calculus
+abbrev pub grammar : Grammar
+grammar = record { language = language; Sequence = List Pending; phrase = phrase }
+
+abbrev pub Leads : (count : ℕ) (these : List Pending) (from : Rest) (now : ℕ) (those : List Pending) (to : Rest) → (Trees those → Trees these) → Type 0
+Leads = LeadsIn grammar
+
+abbrev pub Stops : (count : ℕ) (these : List Pending) (from : Rest) → Rule → Rest → Type 0
+Stops = StopsIn grammar

@@ -10,8 +10,7 @@ use Rattle.source_syntax.specs.Language.{Rest}
 use Rattle.concrete_syntax.specs.Trees.{Operand, Link, operation, division, Expression, Simple, Part, Start, Prelude, Program}
 use Rattle.concrete_syntax.specs.Chains.{tail_of}
 use Rattle.source_syntax.specs.Spelling.{sign}
-use Rattle.source_syntax.specs.Pending.{Pending, exactly, exactly_at, an_operand, a_divisor, an_expression, a_tail, an_optional, a_test, a_name, a_part_end, parts, a_declaration, a_start, a_finish, TreeOf}
-use Rattle.source_syntax.specs.Leads.{Leads, Stops}
+use Rattle.source_syntax.specs.Pending.{Pending, exactly, exactly_at, an_operand, a_divisor, an_expression, a_tail, an_optional, a_test, a_name, a_part_end, parts, a_declaration, a_start, a_finish, TreeOf, Leads, Stops}
 use Rattle.source_syntax.specs.declared.opening.LinkOpening.{LinkOpening}
 use Rattle.source_syntax.specs.declared.opening.LinkOpening.TheVariants.{Operation, Division}
 

@@ -5,17 +5,16 @@ ghost use Rattle.derivation.specs.Pieces.{first};
 ghost use Rattle.derivation.specs.Spelled.{IsBehind};
 ghost use Rattle.source_syntax.specs.Language.{rest_from};
 ghost use Rattle.concrete_syntax.specs.Mirror.{part as part_tree, declaration as declaration_tree, start as start_tree};
-ghost use Rattle.source_syntax.specs.Failures.{IfFault};
+ghost use Rattle.derivation.specs.Failures.{IfFault};
 ghost use Rattle.source_syntax.specs.Pending.{a_declaration, a_start};
 ghost use Rattle.source_syntax.specs.Reads.{ReadsLeading, Refuses, ReadsPart, RefusesPart};
 
 use crate::expression::expression;
-use crate::fault::Failure;
 use crate::opening::{StartOpening, opening_of_start};
 use crate::reader::{owned_name, sign};
 use crate::simple::simple;
 use concrete_syntax::{Declaration, Name, Part, Start};
-use derivation::{Lexeme, Symbol, after};
+use derivation::{Failure, Lexeme, Symbol, after};
 use std::alloc::Global;
 
 /// Reads a declaration and the `;` behind it.

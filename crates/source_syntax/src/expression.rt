@@ -8,17 +8,16 @@ ghost use Rattle.concrete_syntax.specs.Mirror.{operand as operand_tree, operand_
 ghost use Rattle.concrete_syntax.specs.Trees.{call as call_tree, range as range_tree};
 ghost use Rattle.source_syntax.specs.Openings.{opening_of_operand};
 ghost use Rattle.source_syntax.specs.declared.opening.OperandOpening.TheVariants.{Call, Parenthesis, Bracket, Signed};
-ghost use Rattle.source_syntax.specs.Failures.{IfFault};
+ghost use Rattle.derivation.specs.Failures.{IfFault};
 ghost use Rattle.source_syntax.specs.Pending.{an_operand, an_operand_kind, an_expression, a_divisor, an_end, a_size};
 ghost use Rattle.source_syntax.specs.Reads.{ReadsCounting, RefusesCounting, ReadsRight, RefusesRight};
 
-use crate::fault::{Failure, Fault};
 use crate::opening::{
     LinkOpening, OperandOpening, SizeOpening, link_opening, opening_of_operand, size_opening,
 };
 use crate::reader::{number, opening, owned_name, sign};
 use concrete_syntax::{Divisor, End, Expression, Link, Operand, OperandKind, Prefix, Tail};
-use derivation::{Lexeme, MOST_LEVELS, Rule, Symbol, after};
+use derivation::{Failure, Fault, Lexeme, MOST_LEVELS, Rule, Symbol, after};
 use std::alloc::Global;
 
 /// How many binary operators one expression may have.

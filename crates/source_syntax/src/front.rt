@@ -6,13 +6,12 @@ ghost use Rattle.derivation.specs.Comes.{FirstFault, IsSpelledBy};
 ghost use Rattle.derivation.specs.Spelled.{all_spelled, words_from};
 ghost use Rattle.source_lex.specs.Tokens.{TokensOf};
 ghost use Rattle.concrete_syntax.specs.Mirror.{program as program_tree};
-ghost use Rattle.source_syntax.specs.Failures.{IfFault};
+ghost use Rattle.derivation.specs.Failures.{IfFault};
 ghost use Rattle.source_syntax.specs.Texts.{programs, offset_in, IsTreeText, IsFaultOf};
 
-use crate::fault::{Failure, Fault, SyntaxFault};
 use crate::program::program;
 use concrete_syntax::Program;
-use derivation::{Lexeme, Rule, lexemes};
+use derivation::{Failure, Fault, Lexeme, Rule, SyntaxFault, lexemes};
 use source_lex::{LexFault, Token, lex, start_of};
 use std::alloc::Global;
 

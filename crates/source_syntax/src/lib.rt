@@ -5,7 +5,6 @@
 
 mod declaration;
 mod expression;
-mod fault;
 mod front;
 mod laws;
 mod opening;
@@ -14,6 +13,6 @@ mod reader;
 mod simple;
 mod statement;
 
-pub use fault::SyntaxFault;
+pub use derivation::SyntaxFault;
 pub use front::{Syntax, offset_in, read_syntax};
 pub use laws::{first_faults_agree, programs_have_no_fault, trees_are_unique};

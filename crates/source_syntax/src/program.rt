@@ -6,18 +6,17 @@ ghost use Rattle.derivation.specs.Spelled.{words_from, IsBehind};
 ghost use Rattle.source_syntax.specs.Language.{rest_from};
 ghost use Rattle.concrete_syntax.specs.Trees.{extern_call as extern_tree, typedef_bool as typedef_tree};
 ghost use Rattle.concrete_syntax.specs.Mirror.{program as program_tree, items as items_tree};
-ghost use Rattle.source_syntax.specs.Failures.{IfFault};
+ghost use Rattle.derivation.specs.Failures.{IfFault};
 ghost use Rattle.source_syntax.specs.Openings.{opening_of_prelude};
 ghost use Rattle.source_syntax.specs.declared.opening.PreludeOpening.TheVariants as PreludeOpening;
 ghost use Rattle.source_syntax.specs.Pending.{a_program, a_void};
 ghost use Rattle.source_syntax.specs.Reads.{Reads, Refuses, Continues, behind_preludes};
 
-use crate::fault::{Failure, Fault};
 use crate::opening::{PreludeOpening, opening_of_prelude};
 use crate::reader::{opening, sign, signs};
 use crate::statement::items;
 use concrete_syntax::{Items, Prelude, Program};
-use derivation::{Lexeme, Symbol, after};
+use derivation::{Failure, Fault, Lexeme, Symbol, after};
 use std::alloc::Global;
 
 /// Reads a program.

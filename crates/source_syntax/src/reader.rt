@@ -5,11 +5,10 @@ ghost use Rattle.derivation.specs.Word.{symbol, name as named, number as numbere
 ghost use Rattle.source_syntax.specs.Language.{rest_from};
 ghost use Rattle.derivation.specs.Spelled.{IsBehind};
 ghost use Rattle.derivation.specs.Comes.{IsNext};
-ghost use Rattle.source_syntax.specs.Failures.{IfFault};
+ghost use Rattle.derivation.specs.Failures.{IfFault};
 ghost use Rattle.source_syntax.specs.Reads.{MissesSign, MissesOpening, MissesName, MissesNumber, AreNext, MissesOne};
 
-use crate::fault::{Failure, Fault};
-use derivation::{Lexeme, MOST_LEVELS, Rule, Symbol, after};
+use derivation::{Failure, Fault, Lexeme, MOST_LEVELS, Rule, Symbol, after};
 use std::alloc::Global;
 
 /// The number behind a sign or reserved word that has to stand here.

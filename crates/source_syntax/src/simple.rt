@@ -6,16 +6,15 @@ ghost use Rattle.source_syntax.specs.Language.{rest_from};
 ghost use Rattle.concrete_syntax.specs.Mirror.{expression as expression_tree, optional as optional_tree, simple as simple_tree, action as action_tree, optional_simple as finish_tree};
 ghost use Rattle.source_syntax.specs.Openings.{opening_of_simple, opening_of_action};
 ghost use Rattle.source_syntax.specs.Spelling.{assignment_sign, step_sign};
-ghost use Rattle.source_syntax.specs.Failures.{IfFault};
+ghost use Rattle.derivation.specs.Failures.{IfFault};
 ghost use Rattle.source_syntax.specs.Pending.{a_test, an_optional, an_action, a_simple, a_finish};
 ghost use Rattle.source_syntax.specs.Reads.{Reads, Refuses, ReadsAfresh, RefusesCounting};
 
 use crate::expression::expression;
-use crate::fault::{Failure, Fault};
 use crate::opening::{ActionOpening, SimpleOpening, opening_of_action, opening_of_simple};
 use crate::reader::{opening, owned_name, sign};
 use concrete_syntax::{Action, Assignment, Expression, Name, Simple, Step};
-use derivation::{Lexeme, Rule, Symbol, after};
+use derivation::{Failure, Fault, Lexeme, Rule, Symbol, after};
 use std::alloc::Global;
 
 /// Reads the test of an `if` or a loop, in its parentheses.

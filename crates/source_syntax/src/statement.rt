@@ -8,19 +8,18 @@ ghost use Rattle.concrete_syntax.specs.Trees.{skip as skip_tree, break as break_
 ghost use Rattle.concrete_syntax.specs.Mirror.{expression as expression_tree, optional as optional_tree, optional_simple as step_tree, start as start_tree, statement as statement_tree, statement_kind as kind_tree, otherwise as otherwise_tree, items as items_tree};
 ghost use Rattle.source_syntax.specs.Openings.{opening_of_statement};
 ghost use Rattle.source_syntax.specs.declared.opening.StatementOpening.TheVariants as StatementOpening;
-ghost use Rattle.source_syntax.specs.Failures.{IfFault};
+ghost use Rattle.derivation.specs.Failures.{IfFault};
 ghost use Rattle.source_syntax.specs.Pending.{a_statement, a_statement_kind, an_otherwise, items as pending_items};
 ghost use Rattle.source_syntax.specs.Reads.{Reads, Refuses, ReadsEndOfDo, RefusesEndOfDo, ReadsHeadOfFor, RefusesHeadOfFor};
 
 use crate::declaration::{declaration, start};
-use crate::fault::{Failure, Fault};
 use crate::opening::{ItemOpening, StatementOpening, opening_of_item, opening_of_statement};
 use crate::reader::{opening, sign, signs};
 use crate::simple::{finish, optional, simple, test};
 use concrete_syntax::{
     Expression, ForLoop, Item, Items, Otherwise, Simple, Start, Statement, StatementKind,
 };
-use derivation::{Lexeme, MOST_LEVELS, Rule, Symbol, after};
+use derivation::{Failure, Fault, Lexeme, MOST_LEVELS, Rule, Symbol, after};
 use std::alloc::Global;
 
 // Reads a statement where `levels` levels are open.

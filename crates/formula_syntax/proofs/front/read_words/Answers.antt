@@ -1,18 +1,22 @@
 use Rattle.std.proofs.Common.{refl}
+use Rattle.derivation.proofs.Answering.{passed_on}
+use Rattle.derivation.proofs.Whole.{whole_read, whole_trails, whole_stops, none_left, some_left}
 use Rattle.formula_syntax.specs.Language.{rest_from}
-use Rattle.formula_syntax.proofs.Whole.{whole_read, whole_trails, stops_fault, none_left, some_left}
-use Rattle.formula_syntax.proofs.Answering.{passed_on}
+use Rattle.formula_syntax.specs.Words.{spelled}
+use Rattle.formula_syntax.proofs.Whole.{a_text}
 use Rattle.formula_syntax.proofs.front.read_words.Goals as goal
 
 pub returns-in_err-tree-clause-fault : goal.returns-in_err-tree-clause-fault
 returns-in_err-tree-clause-fault c =
     passed_on _ _ _ _ c.from_residual.ensures c.in_err-tree.ensures.refused
-    (λ fault refused. stops_fault (rest_from c.args.words.now 0) (rest_from c.args.words.now fault.at) _ refl (refused _))
+    (λ fault refused. whole_stops a_text (rest_from c.args.words.now 0) (rest_from c.args.words.now fault.at) refl _ (refused _))
 
 pub returns-then-end-words-clause-fault : goal.returns-then-end-words-clause-fault
 returns-then-end-words-clause-fault c =
-    whole_trails (rest_from c.args.words.now 0) (rest_from c.args.words.now c.in_ok-tree.end) _ _ refl c.in_ok-tree.ensures.read (some_left _ _ c.if-end-words.true)
+    whole_trails a_text (rest_from c.args.words.now 0) (rest_from c.args.words.now c.in_ok-tree.end) refl (c.in_ok-tree.ensures.read.comes _)
+    (some_left spelled _ _ c.if-end-words.true)
 
 pub returns-clause-syntax : goal.returns-clause-syntax
 returns-clause-syntax c =
-    whole_read (rest_from c.args.words.now 0) (rest_from c.args.words.now c.in_ok-tree.end) _ _ refl c.in_ok-tree.ensures.read (none_left _ _ c.if-end-words.false)
+    whole_read a_text (rest_from c.args.words.now 0) (rest_from c.args.words.now c.in_ok-tree.end) refl (c.in_ok-tree.ensures.read.comes _)
+    (none_left spelled _ _ c.if-end-words.false)

@@ -1,5 +1,7 @@
-use Rattle.formula_syntax.proofs.FaultLaws.{formulas_have_no_fault}
+use Rattle.derivation.proofs.Texts.{no_fault}
+use Rattle.formula_syntax.specs.Words.{word}
+use Rattle.formula_syntax.specs.Texts.{formulas}
 use Rattle.formula_syntax.proofs.laws.formulas_have_no_fault.Goals as goal
 
 pub returns : goal.returns
-returns c = formulas_have_no_fault
+returns c = no_fault word formulas

@@ -1,4 +1,4 @@
-use Rattle.std.proofs.Common.{◌≡◌, ◌∙◌, sym, ap, refl, rules}
+use Rattle.std.proofs.Common.{◌≡◌, ◌∙◌, sym, ap, refl, rules, arith}
 use mir.Val.{to_z, of_z}
 use mir.Syntax.{w64}
 use borrow.Author.Rules.{sfits_of}
@@ -7,11 +7,15 @@ use Rattle.formula_syntax.specs.declared.sign.Sign.TheVariants as Mark
 use Rattle.formula_syntax.specs.declared.opening.FactorOpening.TheVariants as FactorOpening
 use Rattle.formula_syntax.specs.Mirror.{factor, tail}
 use Rattle.formula_syntax.specs.Trees.{number, signed, summed, further}
-use Rattle.formula_syntax.proofs.Calculus.{over, fails}
-use Rattle.formula_syntax.proofs.Choices.{goes, stuck, held}
-use Rattle.formula_syntax.proofs.Sums.{located_factors, factors, sum_goes, tail_ends, bytes_read}
-use Rattle.formula_syntax.proofs.Answering.{failed_on, passed_on, mark_reads, opening_reads, mark_refused, opening_refused, bytes_refused, told}
-use Rattle.formula_syntax.proofs.Reading.{factor_number, behind_sign, sign_too_deep, sign_too_many, behind_operator, operator_stops}
+use Rattle.derivation.specs.declared.rule.Rule.TheVariants.{Nesting, Operators}
+use Rattle.derivation.proofs.Grammars.{over, fails, read, exceeds}
+use Rattle.formula_syntax.proofs.Completions.{lawful}
+use Rattle.formula_syntax.proofs.Words.{next_word, factor_word, operator_word}
+use Rattle.derivation.proofs.Choices.{goes, stuck, held}
+use Rattle.formula_syntax.proofs.Sums.{located_factors, factors, signs, operators, sum_goes, tail_ends, bytes_read}
+use Rattle.derivation.proofs.Answering.{failed_on, passed_on}
+use Rattle.formula_syntax.proofs.Answering.{mark_reads, opening_reads, mark_refused, opening_refused, bytes_refused, told}
+use Rattle.formula_syntax.proofs.Reading.{factor_number}
 use Rattle.formula_syntax.proofs.sum.+sums.Goals as goal
 
 pub sum-returns-in_err-first-clause-refused : goal.sum-returns-in_err-first-clause-refused
@@ -34,19 +38,19 @@ tail-returns-in-None-clause-read t c = record { comes = λ behind. tail_ends _ _
 
 pub further-returns-then-more-gt-MOST_OPERATORS-clause-refused : goal.further-returns-then-more-gt-MOST_OPERATORS-clause-refused
 further-returns-then-more-gt-MOST_OPERATORS-clause-refused t c = λ behind.
-    operator_stops c.args.words.now c.args.at _ _ c.args.op c.requires.opens behind c.if-more-gt-MOST_OPERATORS.true
+    exceeds (operators _ behind c.args.op) lawful (next_word c.args.words.now c.args.at (operator_word _ c.args.op c.requires.opens)) Operators (λ e. cc) (omega arith, c.if-more-gt-MOST_OPERATORS.true)
 
 pub further-returns-in_err-first-clause-refused : goal.further-returns-in_err-first-clause-refused
 further-returns-in_err-first-clause-refused t c =
     passed_on _ _ _ _ c.from_residual.ensures c.in_err-first.ensures.refused
     (λ fault refused behind.
-    fails (behind_operator c.args.words.now c.args.at _ _ c.args.op c.requires.opens behind c.if-more-gt-MOST_OPERATORS.false) (refused _))
+    fails (read (operators _ behind c.args.op) (next_word c.args.words.now c.args.at (operator_word _ c.args.op c.requires.opens)) (omega arith, c.if-more-gt-MOST_OPERATORS.false)) (refused _))
 
 pub further-returns-in_err-others-clause-refused : goal.further-returns-in_err-others-clause-refused
 further-returns-in_err-others-clause-refused t c =
     passed_on _ _ _ _ c.from_residual-in_err-others.ensures c.in_err-others.ensures.refused
     (λ fault refused behind.
-    fails (behind_operator c.args.words.now c.args.at _ _ c.args.op c.requires.opens behind c.if-more-gt-MOST_OPERATORS.false)
+    fails (read (operators _ behind c.args.op) (next_word c.args.words.now c.args.at (operator_word _ c.args.op c.requires.opens)) (omega arith, c.if-more-gt-MOST_OPERATORS.false))
     (fails (c.in_ok-first.ensures.read.comes _) (refused _)))
 
 pub further-returns-clause-read : goal.further-returns-clause-read
@@ -55,7 +59,7 @@ further-returns-clause-read t c =
     let rest_kept : c.in_ok-rest.rest.value ≡ c.in_ok-others.others = search rules in
     told (ap (λ e. further c.args.op (factor e) (tail c.in_ok-rest.rest.value)) factor_kept ∙ ap (λ more. further c.args.op (factor c.in_ok-first.first) (tail more)) rest_kept) (record {
       comes = λ behind.
-          over (behind_operator c.args.words.now c.args.at _ _ c.args.op c.requires.opens behind c.if-more-gt-MOST_OPERATORS.false)
+          over (read (operators _ behind c.args.op) (next_word c.args.words.now c.args.at (operator_word _ c.args.op c.requires.opens)) (omega arith, c.if-more-gt-MOST_OPERATORS.false))
           (over (c.in_ok-first.ensures.read.comes _) (c.in_ok-others.ensures.read.comes _));
     })
 
@@ -88,21 +92,21 @@ factor_kind-returns-in_ok-name-in-Name-clause-read t c = record {
 }
 
 pub factor_kind-returns-in-Nothing-clause-refused : goal.factor_kind-returns-in-Nothing-clause-refused
-factor_kind-returns-in-Nothing-clause-refused t c = λ behind. stuck (factors _ behind) _ _ _ (λ shut. shut) (sym c.in-Nothing.is ∙ c.opening_of_factor.ensures.class)
+factor_kind-returns-in-Nothing-clause-refused t c = λ behind. stuck (factors _ behind) lawful _ _ _ (λ shut. shut) (sym c.in-Nothing.is ∙ c.opening_of_factor.ensures.class)
 
 pub signed-returns-then-inner_levels-gt-MOST_LEVELS-clause-refused : goal.signed-returns-then-inner_levels-gt-MOST_LEVELS-clause-refused
 signed-returns-then-inner_levels-gt-MOST_LEVELS-clause-refused t c = λ behind.
-    sign_too_deep c.args.words.now c.args.at _ _ c.args.negative c.requires.opens behind c.if-inner_levels-gt-MOST_LEVELS.true
+    exceeds (signs _ behind c.args.negative) lawful (next_word c.args.words.now c.args.at (factor_word _ (FactorOpening.Signed c.args.negative) c.requires.opens)) Nesting (λ e. cc) c.if-inner_levels-gt-MOST_LEVELS.true
 
 pub signed-returns-then-more-gt-MOST_OPERATORS-clause-refused : goal.signed-returns-then-more-gt-MOST_OPERATORS-clause-refused
 signed-returns-then-more-gt-MOST_OPERATORS-clause-refused t c = λ behind.
-    sign_too_many c.args.words.now c.args.at _ _ c.args.negative c.requires.opens behind c.if-inner_levels-gt-MOST_LEVELS.false c.if-more-gt-MOST_OPERATORS.true
+    exceeds (signs _ behind c.args.negative) lawful (next_word c.args.words.now c.args.at (factor_word _ (FactorOpening.Signed c.args.negative) c.requires.opens)) Operators (λ e. cc) (c.if-inner_levels-gt-MOST_LEVELS.false, c.if-more-gt-MOST_OPERATORS.true)
 
 pub signed-returns-in_err-inner-clause-refused : goal.signed-returns-in_err-inner-clause-refused
 signed-returns-in_err-inner-clause-refused t c =
     passed_on _ _ _ _ c.from_residual.ensures c.in_err-inner.ensures.refused
     (λ fault refused behind.
-    fails (behind_sign c.args.words.now c.args.at _ _ c.args.negative c.requires.opens behind c.if-inner_levels-gt-MOST_LEVELS.false c.if-more-gt-MOST_OPERATORS.false)
+    fails (read (signs _ behind c.args.negative) (next_word c.args.words.now c.args.at (factor_word _ (FactorOpening.Signed c.args.negative) c.requires.opens)) (c.if-inner_levels-gt-MOST_LEVELS.false, c.if-more-gt-MOST_OPERATORS.false))
     (refused _))
 
 pub signed-returns-clause-read : goal.signed-returns-clause-read
@@ -110,7 +114,7 @@ signed-returns-clause-read t c =
     let kept : c.in_ok-factor.factor.value ≡ c.in_ok-inner.inner = search rules in
     told (ap (λ e. signed c.args.negative (factor e)) kept) (record {
       comes = λ behind.
-          over (behind_sign c.args.words.now c.args.at _ _ c.args.negative c.requires.opens behind c.if-inner_levels-gt-MOST_LEVELS.false c.if-more-gt-MOST_OPERATORS.false)
+          over (read (signs _ behind c.args.negative) (next_word c.args.words.now c.args.at (factor_word _ (FactorOpening.Signed c.args.negative) c.requires.opens)) (c.if-inner_levels-gt-MOST_LEVELS.false, c.if-more-gt-MOST_OPERATORS.false))
           (c.in_ok-inner.ensures.read.comes _);
     })
 

@@ -3,4 +3,4 @@ use Rattle.formula_syntax.proofs.Sums.{right_missing}
 use Rattle.formula_syntax.proofs.sum.right.Goals as goal
 
 pub returns-in-None-clause-refused : goal.returns-in-None-clause-refused
-returns-in-None-clause-refused c = λ behind. right_missing _ _ behind _ (sym c.in-None.is ∙ c.comparison_of.ensures.class)
+returns-in-None-clause-refused c = λ behind. right_missing _ behind _ _ (sym c.in-None.is ∙ c.comparison_of.ensures.class)

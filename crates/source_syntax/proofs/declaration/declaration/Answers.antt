@@ -1,10 +1,11 @@
 use Rattle.std.proofs.Common.{◌≡◌, [], ◌∷◌, ◌++◌, map, ap, refl, arith, rules}
 use Rattle.derivation.specs.declared.symbol.Symbol.TheVariants as Sym
 use Rattle.concrete_syntax.specs.Mirror.{part}
-use Rattle.source_syntax.proofs.Calculus.{fails}
-use Rattle.source_syntax.proofs.Choices.{not_next, taken, left_out}
+use Rattle.derivation.proofs.Grammars.{fails}
+use Rattle.derivation.proofs.Choices.{not_next, taken, left_out}
 use Rattle.source_syntax.proofs.Statements.{further_parts, declaration_goes}
-use Rattle.source_syntax.proofs.Answering.{failed_on, passed_on, sign_refused, leading_refused}
+use Rattle.derivation.proofs.Answering.{failed_on, passed_on}
+use Rattle.source_syntax.proofs.Answering.{sign_refused, leading_refused}
 use Rattle.source_syntax.proofs.Loops.{one_part_more, parts_from, part_missing, parts_over, parts_close}
 use Rattle.source_syntax.proofs.declaration.declaration.Goals as goal
 

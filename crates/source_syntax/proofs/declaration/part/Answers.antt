@@ -1,8 +1,9 @@
 use Rattle.std.proofs.Common.{arith}
-use Rattle.source_syntax.proofs.Calculus.{over, fails}
-use Rattle.source_syntax.proofs.Choices.{not_next, taken, left_out}
+use Rattle.derivation.proofs.Grammars.{over, fails}
+use Rattle.derivation.proofs.Choices.{not_next, taken, left_out}
 use Rattle.source_syntax.proofs.Statements.{part_ends}
-use Rattle.source_syntax.proofs.Answering.{passed_on, name_reads, name_refused}
+use Rattle.derivation.proofs.Answering.{passed_on}
+use Rattle.source_syntax.proofs.Answering.{name_reads, name_refused}
 use Rattle.source_syntax.proofs.declaration.part.Goals as goal
 
 pub returns-in_err-bytes-clause-refused : goal.returns-in_err-bytes-clause-refused

@@ -7,11 +7,15 @@ use Rattle.derivation.specs.declared.symbol.Symbol.TheVariants as Sym
 use Rattle.source_syntax.specs.declared.opening.OperandOpening.TheVariants as OperandOpening
 use Rattle.concrete_syntax.specs.Mirror.{operand, tail, links}
 use Rattle.concrete_syntax.specs.Trees.{number, parentheses, signed}
-use Rattle.source_syntax.proofs.Calculus.{over, fails}
-use Rattle.source_syntax.proofs.Choices.{goes, stuck, held}
-use Rattle.source_syntax.proofs.Expressions.{operands, located_operands, expression_goes}
-use Rattle.source_syntax.proofs.Answering.{failed_on, passed_on, sign_reads, opening_reads, bytes_reads, sign_refused, opening_refused, bytes_refused}
-use Rattle.source_syntax.proofs.Reading.{operand_number, operand_truth, operand_unknown, behind_prefix, prefix_stops, behind_link, link_stops, operation_reads, operation_refused, division_reads, division_refused, tail_from, tail_over, tail_done, one_link_more, told}
+use Rattle.derivation.specs.declared.rule.Rule.TheVariants.{Nesting, Operators}
+use Rattle.derivation.proofs.Grammars.{over, fails, read, exceeds}
+use Rattle.source_syntax.proofs.Completions.{lawful}
+use Rattle.source_syntax.proofs.Words.{next_word, operand_word, link_word}
+use Rattle.derivation.proofs.Choices.{goes, stuck, held}
+use Rattle.source_syntax.proofs.Expressions.{operands, located_operands, prefixes, link_signs, expression_goes}
+use Rattle.derivation.proofs.Answering.{failed_on, passed_on}
+use Rattle.source_syntax.proofs.Answering.{sign_reads, opening_reads, bytes_reads, sign_refused, opening_refused, bytes_refused}
+use Rattle.source_syntax.proofs.Reading.{operand_number, operand_truth, operand_unknown, operation_reads, operation_refused, division_reads, division_refused, tail_from, tail_over, tail_done, one_link_more, told}
 use Rattle.source_syntax.proofs.expression.+expressions.Goals as goal
 
 pub expression-returns-in_err-first-clause-refused : goal.expression-returns-in_err-first-clause-refused
@@ -30,24 +34,24 @@ expression-operators-init t c = record {
 pub expression-returns-then-count-gt-MOST_OPERATORS-clause-refused : goal.expression-returns-then-count-gt-MOST_OPERATORS-clause-refused
 expression-returns-then-count-gt-MOST_OPERATORS-clause-refused t c = λ behind.
     fails (c.operators.invariant.comes.comes behind)
-    (link_stops c.args.words.now c.operators.here _ c.in-Some.link (sym c.in-Some.is ∙ c.link_opening.ensures) _ c.if-count-gt-MOST_OPERATORS.true behind)
+    (exceeds (link_signs _ behind c.in-Some.link) lawful
+    (next_word c.args.words.now c.operators.here (link_word _ c.in-Some.link (sym c.in-Some.is ∙ c.link_opening.ensures))) Operators (λ e. cc) (omega arith, c.if-count-gt-MOST_OPERATORS.true))
 
 pub expression-returns-in_err-further-in-Some-clause-refused : goal.expression-returns-in_err-further-in-Some-clause-refused
 expression-returns-in_err-further-in-Some-clause-refused t c =
-    let step = behind_link c.args.words.now c.operators.here c.args.levels c.in-Some.link (sym c.in-Some.is ∙ c.link_opening.ensures) c.operators.count
-    c.if-count-gt-MOST_OPERATORS.false in
+    let next = next_word c.args.words.now c.operators.here (link_word _ c.in-Some.link (sym c.in-Some.is ∙ c.link_opening.ensures)) in
     passed_on _ _ _ _ c.from_residual-in_err-further-in-Some.ensures c.in_err-further-in-Some.ensures.refused
-    (λ fault refused behind. fails (c.operators.invariant.comes.comes behind) (fails (step.0 behind) (refused _)))
+    (λ fault refused behind. fails (c.operators.invariant.comes.comes behind) (fails (read (link_signs _ behind c.in-Some.link) next (omega arith, c.if-count-gt-MOST_OPERATORS.false)) (refused _)))
 
 pub expression-operators-preserved : goal.expression-operators-preserved
 expression-operators-preserved t c =
-    let step = behind_link c.args.words.now c.operators.here c.args.levels c.in-Some.link (sym c.in-Some.is ∙ c.link_opening.ensures) c.operators.count
-    c.if-count-gt-MOST_OPERATORS.false in
+    let next = next_word c.args.words.now c.operators.here (link_word _ c.in-Some.link (sym c.in-Some.is ∙ c.link_opening.ensures)) in
     record {
       forward = omega (arith, c.operators.invariant.forward, c.in_ok-further-in-Some.ensures.forward.forward);
       inside = c.in_ok-further-in-Some.ensures.forward.inside;
       few = c.in_ok-further-in-Some.ensures.counted;
-      comes = tail_over _ _ _ _ _ _ _ _ c.in-Some.link _ _ _ _ (one_link_more _ _ c.in_ok-further-in-Some.further (search rules)) c.operators.invariant.comes step.0 c.in_ok-further-in-Some.ensures.read;
+      comes = tail_over _ _ _ _ _ _ _ _ c.in-Some.link _ _ _ _ (one_link_more _ _ c.in_ok-further-in-Some.further (search rules)) c.operators.invariant.comes
+          (λ behind. read (link_signs _ behind c.in-Some.link) next (omega arith, c.if-count-gt-MOST_OPERATORS.false)) c.in_ok-further-in-Some.ensures.read;
     }
 
 pub expression-returns-in-None-clause-read : goal.expression-returns-in-None-clause-read
@@ -82,7 +86,7 @@ pub operand_kind-returns-in-Number-clause-read : goal.operand_kind-returns-in-Nu
 operand_kind-returns-in-Number-clause-read t c =
     let fits = rw c.in-Number.is at c.opening_of_operand.type_inv in
     let kept : to_z w64 (of_z w64 c.in-Number.value) ≡ c.in-Number.value = to_z-of_z w64 c.in-Number.value (sfits_of fits.1.1.1.1.0.1) in
-    told (ap number kept) ((operand_number c.args.words.now c.args.at _ c.in-Number.value (sym c.in-Number.is ∙ c.opening_of_operand.ensures)).0 _)
+    told (ap number kept) (operand_number c.args.words.now c.args.at _ c.in-Number.value (sym c.in-Number.is ∙ c.opening_of_operand.ensures) _)
 
 pub operand_kind-returns-in_err-name-in-Name-clause-refused : goal.operand_kind-returns-in_err-name-in-Name-clause-refused
 operand_kind-returns-in_err-name-in-Name-clause-refused t c =
@@ -96,14 +100,14 @@ operand_kind-returns-in_ok-name-in-Name-clause-read t c = record {
 
 pub operand_kind-returns-in-Truth-clause-read : goal.operand_kind-returns-in-Truth-clause-read
 operand_kind-returns-in-Truth-clause-read t c =
-    (operand_truth c.args.words.now c.args.at _ c.in-Truth.value (sym c.in-Truth.is ∙ c.opening_of_operand.ensures)).0 _
+    operand_truth c.args.words.now c.args.at _ c.in-Truth.value (sym c.in-Truth.is ∙ c.opening_of_operand.ensures) _
 
 pub operand_kind-returns-in-Unknown-clause-read : goal.operand_kind-returns-in-Unknown-clause-read
 operand_kind-returns-in-Unknown-clause-read t c =
-    (operand_unknown c.args.words.now c.args.at _ (sym c.in-Unknown.is ∙ c.opening_of_operand.ensures)).0 _
+    operand_unknown c.args.words.now c.args.at _ (sym c.in-Unknown.is ∙ c.opening_of_operand.ensures) _
 
 pub operand_kind-returns-in-Nothing-clause-refused : goal.operand_kind-returns-in-Nothing-clause-refused
-operand_kind-returns-in-Nothing-clause-refused t c = λ behind. stuck (operands _ behind) _ _ _ (λ shut. shut) (sym c.in-Nothing.is ∙ c.opening_of_operand.ensures)
+operand_kind-returns-in-Nothing-clause-refused t c = λ behind. stuck (operands _ behind) lawful _ _ _ (λ shut. shut) (sym c.in-Nothing.is ∙ c.opening_of_operand.ensures)
 
 pub parentheses-returns-in_err-inner-clause-refused : goal.parentheses-returns-in_err-inner-clause-refused
 parentheses-returns-in_err-inner-clause-refused t c =
@@ -137,19 +141,19 @@ parentheses-returns-clause-read t c =
     })
 
 pub signed-returns-then-inner_levels-gt-MOST_LEVELS-clause-refused : goal.signed-returns-then-inner_levels-gt-MOST_LEVELS-clause-refused
-signed-returns-then-inner_levels-gt-MOST_LEVELS-clause-refused t c =
-    prefix_stops c.args.words.now c.args.at _ c.args.prefix c.requires.opens c.if-inner_levels-gt-MOST_LEVELS.true _
+signed-returns-then-inner_levels-gt-MOST_LEVELS-clause-refused t c = λ behind.
+    exceeds (prefixes _ behind c.args.prefix) lawful (next_word c.args.words.now c.args.at (operand_word _ (OperandOpening.Signed c.args.prefix) c.requires.opens)) Nesting (λ e. cc) c.if-inner_levels-gt-MOST_LEVELS.true
 
 pub signed-returns-in_err-inner-clause-refused : goal.signed-returns-in_err-inner-clause-refused
 signed-returns-in_err-inner-clause-refused t c =
-    let step = behind_prefix c.args.words.now c.args.at c.args.levels c.args.prefix c.requires.opens c.if-inner_levels-gt-MOST_LEVELS.false in
+    let next = next_word c.args.words.now c.args.at (operand_word _ (OperandOpening.Signed c.args.prefix) c.requires.opens) in
     passed_on _ _ _ _ c.from_residual.ensures c.in_err-inner.ensures.refused
-    (λ fault refused behind. fails (step.0 c.args.operators behind) (refused behind))
+    (λ fault refused behind. fails (read (prefixes _ behind c.args.prefix) next (c.if-inner_levels-gt-MOST_LEVELS.false, tt)) (refused behind))
 
 pub signed-returns-clause-read : goal.signed-returns-clause-read
 signed-returns-clause-read t c =
-    let step = behind_prefix c.args.words.now c.args.at c.args.levels c.args.prefix c.requires.opens c.if-inner_levels-gt-MOST_LEVELS.false in
+    let next = next_word c.args.words.now c.args.at (operand_word _ (OperandOpening.Signed c.args.prefix) c.requires.opens) in
     let kept : c.in_ok-operand.operand.value ≡ c.in_ok-inner.inner = search rules in
     told (ap (λ e. signed c.args.prefix (operand e)) kept) (record {
-      comes = λ behind. over (step.0 c.args.operators behind) (c.in_ok-inner.ensures.read.comes behind);
+      comes = λ behind. over (read (prefixes _ behind c.args.prefix) next (c.if-inner_levels-gt-MOST_LEVELS.false, tt)) (c.in_ok-inner.ensures.read.comes behind);
     })

@@ -1,10 +1,11 @@
 use Rattle.std.proofs.Common.{◌≡◌, true, false, ap, arith, rules}
 use mir.Val.{to_z, of_z}
 use mir.Syntax.{w64}
-use Rattle.source_syntax.proofs.Calculus.{over, fails}
-use Rattle.source_syntax.proofs.Choices.{not_next, taken, left_out}
+use Rattle.derivation.proofs.Grammars.{over, fails}
+use Rattle.derivation.proofs.Choices.{not_next, taken, left_out}
 use Rattle.source_syntax.proofs.Expressions.{divisors}
-use Rattle.source_syntax.proofs.Answering.{handed_on, number_at_reads, number_at_refused}
+use Rattle.derivation.proofs.Answering.{handed_on}
+use Rattle.source_syntax.proofs.Answering.{number_at_reads, number_at_refused}
 use Rattle.source_syntax.proofs.Reading.{told}
 use Rattle.source_syntax.proofs.expression.divisor.Goals as goal
 

@@ -1,8 +1,8 @@
 use Rattle.std.proofs.Common.{arith}
-use Rattle.source_syntax.proofs.Calculus.{over, fails}
-use Rattle.source_syntax.proofs.Choices.{not_next, taken, left_out}
+use Rattle.derivation.proofs.Grammars.{over, fails}
+use Rattle.derivation.proofs.Choices.{not_next, taken, left_out}
 use Rattle.source_syntax.proofs.Expressions.{ends}
-use Rattle.source_syntax.proofs.Answering.{handed_on}
+use Rattle.derivation.proofs.Answering.{handed_on}
 use Rattle.source_syntax.proofs.expression.range_end.Goals as goal
 
 pub returns-in_err-below-clause-refused : goal.returns-in_err-below-clause-refused

@@ -3,7 +3,8 @@ use mir.Val.{to_z, of_z}
 use borrow.Author.Rules.{sfits_of}
 use mir.Syntax.{w64}
 use Rattle.std.proofs.lemmas.Int.{to_z-of_z}
-use Rattle.source_syntax.proofs.Choices.{stuck}
+use Rattle.derivation.proofs.Choices.{stuck}
+use Rattle.source_syntax.proofs.Completions.{lawful}
 use Rattle.source_syntax.proofs.Expressions.{sizes}
 use Rattle.source_syntax.proofs.Reading.{size_number, size_infinite, told}
 use Rattle.source_syntax.proofs.expression.size.Goals as goal
@@ -21,4 +22,4 @@ returns-in-Infinite c =
     record { read = h.0; forward = h.1; refused = tt }
 
 pub returns-in-Nothing-clause-refused : goal.returns-in-Nothing-clause-refused
-returns-in-Nothing-clause-refused c = λ count behind. stuck (sizes behind) count _ _ (λ shut. shut) (sym c.in-Nothing.is ∙ c.size_opening.ensures)
+returns-in-Nothing-clause-refused c = λ count behind. stuck (sizes behind) lawful count _ _ (λ shut. shut) (sym c.in-Nothing.is ∙ c.size_opening.ensures)

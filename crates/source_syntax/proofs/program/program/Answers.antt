@@ -1,8 +1,8 @@
 use Rattle.std.proofs.Common.{◌≡◌, [], ◌∷◌, ◌++◌, map, ap, arith, rules}
 use Rattle.concrete_syntax.specs.declared.program.Prelude.TheVariants.{ExternCall, TypedefBool}
 use Rattle.concrete_syntax.specs.Mirror.{prelude}
-use Rattle.source_syntax.proofs.Calculus.{fails}
-use Rattle.source_syntax.proofs.Answering.{failed_on, passed_on}
+use Rattle.derivation.proofs.Grammars.{fails}
+use Rattle.derivation.proofs.Answering.{failed_on, passed_on}
 use Rattle.source_syntax.proofs.Loops.{preludes_from, preludes_over, preludes_to, one_prelude_more}
 use Rattle.source_syntax.proofs.program.program.Goals as goal
 

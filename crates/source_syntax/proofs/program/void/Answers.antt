@@ -1,9 +1,10 @@
 use Rattle.std.proofs.Common.{refl, arith}
 use Rattle.derivation.specs.declared.symbol.Symbol.TheVariants as Sym
-use Rattle.source_syntax.proofs.Calculus.{over, fails}
-use Rattle.source_syntax.proofs.Choices.{not_next, taken, left_out}
+use Rattle.derivation.proofs.Grammars.{over, fails}
+use Rattle.derivation.proofs.Choices.{not_next, taken, left_out}
 use Rattle.source_syntax.proofs.Statements.{voids}
-use Rattle.source_syntax.proofs.Answering.{handed_on, sign_reads, sign_refused}
+use Rattle.derivation.proofs.Answering.{handed_on}
+use Rattle.source_syntax.proofs.Answering.{sign_reads, sign_refused}
 use Rattle.source_syntax.proofs.program.void.Goals as goal
 
 pub returns-in_err-end-clause-refused : goal.returns-in_err-end-clause-refused

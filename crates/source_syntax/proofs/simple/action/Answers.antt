@@ -1,9 +1,11 @@
 use Rattle.std.proofs.Common.{◌∙◌, sym}
 use Rattle.source_syntax.specs.declared.opening.ActionOpening.TheVariants as ActionOpening
-use Rattle.source_syntax.proofs.Calculus.{over, fails}
-use Rattle.source_syntax.proofs.Choices.{goes, stuck}
+use Rattle.derivation.proofs.Grammars.{over, fails}
+use Rattle.derivation.proofs.Choices.{goes, stuck}
+use Rattle.source_syntax.proofs.Completions.{lawful}
 use Rattle.source_syntax.proofs.Statements.{actions, assignment_quiet, step_quiet}
-use Rattle.source_syntax.proofs.Answering.{passed_on, sign_reads, leading_reads}
+use Rattle.derivation.proofs.Answering.{passed_on}
+use Rattle.source_syntax.proofs.Answering.{sign_reads, leading_reads}
 use Rattle.source_syntax.specs.Spelling.{step_sign, assignment_sign}
 use Rattle.source_syntax.proofs.Reading.{written}
 use Rattle.source_syntax.proofs.simple.action.Goals as goal
@@ -24,4 +26,4 @@ returns-in_ok-next-in-Steps-clause-read c = record {
 }
 
 pub returns-in-Nothing-clause-refused : goal.returns-in-Nothing-clause-refused
-returns-in-Nothing-clause-refused c = λ count behind. stuck (actions _ behind) count _ _ (λ shut. shut) (sym c.in-Nothing.is ∙ c.opening_of_action.ensures)
+returns-in-Nothing-clause-refused c = λ count behind. stuck (actions _ behind) lawful count _ _ (λ shut. shut) (sym c.in-Nothing.is ∙ c.opening_of_action.ensures)

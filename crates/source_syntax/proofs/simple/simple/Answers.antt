@@ -1,9 +1,11 @@
 use Rattle.std.proofs.Common.{◌∙◌, sym}
 use Rattle.source_syntax.specs.declared.opening.SimpleOpening.TheVariants as SimpleOpening
-use Rattle.source_syntax.proofs.Calculus.{over, fails}
-use Rattle.source_syntax.proofs.Choices.{goes, stuck}
+use Rattle.derivation.proofs.Grammars.{over, fails}
+use Rattle.derivation.proofs.Choices.{goes, stuck}
+use Rattle.source_syntax.proofs.Completions.{lawful}
 use Rattle.source_syntax.proofs.Statements.{simples, step_quiet}
-use Rattle.source_syntax.proofs.Answering.{passed_on, sign_at_reads, name_reads, name_refused}
+use Rattle.derivation.proofs.Answering.{passed_on}
+use Rattle.source_syntax.proofs.Answering.{sign_at_reads, name_reads, name_refused}
 use Rattle.source_syntax.specs.Spelling.{step_sign}
 use Rattle.source_syntax.proofs.Reading.{written}
 use Rattle.source_syntax.proofs.simple.simple.Goals as goal
@@ -34,4 +36,4 @@ returns-in_ok-bytes-in-Steps-clause-read c = record {
 }
 
 pub returns-in-Nothing-clause-refused : goal.returns-in-Nothing-clause-refused
-returns-in-Nothing-clause-refused c = λ count behind. stuck (simples _ behind) count _ _ (λ shut. shut) (sym c.in-Nothing.is ∙ c.opening_of_simple.ensures)
+returns-in-Nothing-clause-refused c = λ count behind. stuck (simples _ behind) lawful count _ _ (λ shut. shut) (sym c.in-Nothing.is ∙ c.opening_of_simple.ensures)

@@ -4,10 +4,13 @@ use Rattle.source_syntax.specs.declared.opening.StatementOpening.TheVariants as 
 use Rattle.source_syntax.specs.declared.opening.ItemOpening.TheVariants as ItemOpening
 use Rattle.concrete_syntax.specs.declared.statement.Item.TheVariants as Item
 use Rattle.concrete_syntax.specs.Mirror.{item, statement, for_loop as for_kind}
-use Rattle.source_syntax.proofs.Calculus.{over, fails}
-use Rattle.source_syntax.proofs.Choices.{goes, stuck, held}
-use Rattle.source_syntax.proofs.Statements.{statements, located_statements, all_items, otherwise_ends, else_read, else_too_deep, not_else}
-use Rattle.source_syntax.proofs.Answering.{failed_on, passed_on, opening_reads, opening_refused}
+use Rattle.derivation.specs.declared.rule.Rule.TheVariants.{Nesting}
+use Rattle.derivation.proofs.Grammars.{over, fails, read, exceeds}
+use Rattle.source_syntax.proofs.Completions.{lawful}
+use Rattle.derivation.proofs.Choices.{goes, stuck, held}
+use Rattle.source_syntax.proofs.Statements.{statements, located_statements, all_items, otherwise_ends, elses, not_else}
+use Rattle.derivation.proofs.Answering.{failed_on, passed_on}
+use Rattle.source_syntax.proofs.Answering.{opening_reads, opening_refused}
 use Rattle.source_syntax.proofs.Loops.{told_reads, items_from, one_item_more, items_declaration, items_statement, items_close}
 use Rattle.source_syntax.proofs.statement.+statements.Goals as goal
 
@@ -119,7 +122,7 @@ for_loop-returns-clause-read t c =
 pub otherwise-returns-in_err-part-clause-refused : goal.otherwise-returns-in_err-part-clause-refused
 otherwise-returns-in_err-part-clause-refused t c =
     passed_on _ _ _ _ c.from_residual.ensures c.in_err-part.ensures.refused
-    (λ fault refused count behind. fails (else_read _ count behind _ _ c.in-Some.ensures.read c.if-inner_levels-gt-MOST_LEVELS.false) (refused count behind))
+    (λ fault refused count behind. fails (read (elses _ behind) c.in-Some.ensures.read (c.if-inner_levels-gt-MOST_LEVELS.false, tt)) (refused count behind))
 
 pub items-further-init : goal.items-further-init
 items-further-init t c = record { forward = omega arith; comes = items_from _ _ _ (let none : c.new-list.result.items ≡ [] = search rules in ap (map item) none) }
@@ -140,7 +143,7 @@ boxed_statement-returns-clause-read t c =
     told_reads (ap statement kept) c.in_ok-inner.ensures.read
 
 pub statement_kind-returns-in-Nothing-clause-refused : goal.statement_kind-returns-in-Nothing-clause-refused
-statement_kind-returns-in-Nothing-clause-refused t c = λ count behind. stuck (statements _ behind) count _ _ (λ shut. shut) (sym c.in-Nothing.is ∙ c.opening_of_statement.ensures)
+statement_kind-returns-in-Nothing-clause-refused t c = λ count behind. stuck (statements _ behind) lawful count _ _ (λ shut. shut) (sym c.in-Nothing.is ∙ c.opening_of_statement.ensures)
 
 pub items-further-preserved-in-Declaration : goal.items-further-preserved-in-Declaration
 items-further-preserved-in-Declaration t c =
@@ -173,12 +176,12 @@ items-returns-in_err-further-in-Statement-clause-refused t c =
 
 pub otherwise-returns-clause-read : goal.otherwise-returns-clause-read
 otherwise-returns-clause-read t c = record {
-  comes = λ count behind. (_, over (else_read _ count behind _ _ c.in-Some.ensures.read c.if-inner_levels-gt-MOST_LEVELS.false) (c.in_ok-part.ensures.read.comes count behind).1);
+  comes = λ count behind. (_, over (read (elses _ behind) c.in-Some.ensures.read (c.if-inner_levels-gt-MOST_LEVELS.false, tt)) (c.in_ok-part.ensures.read.comes count behind).1);
 }
 
 pub otherwise-returns-then-inner_levels-gt-MOST_LEVELS-clause-refused : goal.otherwise-returns-then-inner_levels-gt-MOST_LEVELS-clause-refused
 otherwise-returns-then-inner_levels-gt-MOST_LEVELS-clause-refused t c =
-    λ count behind. else_too_deep _ count behind _ _ c.in-Some.ensures.read c.if-inner_levels-gt-MOST_LEVELS.true
+    λ count behind. exceeds (elses _ behind) lawful c.in-Some.ensures.read Nesting (λ e. cc) c.if-inner_levels-gt-MOST_LEVELS.true
 
 pub otherwise-returns-in_default-clause-read : goal.otherwise-returns-in_default-clause-read
 otherwise-returns-in_default-clause-read t c = record {

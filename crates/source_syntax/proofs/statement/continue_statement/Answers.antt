@@ -1,8 +1,9 @@
 use Rattle.source_syntax.specs.declared.opening.StatementOpening.TheVariants as StatementOpening
-use Rattle.source_syntax.proofs.Calculus.{over, fails}
-use Rattle.source_syntax.proofs.Choices.{goes}
+use Rattle.derivation.proofs.Grammars.{over, fails}
+use Rattle.derivation.proofs.Choices.{goes}
 use Rattle.source_syntax.proofs.Statements.{continue_signs, continue_quiet, statements}
-use Rattle.source_syntax.proofs.Answering.{handed_on, signs_read, signs_refused}
+use Rattle.derivation.proofs.Answering.{handed_on}
+use Rattle.source_syntax.proofs.Answering.{signs_read, signs_refused}
 use Rattle.source_syntax.proofs.statement.continue_statement.Goals as goal
 
 pub returns-in_err-next-clause-refused : goal.returns-in_err-next-clause-refused

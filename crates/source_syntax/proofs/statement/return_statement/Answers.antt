@@ -1,10 +1,11 @@
 use Rattle.std.proofs.Common.{refl}
 use Rattle.derivation.specs.declared.symbol.Symbol.TheVariants as Sym
 use Rattle.source_syntax.specs.declared.opening.StatementOpening.TheVariants as StatementOpening
-use Rattle.source_syntax.proofs.Calculus.{over, fails}
-use Rattle.source_syntax.proofs.Choices.{goes}
+use Rattle.derivation.proofs.Grammars.{over, fails}
+use Rattle.derivation.proofs.Choices.{goes}
 use Rattle.source_syntax.proofs.Statements.{statements}
-use Rattle.source_syntax.proofs.Answering.{failed_on, passed_on, leading_reads, leading_refused}
+use Rattle.derivation.proofs.Answering.{failed_on, passed_on}
+use Rattle.source_syntax.proofs.Answering.{leading_reads, leading_refused}
 use Rattle.source_syntax.proofs.statement.return_statement.Goals as goal
 
 pub returns-in_err-behind-clause-refused : goal.returns-in_err-behind-clause-refused

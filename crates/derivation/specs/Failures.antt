@@ -1,8 +1,8 @@
 -- What a reader's error says.
 use Rattle.std.specs.Prelude.{Result, Ok, Err, ⊤}
-use Rattle.source_syntax.specs.declared.fault.Fault.{Fault as FaultOf}
-use Rattle.source_syntax.specs.declared.fault.Failure.{Failure}
-use Rattle.source_syntax.specs.declared.fault.Failure.TheVariants.{Fault, Memory}
+use Rattle.derivation.specs.declared.fault.Fault.{Fault as FaultOf}
+use Rattle.derivation.specs.declared.fault.Failure.{Failure}
+use Rattle.derivation.specs.declared.fault.Failure.TheVariants.{Fault, Memory}
 
 -- this holds of the fault, unless memory ran out
 abbrev pub OnFault : Failure → (FaultOf → Type 0) → Type 0

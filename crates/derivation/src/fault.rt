@@ -1,19 +1,20 @@
-//! Why a text is no formula by its syntax.
+//! Why a text is none of a language by its syntax.
 
 ghost use Rattle.std.specs.Prelude.{◌≡◌, alloc_error};
 
-use derivation::Rule;
+use crate::rule::Rule;
 use source_lex::LexFault;
 use std::alloc::{AllocError, AllocFailed};
 use thiserror::Error;
 
-/// The first fault of a text, with its offset in bytes from the text's start. No line that is printed rests on the texts derived here.
+/// The first fault of a text, with its offset in bytes from the text's start.
 #[derive(Debug, Drop, Error)]
 pub enum SyntaxFault {
     /// The text has no tokens.
     #[error("{0}")]
     Lex(LexFault),
-    /// The first token that breaks a rule: the tokens before it begin a formula within the limits. The end of the text is a token too.
+    /// The first token that breaks a rule: the tokens before it begin a text of the language within the limits. The end of the text is a
+    /// token too.
     #[error("a rule of the syntax is broken at {at}")]
     Broken { rule: Rule, at: u32 },
     /// Memory ran out. It says nothing of the text.
@@ -37,7 +38,7 @@ pub enum Failure {
 }
 
 impl From<Fault> for Failure {
-    ghost use Rattle.formula_syntax.specs.declared.fault.Failure.TheVariants.{Fault};
+    ghost use Rattle.derivation.specs.declared.fault.Failure.TheVariants.{Fault};
 
     ghost from_gives = { λ fault failure. failure ≡ Fault fault };
 
@@ -47,7 +48,7 @@ impl From<Fault> for Failure {
 }
 
 impl From<AllocError> for Failure {
-    ghost use Rattle.formula_syntax.specs.declared.fault.Failure.TheVariants.{Memory};
+    ghost use Rattle.derivation.specs.declared.fault.Failure.TheVariants.{Memory};
 
     ghost from_gives = { λ error failure. failure ≡ Memory error };
 
@@ -57,7 +58,7 @@ impl From<AllocError> for Failure {
 }
 
 impl<T: Drop> From<AllocFailed<T>> for Failure {
-    ghost use Rattle.formula_syntax.specs.declared.fault.Failure.TheVariants.{Memory};
+    ghost use Rattle.derivation.specs.declared.fault.Failure.TheVariants.{Memory};
 
     ghost from_gives = { λ _ failure. failure ≡ Memory alloc_error };
 
