@@ -11,3 +11,17 @@ pub mod Owning
 pub mod Framing
 mod Examples
 pub mod Validly
+pub mod Allowing
+pub mod Becoming
+pub mod Idling
+pub mod Deepest
+pub mod Placing
+pub mod Sizes
+pub mod Tabling
+pub mod Freeing
+pub mod Adding
+pub mod Below
+pub mod Put
+pub mod Naming
+pub mod Counting
+pub mod Refusing

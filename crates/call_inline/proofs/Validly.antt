@@ -64,7 +64,7 @@ EndingIsIn total ends = ⊤
 EndingIsIn total (gives x) = x < total
 EndingIsIn total drops = ⊤
 
-moved_length : (base : ℕ) (arguments : List Expression) → length (all_moved base arguments) ≡ length arguments
+pub moved_length : (base : ℕ) (arguments : List Expression) → length (all_moved base arguments) ≡ length arguments
 moved_length base [] = refl
 moved_length base (a ∷ more) = ap suc (moved_length base more)
 
