@@ -1,12 +1,38 @@
-//! Calls on tests.
-use crate::expressions::{asked, read_program};
+//! Calls on the rows of tests and of values.
+use crate::expressions::{asked, assigned, read_program};
 use case_text::{Answer, Words, read_ends};
 use linear_cons::Rows;
 use linear_forms::{conjunctions, spread};
+use quotient_cases::value_rows;
 use std::alloc::{AllocError, Global};
 
 /// What stands before a test in the text of a program, and behind it.
 const CHOICE: (&str, &str) = ("if (", ") ;");
+
+/// What stands before a number expression in the text of a program, and behind it.
+const ASSIGNMENT: (&str, &str) = ("x =", ";");
+
+/// The place of `z`.
+const VALUE_PLACE: u8 = 2;
+
+/// Reads a number expression and ends, and adds the rows that its value comes down to where that is `z`.
+pub fn push_value(
+    alloc: Global,
+    words: &mut Words<'_>,
+    answer: &mut Answer,
+) -> Result<(), AllocError> {
+    let program = read_program(alloc, ASSIGNMENT, words)?;
+    words.expect("over");
+    let bounds = read_ends(words);
+    match program.as_ref().and_then(assigned) {
+        Some(value) => {
+            let rows = value_rows(alloc, value, &bounds, VALUE_PLACE)?;
+            push_conjunctions(rows.as_slice(), answer);
+        }
+        None => words.fail("no number expression"),
+    }
+    Ok(())
+}
 
 /// Reads a test and ends, and adds the rows of both outcomes.
 pub fn push_spread(

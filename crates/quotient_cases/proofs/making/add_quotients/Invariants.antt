@@ -1,0 +1,8 @@
+use Rattle.std.proofs.Common.{◌≡◌, ◌++◌, take}
+use Rattle.std.specs.List.{flat_map}
+use Rattle.quotient_cases.specs.Cases.{quotients}
+use Rattle.quotient_cases.proofs.making.add_quotients.Given as goal
+
+-- the quotients of the cases so far were added
+abbrev pub invariant-loop-case : goal.invariant-loop-case
+invariant-loop-case l = l.made.items ≡ l.initial.made.items ++ flat_map (quotients l.by) (take l.case-index l.list)

@@ -1,0 +1,2 @@
+pub mod CaseEnds
+pub mod Cases
