@@ -1,8 +1,6 @@
-/* The distance of i from j falls by at least 1, by an amount that nobody knows (after Podelski and Rybalchenko, 2004). */
+/* x comes to the middle between itself and y, until there is none between them. */
 int main() {
-  int i, j;
-  while (i - j >= 1) {
-    i = i - [0, inf];
-    j = j + [1, inf];
-  }
+  int x, y;
+  while (x - y >= 2)
+    x = (x + y) / 2;
 }

@@ -1,4 +1,4 @@
-/* The digits of a number are counted. That a tenth is less than the whole isn't known. */
+/* The digits of a number are counted. */
 int main() {
   int number, digits = 0;
   while (number > 0) {

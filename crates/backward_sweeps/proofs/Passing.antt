@@ -72,7 +72,7 @@ idle_given End idle = refl
 idle_given Dead idle = refl
 idle_given (Pass to) idle = absurd (cc)
 idle_given (Assign place value to) idle = absurd (cc)
-idle_given (Choose place range choice to) idle = absurd (cc)
+idle_given (Choose place range choice cases to) idle = absurd (cc)
 idle_given (Test is_head choice holds fails to other) idle = absurd (cc)
 
 end_given : (goal old : Plan AffineRank) (transition : Transition) → is_idle transition ≡ true → given_for goal transition old ≡ end_for goal transition
@@ -80,7 +80,7 @@ end_given goal old End idle = refl
 end_given goal old Dead idle = refl
 end_given goal old (Pass to) idle = absurd (cc)
 end_given goal old (Assign place value to) idle = absurd (cc)
-end_given goal old (Choose place range choice to) idle = absurd (cc)
+end_given goal old (Choose place range choice cases to) idle = absurd (cc)
 end_given goal old (Test is_head choice holds fails to other) idle = absurd (cc)
 
 -- the trees that are given are so where nothing is done, also after they were kept

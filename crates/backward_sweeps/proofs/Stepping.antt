@@ -18,7 +18,7 @@ all_cut End this that = refl
 all_cut Dead this that = refl
 all_cut (Pass to) this that = trimmed_again same_rank [] (stepped_shape this)
 all_cut (Assign place value to) this that = trimmed_again same_rank [] (assigned_shape place.number value this)
-all_cut (Choose place range choice to) this that = trimmed_again same_rank [] (ranged_shape place.number range this)
+all_cut (Choose place range choice cases to) this that = trimmed_again same_rank [] (ranged_shape place.number range this)
 all_cut (Test is_head choice holds fails to other) this that = trimmed_again same_rank [] (tested_shape this that holds.items fails.items)
 
 outcome_cut : (transition : Transition) (this that : Plan AffineRank) → cut (before_outcome transition this that) ≡ before_outcome transition this that
@@ -27,10 +27,10 @@ outcome_cut End this that = all_cut End this that
 outcome_cut Dead this that = all_cut Dead this that
 outcome_cut (Pass to) this that = all_cut (Pass to) this that
 outcome_cut (Assign place value to) this that = all_cut (Assign place value to) this that
-outcome_cut (Choose place range choice to) this that = all_cut (Choose place range choice to) this that
+outcome_cut (Choose place range choice cases to) this that = all_cut (Choose place range choice cases to) this that
 
 value_cut : (lo hi : Option ℤ) (transition : Transition) (this that : Plan AffineRank) → cut (before_value lo hi transition this that) ≡ before_value lo hi transition this that
-value_cut lo hi (Choose place range choice to) this that = trimmed_again same_rank [] (chosen_shape lo hi place.number this)
+value_cut lo hi (Choose place range choice cases to) this that = trimmed_again same_rank [] (chosen_shape lo hi place.number this)
 value_cut lo hi End this that = all_cut End this that
 value_cut lo hi Dead this that = all_cut Dead this that
 value_cut lo hi (Pass to) this that = all_cut (Pass to) this that

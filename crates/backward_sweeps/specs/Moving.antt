@@ -27,7 +27,7 @@ before_all End this that = bottom
 before_all Dead this that = at_once NeverReached
 before_all (Pass to) this that = cut (stepped_shape this)
 before_all (Assign place value to) this that = cut (assigned_shape place.number value this)
-before_all (Choose place range choice to) this that = cut (ranged_shape place.number range this)
+before_all (Choose place range choice cases to) this that = cut (ranged_shape place.number range this)
 before_all (Test head choice holds fails to other) this that = cut (tested_shape this that holds.items fails.items)
 
 -- before a test: the trees that are formed on the way have at most 65,536 nodes, and the numbers fit
@@ -46,7 +46,7 @@ TestsFit this that holds fails =
 abbrev pub AreAllSmall : Transition → Plan AffineRank → Plan AffineRank → Type 0
 AreAllSmall (Pass to) this that = size_of (stepped_shape this) ≤ 65536
 AreAllSmall (Assign place value to) this that = size_of (assigned_shape place.number value this) ≤ 65536
-AreAllSmall (Choose place range choice to) this that =
+AreAllSmall (Choose place range choice cases to) this that =
     AreSmall same_rank affine_ranks.where_greater affine_ranks.greater_fits affine_ranks.trend affine_ranks.substituted affine_ranks.one_more
     65536 place.number range this
 AreAllSmall (Test head choice holds fails to other) this that = AreTestsSmall this that holds.items fails.items
@@ -58,7 +58,7 @@ AllFit (Pass to) this that = StepFits affine_ranks.add_one_fits this × CutFits 
 AllFit (Assign place value to) this that =
     AssignFits affine_ranks.substituted affine_ranks.subst_fits affine_ranks.add_one_fits place.number value this
     × CutFits (assigned_shape place.number value this)
-AllFit (Choose place range choice to) this that =
+AllFit (Choose place range choice cases to) this that =
     RangeFits same_rank affine_ranks.where_greater affine_ranks.greater_fits affine_ranks.trend affine_ranks.substituted affine_ranks.one_more
     affine_ranks.subst_fits affine_ranks.add_one_fits place.number range this
     × CutFits (ranged_shape place.number range this)

@@ -20,7 +20,7 @@ before_outcome transition this that = before_all transition this that
 
 -- before the assignment of a number between the ends of which one is picked; all else is as for all next states
 abbrev pub before_value : Option ℤ → Option ℤ → Transition → Plan AffineRank → Plan AffineRank → Plan AffineRank
-before_value lo hi (Choose place range choice to) this that = cut (chosen_shape lo hi place.number this)
+before_value lo hi (Choose place range choice cases to) this that = cut (chosen_shape lo hi place.number this)
 before_value lo hi transition this that = before_all transition this that
 
 -- by what may be chosen
@@ -39,7 +39,7 @@ AreOutcomesSmall (Test head choice holds fails to other) this that =
 AreOutcomesSmall transition this that = AreAllSmall transition this that
 
 abbrev pub AreValuesSmall : Option ℤ → Option ℤ → Transition → Plan AffineRank → Plan AffineRank → Type 0
-AreValuesSmall lo hi (Choose place range choice to) this that =
+AreValuesSmall lo hi (Choose place range choice cases to) this that =
     IsSomeSmall same_rank affine_ranks.where_greater affine_ranks.greater_fits affine_ranks.substituted affine_ranks.one_more 65536
     lo hi place.number this (tried_values lo hi place.number this)
 AreValuesSmall lo hi transition this that = AreAllSmall transition this that
@@ -60,7 +60,7 @@ OutcomesFit (Test head choice holds fails to other) this that =
 OutcomesFit transition this that = AllFit transition this that
 
 abbrev pub ValuesFit : Option ℤ → Option ℤ → Transition → Plan AffineRank → Plan AffineRank → Type 0
-ValuesFit lo hi (Choose place range choice to) this that =
+ValuesFit lo hi (Choose place range choice cases to) this that =
     RootsFit place.number this
     × SomeFits same_rank affine_ranks.where_greater affine_ranks.greater_fits affine_ranks.substituted affine_ranks.one_more
     affine_ranks.subst_fits affine_ranks.add_one_fits lo hi place.number this (tried_values lo hi place.number this)

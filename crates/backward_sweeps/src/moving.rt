@@ -74,6 +74,7 @@ fn for_all(
             place,
             range,
             choice: _,
+            cases: _,
             to,
         } => back_range(alloc, &trees[*to as usize], place.number, range),
         Transition::Test {
@@ -171,6 +172,7 @@ fn with_value(
             place,
             range: _,
             choice: _,
+            cases: _,
             to,
         } => back_some(alloc, &trees[*to as usize], place.number, lo, hi),
         _ => for_all(alloc, transition, trees),

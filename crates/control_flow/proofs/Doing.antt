@@ -26,7 +26,7 @@ abbrev IsDone : Action → Transition → Type 0
 IsDone done Dead = ⊤
 IsDone ends End = ⊤
 IsDone (assigns x e next) (Assign place value to) = to ≡ next
-IsDone (assigns x e next) (Choose place range choice to) = to ≡ next
+IsDone (assigns x e next) (Choose place range choice cases to) = to ≡ next
 IsDone (passes next) (Pass to) = to ≡ next
 IsDone (tests head c then_to else_to) (Test is_head choice holds fails to other) = (is_head ≡ head) × (to ≡ then_to) × (other ≡ else_to)
 IsDone done transition = ⊥
@@ -34,7 +34,7 @@ IsDone done transition = ⊥
 over_done : (bounds : Bounds) (done : Action) (transition : Transition) → IsOver bounds done transition → IsDone done transition
 over_done bounds ends End is = tt
 over_done bounds (assigns x e next) (Assign place value to) is = is.1
-over_done bounds (assigns x e next) (Choose place range choice to) is = is.1
+over_done bounds (assigns x e next) (Choose place range choice cases to) is = is.1
 over_done bounds (passes next) (Pass to) is = is
 over_done bounds (tests head c then_to else_to) (Test is_head choice holds fails to other) is = (is.0, is.1, is.2)
 over_done bounds done transition is = absurd is
@@ -55,7 +55,7 @@ targets : (done : Action) (transition : Transition) → IsDone done transition �
 targets ends End is P nought each = (nought, nought)
 targets done Dead is P nought each = (nought, nought)
 targets (assigns x e next) (Assign place value to) is P nought each = let there = subst P (sym is) each in (there, there)
-targets (assigns x e next) (Choose place range choice to) is P nought each = let there = subst P (sym is) each in (there, there)
+targets (assigns x e next) (Choose place range choice cases to) is P nought each = let there = subst P (sym is) each in (there, there)
 targets (passes next) (Pass to) is P nought each = let there = subst P (sym is) each in (there, there)
 targets (tests head c then_to else_to) (Test is_head choice holds fails to other) is P nought each = (subst P (sym is.1) each.0, subst P (sym is.2) each.1)
 targets done transition is P nought each = absurd is

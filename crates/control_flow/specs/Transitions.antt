@@ -5,11 +5,12 @@ use Rattle.linear_cons.specs.declared.bounds.Bounds.{Bounds}
 use Rattle.linear_cons.specs.declared.row.Row.{Row}
 use Rattle.linear_forms.specs.Linearising.{is_exact, linear_of}
 use Rattle.linear_forms.specs.Spreading.{spread_of}
+use Rattle.quotient_cases.specs.Cases.{value_rows}
 use Rattle.control_flow.specs.declared.edge.Choice.{Choice}
 use Rattle.control_flow.specs.declared.edge.Choice.TheVariants.{None as NoChoice}
 use Rattle.control_flow.specs.Edges.{choice_of_test, choice_of_value}
 use Rattle.control_flow.specs.Labels.{Action, ends, assigns, passes, tests, action_at, all_labels}
-use Rattle.control_flow.specs.Told.{Told}
+use Rattle.control_flow.specs.Told.{Told, chosen_place}
 use Rattle.control_flow.specs.declared.transition.Transition.{Transition}
 use Rattle.control_flow.specs.declared.transition.Transition.TheVariants.{Assign, Choose, Dead, End, Pass, Test}
 
@@ -18,13 +19,14 @@ abbrev pub transition_in : List Transition → ℕ → Transition
 transition_in transitions label = slice_index_or transitions label End
 
 -- it is what the action comes down to over the bounds: an assignment puts the value of a function where nothing is left out of its linear form, else
--- some number of the form's range
+-- some number of the form's range that meets the rows of a case at the chosen place
 abbrev pub IsOver : Bounds → Action → Transition → Type 0
 IsOver bounds ends End = ⊤
 IsOver bounds (assigns x e next) (Assign place value to) =
     (place.number ≡ x) × (to ≡ next) × (is_exact (linear_of bounds e) ≡ true) × (value ≡ (linear_of bounds e).affine)
-IsOver bounds (assigns x e next) (Choose place range choice to) =
+IsOver bounds (assigns x e next) (Choose place range choice cases to) =
     (place.number ≡ x) × (to ≡ next) × (is_exact (linear_of bounds e) ≡ false) × (range ≡ linear_of bounds e) × (choice ≡ choice_of_value e)
+    × (cases.items ≡ value_rows bounds chosen_place e)
 IsOver bounds (passes next) (Pass to) = to ≡ next
 IsOver bounds (tests head c then_to else_to) (Test is_head choice holds fails to other) =
     (is_head ≡ head) × (to ≡ then_to) × (other ≡ else_to) × (choice ≡ choice_of_test c)
@@ -49,7 +51,7 @@ conjunctions_in transition outcome = []
 
 -- what a claim about some run may choose there
 abbrev pub choice_in : Transition → Choice
-choice_in (Choose place range choice to) = choice
+choice_in (Choose place range choice cases to) = choice
 choice_in (Test head choice holds fails to other) = choice
 choice_in transition = NoChoice
 
@@ -79,14 +81,14 @@ is_given transition = false
 abbrev pub first_target : Transition → ℕ
 first_target (Pass to) = to
 first_target (Assign place value to) = to
-first_target (Choose place range choice to) = to
+first_target (Choose place range choice cases to) = to
 first_target (Test head choice holds fails to other) = to
 first_target transition = 0
 
 abbrev pub second_target : Transition → ℕ
 second_target (Pass to) = to
 second_target (Assign place value to) = to
-second_target (Choose place range choice to) = to
+second_target (Choose place range choice cases to) = to
 second_target (Test head choice holds fails to other) = other
 second_target transition = 0
 

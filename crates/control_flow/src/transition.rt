@@ -11,9 +11,10 @@ ghost use Rattle.control_flow.specs.Transitions.{IsOver};
 
 use crate::action::Action;
 use crate::edge::Choice;
-use crate::place::Place;
+use crate::place::{CHOSEN_PLACE, Place};
 use linear_cons::{Affine, Bounds, Linear, Rows};
 use linear_forms::{linearise, spread};
+use quotient_cases::value_rows;
 use std::alloc::{AllocError, Global};
 use step_meaning::Expr;
 
@@ -34,11 +35,13 @@ pub enum Transition {
         value: Affine,
         to: u32,
     },
-    /// The variable at the place becomes some number of the range, which a claim about some run may choose.
+    /// The variable at the place becomes some number of the range that meets the rows of one of the cases at the chosen place, beside the store; a claim about
+    /// some run may choose it.
     Choose {
         place: Place,
         range: Linear,
         choice: Choice,
+        cases: Vec<Rows>,
         to: u32,
     },
     /// A test, with the conjunctions of rows for its outcomes, and whether a claim about some run may choose one.
@@ -65,7 +68,7 @@ impl Transition {
             Action::Pass { next } => Ok(Transition::Pass { to: next }),
             Action::Assign { place, value, next } => {
                 let choice = action.choice();
-                Ok(assigned(Place { number: place }, value, choice, next, bounds))
+                assigned(alloc, Place { number: place }, value, choice, next, bounds)
             }
             Action::Test {
                 is_head,
@@ -106,25 +109,34 @@ impl Transition {
 }
 
 /// What an assignment comes down to.
-fn assigned(place: Place, value: &Expr, choice: Choice, to: u32, bounds: &Bounds) -> Transition
+fn assigned(
+    alloc: Global,
+    place: Place,
+    value: &Expr,
+    choice: Choice,
+    to: u32,
+    bounds: &Bounds,
+) -> Result<Transition, AllocError>
     requires names { NamesBelow 16 (expression value.now) }
     requires choice { choice ≡ choice_of_value (expression value.now) }
-    ensures { IsOver bounds.now (assigns place.number (expression value.now) to) result }
+    ensures { IfOk result (λ made. IsOver bounds.now (assigns place.number (expression value.now) to) made) }
 {
     let range = linearise(value, bounds);
     if is_exact(&range) {
-        return Transition::Assign {
+        return Ok(Transition::Assign {
             place,
             value: range.affine,
             to,
-        };
+        });
     }
-    Transition::Choose {
+    let cases = value_rows(alloc, value, bounds, CHOSEN_PLACE)?;
+    Ok(Transition::Choose {
         place,
         range,
         choice,
+        cases,
         to,
-    }
+    })
 }
 
 /// Nothing is left out of the function.

@@ -20,7 +20,7 @@ use Rattle.step_meaning.specs.Countdown.{Asks, IsSmall, form_of}
 use Rattle.linear_cons.specs.Sizes.{total_size}
 use Rattle.step_meaning.specs.Syntax.{Expression, Statements, assign, sequence}
 use Rattle.decision_tree.specs.declared.affine_rank.AffineRank.{AffineRank}
-use Rattle.tree_support.specs.Arcs.{assigning, rows_given, testing}
+use Rattle.tree_support.specs.Arcs.{putting, rows_given, testing}
 use Rattle.constraint_stack.specs.Forming.{Formed}
 use Rattle.tree_support.specs.Setting.{Trees}
 use Rattle.tree_support.specs.Systems.{at_leaves, moved_by, unless_less}
@@ -163,9 +163,9 @@ module _ (body : Statements) (told : Told) (parts : ℕ → Trees AffineRank) (f
         let bounds : Bounds = told.bounds label in
         let modest : IsModest here = led_modest row (sequence (assign x v) more) led in
         let exact : linear_of bounds v ≡ exactly (form_of v) = linear_exact bounds v led.counts.0 led.counts.1 in
-        let carries = put_in behind_it x low bounds v next exact in
+        let carries = put_in behind_it x low bounds v exact in
         let grown = limit row x v more led in
-        let leads : LeadsDown body told parts family m s here (1 + j) (assigning x next (exactly (form_of v))) = record {
+        let leads : LeadsDown body told parts family m s here (1 + j) (putting x next (form_of v)) = record {
           f = behind_it;
           j = j;
           tree = there;
@@ -179,4 +179,4 @@ module _ (body : Statements) (told : Told) (parts : ℕ → Trees AffineRank) (f
           step = omega arith;
         } in
         all_lead body told parts family m s here (1 + j) turn label (assigns x v next) tree modest (omega arith)
-        (all_one (LeadsDown body told parts family m s here (1 + j)) (assigning x next (linear_of bounds v)) (rw exact leads))
+        (rw exact (all_one (LeadsDown body told parts family m s here (1 + j)) (putting x next (form_of v)) leads))

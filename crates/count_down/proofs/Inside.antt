@@ -1,5 +1,5 @@
 -- The labels inside a loop that counts a function down.
-use Rattle.std.proofs.Common.{true, false, ◌≡◌, ℕ, ◌+◌, ◌*◌, ◌^◌, ◌<◌, ◌≤◌, ℤ, pos, ◌+ℤ◌, ◌-ℤ◌, ◌*ℤ◌, ◌≤ℤ◌, inl, inr, List, [], None, Some, set, refl, ap, ◌∙◌, arith}
+use Rattle.std.proofs.Common.{All, true, false, ◌≡◌, ℕ, ◌+◌, ◌*◌, ◌^◌, ◌<◌, ◌≤◌, ℤ, pos, ◌+ℤ◌, ◌-ℤ◌, ◌*ℤ◌, ◌≤ℤ◌, inl, inr, List, [], None, Some, set, refl, ap, ◌∙◌, arith}
 use Rattle.std.proofs.lemmas.Int.{ints, int_max_is}
 use Rattle.std.proofs.lemmas.List.Elements.{All-append}
 use Rattle.linear_cons.specs.declared.affine.Affine.{Affine}
@@ -8,7 +8,6 @@ use Rattle.linear_cons.specs.Functions.{coefficient, constant_of, value_at}
 use Rattle.linear_cons.proofs.Places.{number_at_places}
 use Rattle.linear_cons.proofs.Ring.{zero_mul}
 use Rattle.linear_cons.specs.Sizes.{SizesAtMost, total_size}
-use Rattle.linear_cons.specs.Ends.{exactly}
 use Rattle.linear_forms.specs.Linearising.{linear_of}
 use Rattle.linear_forms.specs.Spreading.{spread_of}
 use Rattle.control_flow.specs.Actions.{IsSorted}
@@ -19,7 +18,8 @@ use Rattle.step_meaning.specs.Countdown.{IsShort, IsSmall, added, amount, change
 use Rattle.step_meaning.specs.Syntax.{Expression, Statements}
 use Rattle.step_meaning.specs.Turns.{MayAssign}
 use Rattle.decision_tree.specs.declared.affine_rank.AffineRank.{AffineRank}
-use Rattle.tree_support.specs.Arcs.{Arc, assigning, rows_given, testing}
+use Rattle.quotient_cases.specs.Cases.{value_rows}
+use Rattle.tree_support.specs.Arcs.{Arc, assigning, putting, rows_given, testing}
 use Rattle.constraint_stack.specs.Forming.{Formed}
 use Rattle.tree_support.specs.Setting.{Trees}
 use Rattle.control_flow.specs.Told.{Told}
@@ -119,16 +119,16 @@ module _ (body : Statements) (told : Told) (parts : ℕ → Trees AffineRank) (f
         }
 
     -- `x = x + c` and `x = x - c`
-    added_leads : IsShort (added x v) → LeadsDown body told parts family m s (shifted e before.change) before.most
-        (assigning x next (linear_of bounds v))
+    added_leads : IsShort (added x v) → All (LeadsDown body told parts family m s (shifted e before.change) before.most)
+        (assigning x next (linear_of bounds v) (value_rows bounds 15 v))
     added_leads literal =
         let most = own.most in
         let t : ℕ = total_size (form_of v) in
         let size : t ≤ 2 ^ 32 = short_size x v literal in
         let product : t * 2 ^ 74 ≤ 2 ^ 32 * 2 ^ 74 = omega arith in
         let exact = short_exact bounds x v literal in
-        let moved = counted e x low bounds v next exact (inr literal) in
-        let put : LeadsDown body told parts family m s (shifted e before.change) before.most (assigning x next (exactly (form_of v))) = record {
+        let moved = counted e x low bounds v exact (inr literal) in
+        let put : LeadsDown body told parts family m s (shifted e before.change) before.most (putting x next (form_of v)) = record {
           f = there.f;
           j = c.most;
           tree = there.tree;
@@ -144,13 +144,13 @@ module _ (body : Statements) (told : Told) (parts : ℕ → Trees AffineRank) (f
               (inside_modest before own) there.sizes (omega arith) (omega arith);
           step = omega arith;
         } in
-        rw exact put
+        rw exact (all_one (LeadsDown body told parts family m s (shifted e before.change) before.most) (putting x next (form_of v)) put)
 
-    assigned_leads : MayAssign e x v → LeadsDown body told parts family m s (shifted e before.change) before.most
-        (assigning x next (linear_of bounds v))
+    assigned_leads : MayAssign e x v → All (LeadsDown body told parts family m s (shifted e before.change) before.most)
+        (assigning x next (linear_of bounds v) (value_rows bounds 15 v))
     assigned_leads (inl none) =
         assigning_all (λ (arc : Arc). LeadsDown body told parts family m s (shifted e before.change) before.most arc) x next (linear_of bounds v)
-        (unmentioned_leads none)
+        (value_rows bounds 15 v) (unmentioned_leads none)
     assigned_leads (inr literal) = added_leads literal
 
   -- at a label whose count is that of a step and of what follows
@@ -166,8 +166,7 @@ module _ (body : Statements) (told : Told) (parts : ℕ → Trees AffineRank) (f
       let most = own.most in
       all_lead body told parts family m s (shifted e o.change) o.most turn l (assigns x v next) follows.1.2.0 (inside_modest o own)
       (omega arith)
-      (all_one (LeadsDown body told parts family m s (shifted e o.change) o.most) (assigning x next (linear_of (told.bounds l) v))
-      (assigned_leads x (omega arith) (told.bounds l) v next c follows.1.1 own follows.0))
+      (assigned_leads x (omega arith) (told.bounds l) v next c follows.1.1 own follows.0)
   inside_passes l (passes next) sorted follows =
       let c : Count = follows.0 in
       let o : Count = step_by (pos 0) c in

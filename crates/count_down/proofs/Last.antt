@@ -16,7 +16,8 @@ use Rattle.decision_tree.specs.declared.reason.Pick.TheVariants.{All as Every}
 use Rattle.decision_tree.specs.declared.reason.Why.TheVariants.{Step}
 use Rattle.decision_tree.specs.Plans.{leaf}
 use Rattle.tree_support.specs.Certificates.{affine_ranks}
-use Rattle.tree_support.specs.Arcs.{Arc, arcs_by, assigning, rows_given, testing}
+use Rattle.quotient_cases.specs.Cases.{value_rows}
+use Rattle.tree_support.specs.Arcs.{Arc, arcs_by, rows_given, testing}
 use Rattle.constraint_stack.specs.Forming.{Formed}
 use Rattle.tree_support.specs.Setting.{Trees}
 use Rattle.constraint_stack.specs.Claims.{ClaimFits, exceeding}
@@ -100,9 +101,8 @@ module _ (body : Statements) (told : Told) (parts : ℕ → Trees AffineRank) (f
         k = 1 + c.most;
         tree = follows.1.2.0;
         few = most;
-        arcs = all_one (IsStep body told parts family l (1 + c.most)) (assigning x next (linear_of (told.bounds l) v))
-            (assigning_all (λ (arc : Arc). IsStep body told parts family l (1 + c.most) arc) x next (linear_of (told.bounds l) v)
-            (λ a asks. set_step l (1 + c.most) x low c next a asks follows.1.1 (omega arith) most));
+        arcs = assigning_all (λ (arc : Arc). IsStep body told parts family l (1 + c.most) arc) x next (linear_of (told.bounds l) v)
+            (value_rows (told.bounds l) 15 v) (λ a asks. set_step l (1 + c.most) x low c next a asks follows.1.1 (omega arith) most);
       }
   last_labels l (passes next) sorted follows =
       let c : Count = follows.0 in

@@ -15,12 +15,12 @@ use Rattle.step_meaning.specs.Syntax.{Statements, size_of}
 use Rattle.step_meaning.specs.Valid.{IsBody}
 use Rattle.decision_tree.specs.declared.affine_rank.AffineRank.{AffineRank}
 use Rattle.ctl_formula.specs.Formulas.{af_exit}
-use Rattle.tree_support.specs.Arcs.{Arc, above_end, arcs_by, assigning, below_end, rows_given, testing}
+use Rattle.tree_support.specs.Arcs.{Arc, above_end, arcs_by, assigning, below_end, choosing, choosing_each, putting, rows_given, testing}
 use Rattle.constraint_stack.specs.Forming.{Formed}
 use Rattle.tree_support.specs.Setting.{Trees, setting_of}
 use Rattle.tree_support.specs.Systems.{at_leaves, moved_by, systems, unless_less}
 use Rattle.control_flow.specs.Told.{Told}
-use Rattle.tree_support.proofs.Lists.{all_none}
+use Rattle.tree_support.proofs.Lists.{all_none, all_one}
 use Rattle.tree_support.proofs.Moving.{store_after}
 use Rattle.count_down.specs.Asking.{EachHas, Has}
 use Rattle.count_down.specs.Blocking.{IsBlocked}
@@ -41,22 +41,21 @@ abbrev pub tested : ℕ → ℕ → List Row → Arc
 tested edge next rows = record { edge = edge; target = next; asks = rows_given rows; sets = None }
 
 module _ (P : Arc → Type 0) where
-  -- an arc of an assignment sets the place to something
-  pub assigning_all : (x next : ℕ) (value : Linear) → ((a : Affine) (asks : List Formed)
+  -- each arc of an assignment sets the place to something
+  pub assigning_all : (x next : ℕ) (value : Linear) (cases : List (List Row)) → ((a : Affine) (asks : List Formed)
       → P (record { edge = 0; target = next; asks = asks; sets = Some (x, a) }))
-      → P (assigning x next value)
-  assigning_all x next value each = by (is_exact value)
+      → All P (assigning x next value cases)
+  assigning_all x next value cases each = by (is_exact value)
     where
-      by : (exact : Bool) → P (if exact then record { edge = 0; target = next; asks = []; sets = Some (x, value.affine) }
-          else record {
-            edge = 0;
-            target = next;
-            asks = above_end value.affine value.lo ++ below_end value.affine value.hi;
-            sets = Some
-                (x, variable_at 15);
-          })
-      by true = each value.affine []
-      by false = each (variable_at 15) (above_end value.affine value.lo ++ below_end value.affine value.hi)
+      chosen : (list : List (List Row)) → All P (choosing_each x next value list)
+      chosen [] = all_none P
+      chosen (rows ∷ more) =
+          All-cons P (choosing x next value rows) (choosing_each x next value more)
+          (each (variable_at 15) (above_end value.affine value.lo ++ (below_end value.affine value.hi ++ rows_given rows))) (chosen more)
+
+      by : (exact : Bool) → All P (if exact then putting x next value.affine ∷ [] else choosing_each x next value cases)
+      by true = all_one P (putting x next value.affine) (each value.affine [])
+      by false = chosen cases
 
   -- an arc of a test asks for the rows of a conjunction
   pub testing_all : (edge next : ℕ) (xs : List (List Row)) → ((rows : List Row) → P (tested edge next rows)) → All P (testing edge next xs)

@@ -12,6 +12,7 @@ use Rattle.linear_forms.proofs.Dual.{spread_dual}
 use Rattle.linear_forms.proofs.Exactness.{linear_exact}
 use Rattle.control_flow.specs.declared.edge.Choice.TheVariants.{Branch}
 use Rattle.control_flow.specs.Labels.{Action, ends, assigns, passes, tests, action_at}
+use Rattle.quotient_cases.specs.Cases.{value_rows}
 use Rattle.tree_support.specs.Arcs.{putting, assigning, flow_of}
 use Rattle.exact_families.proofs.Deeds.{FlowsAs}
 use Rattle.unroll.proofs.SpreadRows.{spread_long}
@@ -29,8 +30,8 @@ value_keeps (negative e) affine is = absurd (cc)
 value_keeps (negation e) affine is = absurd (cc)
 value_keeps (pair op l r) affine is = absurd (cc)
 
-sets_as : (bounds : Bounds) (x next : ℕ) (e : Expression) → IsAffine e → ExpressionFits e → assigning x next (linear_of bounds e) ∷ [] ≡ putting x next (form_of e) ∷ []
-sets_as bounds x next e affine fit = ap (λ (v : Linear). assigning x next v ∷ []) (linear_exact bounds e affine fit)
+sets_as : (bounds : Bounds) (x next : ℕ) (e : Expression) → IsAffine e → ExpressionFits e → assigning x next (linear_of bounds e) (value_rows bounds 15 e) ≡ putting x next (form_of e) ∷ []
+sets_as bounds x next e affine fit = ap (λ (v : Linear). assigning x next v (value_rows bounds 15 e)) (linear_exact bounds e affine fit)
 
 -- what an affine test without `?` tells of its two outcomes
 pub asks_as : (bounds : Bounds) (c : Expression) → IsFair c → AreDual (spread_of bounds c true) (spread_of bounds c false)

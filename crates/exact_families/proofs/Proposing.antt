@@ -163,7 +163,7 @@ module _ (body : Statements) (vars : ℕ) (few : vars ≤ 15) (valid : IsBody va
         never_dead (tests head c p q) over = over
     reached_by_local formula l (Pass to) over own = own
     reached_by_local formula l (Assign place value to) over own = own
-    reached_by_local formula l (Choose place values choice to) over own = own
+    reached_by_local formula l (Choose place values choice cases to) over own = own
     reached_by_local formula l (Test head_there choice holds fails to other) over own = own
 
   module _ (first second trees : List (Plan AffineRank)) where
@@ -226,7 +226,7 @@ module _ (body : Statements) (vars : ℕ) (few : vars ≤ 15) (valid : IsBody va
       next_end Dead end own = absurd (false≢true end)
       next_end (Pass to) end own = absurd (false≢true end)
       next_end (Assign place value to) end own = absurd (false≢true end)
-      next_end (Choose place values choice to) end own = absurd (false≢true end)
+      next_end (Choose place values choice cases to) end own = absurd (false≢true end)
       next_end (Test head_there choice holds fails to other) end own = absurd (false≢true end)
 
       next_step : (l : ℕ) (t : Transition) → EndIs (suc l) (is_end t) → IsNext all first (suc l) t (family (suc l))
@@ -237,7 +237,7 @@ module _ (body : Statements) (vars : ℕ) (few : vars ≤ 15) (valid : IsBody va
       next_step l Dead end own held = or_held _ (family (suc l)) _ _ held own
       next_step l (Pass to) end own held = or_held _ (family (suc l)) _ _ held own
       next_step l (Assign place value to) end own held = or_held _ (family (suc l)) _ _ held own
-      next_step l (Choose place values choice to) end own held = or_held _ (family (suc l)) _ _ held own
+      next_step l (Choose place values choice cases to) end own held = or_held _ (family (suc l)) _ _ held own
       next_step l (Test head_there choice holds fails to other) end own held = or_held _ (family (suc l)) _ _ held own
 
       next_at : (f : Ctl) (l : ℕ) → l < n → told.dead l ≡ false → IsNext all first l (transition_in transitions l) (family l) → (IsNextTop all l (transition_in transitions l) → ⊥)
@@ -289,7 +289,7 @@ module _ (body : Statements) (vars : ℕ) (few : vars ≤ 15) (valid : IsBody va
       idle_end Dead end = absurd (false≢true end)
       idle_end (Pass to) end = absurd (false≢true end)
       idle_end (Assign place value to) end = absurd (false≢true end)
-      idle_end (Choose place values choice to) end = absurd (false≢true end)
+      idle_end (Choose place values choice cases to) end = absurd (false≢true end)
       idle_end (Test head_there choice holds fails to other) end = absurd (false≢true end)
 
       -- the transition of label 0, where a store is there

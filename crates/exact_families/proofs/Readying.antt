@@ -96,7 +96,7 @@ module _ (bounds : Bounds) (trees : Trees AffineRank) where
   asked_ready all head c p q Dead none over own = absurd over
   asked_ready all head c p q (Pass to) none over own = absurd over
   asked_ready all head c p q (Assign place value to) none over own = absurd over
-  asked_ready all head c p q (Choose place values choice to) none over own = absurd over
+  asked_ready all head c p q (Choose place values choice cases to) none over own = absurd over
 
   freed_ready : (all head : Bool) (p q : ℕ) (t : Transition) → IsOver bounds (tests head free p q) t → IsFreeReady all (trees p) (trees q) → IsReached all t trees
   freed_ready true head p q (Test head_there choice holds fails to other) over own =
@@ -108,7 +108,7 @@ module _ (bounds : Bounds) (trees : Trees AffineRank) where
   freed_ready all head p q Dead over own = absurd over
   freed_ready all head p q (Pass to) over own = absurd over
   freed_ready all head p q (Assign place value to) over own = absurd over
-  freed_ready all head p q (Choose place values choice to) over own = absurd over
+  freed_ready all head p q (Choose place values choice cases to) over own = absurd over
 
   test_ready : (all head : Bool) (c : Expression) (p q : ℕ) (t : Transition) → IsFittingAction (tests head c p q) → IsOver bounds (tests head c p q) t
       → IsReady all (deed_of_test bounds c p q) trees → IsReached all t trees
@@ -136,7 +136,7 @@ module _ (bounds : Bounds) (trees : Trees AffineRank) where
       value_ready place.number x value (form_of e) to next over.0 (over.3 ∙ ap (λ (l : Linear). l.affine) (linear_exact bounds e fitting.1 fitting.2)) over.1 own
   assigned_ready false x e next (Assign place value to) fitting over own =
       value_ready place.number x value (form_of e) to next over.0 (over.3 ∙ ap (λ (l : Linear). l.affine) (linear_exact bounds e fitting.1 fitting.2)) over.1 own
-  assigned_ready all x e next (Choose place values choice to) fitting over own =
+  assigned_ready all x e next (Choose place values choice cases to) fitting over own =
       absurd (false≢true (sym over.2 ∙ ap is_exact (linear_exact bounds e fitting.1 fitting.2)))
   assigned_ready all x e next End fitting over own = absurd over
   assigned_ready all x e next Dead fitting over own = absurd over
@@ -151,7 +151,7 @@ module _ (bounds : Bounds) (trees : Trees AffineRank) where
   passed_ready all next End over own = absurd over
   passed_ready all next Dead over own = absurd over
   passed_ready all next (Assign place value to) over own = absurd over
-  passed_ready all next (Choose place values choice to) over own = absurd over
+  passed_ready all next (Choose place values choice cases to) over own = absurd over
   passed_ready all next (Test head_there choice holds fails to other) over own = absurd over
 
   end_ready : (all : Bool) (t : Transition) → IsOver bounds ends t → IsReached all t trees
@@ -160,7 +160,7 @@ module _ (bounds : Bounds) (trees : Trees AffineRank) where
   end_ready all Dead over = absurd over
   end_ready all (Pass to) over = absurd over
   end_ready all (Assign place value to) over = absurd over
-  end_ready all (Choose place values choice to) over = absurd over
+  end_ready all (Choose place values choice cases to) over = absurd over
   end_ready all (Test head_there choice holds fails to other) over = absurd over
 
   pub ready_as : (all : Bool) (action : Action) (t : Transition) → IsFittingAction action → IsOver bounds action t → IsReady all (deed_of bounds action) trees

@@ -58,7 +58,7 @@ module _ (bounds : Bounds) (trees : Trees AffineRank) where
   asked_before all head c p q Dead none over = absurd over
   asked_before all head c p q (Pass to) none over = absurd over
   asked_before all head c p q (Assign place value to) none over = absurd over
-  asked_before all head c p q (Choose place values choice to) none over = absurd over
+  asked_before all head c p q (Choose place values choice cases to) none over = absurd over
 
   -- of which an outcome may be chosen
   freed_before : (all head : Bool) (p q : ℕ) (t : Transition) → IsOver bounds (tests head free p q) t → reached_by all t trees ≡ before_free all (trees p) (trees q)
@@ -70,7 +70,7 @@ module _ (bounds : Bounds) (trees : Trees AffineRank) where
   freed_before all head p q Dead over = absurd over
   freed_before all head p q (Pass to) over = absurd over
   freed_before all head p q (Assign place value to) over = absurd over
-  freed_before all head p q (Choose place values choice to) over = absurd over
+  freed_before all head p q (Choose place values choice cases to) over = absurd over
 
   test_before : (all head : Bool) (c : Expression) (p q : ℕ) (t : Transition) → IsFittingAction (tests head c p q) → IsOver bounds (tests head c p q) t
       → reached_by all t trees ≡ before_deed all (deed_of_test bounds c p q) trees
@@ -98,7 +98,7 @@ module _ (bounds : Bounds) (trees : Trees AffineRank) where
       value_as place.number x value (form_of e) to next over.0 (over.3 ∙ ap (λ (l : Linear). l.affine) (linear_exact bounds e fitting.1 fitting.2)) over.1
   assigned_before false x e next (Assign place value to) fitting over =
       value_as place.number x value (form_of e) to next over.0 (over.3 ∙ ap (λ (l : Linear). l.affine) (linear_exact bounds e fitting.1 fitting.2)) over.1
-  assigned_before all x e next (Choose place values choice to) fitting over =
+  assigned_before all x e next (Choose place values choice cases to) fitting over =
       absurd (false≢true (sym over.2 ∙ ap is_exact (linear_exact bounds e fitting.1 fitting.2)))
   assigned_before all x e next End fitting over = absurd over
   assigned_before all x e next Dead fitting over = absurd over
@@ -113,7 +113,7 @@ module _ (bounds : Bounds) (trees : Trees AffineRank) where
   passed_before all next End over = absurd over
   passed_before all next Dead over = absurd over
   passed_before all next (Assign place value to) over = absurd over
-  passed_before all next (Choose place values choice to) over = absurd over
+  passed_before all next (Choose place values choice cases to) over = absurd over
   passed_before all next (Test head_there choice holds fails to other) over = absurd over
 
   end_before : (all : Bool) (t : Transition) → IsOver bounds ends t → reached_by all t trees ≡ bottom
@@ -122,7 +122,7 @@ module _ (bounds : Bounds) (trees : Trees AffineRank) where
   end_before all Dead over = absurd over
   end_before all (Pass to) over = absurd over
   end_before all (Assign place value to) over = absurd over
-  end_before all (Choose place values choice to) over = absurd over
+  end_before all (Choose place values choice cases to) over = absurd over
   end_before all (Test head_there choice holds fails to other) over = absurd over
 
   -- the tree before the transition is that before what is done
@@ -141,7 +141,7 @@ is_end End = true
 is_end Dead = false
 is_end (Pass to) = false
 is_end (Assign place value to) = false
-is_end (Choose place values choice to) = false
+is_end (Choose place values choice cases to) = false
 is_end (Test head_there choice holds fails to other) = false
 
 module _ (bounds : Bounds) where
@@ -149,7 +149,7 @@ module _ (bounds : Bounds) where
   pub end_as : (action : Action) (t : Transition) → IsOver bounds action t → is_end t ≡ not (does action)
   end_as ends End over = refl
   end_as (assigns x e next) (Assign place value to) over = refl
-  end_as (assigns x e next) (Choose place values choice to) over = refl
+  end_as (assigns x e next) (Choose place values choice cases to) over = refl
   end_as (passes next) (Pass to) over = refl
   end_as (tests head c p q) (Test head_there choice holds fails to other) over = refl
   end_as action t over = absurd over
@@ -158,7 +158,7 @@ module _ (bounds : Bounds) where
   pub open_as : (action : Action) (t : Transition) → IsOver bounds action t → does action ≡ true → is_head_by action ≡ false → is_given t ≡ false
   open_as ends End over something plain = absurd (false≢true something)
   open_as (assigns x e next) (Assign place value to) over something plain = refl
-  open_as (assigns x e next) (Choose place values choice to) over something plain = refl
+  open_as (assigns x e next) (Choose place values choice cases to) over something plain = refl
   open_as (passes next) (Pass to) over something plain = refl
   open_as (tests head c p q) (Test head_there choice holds fails to other) over something plain = over.0 ∙ plain
   open_as action t over something plain = absurd over
@@ -166,7 +166,7 @@ module _ (bounds : Bounds) where
   pub head_as : (action : Action) (t : Transition) → IsOver bounds action t → is_head_by action ≡ false → is_head t ≡ false
   head_as ends End over plain = refl
   head_as (assigns x e next) (Assign place value to) over plain = refl
-  head_as (assigns x e next) (Choose place values choice to) over plain = refl
+  head_as (assigns x e next) (Choose place values choice cases to) over plain = refl
   head_as (passes next) (Pass to) over plain = refl
   head_as (tests head c p q) (Test head_there choice holds fails to other) over plain = over.0 ∙ plain
   head_as action t over plain = absurd over

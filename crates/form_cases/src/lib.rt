@@ -3,7 +3,7 @@
 //! - `function E` is the affine function that E is.
 //! - `form E over ENDS` is its linear form.
 //! - `spread C over ENDS` says which rows hold where C holds and where it fails.
-//! - `value E over ENDS` says which rows hold where z is a value of E.
+//! - `values E over ENDS` says which rows hold where z is a value of E.
 //! - `conjunctions C` says how many conjunctions of rows these are, counted before any is left out.
 //!
 //! It is for programs that are told in lines what to do, and promises nothing but that each call returns. The front door: `answers`.
@@ -27,7 +27,7 @@ pub fn answers(
         "function" => forms::push_function(alloc, words, answer)?,
         "form" => forms::push_form(alloc, words, answer)?,
         "spread" => spreads::push_spread(alloc, words, answer)?,
-        "value" => spreads::push_value(alloc, words, answer)?,
+        "values" => spreads::push_values(alloc, words, answer)?,
         "conjunctions" => spreads::push_counts(alloc, words, answer)?,
         _ => return Ok(false),
     }

@@ -16,7 +16,7 @@ const ASSIGNMENT: (&str, &str) = ("x =", ";");
 const VALUE_PLACE: u8 = 2;
 
 /// Reads a number expression and ends, and adds the rows that its value comes down to where that is `z`.
-pub fn push_value(
+pub fn push_values(
     alloc: Global,
     words: &mut Words<'_>,
     answer: &mut Answer,

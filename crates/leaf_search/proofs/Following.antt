@@ -13,7 +13,7 @@ use Rattle.std.proofs.lemmas.Grind.{flat_map-append}
 use Rattle.decision_tree.specs.declared.rank.Rank.{Ghosts as Ranks}
 use Rattle.decision_tree.specs.declared.tree.Tree.{Tree}
 use Rattle.decision_tree.specs.Plans.{bottom, plan_of}
-use Rattle.tree_support.specs.Arcs.{Arc, above_end, below_end, choosing, rows_given, testing}
+use Rattle.tree_support.specs.Arcs.{Arc, above_end, below_end, choosing, rows_given}
 use Rattle.tree_support.specs.Setting.{Trees, trees_in}
 use Rattle.constraint_stack.specs.Claims.{HasNoStore}
 use Rattle.constraint_stack.specs.declared.finding.Finding.{Finding}
@@ -88,29 +88,34 @@ nowhere_more asks more none = subst IsMetNowhere (sym (map-append (λ a. asked a
 
 -- ---- the arcs of an edge
 
+-- the arc of one conjunction of a test
+abbrev pub testing_rows : ℕ → ℕ → List Row → Arc
+testing_rows edge next rows = record { edge = edge; target = next; asks = rows_given rows; sets = None }
+
 module _ {R : Type 0} (ranks : Ranks R) where
-  arcs_more : (family : Trees R) (limit : Option R) (edge label : ℕ) (list : List (List Row)) (i : ℕ) (rows : List Row) (asks : List Formed) → i < length list → rows ≡ get_or list i rows → over_each family limit (testing edge label (take (i + 1) list)) asks ≡ over_each family limit (testing edge label (take i list)) asks ++ systems_behind edge None limit (family label) (asks ++ rows_given rows)
-  arcs_more family limit edge label list i rows asks low is =
-      ap (λ taken. over_each family limit (testing edge label taken) asks) (take_snoc list i rows low is)
-      ∙ ap (λ arcs. over_each family limit arcs asks) (map-append (λ (rows : List Row). record { edge = edge; target = label; asks = rows_given rows; sets = None }) (take i list) (rows ∷ []))
-      ∙ flat_map-append (λ (arc : Arc). over_arc family limit asks arc) (testing edge label (take i list)) (testing edge label (rows ∷ []))
-      ∙ ap (λ rest. over_each family limit (testing edge label (take i list)) asks ++ rest) (append-nil (systems_behind edge None limit (family label) (asks ++ rows_given rows)))
+  module _ (family : Trees R) (limit : Option R) (made : List Row → Arc) (list : List (List Row)) (i : ℕ) where
+    arcs_more : (rows : List Row) (asks : List Formed) → i < length list → rows ≡ get_or list i rows → over_each family limit (map made (take (i + 1) list)) asks ≡ over_each family limit (map made (take i list)) asks ++ over_arc family limit asks (made rows)
+    arcs_more rows asks low is =
+        ap (λ taken. over_each family limit (map made taken) asks) (take_snoc list i rows low is)
+        ∙ ap (λ arcs. over_each family limit arcs asks) (map-append made (take i list) (rows ∷ []))
+        ∙ flat_map-append (λ (arc : Arc). over_arc family limit asks arc) (map made (take i list)) (map made (rows ∷ []))
+        ∙ ap (λ rest. over_each family limit (map made (take i list)) asks ++ rest) (append-nil (over_arc family limit asks (made rows)))
 
-  pub arcs_searched : (family : Trees R) (limit : Option R) (edge label : ℕ) (list : List (List Row)) (i : ℕ) (rows : List Row) (asks : List Formed) (refuted : Bool) (before found : Option Finding) → i < length list → rows ≡ get_or list i rows → IsSearched ranks (over_each family limit (testing edge label (take i list)) asks) false before → IsSearched ranks (systems_behind edge None limit (family label) (asks ++ rows_given rows)) refuted found → IsSearched ranks (over_each family limit (testing edge label (take (i + 1) list)) asks) refuted found
-  arcs_searched family limit edge label list i rows asks refuted before found low is none here =
-      subst (λ systems. IsSearched ranks systems refuted found) (sym (arcs_more family limit edge label list i rows asks low is))
-      (searched_then ranks (over_each family limit (testing edge label (take i list)) asks) (systems_behind edge None limit (family label) (asks ++ rows_given rows)) refuted before found none here)
+    pub arcs_searched : (rows : List Row) (asks : List Formed) (refuted : Bool) (before found : Option Finding) → i < length list → rows ≡ get_or list i rows → IsSearched ranks (over_each family limit (map made (take i list)) asks) false before → IsSearched ranks (over_arc family limit asks (made rows)) refuted found → IsSearched ranks (over_each family limit (map made (take (i + 1) list)) asks) refuted found
+    arcs_searched rows asks refuted before found low is none here =
+        subst (λ systems. IsSearched ranks systems refuted found) (sym (arcs_more rows asks low is))
+        (searched_then ranks (over_each family limit (map made (take i list)) asks) (over_arc family limit asks (made rows)) refuted before found none here)
 
-  pub arcs_found : (family : Trees R) (limit : Option R) (edge label : ℕ) (list : List (List Row)) (i : ℕ) (asks : List Formed) (found : Option Finding) → IsSearched ranks (over_each family limit (testing edge label (take i list)) asks) true found → IsSearched ranks (over_each family limit (testing edge label list) asks) true found
-  arcs_found family limit edge label list i asks found searched =
-      subst (λ systems. IsSearched ranks systems true found)
-      (sym (ap (λ all. over_each family limit (testing edge label all) asks) (sym (take-append-drop i list))
-      ∙ ap (λ arcs. over_each family limit arcs asks) (map-append (λ (rows : List Row). record { edge = edge; target = label; asks = rows_given rows; sets = None }) (take i list) (drop i list))
-      ∙ flat_map-append (λ (arc : Arc). over_arc family limit asks arc) (testing edge label (take i list)) (testing edge label (drop i list))))
-      (searched_first ranks (over_each family limit (testing edge label (take i list)) asks) (over_each family limit (testing edge label (drop i list)) asks) found searched)
+    pub arcs_found : (asks : List Formed) (found : Option Finding) → IsSearched ranks (over_each family limit (map made (take i list)) asks) true found → IsSearched ranks (over_each family limit (map made list) asks) true found
+    arcs_found asks found searched =
+        subst (λ systems. IsSearched ranks systems true found)
+        (sym (ap (λ all. over_each family limit (map made all) asks) (sym (take-append-drop i list))
+        ∙ ap (λ arcs. over_each family limit arcs asks) (map-append made (take i list) (drop i list))
+        ∙ flat_map-append (λ (arc : Arc). over_arc family limit asks arc) (map made (take i list)) (map made (drop i list))))
+        (searched_first ranks (over_each family limit (map made (take i list)) asks) (over_each family limit (map made (drop i list)) asks) found searched)
 
-  pub arcs_end : (family : Trees R) (limit : Option R) (edge label : ℕ) (list : List (List Row)) (i : ℕ) (asks : List Formed) → length list ≤ i → All (HasNoStore ranks) (over_each family limit (testing edge label (take i list)) asks) → All (HasNoStore ranks) (over_each family limit (testing edge label list) asks)
-  arcs_end family limit edge label list i asks end all = subst (λ taken. All (HasNoStore ranks) (over_each family limit (testing edge label taken) asks)) (take_all i list end) all
+    pub arcs_end : (asks : List Formed) → length list ≤ i → All (HasNoStore ranks) (over_each family limit (map made (take i list)) asks) → All (HasNoStore ranks) (over_each family limit (map made list) asks)
+    arcs_end asks end all = subst (λ taken. All (HasNoStore ranks) (over_each family limit (map made taken) asks)) (take_all i list end) all
 
   -- one arc
   pub one_searched : (family : Trees R) (limit : Option R) (arc : Arc) (asks : List Formed) (refuted : Bool) (found : Option Finding) → IsSearched ranks (over_arc family limit asks arc) refuted found → IsSearched ranks (over_each family limit (arc ∷ []) asks) refuted found
@@ -122,11 +127,13 @@ module _ {R : Type 0} (ranks : Ranks R) where
       one_searched family limit (record { edge = edge; target = label; asks = []; sets = sets }) asks refuted found
       (subst (λ all. IsSearched ranks (systems_behind edge sets limit (family label) all) refuted found) (sym (append-nil asks)) searched)
 
-  -- an assignment of a chosen value
-  pub chosen_searched : (family : Trees R) (limit : Option R) (x next : ℕ) (value : Linear) (asks : List Formed) (refuted : Bool) (found : Option Finding) → IsSearched ranks (systems_behind 0 (Some (x, variable_at 15)) limit (family next) ((asks ++ above_end value.affine value.lo) ++ below_end value.affine value.hi)) refuted found → IsSearched ranks (over_each family limit (choosing x next value ∷ []) asks) refuted found
-  chosen_searched family limit x next value asks refuted found searched =
-      one_searched family limit (choosing x next value) asks refuted found
-      (subst (λ all. IsSearched ranks (systems_behind 0 (Some (x, variable_at 15)) limit (family next) all) refuted found) (append_assoc asks (above_end value.affine value.lo) (below_end value.affine value.hi)) searched)
+  -- an assignment of a chosen value that meets rows
+  pub chosen_searched : (family : Trees R) (limit : Option R) (x next : ℕ) (value : Linear) (rows : List Row) (asks : List Formed) (refuted : Bool) (found : Option Finding) → IsSearched ranks (systems_behind 0 (Some (x, variable_at 15)) limit (family next) (((asks ++ above_end value.affine value.lo) ++ below_end value.affine value.hi) ++ rows_given rows)) refuted found → IsSearched ranks (over_arc family limit asks (choosing x next value rows)) refuted found
+  chosen_searched family limit x next value rows asks refuted found searched =
+      subst (λ all. IsSearched ranks (systems_behind 0 (Some (x, variable_at 15)) limit (family next) all) refuted found)
+      (append_assoc (asks ++ above_end value.affine value.lo) (below_end value.affine value.hi) (rows_given rows)
+      ∙ append_assoc asks (above_end value.affine value.lo) (below_end value.affine value.hi ++ rows_given rows))
+      searched
 
   -- the two edges of a test
   pub test_searched : (family : Trees R) (limit : Option R) (first second : List Arc) (asks : List Formed) (refuted : Bool) (found : Option Finding) → All (HasNoStore ranks) (over_each family limit first asks) → IsSearched ranks (over_each family limit second asks) refuted found → IsSearched ranks (over_each family limit (first ++ second) asks) refuted found

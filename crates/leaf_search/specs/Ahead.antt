@@ -19,7 +19,7 @@ target_of End outcome = 0
 target_of Dead outcome = 0
 target_of (Pass to) outcome = to
 target_of (Assign place value to) outcome = to
-target_of (Choose place range choice to) outcome = to
+target_of (Choose place range choice cases to) outcome = to
 target_of (Test head choice holds fails to others) true = to
 target_of (Test head choice holds fails to others) false = others
 

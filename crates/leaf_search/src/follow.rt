@@ -1,7 +1,7 @@
 //! The targets of a label's arcs, and of parts at the same label.
 ghost use Rattle.std.specs.Prelude.{◌≡◌, ◌++◌, ◌∷◌, [], ◌<◌, List, Some, None, true, false, IfOk, OnOk, IfSome, map};
 ghost use Rattle.decision_tree.specs.Plans.{plan_of};
-ghost use Rattle.tree_support.specs.Arcs.{above_end, below_end, putting, rows_given, testing, arcs_of, outcome_arcs, value_arcs};
+ghost use Rattle.tree_support.specs.Arcs.{above_end, below_end, choosing_each, putting, rows_given, testing, arcs_of, outcome_arcs, value_arcs};
 ghost use Rattle.constraint_stack.specs.Forming.{Formed, given, minus, plus};
 ghost use Rattle.tree_support.specs.Setting.{trees_in};
 ghost use Rattle.linear_cons.specs.Functions.{constant_of, variable_at};
@@ -158,10 +158,40 @@ fn refute_each<R: Rank>(
     Ok(false)
 }
 
-/// Looks for a reason against the systems of the arc of an assignment whose value lies between two ends: a value that the ends allow is
-/// put at the chosen place.
+/// Looks for a reason against the systems of the arcs of an assignment whose value lies between two ends, one for each of its cases: a value
+/// that the ends and the rows of the case allow is put at the chosen place.
+fn refute_cases<R: Rank>(
+    place: Place,
+    value: &Linear,
+    cases: &[Rows],
+    trees: &[Tree<R>],
+    limit: Option<R>,
+    label: u32,
+    stack: &mut ConstraintStack,
+    found: &mut Option<Finding>,
+) -> Result<bool, AllocError>
+    ensures same { OnOk result (IsSame stack.old stack.new) }
+    ensures searched { IfOk result (λ refuted. WhereAsked stack.old (λ asks.
+        IsSearched R.Rank.own (over_each (trees_in (map plan_of trees.now)) limit (choosing_each place.number label value.now cases.now) asks)
+        refuted found.new)) }
+{
+    let way = Way {
+        edge: 0,
+        sets: Some((place.number, Affine::var(CHOSEN_PLACE))),
+        limit,
+    };
+    for rows in cases {
+        if refute_above(value, rows.items(), trees, &way, label, stack, found)? {
+            return Ok(true);
+        }
+    }
+    Ok(false)
+}
+
+/// The same of the arc of one case.
 fn refute_above<R: Rank>(
     value: &Linear,
+    rows: &[Row],
     trees: &[Tree<R>],
     way: &Way<R>,
     label: u32,
@@ -172,14 +202,14 @@ fn refute_above<R: Rank>(
     ensures same { OnOk result (IsSame stack.old stack.new) }
     ensures searched { IfOk result (λ refuted. WhereAsked stack.old (λ asks.
         IsSearched R.Rank.own (systems_behind way.now.edge way.now.sets way.now.limit (trees_in (map plan_of trees.now) label)
-        ((asks ++ above_end value.now.affine value.now.lo) ++ below_end value.now.affine value.now.hi)) refuted found.new)) }
+        (((asks ++ above_end value.now.affine value.now.lo) ++ below_end value.now.affine value.now.hi) ++ rows_given rows.now)) refuted found.new)) }
 {
     let checkpoint = stack.checkpoint();
     let formed = above(value);
     if !add_end(formed, stack)? {
         return Ok(false);
     }
-    let refuted = refute_below(value, trees, way, label, stack, found)?;
+    let refuted = refute_below(value, rows, trees, way, label, stack, found)?;
     stack.restore(checkpoint);
     Ok(refuted)
 }
@@ -187,6 +217,7 @@ fn refute_above<R: Rank>(
 /// The same, with the row of the lower end on the stack.
 fn refute_below<R: Rank>(
     value: &Linear,
+    rows: &[Row],
     trees: &[Tree<R>],
     way: &Way<R>,
     label: u32,
@@ -197,14 +228,14 @@ fn refute_below<R: Rank>(
     ensures same { OnOk result (IsSame stack.old stack.new) }
     ensures searched { IfOk result (λ refuted. WhereAsked stack.old (λ asks.
         IsSearched R.Rank.own (systems_behind way.now.edge way.now.sets way.now.limit (trees_in (map plan_of trees.now) label)
-        (asks ++ below_end value.now.affine value.now.hi)) refuted found.new)) }
+        ((asks ++ below_end value.now.affine value.now.hi) ++ rows_given rows.now)) refuted found.new)) }
 {
     let checkpoint = stack.checkpoint();
     let formed = below(value);
     if !add_end(formed, stack)? {
         return Ok(false);
     }
-    let refuted = refute_at(trees, way, label, stack, found)?;
+    let refuted = refute_behind(rows, trees, way, label, untold(trees), stack, found)?;
     stack.restore(checkpoint);
     Ok(refuted)
 }
@@ -300,15 +331,11 @@ pub fn refute_arcs<R: Rank>(
         Transition::Choose {
             place,
             range,
+            cases,
             to,
             ..
         } => {
-            let way = Way {
-                edge: 0,
-                sets: Some((place.number, Affine::var(CHOSEN_PLACE))),
-                limit,
-            };
-            let refuted = refute_above(range, trees, &way, *to, stack, found)?;
+            let refuted = refute_cases(*place, range, cases, trees, limit, *to, stack, found)?;
             Ok(refuted)
         }
         Transition::Test { .. } => {

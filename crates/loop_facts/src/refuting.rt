@@ -80,6 +80,7 @@ impl<'a> Refuted<'a> {
             Transition::Choose {
                 place,
                 range,
+                cases,
                 to,
                 ..
             } => {
@@ -87,7 +88,7 @@ impl<'a> Refuted<'a> {
                     return Ok(false);
                 }
                 let chosen = Affine::var(CHOSEN_PLACE);
-                self.meets_at(trees, *to, &Some((*place, chosen)), rows)
+                self.meets_behind(cases, trees, *to, &Some((*place, chosen)), rows)
             }
             Transition::Test {
                 holds,
@@ -97,9 +98,9 @@ impl<'a> Refuted<'a> {
                 ..
             } => {
                 if self.edge == 0 {
-                    self.meets_behind(holds, trees, *yes, rows)
+                    self.meets_behind(holds, trees, *yes, &None, rows)
                 } else {
-                    self.meets_behind(fails, trees, *no, rows)
+                    self.meets_behind(fails, trees, *no, &None, rows)
                 }
             }
         }
@@ -111,11 +112,12 @@ impl<'a> Refuted<'a> {
         conjunctions: &[Rows],
         trees: &[Tree<AffineRank>],
         label: u32,
+        sets: &Setting,
         rows: &mut Vec<Row>,
     ) -> Result<bool, AllocError> {
         for conjunction in conjunctions {
             if self.meets_each(conjunction.items(), rows)?
-                && self.meets_at(trees, label, &None, rows)?
+                && self.meets_at(trees, label, sets, rows)?
             {
                 return Ok(true);
             }

@@ -5,6 +5,7 @@
 //! which rows are met. The front door: `Loops::of` a `Question`, `Loops::rows` of a `Parting`, and the `Search` that says what work is left.
 #![tactic(auto)]
 
+mod cases;
 mod comparing;
 mod loops;
 mod moves;
@@ -15,6 +16,7 @@ mod planned;
 mod search;
 mod stop;
 
+pub use cases::{Rescaled, back_cases, function_of_multiple, have_rows};
 pub use comparing::claims_more;
 pub use loops::{Head, Loops, Question};
 pub use moves::{Move, Target, add_through, through, unchanged};

@@ -1,6 +1,7 @@
 //! The loops of a program, with the moves between their heads.
 ghost use Rattle.std.specs.Prelude.{◌≡◌, ◌≤◌, length};
 
+use crate::cases::times_of;
 use crate::moves::{Move, Target, unchanged};
 use crate::plan::Plan;
 use crate::search::Search;
@@ -9,7 +10,7 @@ use backward_sweeps::{Operands, tree_at};
 use control_flow::{Choice, Transition};
 use decision_tree::{AffineRank, Tree};
 use forward_inv::Inv;
-use linear_cons::{Row, Rows};
+use linear_cons::{Row, Rows, common_divisor};
 use num_domain::NumDomain;
 use std::alloc::{AllocError, Global};
 
@@ -47,6 +48,8 @@ pub struct Loops {
     pub heads: Vec<Head>,
     pub variables: u32,
     pub is_weak: bool,
+    /// For each variable a number by which its coefficient in a rank is divided, so that the rank can be said behind the quotients that it gets.
+    pub factors: Vec<i128>,
 }
 
 impl Loops {
@@ -79,6 +82,7 @@ impl Loops {
             heads,
             variables: question.variables,
             is_weak: question.is_weak,
+            factors: question.factors(search.alloc)?,
         })
     }
 
@@ -185,6 +189,21 @@ impl<'a> Question<'a> {
         })
     }
 
+    /// For each variable the least common multiple of the multiples that cases say of its values, or 1 where that is large.
+    fn factors(&self, alloc: Global) -> Result<Vec<i128>, AllocError> {
+        let mut factors = vec![in alloc; 1; self.variables.min(16) as usize]?;
+        for transition in self.transitions {
+            if let Transition::Choose { place, cases, .. } = transition {
+                if let Some(factor) = factors.get_mut(place.number as usize) {
+                    for case in cases {
+                        *factor = common_multiple(*factor, times_of(case));
+                    }
+                }
+            }
+        }
+        Ok(factors)
+    }
+
     /// What stands for the moves of a head whose paths were given up: it may lead to where nothing is claimed.
     fn no_moves(&self, alloc: Global) -> Result<Vec<Move>, AllocError> {
         let mut moves = Vec::with_capacity(alloc, 1)?;
@@ -196,6 +215,25 @@ impl<'a> Question<'a> {
             jumps: 0,
         })?;
         Ok(moves)
+    }
+}
+
+/// The greatest factor of the coefficients of a variable.
+const MOST_TIMES: u128 = 65_536;
+
+/// The least common multiple of two numbers above 0, or 1 where it is large.
+fn common_multiple(one: i128, other: i128) -> i128 {
+    let (one, other) = (one.unsigned_abs(), other.unsigned_abs());
+    match one.checked_div(common_divisor(one, other)) {
+        Some(part) => {
+            let multiple = part.saturating_mul(other);
+            if multiple <= MOST_TIMES {
+                multiple as i128
+            } else {
+                1
+            }
+        }
+        None => 1,
     }
 }
 

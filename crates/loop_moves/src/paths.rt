@@ -1,4 +1,5 @@
 //! The paths from the head of a loop to the next.
+use crate::cases::{Value, have_rows};
 use crate::loops::Question;
 use crate::moves::{Move, Target, add, add_through, through, unchanged};
 use crate::search::Search;
@@ -203,8 +204,12 @@ impl<'a> Question<'a> {
                 place,
                 range,
                 choice,
+                cases,
                 to,
             } => {
+                if have_rows(cases) {
+                    return choose_cases(search, &rows, &stand, place.number, cases, *to, paths);
+                }
                 let mut rows = rows;
                 let mut stand = stand.next(alloc, *to)?;
                 let chosen = match self.picked_end(*choice) {
@@ -342,6 +347,52 @@ fn put(after: &mut [Affine], place: u8, value: Affine) {
     if let Some(own) = after.get_mut(place as usize) {
         *own = value;
     }
+}
+
+/// Opens the paths behind the assignment of a value that has the cases.
+fn choose_cases(
+    search: &mut Search,
+    rows: &[Row],
+    stand: &Stand,
+    place: u8,
+    cases: &[Rows],
+    to: u32,
+    paths: &mut Paths,
+) -> Result<(), Stop> {
+    for case in cases {
+        let value = Value::of(search.alloc, case)?;
+        let mut more = rows.to_vec(search.alloc)?;
+        if add_through(&mut more, &value.guards, &stand.after)? {
+            let mut next = stand.next(search.alloc, to)?;
+            let chosen = choose_case(&mut more, &mut next, &value)?;
+            put(&mut next.after, place, chosen);
+            if let Some(rows) = search.met(more)? {
+                paths.go_on(rows, next)?;
+            }
+        }
+    }
+    Ok(())
+}
+
+/// The value of the case: that of its function, or a number at the next free place with the rows that it meets.
+fn choose_case(rows: &mut Vec<Row>, stand: &mut Stand, value: &Value) -> Result<Affine, Stop> {
+    if let Some(function) = value.function() {
+        return Ok(through(function, &stand.after)?);
+    }
+    if stand.free as usize >= PLACES {
+        return Err(Stop::GivenUp);
+    }
+    let chosen = Affine::var(stand.free);
+    let more = chosen.scale(value.times)?;
+    let end = through(&value.form.affine, &stand.after)?;
+    if let Some(lo) = value.form.lo {
+        add(rows, &more.sub(&end.plus(lo)?)?)?;
+    }
+    if let Some(hi) = value.form.hi {
+        add(rows, &end.plus(hi)?.sub(&more)?)?;
+    }
+    stand.free = stand.free.saturating_add(1);
+    Ok(chosen)
 }
 
 /// A number of the range, at the next free place, with the rows that it meets.

@@ -2,6 +2,7 @@
 ghost use Rattle.std.specs.Prelude.{◌≡◌, ◌<◌, ◌≤◌, length};
 ghost use Rattle.control_flow.specs.Transitions.{AreOnward, LeadsWithin};
 
+use crate::cases::{back_cases, have_rows};
 use crate::loops::Question;
 use backward_sweeps::{given_up, moved_back, tree_at};
 use backward_transfer::{back_pick, back_some};
@@ -72,6 +73,7 @@ impl<'a> Question<'a> {
             Transition::Choose {
                 place,
                 choice,
+                cases,
                 to,
                 ..
             } => match self.picked_end(*choice) {
@@ -82,6 +84,9 @@ impl<'a> Question<'a> {
                     Some(end),
                     Some(end),
                 ),
+                None if have_rows(cases) => {
+                    back_cases(alloc, &trees[*to as usize], place.number, cases)
+                }
                 None => moved_back(alloc, self.operands.all, transition, trees),
             },
             _ => moved_back(alloc, self.operands.all, transition, trees),

@@ -1,12 +1,14 @@
 //! Trees that follow from ranks of cells.
 ghost use Rattle.std.specs.Prelude.{◌≡◌, ◌≤◌, IfOk, length};
-ghost use Rattle.control_flow.specs.Transitions.{AreOnward};
+ghost use Rattle.control_flow.specs.Transitions.{AreOnward, LeadsWithin};
 
 use crate::jump::Power;
 use crate::ordinal::OrdinalRank;
 use crate::sweeps::{before, begun_at, or_given_up};
 use control_flow::Transition;
 use decision_tree::{Pick, Tree, Why};
+use linear_cons::Wide;
+use loop_moves::{Rescaled, back_cases, function_of_multiple, have_rows};
 use rank_synthesis::RankedCell;
 use std::alloc::{AllocError, Global};
 use tree_unify::{TreeFault, either, trim};
@@ -28,11 +30,48 @@ pub(crate) fn followed(
     for label in (0..transitions.len() as u32).rev() {
         let transition = &transitions[label as usize];
         if !is_given(transition) {
-            let made = or_given_up(before(alloc, transition, &trees, highest))?;
+            let made = or_given_up(before_cases(alloc, transition, &trees, highest))?;
             trees[label as usize] = made;
         }
     }
     Ok(trees)
+}
+
+/// The tree before what is done, where a value that has cases goes by these.
+fn before_cases(
+    alloc: Global,
+    transition: &Transition,
+    trees: &[Tree<OrdinalRank>],
+    highest: Power,
+) -> Result<Tree<OrdinalRank>, TreeFault>
+    requires { LeadsWithin (length trees.now) transition.now }
+{
+    match transition {
+        Transition::Choose {
+            place,
+            cases,
+            to,
+            ..
+        } if have_rows(cases) => back_cases(alloc, &trees[*to as usize], place.number, cases),
+        _ => before(alloc, transition, trees, highest),
+    }
+}
+
+impl Rescaled for OrdinalRank {
+    fn of_multiple(&self, place: u8, times: i128) -> Result<OrdinalRank, Wide> {
+        let fourth = function_of_multiple(&self.fourth, place, times)?;
+        let third = function_of_multiple(&self.third, place, times)?;
+        let second = function_of_multiple(&self.second, place, times)?;
+        let first = function_of_multiple(&self.first, place, times)?;
+        let finite = function_of_multiple(&self.finite, place, times)?;
+        Ok(OrdinalRank {
+            fourth,
+            third,
+            second,
+            first,
+            finite,
+        })
+    }
 }
 
 /// The trees before the pass: at the heads of loops what the cells claim, and elsewhere what is known without a step.

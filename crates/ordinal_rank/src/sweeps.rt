@@ -166,6 +166,7 @@ pub(crate) fn before(
             place,
             range,
             choice,
+            cases: _,
             to,
         } => {
             let bounded = back_range(alloc, &trees[*to as usize], place.number, range)?;

@@ -41,7 +41,7 @@ module _ (all : Bool) (part behind : List (Plan AffineRank)) (n : ℕ) (are : Ar
   next_of label Dead going low step = stepped Dead low step
   next_of label (Pass to) going low step = stepped (Pass to) low step
   next_of label (Assign place value to) going low step = stepped (Assign place value to) low step
-  next_of label (Choose place range choice to) going low step = stepped (Choose place range choice to) low step
+  next_of label (Choose place range choice cases to) going low step = stepped (Choose place range choice cases to) low step
   next_of label (Test is_head choice holds fails to other) going low step = stepped (Test is_head choice holds fails to other) low step
 
 -- what an until is made of is the same where each of its parts is

@@ -1,5 +1,5 @@
 //! The rows that a value comes down to.
-ghost use Rattle.std.specs.Prelude.{◌≡◌, ◌++◌, ◌<◌, ◌∷◌, [], IfOk, OnOk};
+ghost use Rattle.std.specs.Prelude.{◌≡◌, ◌++◌, ◌<◌, IfOk, OnOk};
 ghost use Rattle.std.specs.List.{flat_map};
 ghost use Rattle.step_meaning.specs.Naming.{NamesBelow};
 ghost use Rattle.step_meaning.specs.Syntax.{expression};

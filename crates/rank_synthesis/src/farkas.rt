@@ -73,6 +73,8 @@ struct Ranks {
     program: Program,
     costs: Vec<Term>,
     variables: u32,
+    /// For each variable the number by which its coefficients are divided.
+    factors: Vec<i128>,
     /// The first column of each cell that is of the component.
     first: Vec<Option<usize>>,
     /// The columns of the falls along links that need not be.
@@ -98,6 +100,7 @@ impl Synthesis {
             program: Program::new(search.alloc),
             costs: Vec::new(search.alloc),
             variables: self.loops.variables,
+            factors: self.loops.factors.to_vec(search.alloc)?,
             first: vec![in search.alloc; None; cells.len()]?,
             falls: Vec::new(search.alloc),
         };
@@ -262,6 +265,7 @@ impl Ranks {
         place: usize,
         times: i128,
     ) -> Result<(), Stop> {
+        let times = times.checked_mul(self.factor(place)).ok_or(Stop::GivenUp)?;
         if times != 0 {
             let column = first.saturating_add(place.saturating_mul(2));
             terms.push(Term {
@@ -274,6 +278,11 @@ impl Ranks {
             })?;
         }
         Ok(())
+    }
+
+    /// The number by which the coefficients of the variable at the place are divided.
+    fn factor(&self, place: usize) -> i128 {
+        self.factors.get(place).copied().unwrap_or(1)
     }
 
     /// A solution with small costs, by no more than so many exchanges, which are left to the search.
@@ -322,7 +331,9 @@ impl Ranks {
         for place in 0..self.variables as usize {
             let number = self.value(index, place, solution)?;
             if let Some(own) = rank.coef.get_mut(place) {
-                *own = floor_quotient(number, divisor);
+                *own = floor_quotient(number, divisor)
+                    .checked_mul(self.factor(place))
+                    .ok_or(Stop::GivenUp)?;
             }
         }
         Ok(rank)

@@ -5,8 +5,9 @@ use Rattle.std.proofs.lemmas.Bool.{le-ltb, lt-ltb}
 use Rattle.std.proofs.lemmas.List.Elements.{All-append, All-cons, All-contains, All-tail, All-weaker, Contains-append_cases, Contains-append_left, Contains-append_right}
 use Rattle.std.proofs.lemmas.Simd.{map-map}
 use Rattle.linear_cons.specs.declared.affine.Affine.{Affine}
+use Rattle.linear_cons.specs.declared.bounds.Linear.{Linear}
 use Rattle.linear_cons.specs.declared.row.Row.{Row}
-use Rattle.linear_cons.specs.Functions.{complement_of}
+use Rattle.linear_cons.specs.Functions.{complement_of, variable_at}
 use Rattle.linear_cons.specs.Rows.{MeetsKind, row_kind_of}
 use Rattle.control_flow.specs.declared.edge.Choice.{Choice}
 use Rattle.control_flow.specs.declared.edge.Choice.TheVariants.{Branch, None as NoChoice, Range}
@@ -19,7 +20,7 @@ use Rattle.decision_tree.specs.declared.reason.Why.TheVariants.{Step}
 use Rattle.decision_tree.specs.Paths.{leaf_numbered, path_of}
 use Rattle.decision_tree.specs.Plans.{Plan, branch, leaf, leaves_of}
 use Rattle.tree_support.specs.declared.dropped.Dropped.{Dropped}
-use Rattle.tree_support.specs.Arcs.{Arc, choosing, passing, putting, rows_given, testing, arcs_of, outcome_arcs}
+use Rattle.tree_support.specs.Arcs.{Arc, choosing_each, passing, putting, rows_given, testing, arcs_of, outcome_arcs}
 use Rattle.constraint_stack.specs.Forming.{Formed, exact, given}
 use Rattle.tree_support.specs.Setting.{Setting, Trees}
 use Rattle.constraint_stack.specs.Claims.{HasNoStore, choices}
@@ -148,6 +149,11 @@ sets_tested edge target [] arc member = absurd (let low = member.1 in omega (ari
 sets_tested edge target (rows ∷ more) arc (zero, low, same) = ap (λ (a : Arc). a.sets) (sym same)
 sets_tested edge target (rows ∷ more) arc (suc k, low, same) = sets_tested edge target more arc (k, omega (arith, low), same)
 
+sets_chosen : (x to : ℕ) (value : Linear) (cases : List (List Row)) (arc : Arc) → Contains (choosing_each x to value cases) arc → arc.sets ≡ Some (x, variable_at 15)
+sets_chosen x to value [] arc member = absurd (let low = member.1 in omega (arith, low))
+sets_chosen x to value (rows ∷ more) arc (zero, low, same) = ap (λ (a : Arc). a.sets) (sym same)
+sets_chosen x to value (rows ∷ more) arc (suc k, low, same) = sets_chosen x to value more arc (k, omega (arith, low), same)
+
 only : (x arc : Arc) → Contains (x ∷ []) arc → arc.sets ≡ x.sets
 only x arc (zero, low, same) = ap (λ (a : Arc). a.sets) (sym same)
 only x arc (suc k, low, same) = absurd (omega (arith, low))
@@ -156,7 +162,7 @@ sets_all : (transition : Transition) (arc : Arc) → Contains (arcs_of transitio
 sets_all End arc member = only (passing 0) arc member
 sets_all Dead arc member = no_arc arc member
 sets_all (Assign place value to) arc member = only (putting place.number to value) arc member
-sets_all (Choose place range choice to) arc member = only (choosing place.number to range) arc member
+sets_all (Choose place range choice cases to) arc member = sets_chosen place.number to range cases.items arc member
 sets_all (Pass to) arc member = only (passing to) arc member
 sets_all (Test head choice holds fails to other) arc member =
     elim (Contains-append_cases (testing 0 to holds.items) (testing 1 other fails.items) arc member) [
@@ -171,7 +177,7 @@ sets_outcome End outcome arc member = no_arc arc member
 sets_outcome Dead outcome arc member = no_arc arc member
 sets_outcome (Pass to) outcome arc member = no_arc arc member
 sets_outcome (Assign place value to) outcome arc member = no_arc arc member
-sets_outcome (Choose place range choice to) outcome arc member = no_arc arc member
+sets_outcome (Choose place range choice cases to) outcome arc member = no_arc arc member
 
 unranged : (some : Bool) (choice : Choice) (arcs : List Arc) (arc : Arc) → (some ≡ false) ⊎ ((lo hi : Option ℤ) → choice ≢ Range lo hi)
     → Contains (if some then arcs_ranged choice arcs else []) arc → ⊥

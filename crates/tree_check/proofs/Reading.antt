@@ -1,5 +1,5 @@
 -- The targets of arcs are those of edges.
-use Rattle.std.proofs.Common.{◌≡◌, ◌≢◌, ◌⊎◌, inl, inr, ℕ, zero, suc, ◌==◌, Bool, true, false, if◌then◌else◌, List, [], ◌∷◌, slice_index_or, Contains, Option, None, refl, sym, ap, ◌∙◌, arith}
+use Rattle.std.proofs.Common.{◌≡◌, ◌≢◌, ◌⊎◌, inl, inr, ℕ, zero, suc, ◌==◌, Bool, true, false, if◌then◌else◌, List, [], ◌∷◌, slice_index_or, Contains, Option, None, sym, ap, ◌∙◌, arith}
 use Rattle.std.proofs.lemmas.Bool.{eqb-false}
 use Rattle.std.proofs.lemmas.List.Elements.{Contains-append_cases}
 use Rattle.linear_cons.specs.declared.affine.Affine.{Affine}
@@ -9,9 +9,10 @@ use Rattle.control_flow.specs.declared.edge.Edge.{Edge}
 use Rattle.linear_cons.specs.declared.row.Row.{Row}
 use Rattle.linear_forms.specs.Linearising.{is_exact, linear_of}
 use Rattle.linear_forms.specs.Spreading.{spread_of}
+use Rattle.quotient_cases.specs.Cases.{value_rows}
 use Rattle.control_flow.specs.Edges.{edges_from}
 use Rattle.control_flow.specs.Labels.{Action, ends, assigns, passes, tests}
-use Rattle.tree_support.specs.Arcs.{Arc, arcs_by, arcs_of_outcome, arcs_putting, assigning, testing}
+use Rattle.tree_support.specs.Arcs.{Arc, arcs_by, arcs_of_outcome, arcs_putting, assigning, choosing_each, putting, testing}
 use Rattle.tree_check.specs.Rounds.{Avoid, target_of}
 
 -- the edge of a number
@@ -27,18 +28,22 @@ only_one : {X : Type 0} (x y : X) → Contains (x ∷ []) y → y ≡ x
 only_one x y (zero, low, same) = sym same
 only_one x y (suc k, low, same) = absurd (omega arith)
 
-either_target : (t : Bool) (first second : Arc) (next : ℕ) → first.target ≡ next → second.target ≡ next → (if t then first else second).target ≡ next
-either_target true first second next here there = here
-either_target false first second next here there = there
+chosen_target : (x next : ℕ) (value : Linear) (cases : List (List Row)) (arc : Arc) → Contains (choosing_each x next value cases) arc → arc.target ≡ next
+chosen_target x next value [] arc member = absurd (let low = member.1 in omega arith)
+chosen_target x next value (rows ∷ more) arc (zero, low, same) = ap (λ (a : Arc). a.target) (sym same)
+chosen_target x next value (rows ∷ more) arc (suc k, low, same) = chosen_target x next value more arc (k, omega arith, same)
 
-assigned_target : (x next : ℕ) (value : Linear) → (assigning x next value).target ≡ next
-assigned_target x next value = either_target (is_exact value) _ _ next refl refl
+assigned_target : (x next : ℕ) (value : Linear) (cases : List (List Row)) (arc : Arc) → Contains (assigning x next value cases) arc → arc.target ≡ next
+assigned_target x next value cases arc = by_form (is_exact value) where
+  by_form : (t : Bool) → Contains (if t then putting x next value.affine ∷ [] else choosing_each x next value cases) arc → arc.target ≡ next
+  by_form true member = ap (λ (a : Arc). a.target) (only_one (putting x next value.affine) arc member)
+  by_form false member = chosen_target x next value cases arc member
 
 arcs_lead : (bounds : Bounds) (label : ℕ) (action : Action) (arc : Arc) → Contains (arcs_by bounds action) arc
     → (arc.target ≡ edge_to (edges_from label action) 0) ⊎ (arc.target ≡ edge_to (edges_from label action) 1)
 arcs_lead bounds label ends arc member = inl (ap (λ (a : Arc). a.target) (only_one _ arc member))
 arcs_lead bounds label (assigns x e next) arc member =
-    inl (ap (λ (a : Arc). a.target) (only_one (assigning x next (linear_of bounds e)) arc member) ∙ assigned_target x next (linear_of bounds e))
+    inl (assigned_target x next (linear_of bounds e) (value_rows bounds 15 e) arc member)
 arcs_lead bounds label (passes next) arc member = inl (ap (λ (a : Arc). a.target) (only_one _ arc member))
 arcs_lead bounds label (tests head c then_to else_to) arc member = elim (Contains-append_cases (testing 0 then_to (spread_of bounds c true)) (testing 1 else_to (spread_of bounds c false)) arc member) [
   | inl first ↦ inl (given_target 0 then_to (spread_of bounds c true) arc first)

@@ -26,7 +26,7 @@ speaks_of_some _ = false
 -- what the arcs of a label set
 abbrev pub sets_of : Transition → Option (ℕ × Affine)
 sets_of (Assign place value to) = Some (place.number, value)
-sets_of (Choose place range choice to) = Some (place.number, variable_at 15)
+sets_of (Choose place range choice cases to) = Some (place.number, variable_at 15)
 sets_of transition = None
 
 -- what is on the stack is of some of the functions

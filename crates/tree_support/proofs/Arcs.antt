@@ -1,7 +1,7 @@
 -- The successors of a state that is reached are reached over the arcs of its label.
-use Rattle.std.proofs.Common.{◌≡◌, ℕ, zero, suc, ◌<◌, ◌≤◌, ℤ, pos, ◌-ℤ◌, ◌≤ℤ◌, inl, inr, Bool, true, false, cond, List, [], ◌∷◌, ◌++◌, Option, None, Some, length, set, refl, sym, subst, ap, ◌∙◌, arith}
+use Rattle.std.proofs.Common.{◌≡◌, ℕ, zero, suc, ◌<◌, ◌≤◌, ℤ, pos, ◌-ℤ◌, ◌≤ℤ◌, inl, inr, Bool, true, false, cond, List, [], ◌∷◌, Option, None, Some, length, set, refl, sym, subst, ap, ◌∙◌, arith}
 use Rattle.std.proofs.lemmas.Int.{ints}
-use Rattle.std.proofs.lemmas.List.{get_or-set_same, set-get_or, set-set, set_comm}
+use Rattle.std.proofs.lemmas.List.{get_or-set_other, get_or-set_same, set-get_or, set-set, set_comm}
 use Rattle.std.proofs.lemmas.List.Elements.{All-append, All-cons, Contains-append_left, Contains-append_right}
 use Rattle.step_meaning.specs.Syntax.{Expression, Statements, free, negation, negative, number, pair, divided, range, truth, variable}
 use Rattle.step_meaning.specs.Outcome.{Store, May}
@@ -10,6 +10,7 @@ use Rattle.step_meaning.specs.Naming.{IsUnnamed, NamesBelow}
 use Rattle.step_meaning.specs.Valid.{IsBody, IsNumber}
 use Rattle.linear_cons.specs.declared.affine.Affine.{Affine}
 use Rattle.linear_cons.specs.declared.bounds.Bounds.{Bounds}
+use Rattle.linear_cons.specs.declared.bounds.Linear.{Linear}
 use Rattle.linear_cons.specs.declared.row.Row.{Row}
 use Rattle.linear_cons.specs.Bounds.{Covers, IsFrom, IsUpTo, LiesIn}
 use Rattle.linear_cons.specs.Functions.{coefficient, constant_of, sum_of, value_at, variable_at}
@@ -22,6 +23,8 @@ use Rattle.linear_forms.proofs.Covering.{exact_value, linear_covers}
 use Rattle.linear_forms.proofs.Exactness.{only_named}
 use Rattle.linear_forms.proofs.Naming.{number_names, test_names}
 use Rattle.linear_forms.proofs.SpreadCovering.{spread_covers}
+use Rattle.quotient_cases.specs.Cases.{value_rows}
+use Rattle.quotient_cases.proofs.Covering.{values_cover}
 use Rattle.control_flow.specs.Actions.{IsSorted}
 use Rattle.control_flow.specs.Edges.{SomeEdge, configuration, edges_from}
 use Rattle.control_flow.specs.Edges.{Leads}
@@ -30,7 +33,7 @@ use Rattle.control_flow.proofs.LabelLaws.{labels_are_sorted, only_end_is_final}
 use Rattle.control_flow.proofs.Taken.{each_successor}
 use Rattle.control_flow.specs.States.{IsReachedState, followed}
 use Rattle.control_flow.proofs.Reached.{Follows, reached_label, reached_places}
-use Rattle.tree_support.specs.Arcs.{Arc, above_end, arcs_by, assigning, below_end, flow_of, passing, rows_given, testing}
+use Rattle.tree_support.specs.Arcs.{Arc, above_end, arcs_by, assigning, below_end, choosing, choosing_each, flow_of, passing, putting, rows_given, testing}
 use Rattle.constraint_stack.specs.Forming.{exact, given}
 use Rattle.control_flow.specs.Told.{IsTrueOfReached, Told}
 use Rattle.tree_support.proofs.Lists.{all_none, all_one, contains_first, contains_later}
@@ -98,10 +101,23 @@ names_free (negation c) named = names_free c named
 names_free (pair op l r) named = (names_free l named.0, names_free r named.1)
 names_free (divided division e b) named = names_free e named
 
+-- a value that an expression may have doesn't hang on a place that it doesn't name
+may_apart : (e : Expression) → NamesBelow 15 e → (store : Store) (z v : ℤ) → May e store v → May e (set store 15 z) v
+may_apart (number n) named store z v may = may
+may_apart (variable x) named store z v may = may ∙ sym (get_or-set_other store 15 x z (pos 0) (omega arith))
+may_apart free named store z v may = may
+may_apart (range lo hi) named store z v may = may
+may_apart (truth b) named store z v may = absurd may
+may_apart (negation c) named store z v may = absurd may
+may_apart (negative e) named store z v may = (may.0, may_apart e named store z may.0 may.1, may.2)
+may_apart (divided division e b) named store z v may = (may.0, may.1, may_apart e named store z may.0 may.2, may.3, may.4)
+may_apart (pair op l r) named store z v may =
+    (may.0, may.1, may_apart l named.0 store z may.0 may.2, may_apart r named.1 store z may.1 may.3, may.4)
+
 -- ---- a label at which this is done
 
 module _ (vars : ℕ) (few : vars ≤ 15) (body : Statements) (bounds : Bounds) (store : Store) (next : Configuration)
-    (long : length store ≡ 16) (inside : LiesIn bounds store) where
+    (long : length store ≡ 16) (inside : LiesIn bounds store) (inside_with : (z : ℤ) → LiesIn bounds (set store 15 z)) where
   -- an arc that sets nothing leads on where the store meets what it asks
   unset : (arc : Arc) → arc.sets ≡ None → StoreMeets store arc.asks → next.store ≡ store → front next.todo ≡ front (rest body arc.target)
       → IsReachedState vars body arc.target next.store → LeadsOver vars body arc store next
@@ -116,45 +132,61 @@ module _ (vars : ℕ) (few : vars ≤ 15) (body : Statements) (bounds : Bounds) 
     reached = reached;
   }
 
-  assigned : (x : ℕ) (e : Expression) (to : ℕ) → x < vars → IsNumber vars e → (v : ℤ) → May e store v → next.store ≡ set store x v
-      → front next.todo ≡ front (rest body to) → IsReachedState vars body to next.store → (exact_form : Bool)
-      → is_exact (linear_of bounds e) ≡ exact_form
-      → LeadsOver vars body
-      (cond exact_form (record { edge = 0; target = to; asks = []; sets = Some (x, (linear_of bounds e).affine) }) (record {
-        edge = 0;
-        target = to;
-        asks = above_end (linear_of bounds e).affine (linear_of bounds e).lo ++ below_end (linear_of bounds e).affine (linear_of bounds e).hi;
-        sets = Some (x, variable_at 15);
-      }))
-      store next
-  assigned x e to low sort v may is ahead reached true form =
-      let value : v ≡ value_at (linear_of bounds e).affine store =
-      exact_value (linear_of bounds e) store v form (linear_covers bounds store inside e (number_names vars 16 (omega arith) e sort) v may) in
-      let same : value_at (linear_of bounds e).affine (set store 15 (number_at store 15)) ≡ v =
-      ap (value_at (linear_of bounds e).affine) (same_store store) ∙ sym value in record {
-        chosen = number_at store 15;
-        variable = omega arith;
-        asked = all_none (λ a. pos 0 ≤ℤ value_at (exact a) (set store 15 (number_at store 15)));
-        after = is ∙ sym (ap (λ z. set (set (set store 15 (number_at store 15)) x z) 15 (number_at store 15)) same
-            ∙ put_back store x v (number_at store 15) (omega arith));
-        same_front = ahead;
-        reached = reached;
-      }
-  assigned x e to low sort v may is ahead reached false form =
-      let covers : Covers (linear_of bounds e) store v =
-      linear_covers bounds store inside e (number_names vars 16 (omega arith) e sort) v may in
-      let unnamed : coefficient (linear_of bounds e).affine 15 ≡ pos 0 =
-      only_named 15 (omega arith) bounds e (names_free e (number_names vars 15 few e sort)) in record {
-        chosen = v;
-        variable = omega arith;
-        asked = All-append (λ a. pos 0 ≤ℤ value_at (exact a) (set store 15 v)) _ _
-            (above_met store (linear_of bounds e).affine v long unnamed (linear_of bounds e).lo covers.lower)
-            (below_met store (linear_of bounds e).affine v long unnamed (linear_of bounds e).hi covers.upper);
-        after = is ∙ sym (ap (λ z. set (set (set store 15 v) x z) 15 (number_at store 15)) (number_put store (linear_of bounds e).affine v long unnamed)
-            ∙ put_back store x v v (omega arith));
-        same_front = ahead;
-        reached = reached;
-      }
+  module _ (x : ℕ) (e : Expression) (to : ℕ) (low : x < vars) (sort : IsNumber vars e) (v : ℤ) (may : May e store v) (is : next.store ≡ set store x v)
+      (ahead : front next.todo ≡ front (rest body to)) (reached : IsReachedState vars body to next.store) where
+    abbrev form : Linear
+    form = linear_of bounds e
+
+    covers : Covers form store v
+    covers = linear_covers bounds store inside e (number_names vars 16 (omega arith) e sort) v may
+
+    -- the value of a function is put
+    put : is_exact form ≡ true → LeadsOver vars body (putting x to form.affine) store next
+    put exact_form =
+        let value : v ≡ value_at form.affine store = exact_value form store v exact_form covers in
+        let same : value_at form.affine (set store 15 (number_at store 15)) ≡ v = ap (value_at form.affine) (same_store store) ∙ sym value in record {
+          chosen = number_at store 15;
+          variable = omega arith;
+          asked = all_none (λ a. pos 0 ≤ℤ value_at (exact a) (set store 15 (number_at store 15)));
+          after = is ∙ sym (ap (λ z. set (set (set store 15 (number_at store 15)) x z) 15 (number_at store 15)) same
+              ∙ put_back store x v (number_at store 15) (omega arith));
+          same_front = ahead;
+          reached = reached;
+        }
+
+    -- a value is chosen, which meets with the store the rows of a case
+    chosen : (rows : List Row) → MeetsEach (set store 15 v) rows → LeadsOver vars body (choosing x to form rows) store next
+    chosen rows met =
+        let unnamed : coefficient form.affine 15 ≡ pos 0 = only_named 15 (omega arith) bounds e (names_free e (number_names vars 15 few e sort)) in record {
+          chosen = v;
+          variable = omega arith;
+          asked = All-append (λ a. pos 0 ≤ℤ value_at (exact a) (set store 15 v)) _ _
+              (above_met store form.affine v long unnamed form.lo covers.lower)
+              (All-append (λ a. pos 0 ≤ℤ value_at (exact a) (set store 15 v)) _ _
+              (below_met store form.affine v long unnamed form.hi covers.upper) (rows_met (set store 15 v) rows met));
+          after = is ∙ sym (ap (λ z. set (set (set store 15 v) x z) 15 (number_at store 15)) (number_put store form.affine v long unnamed)
+              ∙ put_back store x v v (omega arith));
+          same_front = ahead;
+          reached = reached;
+        }
+
+    chosen_each : (cases : List (List Row)) → MeetsOne (set store 15 v) cases → Taken vars body (choosing_each x to form cases) store next
+    chosen_each [] met = absurd met
+    chosen_each (rows ∷ more) (inl met) =
+        let arc : Arc = choosing x to form rows in (arc, contains_first arc (choosing_each x to form more), chosen rows met)
+    chosen_each (rows ∷ more) (inr met) =
+        let arc : Arc = choosing x to form rows in
+        let behind = chosen_each more met in
+        (behind.0, contains_later arc behind.0 (choosing_each x to form more) behind.1, behind.2)
+
+    assigned : Taken vars body (assigning x to form (value_rows bounds 15 e)) store next
+    assigned = by_form (is_exact form) refl where
+      by_form : (t : Bool) → is_exact form ≡ t → Taken vars body (cond t (putting x to form.affine ∷ []) (choosing_each x to form (value_rows bounds 15 e))) store next
+      by_form true exact_form = let arc : Arc = putting x to form.affine in (arc, contains_first arc [], put exact_form)
+      by_form false exact_form =
+          chosen_each (value_rows bounds 15 e)
+          (values_cover bounds (set store 15 v) (inside_with v) e (number_names vars 16 (omega arith) e sort) 15 (omega arith) v
+          (may_apart e (number_names vars 15 few e sort) store v v may) (get_or-set_same store 15 v (pos 0) (omega arith)))
 
   -- over an arc of a test's outcome, of which the store meets a conjunction
   pub tested : (edge to : ℕ) (conjunctions : List (List Row)) → MeetsOne store conjunctions → next.store ≡ store
@@ -175,11 +207,7 @@ module _ (vars : ℕ) (few : vars ≤ 15) (body : Statements) (bounds : Bounds) 
       → Taken vars body (arcs_by bounds action) store next
   over_edge label ends sorted reach edge = absurd edge
   over_edge label (assigns x e to) sorted reach (inl edge) =
-      let arc : Arc = assigning x to (linear_of bounds e) in (
-        arc,
-        contains_first arc [],
-        assigned x e to sorted.0 sorted.1 edge.0.0 edge.0.1 edge.0.2 edge.1 (reach to (inl (edge.0, refl))) (is_exact (linear_of bounds e)) refl,
-      )
+      assigned x e to sorted.0 sorted.1 edge.0.0 edge.0.1 edge.0.2 edge.1 (reach to (inl (edge.0, refl)))
   over_edge label (assigns x e to) sorted reach (inr none) = absurd none
   over_edge label (passes to) sorted reach (inl edge) =
       let arc : Arc = passing to in
@@ -213,7 +241,8 @@ module _ (vars : ℕ) (few : vars ≤ 15) (body : Statements) (valid : IsBody va
       let arc : Arc = passing 0 in (
         arc,
         contains_first arc [],
-        unset vars few body (told.bounds 0) store next (reached_places vars body 0 store reached) (lies 0 store reached) arc refl
+        unset vars few body (told.bounds 0) store next (reached_places vars body 0 store reached) (lies 0 store reached)
+            (λ z. is_true.bounds 0 store z reached) arc refl
             (all_none (λ a. pos 0 ≤ℤ value_at (exact a) store)) (ap (λ (c : Configuration). c.store) same)
             (ap (λ (c : Configuration). front c.todo) same)
             (subst (IsReachedState vars body 0) (sym (ap (λ (c : Configuration). c.store) same)) reached),
@@ -226,7 +255,7 @@ module _ (vars : ℕ) (few : vars ≤ 15) (body : Statements) (valid : IsBody va
       let low : label < length (all_labels body) = reached_label vars body label store reached in
       elim (each_successor body label low store next step) [
         | inl edge ↦ over_edge vars few body (told.bounds label) store next (reached_places vars body label store reached) (lies label store reached)
-            label (action_at body label) (labels_are_sorted vars body valid label low)
+            (λ z. is_true.bounds label store z reached) label (action_at body label) (labels_are_sorted vars body valid label low)
             (λ target leads. followed label target store next.store reached leads) edge
         | inr stay ↦ stays label store next reached stay.0 stay.1
       ]

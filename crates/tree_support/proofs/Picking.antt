@@ -75,8 +75,8 @@ module _ (vars : ℕ) (few : vars ≤ 15) (body : Statements) (valid : IsBody va
         let met = spread_covers (told.bounds label) store inside c named outcome may in (
           lands.0,
           inl lands.1,
-          tested vars few body (told.bounds label) store lands.0 (reached_places vars body label store reached) inside edge to
-              (spread_of (told.bounds label) c outcome) met lands.2 lands.3 there,
+          tested vars few body (told.bounds label) store lands.0 (reached_places vars body label store reached) inside
+              (λ z. is_true.bounds label store z reached) edge to (spread_of (told.bounds label) c outcome) met lands.2 lands.3 there,
         )
 
     of_test : (head : Bool) (c : Expression) (p q : ℕ) → action_at body label ≡ tests head c p q → Reaches (tests head c p q)

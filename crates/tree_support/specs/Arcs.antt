@@ -1,4 +1,4 @@
--- The edges of a program as the check follows them: one arc for each conjunction that an edge's test spreads to.
+-- The edges of a program as the check follows them: one arc for each conjunction that an edge's test spreads to, or that its assignment's value comes down to.
 use Rattle.std.specs.Prelude.{ℕ, ℤ, Bool, true, false, List, [], ◌∷◌, ◌++◌, map, Option, None, Some, if◌then◌else◌}
 use Rattle.step_meaning.specs.Syntax.{Statements}
 use Rattle.linear_cons.specs.declared.affine.Affine.{Affine}
@@ -8,6 +8,7 @@ use Rattle.linear_cons.specs.declared.row.Row.{Row}
 use Rattle.linear_cons.specs.Functions.{constant_of, variable_at}
 use Rattle.linear_forms.specs.Linearising.{is_exact, linear_of}
 use Rattle.linear_forms.specs.Spreading.{spread_of}
+use Rattle.quotient_cases.specs.Cases.{value_rows}
 use Rattle.control_flow.specs.declared.edge.Choice.{Choice}
 use Rattle.control_flow.specs.Edges.{choice_by}
 use Rattle.control_flow.specs.Labels.{Action, ends, assigns, passes, tests, action_at}
@@ -36,21 +37,24 @@ abbrev pub below_end : Affine → Option ℤ → List Formed
 below_end a None = []
 below_end a (Some hi) = minus (plus (given a) (given (constant_of hi))) (given (variable_at chosen_place)) ∷ []
 
--- an assignment: the place gets the value of a function, or a chosen value that lies between the ends of a linear form
+-- an assignment: the place gets the value of a function, or a chosen value that lies between the ends of a linear form and meets rows with the store
 abbrev pub putting : ℕ → ℕ → Affine → Arc
 putting x next a = record { edge = 0; target = next; asks = []; sets = Some (x, a) }
 
-abbrev pub choosing : ℕ → ℕ → Linear → Arc
-choosing x next value = record {
+abbrev pub choosing : ℕ → ℕ → Linear → List Row → Arc
+choosing x next value rows = record {
   edge = 0;
   target = next;
-  asks = above_end value.affine value.lo ++ below_end value.affine value.hi;
+  asks = above_end value.affine value.lo ++ (below_end value.affine value.hi ++ rows_given rows);
   sets = Some (x, variable_at chosen_place);
 }
 
--- the one where the form is exact, else the other
-abbrev pub assigning : ℕ → ℕ → Linear → Arc
-assigning x next value = if is_exact value then putting x next value.affine else choosing x next value
+-- the one where the form is exact, else the other for each case of the value
+abbrev pub choosing_each : ℕ → ℕ → Linear → List (List Row) → List Arc
+choosing_each x next value cases = map (λ rows. choosing x next value rows) cases
+
+abbrev pub assigning : ℕ → ℕ → Linear → List (List Row) → List Arc
+assigning x next value cases = if is_exact value then putting x next value.affine ∷ [] else choosing_each x next value cases
 
 -- an edge that changes nothing
 abbrev pub passing : ℕ → Arc
@@ -64,7 +68,7 @@ testing edge next conjunctions = map (λ rows. record { edge = edge; target = ne
 -- the false one 1. Label 0 has one to itself.
 abbrev pub arcs_by : Bounds → Action → List Arc
 arcs_by bounds ends = passing 0 ∷ []
-arcs_by bounds (assigns x e next) = assigning x next (linear_of bounds e) ∷ []
+arcs_by bounds (assigns x e next) = assigning x next (linear_of bounds e) (value_rows bounds chosen_place e)
 arcs_by bounds (passes next) = passing next ∷ []
 arcs_by bounds (tests head c then_to else_to) = testing 0 then_to (spread_of bounds c true) ++ testing 1 else_to (spread_of bounds c false)
 
@@ -105,7 +109,7 @@ arcs_of End = passing 0 ∷ []
 arcs_of Dead = []
 arcs_of (Pass to) = passing to ∷ []
 arcs_of (Assign place value to) = putting place.number to value ∷ []
-arcs_of (Choose place range choice to) = choosing place.number to range ∷ []
+arcs_of (Choose place range choice cases to) = choosing_each place.number to range cases.items
 arcs_of (Test head choice holds fails to other) = testing 0 to holds.items ++ testing 1 other fails.items
 
 abbrev pub outcome_arcs : Transition → Bool → List Arc
@@ -115,5 +119,5 @@ outcome_arcs transition outcome = []
 
 abbrev pub value_arcs : Transition → Affine → List Arc
 value_arcs (Assign place value to) a = putting place.number to a ∷ []
-value_arcs (Choose place range choice to) a = putting place.number to a ∷ []
+value_arcs (Choose place range choice cases to) a = putting place.number to a ∷ []
 value_arcs transition a = []

@@ -20,7 +20,7 @@ pub does_over : (action : Action) (transition : Transition) → IsPlainAction ac
 does_over ends End plain fits is = tt
 does_over (assigns x e next) (Assign place value to) plain fits is =
     (is.0, is.1, is.3 ∙ ap (λ (l : Linear). l.affine) (linear_exact anywhere e plain fits))
-does_over (assigns x e next) (Choose place range choice to) plain fits is =
+does_over (assigns x e next) (Choose place range choice cases to) plain fits is =
     let exact : is_exact (linear_of anywhere e) ≡ true = ap is_exact (linear_exact anywhere e plain fits) in
     let not : true ≡ false = sym exact ∙ is.2 in absurd (cc)
 does_over (passes next) (Pass to) plain fits is = is
@@ -46,7 +46,7 @@ DoneBy action End = ends ≡ action
 DoneBy action Dead = ⊥
 DoneBy action (Pass to) = passes to ≡ action
 DoneBy action (Assign place value to) = IsAssignment action place.number value to
-DoneBy action (Choose place range choice to) = ⊥
+DoneBy action (Choose place range choice cases to) = ⊥
 DoneBy action (Test is_head choice holds fails to other) = IsTesting action holds.items fails.items to other
 
 pub done_by : (action : Action) (transition : Transition) → Does action transition → DoneBy action transition

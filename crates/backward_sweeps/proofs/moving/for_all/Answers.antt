@@ -47,18 +47,18 @@ returns-in-Assign-clause-wide c =
 
 pub returns-in-Choose-clause-tree : goal.returns-in-Choose-clause-tree
 returns-in-Choose-clause-tree c =
-    one_carries c.args.trees.now (Choose c.in-Choose.place c.in-Choose.range c.in-Choose.choice c.in-Choose.to) c.args.transition.now c.in-Choose.is c.index-trees-to-in-Choose.result c.index-trees-to-in-Choose.is refl c.requires
+    one_carries c.args.trees.now (Choose c.in-Choose.place c.in-Choose.range c.in-Choose.choice c.in-Choose.cases c.in-Choose.to) c.args.transition.now c.in-Choose.is c.index-trees-to-in-Choose.result c.index-trees-to-in-Choose.is refl c.requires
     (λ a this that. IfOk c.back_range.result (λ tree. plan_of tree ≡ before_all a this that)) c.back_range.ensures.tree
 
 pub returns-in-Choose-clause-full : goal.returns-in-Choose-clause-full
 returns-in-Choose-clause-full c =
-    one_carries c.args.trees.now (Choose c.in-Choose.place c.in-Choose.range c.in-Choose.choice c.in-Choose.to) c.args.transition.now c.in-Choose.is c.index-trees-to-in-Choose.result c.index-trees-to-in-Choose.is refl c.requires
+    one_carries c.args.trees.now (Choose c.in-Choose.place c.in-Choose.range c.in-Choose.choice c.in-Choose.cases c.in-Choose.to) c.args.transition.now c.in-Choose.is c.index-trees-to-in-Choose.result c.index-trees-to-in-Choose.is refl c.requires
     (λ a this that. (count : ℕ) → c.back_range.result ≡ Err (TooFull count) → AreAllSmall a this that → ⊥)
     (λ count is small. (c.back_range.ensures.full count is).1 small)
 
 pub returns-in-Choose-clause-wide : goal.returns-in-Choose-clause-wide
 returns-in-Choose-clause-wide c =
-    one_carries c.args.trees.now (Choose c.in-Choose.place c.in-Choose.range c.in-Choose.choice c.in-Choose.to) c.args.transition.now c.in-Choose.is c.index-trees-to-in-Choose.result c.index-trees-to-in-Choose.is refl c.requires
+    one_carries c.args.trees.now (Choose c.in-Choose.place c.in-Choose.range c.in-Choose.choice c.in-Choose.cases c.in-Choose.to) c.args.transition.now c.in-Choose.is c.index-trees-to-in-Choose.result c.index-trees-to-in-Choose.is refl c.requires
     (λ a this that. (w : Wide) → c.back_range.result ≡ Err (TooWide w) → AllFit a this that → ⊥)
     (λ w is fits. c.back_range.ensures.wide w is fits.0 fits.1)
 

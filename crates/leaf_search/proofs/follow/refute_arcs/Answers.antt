@@ -4,7 +4,7 @@ use Rattle.decision_tree.specs.Plans.{plan_of}
 use Rattle.tree_support.specs.Setting.{trees_in}
 use Rattle.constraint_stack.specs.Stacks.{all_asked}
 use Rattle.constraint_stack.proofs.Choosing.{held_same}
-use Rattle.leaf_search.proofs.Following.{chosen_searched, test_found, test_searched}
+use Rattle.leaf_search.proofs.Following.{test_found, test_searched}
 use Rattle.leaf_search.proofs.follow.refute_arcs.Goals as goal
 
 pub returns-in-End-clause-searched : goal.returns-in-End-clause-searched
@@ -18,8 +18,8 @@ returns-in-Assign-clause-searched g c = rw c.in-Assign.is c.refute_put.ensures.s
 
 pub returns-in_ok-refuted-in-Choose-clause-searched : goal.returns-in_ok-refuted-in-Choose-clause-searched
 returns-in_ok-refuted-in-Choose-clause-searched g c asks held =
-    let searched = c.in_ok-refuted-in-Choose.ensures.searched asks held in
-    rw c.in-Choose.is (chosen_searched g.R.Rank (trees_in (map plan_of c.args.trees.now)) c.args.limit c.in-Choose.place.number c.in-Choose.to c.in-Choose.range asks c.in_ok-refuted-in-Choose.refuted c.refute_above.new.found (rw c.var.ensures at searched))
+    let searched = rw c.deref.ensures.value at c.in_ok-refuted-in-Choose.ensures.searched asks held in
+    rw c.in-Choose.is searched
 
 pub returns-then-branch-clause-searched : goal.returns-then-branch-clause-searched
 returns-then-branch-clause-searched g c asks held =

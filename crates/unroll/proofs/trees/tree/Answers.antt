@@ -306,4 +306,4 @@ returns-in-End-clause-tells c limit left allows behind =
     absurd
     (⊎_elim (λ is. none (done_at body c.args.steps.now c.requires.done c.args.label c.requires.within c.index-steps-label.result End c.index-steps-label.is is))
     (λ other. ⊎_elim (λ is. done_at body c.args.steps.now c.requires.done c.args.label c.requires.within c.index-steps-label.result Dead c.index-steps-label.is is)
-    (λ some. done_at body c.args.steps.now c.requires.done c.args.label c.requires.within c.index-steps-label.result _ c.index-steps-label.is some.4) other) c.in-End.is)
+    (λ some. done_at body c.args.steps.now c.requires.done c.args.label c.requires.within c.index-steps-label.result _ c.index-steps-label.is some.5) other) c.in-End.is)
