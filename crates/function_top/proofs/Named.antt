@@ -1,6 +1,7 @@
 -- The names of a program are names of variables, and no two of them are equal.
-use Rattle.std.proofs.Common.{ℕ, ◌||◌, List, IsTrue}
+use Rattle.std.proofs.Common.{ℕ, ◌||◌, ◌==◌, List, IsTrue}
 use Rattle.std.specs.Char.{is_ascii_digit}
+use Rattle.std.proofs.lemmas.Bool.{or_left}
 use Rattle.std.proofs.lemmas.List.Elements.{All-weaker}
 use Rattle.step_meaning.specs.Syntax.{Statements}
 use Rattle.source_lex.specs.Bytes.{is_letter, is_digit, is_name_byte}
@@ -13,15 +14,15 @@ letter_begins : (byte : ℕ) → IsTrue (is_letter byte) → IsTrue (begins_name
 unfolding is_letter
 letter_begins byte h = h
 
-name_byte : (byte : ℕ) → IsTrue (is_name_byte byte) → IsTrue (begins_name byte || is_ascii_digit byte)
+name_byte : (byte : ℕ) → IsTrue (is_name_byte byte) → IsTrue (begins_name byte || is_ascii_digit byte || byte == 46)
 unfolding is_letter is_digit is_name_byte
-name_byte byte h = h
+name_byte byte h = or_left _ _ h
 
 spelled_name : (name : List ℕ) → SpellsName name → IsName name
 spelled_name name is = record {
   nonempty = is.nonempty;
   begins = letter_begins _ is.starts;
-  each = All-weaker (λ byte. IsTrue (is_name_byte byte)) (λ byte. IsTrue (begins_name byte || is_ascii_digit byte)) name_byte name is.each;
+  each = All-weaker (λ byte. IsTrue (is_name_byte byte)) (λ byte. IsTrue (begins_name byte || is_ascii_digit byte || byte == 46)) name_byte name is.each;
 }
 
 pub program_names : NamesAreNames → NamesAreDistinct → (text : List ℕ) (names : List (List ℕ)) (body : Statements) → IsProgramText text names body → AreNames names

@@ -1,5 +1,5 @@
 -- A text is of at most one input.
-use Rattle.std.proofs.Common.{◌≡◌, ◌≢◌, inl, inr, ◌∙◌, ℕ, suc, ◌<◌, ◌||◌, ℤ, pos, neg_ℤ, List, [], ◌∷◌, ◌++◌, length, All, Any, IsTrue, refl, sym, ap, subst, arith}
+use Rattle.std.proofs.Common.{◌≡◌, ◌≢◌, inl, inr, ◌∙◌, ℕ, suc, ◌<◌, ◌||◌, ◌==◌, ℤ, pos, neg_ℤ, List, [], ◌∷◌, ◌++◌, length, All, Any, IsTrue, refl, sym, ap, subst, arith}
 use Rattle.std.specs.Char.{is_ascii_digit}
 use Rattle.std.specs.Prelude.{⊤}
 use Rattle.std.proofs.lemmas.Bool.{cases_lt}
@@ -31,10 +31,10 @@ abbrev LacksSign : List ℕ → Type 0
 LacksSign [] = ⊤
 LacksSign (byte ∷ more) = (byte ≢ 61) × LacksSign more
 
-not_sign : (byte : ℕ) → IsTrue (begins_name byte || is_ascii_digit byte) → byte ≢ 61
+not_sign : (byte : ℕ) → IsTrue (begins_name byte || is_ascii_digit byte || byte == 46) → byte ≢ 61
 not_sign byte is = grind (arith, nat_tests)
 
-lacks_sign : (bytes : List ℕ) → All (λ byte. IsTrue (begins_name byte || is_ascii_digit byte)) bytes → LacksSign bytes
+lacks_sign : (bytes : List ℕ) → All (λ byte. IsTrue (begins_name byte || is_ascii_digit byte || byte == 46)) bytes → LacksSign bytes
 lacks_sign [] all = tt
 lacks_sign (byte ∷ bytes) all = (not_sign byte (all 0 0 (omega arith)), lacks_sign bytes (λ k d low. all (suc k) d (omega arith)))
 

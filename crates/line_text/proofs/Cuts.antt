@@ -3,9 +3,9 @@ use Rattle.std.proofs.Common.{◌≡◌, ℕ, Bool, true, false, ◌||◌, ltb, 
 use Rattle.std.specs.Prelude.{⊤}
 use Rattle.std.proofs.lemmas.Bool.Decides.{nat_tests}
 
--- a byte that no word has: one below the digits (newline, blank, `*`, `+`, `-`), or a colon
+-- a byte that no word has: one below the dot (newline, blank, `*`, `+`, `-`), or a colon
 abbrev pub is_stop : ℕ → Bool
-is_stop byte = ltb byte 48 || eqb byte 58
+is_stop byte = ltb byte 46 || eqb byte 58
 
 -- no byte of the word is one of those
 abbrev pub IsWord : List ℕ → Type 0

@@ -1,5 +1,5 @@
 -- Names and numerals as words: no byte of them ends a word, a name begins above the digits, a numeral with one, and numerals are read back.
-use Rattle.std.proofs.Common.{◌≡◌, ℕ, suc, ◌+◌, ◌%◌, ◌<◌, false, ◌||◌, List, [], ◌∷◌, ◌++◌, length, get_or, IsTrue, All, sym, ap, ◌∙◌, arith}
+use Rattle.std.proofs.Common.{◌≡◌, ℕ, suc, ◌+◌, ◌%◌, ◌<◌, false, ◌||◌, ◌==◌, List, [], ◌∷◌, ◌++◌, length, get_or, IsTrue, All, sym, ap, ◌∙◌, arith}
 use Rattle.std.proofs.lemmas.Bool.Decides.{nat_tests}
 use Rattle.std.proofs.lemmas.Int.Digits.{digits_value_push, digits_push}
 use Rattle.std.specs.Char.{digit_value, is_ascii_digit}
@@ -18,7 +18,7 @@ abbrev pub BeginsDigit : List ℕ → Type 0
 BeginsDigit [] = ⊥
 BeginsDigit (byte ∷ bytes) = byte < 58
 
-name_byte : (byte : ℕ) → IsTrue (begins_name byte || is_ascii_digit byte) → is_stop byte ≡ false
+name_byte : (byte : ℕ) → IsTrue (begins_name byte || is_ascii_digit byte || byte == 46) → is_stop byte ≡ false
 name_byte byte h = grind (arith, nat_tests)
 
 letter_above : (byte : ℕ) → IsTrue (begins_name byte) → 58 < byte
@@ -30,7 +30,7 @@ digit_byte d low = grind (arith, nat_tests)
 digit_read : (d : ℕ) → d < 10 → digit_value (48 + d) ≡ d
 digit_read d low = grind (arith, nat_tests)
 
-word_of : (bytes : List ℕ) → All (λ byte. IsTrue (begins_name byte || is_ascii_digit byte)) bytes → IsWord bytes
+word_of : (bytes : List ℕ) → All (λ byte. IsTrue (begins_name byte || is_ascii_digit byte || byte == 46)) bytes → IsWord bytes
 word_of [] all = tt
 word_of (byte ∷ bytes) all = (name_byte byte (all 0 0 (omega arith)), word_of bytes (λ k d low. all (suc k) d (omega arith)))
 

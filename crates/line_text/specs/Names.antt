@@ -17,11 +17,11 @@ pub record IsOver (names : List (List ℕ)) (affine : Affine) : Type 0 where
 abbrev pub begins_name : ℕ → Bool
 begins_name byte = is_ascii_alphabetic byte || byte == 95
 
--- a letter or `_`, and then letters, digits and `_`
+-- a letter or `_`, and then letters, digits, `_` and dots
 pub record IsName (name : List ℕ) : Type 0 where
   pub nonempty : 0 < length name
   pub begins : IsTrue (begins_name (slice_index name 0))
-  pub each : All (λ byte. IsTrue (begins_name byte || is_ascii_digit byte)) name
+  pub each : All (λ byte. IsTrue (begins_name byte || is_ascii_digit byte || byte == 46)) name
 
 -- each of the list is a name, and no two of them are equal
 pub record AreNames (names : List (List ℕ)) : Type 0 where
