@@ -23,8 +23,8 @@ const SWEEPS: u32 = 32;
 /// Trees for the labels, at which this is done, proposed for an until of these operands: in each sweep, from the greatest label to the
 /// first, a label's tree is made from those of its successors, and from sweep `max(delay, 1) + 1` on that of a loop's head is widened and
 /// pruned. The sweeps end where one changes nothing, and at the latest after 32. At the end the goal has to hold; a label at which no run
-/// comes claims everything, and one whose tree can't be made, since a number passes 128 bits or the nodes 65,536, claims nothing. The only
-/// error is want of memory.
+/// comes claims everything, and one whose tree can't be made, since a number passes 128 bits, its nodes 65,536 or those of all trees 2^20,
+/// claims nothing. The only error is want of memory.
 pub fn swept<D: NumDomain>(
     alloc: Global,
     inv: &Inv<D>,

@@ -23,7 +23,8 @@ use Rattle.call_meaning.specs.Validity.{AreRoutines}
 use Rattle.call_meaning.specs.Runs.{framed}
 use Rattle.step_meaning.specs.Systems.{EndsWithin, Longest}
 use Rattle.ctl_formula.specs.Systems.{Sat, Within}
-use Rattle.ctl_formula.specs.Bisimulations.{EachRow, IsBisimulation}
+use Rattle.ctl_formula.specs.Bisimulations.{IsBisimulation}
+use Rattle.ctl_formula.specs.Rows.{EachRow}
 use Rattle.call_inline.proofs.Standing.{FramesStand}
 use Rattle.call_inline.proofs.Stepping.{InStep}
 use Rattle.ctl_formula.proofs.Agreeing.{flipped, same_ends, same_sat, same_within}

@@ -6,7 +6,7 @@ ghost use Rattle.step_meaning.specs.Outcome.{Store};
 ghost use Rattle.step_meaning.specs.Run.{EndsWithin, Longest, start};
 ghost use Rattle.step_meaning.specs.Systems as systems;
 ghost use Rattle.ctl_formula.specs.Formulas.{Ctl};
-ghost use Rattle.ctl_formula.specs.Bisimulations.{EachRow};
+ghost use Rattle.ctl_formula.specs.Rows.{EachRow};
 ghost use Rattle.ctl_formula.specs.Satisfaction.{Sat, Within};
 ghost use Rattle.ctl_formula.specs.Systems as formulas;
 ghost use Rattle.call_meaning.specs.Units.{Table};

@@ -1,11 +1,9 @@
 -- That a unit is valid has one proof at most, so that the type `Unit` may keep the fact. Nothing else is said here.
-use Rattle.std.specs.Prelude.{ℕ, ℤ, Bool, true, false, ◌⊎◌, Option, None, Some, List, [], ◌∷◌, length, All}
+use Rattle.std.specs.Prelude.{ℕ, Bool, true, false, ◌⊎◌, Option, None, Some, List, [], ◌∷◌, length, All}
 use Rattle.std.proofs.Common.{inl, inr, ap}
 use denote.Struct.Props as logic
-use Rattle.step_meaning.specs.Syntax.{Expression, range, negative, negation, pair, divided}
-use Rattle.step_meaning.specs.declared.expression.Op2.{Op2}
-use Rattle.step_meaning.specs.declared.expression.Op2.TheVariants.{Add, Sub, Mul, And, Or}
-use Rattle.step_meaning.specs.Valid.{IsInOrder, MakesNumber, MakesTest, IsNumber, IsTest}
+use Rattle.step_meaning.specs.Syntax.{Expression, negative, negation, pair, divided}
+use Rattle.step_meaning.specs.ValidOnce.{IsNumber-prop, IsTest-prop}
 use Rattle.call_meaning.specs.declared.statement.UnitBlock.{UnitBlock}
 use Rattle.call_meaning.specs.declared.statement.Func.{Func}
 use Rattle.call_meaning.specs.Units.{Command, Commands, assign, call, skip, return, break, continue, if_else, while_loop, do_while, empty, sequence, Table}
@@ -15,44 +13,7 @@ use Rattle.call_meaning.specs.Tables.{commands, table_of}
 use Rattle.call_meaning.specs.Valid.{IsUnit}
 use Rattle.call_meaning.specs.Validity.{MayAsk, Stands, AllStand, Gives, IsClosing, Closes, AreRoutines}
 
--- ── Sorts, of expressions as it is shown for programs ──
-
-IsInOrder-prop : (lo hi : Option ℤ) → IsProp (IsInOrder lo hi)
-IsInOrder-prop (Some lo) (Some hi) = Prim.hlevel logic.props
-IsInOrder-prop (Some lo) None = Prim.hlevel logic.props
-IsInOrder-prop None hi = Prim.hlevel logic.props
-
-MakesNumber-prop : (op : Op2) {both : Type 0} → IsProp both → IsProp (MakesNumber op both)
-MakesNumber-prop Add h = h
-MakesNumber-prop Sub h = h
-MakesNumber-prop Mul h = h
-MakesNumber-prop _ h = Prim.hlevel logic.props
-
-MakesTest-prop : (op : Op2) {numbers tests : Type 0} → IsProp numbers → IsProp tests → IsProp (MakesTest op numbers tests)
-MakesTest-prop Add h k = Prim.hlevel logic.props
-MakesTest-prop Sub h k = Prim.hlevel logic.props
-MakesTest-prop Mul h k = Prim.hlevel logic.props
-MakesTest-prop And h k = k
-MakesTest-prop Or h k = k
-MakesTest-prop _ h k = h
-
-IsNumber-prop : (vars : ℕ) (e : Expression) → IsProp (IsNumber vars e)
-IsNumber-prop vars (range lo hi) = IsInOrder-prop lo hi
-IsNumber-prop vars (divided division e b) = Prim.hlevel (IsNumber-prop vars e, logic.props)
-IsNumber-prop vars (negative e) = IsNumber-prop vars e
-IsNumber-prop vars (pair op l r) =
-    let left = IsNumber-prop vars l in
-    let right = IsNumber-prop vars r in
-    MakesNumber-prop op (Prim.hlevel (left, right, logic.props))
-IsNumber-prop vars _ = Prim.hlevel logic.props
-
-IsTest-prop : (vars : ℕ) (c : Expression) → IsProp (IsTest vars c)
-IsTest-prop vars (negation c) = IsTest-prop vars c
-IsTest-prop vars (pair op l r) =
-    MakesTest-prop op
-    (Prim.hlevel (IsNumber-prop vars l, IsNumber-prop vars r, logic.props))
-    (Prim.hlevel (IsTest-prop vars l, IsTest-prop vars r, logic.props))
-IsTest-prop vars _ = Prim.hlevel logic.props
+-- ── Sorts ──
 
 AllNumbers-prop : (vars : ℕ) (arguments : List Expression) → IsProp (AllNumbers vars arguments)
 AllNumbers-prop vars [] = Prim.hlevel logic.props

@@ -4,7 +4,8 @@ use Rattle.linear_cons.specs.declared.affine.Affine.{Affine}
 use Rattle.ctl_formula.specs.Formulas.{Ctl, truth, falsity, exit, not_exit, always, never, least, negation, both, either, next, until, weak}
 use Rattle.step_meaning.specs.Systems.{System, Next, EndsWithin, Longest}
 use Rattle.ctl_formula.specs.Systems.{Ahead, UntilIn, WeakIn, Sat, Within}
-use Rattle.ctl_formula.specs.Bisimulations.{EachRow, IsBisimulation}
+use Rattle.ctl_formula.specs.Bisimulations.{IsBisimulation}
+use Rattle.ctl_formula.specs.Rows.{EachRow}
 
 pub flipped : (S T : System) (Asked : Affine → Type 0) (R : S.State → T.State → Type 0) → IsBisimulation S T Asked R → IsBisimulation T S Asked (λ d c. R c d)
 flipped S T Asked R b = record {

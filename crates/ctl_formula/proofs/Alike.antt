@@ -4,7 +4,8 @@ use Rattle.std.proofs.Common.{refl, sym, ap}
 use Rattle.step_meaning.specs.Step.{Configuration, front, programs}
 use Rattle.step_meaning.proofs.Front.{same_end, same_steps}
 use Rattle.linear_cons.specs.Functions.{value_at}
-use Rattle.ctl_formula.specs.Bisimulations.{EachRow, IsBisimulation}
+use Rattle.ctl_formula.specs.Bisimulations.{IsBisimulation}
+use Rattle.ctl_formula.specs.Rows.{EachRow}
 use Rattle.ctl_formula.specs.Formulas.{Ctl, truth, falsity, exit, not_exit, always, never, least, negation, both, either, next, until, weak}
 use Rattle.ctl_formula.specs.Satisfaction.{Sat, UntilIn, WeakIn, WithinBound}
 use Rattle.ctl_formula.proofs.Agreeing.{same_sat, same_within, until_same, weak_same}

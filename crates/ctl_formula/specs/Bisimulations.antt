@@ -1,25 +1,8 @@
 -- When two transition systems are in step.
-use Rattle.std.specs.Prelude.{◌≡◌, ⊤}
+use Rattle.std.specs.Prelude.{◌≡◌}
 use Rattle.linear_cons.specs.declared.affine.Affine.{Affine}
 use Rattle.linear_cons.specs.Functions.{value_at}
 use Rattle.step_meaning.specs.Systems.{System}
-use Rattle.ctl_formula.specs.Formulas.{Ctl, truth, falsity, exit, not_exit, always, never, least, negation, both, either, next, until, weak}
-
--- each row that the formula asks about has the property
-abbrev pub EachRow : (Affine → Type 0) → Ctl → Type 0
-EachRow P truth = ⊤
-EachRow P falsity = ⊤
-EachRow P exit = ⊤
-EachRow P not_exit = ⊤
-EachRow P always = ⊤
-EachRow P never = ⊤
-EachRow P (least a) = P a
-EachRow P (negation f) = EachRow P f
-EachRow P (both f g) = EachRow P f × EachRow P g
-EachRow P (either f g) = EachRow P f × EachRow P g
-EachRow P (next all f) = EachRow P f
-EachRow P (until all f g) = EachRow P f × EachRow P g
-EachRow P (weak all f g) = EachRow P f × EachRow P g
 
 -- The relation joins states of two systems only where the functions that are asked about have the same values at their stores, where they are final alike, and where
 -- each step of the one is matched by one of the other to states that it joins again.

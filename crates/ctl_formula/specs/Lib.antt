@@ -1,4 +1,5 @@
 pub mod Formulas
+pub mod Rows
 pub mod Mirror
 pub mod Parts
 pub mod Systems

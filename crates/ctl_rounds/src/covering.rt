@@ -1,18 +1,17 @@
 //! The first claims of families.
 ghost use Rattle.std.specs.Prelude.{◌≡◌, ◌↔◌, All, IfOk, IsTrue, None, Some, length, option_map};
 ghost use Rattle.step_meaning.specs.Syntax.{statements};
-ghost use Rattle.control_flow.specs.Labels.{all_labels, entry_of};
+ghost use Rattle.control_flow.specs.Labels.{all_labels};
 ghost use Rattle.decision_tree.specs.Extent.{ComplementsFit, IsWhole};
 ghost use Rattle.decision_tree.specs.Plans.{plan_of};
-ghost use Rattle.tree_support.specs.Setting.{trees_in};
 ghost use Rattle.ctl_rounds.specs.Covers.{Extends, IsCover, LeavesOpen, claims_of};
 ghost use Rattle.ctl_rounds.specs.Growing.{next_of};
 
 use crate::certificate::Certificate;
 use control_flow::Graph;
-use control_flow::laws::edges_lead_to_labels;
-use decision_tree::{AffineRank, Family, Tree};
+use decision_tree::{AffineRank, Tree};
 use std::alloc::{AllocError, Global};
+use tree_support::tree_at_entry;
 use tree_unify::{TreeFault, either};
 
 /// The most nodes of a cover, leaves included.
@@ -38,18 +37,6 @@ pub fn cover(
         }
     }
     Ok(claims(cover))
-}
-
-/// The tree of the family at the entry.
-pub(crate) fn tree_at_entry<'f>(
-    graph: &Graph,
-    family: &'f Family<AffineRank>,
-) -> &'f Tree<AffineRank>
-    requires { length family.now.trees ≡ length (all_labels (statements graph.now.body)) }
-    ensures { plan_of result.now ≡ trees_in family.now.trees (entry_of (statements graph.now.body)) }
-{
-    edges_lead_to_labels();
-    &family.trees.items()[graph.entry() as usize]
 }
 
 /// Whether the cover of the certificate's families has an undefined leaf. The only error is want of memory.

@@ -9,7 +9,7 @@ ghost use Rattle.step_meaning.specs.Syntax.{statements};
 ghost use Rattle.exact_families.specs.Completeness.{IsLoopless};
 ghost use Rattle.ctl_rounds.specs.Finding.{AreFoundSoFar, BeginsExactly, IsInquiry, IsTop};
 
-use crate::covering::{extended, tree_at_entry};
+use crate::covering::extended;
 use crate::inquiry::Inquiry;
 use crate::tops::Tops;
 use advice::{Adviser, Hint, consult};
@@ -21,6 +21,7 @@ use loop_moves::Search;
 use num_domain::NumDomain;
 use part_trees::Claims;
 use std::alloc::AllocError;
+use tree_support::tree_at_entry;
 
 /// The most turns of advice.
 const TURNS: u32 = 8;

@@ -5,7 +5,7 @@ ghost use Rattle.step_meaning.specs.Syntax.{statements};
 ghost use Rattle.exact_families.specs.Completeness.{IsLoopless};
 ghost use Rattle.ctl_rounds.specs.Finding.{AreFoundSoFar, BeginsExactly, IsInquiry, IsTop};
 
-use crate::covering::{extended, tree_at_entry};
+use crate::covering::extended;
 use crate::inquiry::Inquiry;
 use crate::tops::Tops;
 use crate::until_kind::UntilKind;
@@ -15,6 +15,7 @@ use num_domain::NumDomain;
 use part_trees::Claims;
 use rank_synthesis::Synthesis;
 use std::alloc::AllocError;
+use tree_support::tree_at_entry;
 
 impl<'a, D: NumDomain> Inquiry<'a, D> {
     /// Adds what the check leaves of families that linear programs propose for an until or a weak until of a program with loops, as long as some input

@@ -1,21 +1,19 @@
 //! The tree that tells from which inputs the runs of a program stay within the numbers of 32 bits.
-ghost use Rattle.std.specs.Prelude.{◌≡◌, IfOk, length};
+ghost use Rattle.std.specs.Prelude.{IfOk, length};
 ghost use Rattle.step_meaning.specs.Syntax.{statements};
-ghost use Rattle.control_flow.specs.Labels.{all_labels, entry_of};
 ghost use Rattle.decision_tree.specs.Plans.{plan_of};
-ghost use Rattle.tree_support.specs.Setting.{trees_in};
 ghost use Rattle.int_fit.specs.Narrowing.{narrowed};
 ghost use Rattle.fit_check.specs.Safety.{IsFitTree};
 
 use crate::family::fit_family;
-use control_flow::laws::edges_lead_to_labels;
 use control_flow::{FlowFault, Graph, LABELS};
-use decision_tree::{AffineRank, Family, Tree};
+use decision_tree::{AffineRank, Tree};
 use forward_inv::{Inv, invariants};
 use int_fit::{guard, narrow, what_fits_behind_the_guard_fits};
 use num_domain::NumDomain;
 use std::alloc::{AllocError, Global};
 use step_meaning::Program;
+use tree_support::tree_at_entry;
 
 /// A tree: where it is defined at an input, the runs of the program from there stay within the numbers of 32 bits, where each `?` that is a number is one
 /// of these. The program has so many labels; where there is room for one more, the invariants know that each variable is such a number, since the
@@ -65,13 +63,4 @@ fn at_entry<D: NumDomain>(alloc: Global, graph: &Graph) -> Result<Tree<AffineRan
     let family = fit_family(alloc, graph, &inv)?;
     let tree = tree_at_entry(graph, &family).copy(alloc)?;
     Ok(tree)
-}
-
-/// The tree of the family at the entry.
-fn tree_at_entry<'f>(graph: &Graph, family: &'f Family<AffineRank>) -> &'f Tree<AffineRank>
-    requires { length family.now.trees ≡ length (all_labels (statements graph.now.body)) }
-    ensures { plan_of result.now ≡ trees_in family.now.trees (entry_of (statements graph.now.body)) }
-{
-    edges_lead_to_labels();
-    &family.trees.items()[graph.entry() as usize]
 }

@@ -3,7 +3,7 @@ use Rattle.std.specs.Prelude.{ℕ, Bool, true, false, List, ◌++◌, codes}
 use Rattle.line_text.specs.LineText.{row_text}
 use Rattle.line_text.specs.Names.{IsOver}
 use Rattle.ctl_formula.specs.Formulas.{Ctl, truth, falsity, exit, not_exit, always, never, least, negation, both, either, next, until, weak}
-use Rattle.normal_form.specs.Rows.{EachRow}
+use Rattle.ctl_formula.specs.Rows.{EachRow}
 
 -- what is said of all runs begins with `A`, what is said of some run with `E`
 abbrev pub next_text : Bool → List ℕ

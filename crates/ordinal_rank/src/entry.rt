@@ -2,12 +2,11 @@
 ghost use Rattle.std.specs.Prelude.{◌≡◌, ◌⊎◌, ◌≤◌, ℤ, List, IfOk, length};
 ghost use Rattle.step_meaning.specs.Syntax.{statements};
 ghost use Rattle.control_flow.specs.Invariants.{AreInvariants};
-ghost use Rattle.control_flow.specs.Labels.{all_labels, entry_of};
+ghost use Rattle.control_flow.specs.Labels.{all_labels};
 ghost use Rattle.control_flow.specs.Told.{told_by};
 ghost use Rattle.control_flow.specs.Transitions.{AreOnward, AreTold};
 ghost use Rattle.decision_tree.specs.Evaluation.{eval};
 ghost use Rattle.decision_tree.specs.Plans.{plan_of};
-ghost use Rattle.tree_support.specs.Setting.{trees_in};
 ghost use Rattle.ordinal_rank.specs.Families.{BoundsEnds, IsFit};
 
 use crate::cells::followed;
@@ -18,14 +17,14 @@ use crate::lacking::lacks;
 use crate::ordinal::OrdinalRank;
 use crate::sweeps::swept;
 use backward_sweeps::{Operands, at_once};
-use control_flow::laws::edges_lead_to_labels;
 use control_flow::{Graph, Transition};
-use decision_tree::{AffineRank, Family, Tree, Why};
+use decision_tree::{AffineRank, Tree, Why};
 use forward_inv::{Inv, transitions_of};
 use loop_moves::{Parting, Question, Search};
 use num_domain::NumDomain;
 use rank_synthesis::{ORDER, RankedCell, Synthesis};
 use std::alloc::{AllocError, Global};
+use tree_support::tree_at_entry;
 use tree_unify::laws::either_has_the_first_defined_leaf;
 use tree_unify::{TreeFault, either};
 
@@ -70,15 +69,6 @@ fn at_entry<D: NumDomain>(
 {
     let family = left_of(alloc, graph, inv, transitions, proposed)?;
     tree_at_entry(graph, &family).copy(alloc)
-}
-
-/// The tree of the family at the entry.
-fn tree_at_entry<'f>(graph: &Graph, family: &'f Family<OrdinalRank>) -> &'f Tree<OrdinalRank>
-    requires { length family.now.trees ≡ length (all_labels (statements graph.now.body)) }
-    ensures { plan_of result.now ≡ trees_in family.now.trees (entry_of (statements graph.now.body)) }
-{
-    edges_lead_to_labels();
-    &family.trees.items()[graph.entry() as usize]
 }
 
 /// The tree with what the check leaves of ranks by linear programs, where these may propose some and as long as some input has no claim. The only

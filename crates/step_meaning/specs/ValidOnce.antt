@@ -26,7 +26,7 @@ MakesTest-prop And h k = k
 MakesTest-prop Or h k = k
 MakesTest-prop _ h k = h
 
-IsNumber-prop : (vars : ℕ) (e : Expression) → IsProp (IsNumber vars e)
+pub IsNumber-prop : (vars : ℕ) (e : Expression) → IsProp (IsNumber vars e)
 IsNumber-prop vars (range lo hi) = IsInOrder-prop lo hi
 IsNumber-prop vars (divided division e b) = Prim.hlevel (IsNumber-prop vars e, logic.props)
 IsNumber-prop vars (negative e) = IsNumber-prop vars e
@@ -36,7 +36,7 @@ IsNumber-prop vars (pair op l r) =
     MakesNumber-prop op (Prim.hlevel (left, right, logic.props))
 IsNumber-prop vars _ = Prim.hlevel logic.props
 
-IsTest-prop : (vars : ℕ) (c : Expression) → IsProp (IsTest vars c)
+pub IsTest-prop : (vars : ℕ) (c : Expression) → IsProp (IsTest vars c)
 IsTest-prop vars (negation c) = IsTest-prop vars c
 IsTest-prop vars (pair op l r) =
     MakesTest-prop op

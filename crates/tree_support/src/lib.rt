@@ -5,6 +5,8 @@
 #![tactic(auto)]
 
 mod dropped;
+mod entry;
 pub mod laws;
 
 pub use dropped::Dropped;
+pub use entry::tree_at_entry;

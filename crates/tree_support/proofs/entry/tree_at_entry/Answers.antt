@@ -2,19 +2,18 @@ use Rattle.std.proofs.Common.{◌≡◌, ℕ, ◌<◌, List, length, map, get_or
 use Rattle.std.proofs.lemmas.List.{get_or-map, length-map}
 use Rattle.step_meaning.specs.Syntax.{statements}
 use Rattle.control_flow.specs.Labels.{entry_of}
-use Rattle.decision_tree.specs.declared.affine_rank.AffineRank.{AffineRank}
 use Rattle.decision_tree.specs.declared.tree.Tree.{Tree}
 use Rattle.decision_tree.specs.Plans.{bottom, plan_of}
 use Rattle.tree_support.specs.Setting.{trees_in}
-use Rattle.ctl_rounds.proofs.covering.tree_at_entry.Goals as goal
+use Rattle.tree_support.proofs.entry.tree_at_entry.Goals as goal
 
 -- the plan of a tree of a list is at its index among the plans
-plan_at : (list : List (Tree AffineRank)) (i : ℕ) (tree : Tree AffineRank) → i < length list → tree ≡ get_or list i tree
+plan_at : {R : Type 0} (list : List (Tree R)) (i : ℕ) (tree : Tree R) → i < length list → tree ≡ get_or list i tree
     → trees_in (map plan_of list) i ≡ plan_of tree
 plan_at list i tree low is = get_or-map plan_of list i tree bottom low ∙ ap plan_of (sym is)
 
 pub bounds-items-entry : goal.bounds-items-entry
-bounds-items-entry c =
+bounds-items-entry g c =
     let body = statements c.args.graph.now.body in
     let entry : c.entry.result ≡ entry_of body = c.entry.ensures in
     let below = c.edges_lead_to_labels.ensures.entry body in
@@ -22,7 +21,7 @@ bounds-items-entry c =
     omega (arith, long, below, entry)
 
 pub returns : goal.returns
-returns c =
+returns g c =
     let body = statements c.args.graph.now.body in
     let entry : c.entry.result ≡ entry_of body = c.entry.ensures in
     let below = c.edges_lead_to_labels.ensures.entry body in
