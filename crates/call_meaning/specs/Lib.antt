@@ -1,4 +1,5 @@
 pub mod Frames
+pub mod Offsets
 pub mod Reads
 pub mod Runs
 pub mod Sorts

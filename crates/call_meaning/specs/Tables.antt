@@ -4,6 +4,7 @@ use Rattle.step_meaning.specs.Syntax.{Expression, expression}
 use Rattle.step_meaning.specs.declared.expression.Expr.{Expr}
 use Rattle.call_meaning.specs.declared.statement.UnitBlock.{UnitBlock, Then'}
 use Rattle.call_meaning.specs.declared.statement.UnitBlock.TheVariants.{End}
+use Rattle.call_meaning.specs.declared.statement.UnitStmt.{UnitStmt}
 use Rattle.call_meaning.specs.declared.statement.UnitKind.{UnitKind}
 use Rattle.call_meaning.specs.declared.statement.UnitKind.TheVariants.{Assign, Call, Skip, Return, Break, Continue, If, While, Do}
 use Rattle.call_meaning.specs.declared.statement.Func.{Func}
@@ -77,3 +78,9 @@ all_qualified (function ∷ more) [] = []
 
 abbrev pub whole_names : List (List ℕ) → List Func → List (List ℕ) → List (List ℕ)
 whole_names func_names funcs names = names ++ all_qualified func_names funcs
+
+-- What follows has no part in the headline.
+
+-- the statements that a list of `UnitStmt` is
+abbrev pub parts : List UnitStmt → List Command
+parts all = map (λ each. command each.kind) all

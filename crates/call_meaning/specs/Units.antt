@@ -1,5 +1,5 @@
 -- The abstract syntax of programs of several functions, without pointers and places in the text.
-use Rattle.std.specs.Prelude.{ℕ, Bool, Option, List}
+use Rattle.std.specs.Prelude.{ℕ, Bool, Option, List, [], ◌∷◌}
 use Rattle.step_meaning.specs.Syntax.{Expression}
 
 -- A statement of a function, over the function's own variables, and a list of them. A call has the place of the variable that its value goes to, if it
@@ -19,6 +19,11 @@ mutual
   pub data Commands : Type 0 where
     empty : Commands
     sequence : Command → Commands → Commands
+
+-- the `Commands` that a list is
+abbrev pub of_list : List Command → Commands
+of_list [] = empty
+of_list (first ∷ more) = sequence first (of_list more)
 
 -- A routine is a function, or `main`, as runs see it: the place of its first variable among those of the whole program; how many variables it has; how
 -- many of them, the first ones, are its parameters; the places of those declared without initialiser, of which no parameter is one; whether its calls

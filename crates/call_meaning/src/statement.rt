@@ -1,6 +1,7 @@
 //! Statements of functions and of `main`, which may call functions, and functions. A list of statements is a chain of links, so what walks along it is a loop.
 
 use crate::lists::ExprList;
+use std::alloc::{AllocError, Global};
 use step_meaning::{Expr, Names};
 
 /// A list of statements of one function, first to last.
@@ -59,6 +60,29 @@ pub enum UnitKind {
         body: UnitBlock,
         test: Expr,
     },
+}
+
+impl UnitBlock {
+    ghost use Rattle.std.specs.Prelude.{◌≡◌, IfOk};
+    ghost use Rattle.call_meaning.specs.Units.{of_list};
+    ghost use Rattle.call_meaning.specs.Tables.{commands, parts};
+    ghost use Rattle.call_meaning.specs.Offsets.{offsets, all_offsets, levels, all_levels};
+
+    /// The list of these statements, in their order. `AllocError` where a link finds no room.
+    pub fn of(alloc: Global, mut list: Vec<UnitStmt>) -> Result<UnitBlock, AllocError>
+        ensures meaning { IfOk result (λ block. commands block ≡ of_list (parts list.items)) }
+        ensures offsets { IfOk result (λ block. offsets block ≡ all_offsets list.items) }
+        ensures levels { IfOk result (λ block. levels block ≡ all_levels list.items) }
+    {
+        let mut block = UnitBlock::End;
+        while let Some(last) = list.pop() {
+            block = UnitBlock::Then {
+                first: Box::new(alloc, last)?,
+                rest: Box::new(alloc, block)?,
+            };
+        }
+        Ok(block)
+    }
 }
 
 impl Drop for UnitBlock {

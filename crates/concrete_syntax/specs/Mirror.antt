@@ -19,6 +19,7 @@ use Rattle.concrete_syntax.specs.declared.simple.Part.{Part}
 use Rattle.concrete_syntax.specs.declared.simple.Declaration.{Declaration}
 use Rattle.concrete_syntax.specs.declared.simple.Start.{Start}
 use Rattle.concrete_syntax.specs.declared.simple.Start.TheVariants as S
+use Rattle.concrete_syntax.specs.declared.statement.Call.{Call as Called}
 use Rattle.concrete_syntax.specs.declared.statement.Statement.{Statement}
 use Rattle.concrete_syntax.specs.declared.statement.StatementKind.{StatementKind, Conditional', While', Do', For'}
 use Rattle.concrete_syntax.specs.declared.statement.StatementKind.TheVariants as V
@@ -31,6 +32,9 @@ use Rattle.concrete_syntax.specs.declared.statement.Item.{Item}
 use Rattle.concrete_syntax.specs.declared.statement.Item.TheVariants as One
 use Rattle.concrete_syntax.specs.declared.program.Prelude.{Prelude}
 use Rattle.concrete_syntax.specs.declared.program.Prelude.TheVariants.{ExternCall, TypedefBool}
+use Rattle.concrete_syntax.specs.declared.program.Parameters.{Parameters}
+use Rattle.concrete_syntax.specs.declared.program.Parameters.TheVariants as P
+use Rattle.concrete_syntax.specs.declared.program.Function.{Function}
 use Rattle.concrete_syntax.specs.declared.program.Program.{Program}
 use Rattle.concrete_syntax.specs.Trees as tree
 use Rattle.concrete_syntax.specs.Chains.{declared, stated}
@@ -104,10 +108,18 @@ start S.Nothing = tree.starts_with_nothing
 start (S.Simple s) = tree.starts_with (simple s)
 start (S.Declaration d) = tree.declares (declaration d)
 
+abbrev pub expressions : List Expression → List tree.Expression
+expressions list = map expression list
+
+abbrev pub call : Called → tree.Call
+call c = record { function = name c.function; arguments = expressions c.arguments.items }
+
 -- statements and items
 abbrev mutual
   pub statement_kind : StatementKind → tree.StatementKind
   statement_kind (V.Simple s) = tree.simple (simple s)
+  statement_kind (V.Calls c) = tree.calls (call c)
+  statement_kind (V.Gives target c) = tree.gives (name target) (call c)
   statement_kind V.Skip = tree.skip
   statement_kind (V.Braces all) = tree.braces (items all)
   statement_kind (Conditional' test p at first other) =
@@ -143,5 +155,18 @@ abbrev pub prelude : Prelude → tree.Prelude
 prelude (ExternCall void) = tree.extern_call void
 prelude TypedefBool = tree.typedef_bool
 
+abbrev pub names : List Named → List tree.Name
+names list = map name list
+
+abbrev pub parameters : Parameters → tree.Parameters
+parameters (P.Nothing void) = tree.nothing void
+parameters (P.Named first more) = tree.named (name first) (names more.items)
+
+abbrev pub function : Function → tree.Function
+function f = record { valued = f.valued; name = name f.name; parameters = parameters f.parameters; items = items f.items; behind = f.behind }
+
+abbrev pub functions : List Function → List tree.Function
+functions list = map function list
+
 abbrev pub program : Program → tree.Program
-program p = record { preludes = map prelude p.preludes.items; void = p.void; items = items p.items }
+program p = record { preludes = map prelude p.preludes.items; functions = functions p.functions.items; void = p.void; items = items p.items }

@@ -1,18 +1,20 @@
 -- The concrete trees of programs: one constructor for each alternative of this grammar.
 --
---     program     = prelude* "int" "main" "(" ["void"] ")" "{" item* "}"
+--     program     = prelude* function* "int" "main" "(" ["void"] ")" "{" item* "}"
 --     prelude     = "extern" "int" "__VERIFIER_nondet_int" "(" ["void"] ")" ";"
 --                 | "typedef" "enum" "{" "false" "," "true" "}" "bool" ";"
+--     function    = ("int" | "void") NAME "(" ["void" | "int" NAME ("," "int" NAME)*] ")" "{" item* "}"
 --     item        = declaration ";" | statement
 --     declaration = "int" part ("," part)*
 --     part        = NAME ["=" expression]
---     statement   = simple ";" | ";" | "{" item* "}"
+--     statement   = simple ";" | call ";" | NAME "=" call ";" | ";" | "{" item* "}"
 --                 | "if" "(" expression ")" statement ["else" statement]
 --                 | "while" "(" expression ")" statement
 --                 | "do" statement "while" "(" expression ")" ";"
 --                 | "for" "(" [simple | declaration] ";" [expression] ";" [simple] ")" statement
 --                 | "return" [expression] ";" | "break" ";" | "continue" ";"
 --     simple      = NAME ("=" | "+=" | "-=" | "*=") expression | NAME ("++" | "--") | ("++" | "--") NAME
+--     call        = NAME "(" [expression ("," expression)*] ")"
 --     expression  = operand link*
 --     link        = operator operand | ("/" | "%") divisor
 --     operand     = ("-" | "+" | "!") operand | NUMBER | NAME | "true" | "false" | "?" | "__VERIFIER_nondet_int" "(" ")"
@@ -23,8 +25,8 @@
 --
 -- An expression is written here as its operands and divisors with the signs between them. How they group is said elsewhere: it has no part in
 -- which tokens are an expression. What may have to be found again in the text holds the number of a token of its, counted from 0:
--- operands, statements, names and signs before a name that of their first token, a divisor that of its NUMBER, and a `do` that of the
--- `while` that ends it.
+-- operands, statements, names and signs before a name that of their first token, a divisor that of its NUMBER, a `do` that of the
+-- `while` that ends it, and a function that of the token behind it.
 use Rattle.std.specs.Prelude.{ℕ, ℤ, Bool, Option, List}
 use Rattle.concrete_syntax.specs.declared.sign.Division.{Division}
 use Rattle.concrete_syntax.specs.declared.sign.Operator.{Operator}
@@ -99,12 +101,19 @@ pub data Start : Type 0 where
   starts_with : Simple → Start
   declares : Declaration → Start
 
+-- a call of a function of the program
+pub record Call : Type 0 where
+  pub function : Name
+  pub arguments : List Expression
+
 mutual
   pub data Statement : Type 0 where
     statement_at : ℕ → StatementKind → Statement
 
   pub data StatementKind : Type 0 where
     simple : Simple → StatementKind
+    calls : Call → StatementKind
+    gives : Name → Call → StatementKind
     skip : StatementKind
     braces : Items → StatementKind
     conditional : Expression → Statement → Otherwise → StatementKind
@@ -130,7 +139,21 @@ pub data Prelude : Type 0 where
   extern_call : Bool → Prelude
   typedef_bool : Prelude
 
+-- what stands in the parentheses of a function: nothing, and whether `void` is written; or the first name, and those behind it
+pub data Parameters : Type 0 where
+  nothing : Bool → Parameters
+  named : Name → List Name → Parameters
+
+-- a function other than `main`: whether it gives a value, its name, what is in its parentheses and in its braces, and what stands behind it
+pub record Function : Type 0 where
+  pub valued : Bool
+  pub name : Name
+  pub parameters : Parameters
+  pub items : Items
+  pub behind : ℕ
+
 pub record Program : Type 0 where
   pub preludes : List Prelude
+  pub functions : List Function
   pub void : Bool
   pub items : Items

@@ -10,7 +10,7 @@ mod simple;
 mod statement;
 
 pub use expression::{Divisor, End, Expression, Link, Operand, OperandKind, Tail};
-pub use program::{Prelude, Program};
+pub use program::{Function, Parameters, Prelude, Program};
 pub use sign::{Assignment, Division, Operator, Prefix, Step};
 pub use simple::{Action, Declaration, Name, Part, Simple, Start};
-pub use statement::{ForLoop, Item, Items, Otherwise, Statement, StatementKind};
+pub use statement::{Call, ForLoop, Item, Items, Otherwise, Statement, StatementKind};

@@ -5,8 +5,15 @@ ghost use Rattle.concrete_syntax.specs.Mirror.{items, item};
 ghost use Rattle.concrete_syntax.specs.Chains.{items_of};
 
 use crate::expression::Expression;
-use crate::simple::{Declaration, Simple, Start};
+use crate::simple::{Declaration, Name, Simple, Start};
 use std::alloc::{AllocError, Global};
+
+/// A call of a function of the program.
+#[derive(Drop)]
+pub struct Call {
+    pub function: Name,
+    pub arguments: Vec<Expression>,
+}
 
 /// A statement, and the number of its first token.
 #[cycle(statements)]
@@ -21,6 +28,13 @@ pub struct Statement {
 #[derive(Drop)]
 pub enum StatementKind {
     Simple(Simple),
+    /// A call alone.
+    Calls(Call),
+    /// A call that gives a variable its value.
+    Gives {
+        target: Name,
+        call: Call,
+    },
     /// `;` alone.
     Skip,
     Braces(Items),

@@ -116,7 +116,7 @@ demo_derives n few = record {
   spelled = record {
     tokens = tokens_at 0 (demo_lexemes n);
     lexed = subst (λ t. TokensFrom t 0 (tokens_at 0 (demo_lexemes n))) (demo_spelled n) (lexemes_are_read [] (demo_lexemes n) (demo_read n few));
-    spelled = subst (λ ws. IsSpelledBy programs ws (demo_tree n))
+    spelled = subst (λ ws. IsSpelledBy (programs false) ws (demo_tree n))
         (sym (demo_word n) ∙ sym (words_read [] (demo_lexemes n)) ∙ ap (λ t. words t (tokens_at 0 (demo_lexemes n))) (demo_spelled n)) (words_spelled n);
   };
   stands = stands n;

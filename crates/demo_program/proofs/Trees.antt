@@ -51,6 +51,7 @@ loop_at n =
 abbrev pub demo_tree : ℕ → Program
 demo_tree n = record {
   preludes = [];
+  functions = [];
   void = false;
   items = declaration (record {
     part = record { declared = record { at = 6; bytes = a_bytes }; initialiser = None };

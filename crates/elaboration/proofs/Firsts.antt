@@ -5,7 +5,7 @@ use Rattle.std.proofs.lemmas.Bool.Decides.{Decides-ltb, Decides-eqb}
 use Rattle.std.proofs.lemmas.Option.{none-some, same_Some}
 use Rattle.elaboration.specs.declared.fault.Fault.{Fault}
 use Rattle.elaboration.specs.declared.fault.Rule.{Rule}
-use Rattle.elaboration.specs.declared.fault.Rule.TheVariants.{Unknown, Twice, Mixed, BadRange, Variables, Outside, ZeroDivisor}
+use Rattle.elaboration.specs.declared.fault.Rule.TheVariants.{Unknown, Twice, Mixed, BadRange, Variables, Outside, ZeroDivisor, Placed, Arguments}
 use Rattle.elaboration.specs.Faults.{earliest, first_of, is_before, order_of, IsFirstOf, fault}
 
 -- of one list and then another: as of both together
@@ -150,6 +150,8 @@ same_order BadRange BadRange e = refl
 same_order Variables Variables e = refl
 same_order Outside Outside e = refl
 same_order ZeroDivisor ZeroDivisor e = refl
+same_order Placed Placed e = refl
+same_order Arguments Arguments e = refl
 same_order _ _ e = absurd (omega (arith, e))
 
 pub one_first : (faults : List Fault) (f g : Fault) → IsFirstOf faults f → IsFirstOf faults g → f ≡ g

@@ -1,93 +1,149 @@
--- Without faults, each `break` and `continue` stands inside the body of a loop.
-use Rattle.std.proofs.Common.{◌≡◌, ℕ, Bool, true, false, IsTrue, List, [], ◌∷◌, ◌++◌, Option, None, Some, refl}
-use Rattle.step_meaning.specs.Syntax as syntax
-use Rattle.step_meaning.specs.Valid.{IsInside}
-use Rattle.concrete_syntax.specs.Trees.{Expression, Name, Simple, acts, steps_before, Part, Start, starts_with_nothing, starts_with, declares, Statement, statement_at, simple, skip, braces, conditional, while_loop, do_loop, for_loop, return, break, continue, Otherwise, without, otherwise, Items, none, declaration, statement}
-use Rattle.elaboration.specs.Scopes.{Scope}
-use Rattle.elaboration.specs.Expressions.{expression_faults}
-use Rattle.elaboration.specs.Statements.{simple_meaning, optional_simple_walked, initialiser_walked, part_walked, parts_walked, declaration_walked, start_walked, optional_faults, outside_faults, statement_walked, otherwise_walked, items_walked}
+-- Without faults, each `break` and `continue` stands inside the body of a loop, and calls are of functions that are known, with the value that is asked.
+use Rattle.std.proofs.Common.{◌≡◌, ℕ, ◌<◌, Bool, true, false, nat_eq, IsTrue, List, [], ◌∷◌, ◌++◌, Option, None, Some, length, refl, sym, subst, if◌then◌else◌}
+use Rattle.std.proofs.lemmas.Bool.Decides.{Decides-eqb}
+use Rattle.call_meaning.specs.Units.{Command, of_list, Table}
+use Rattle.call_meaning.specs.Units as unit
+use Rattle.call_meaning.specs.Validity.{AllStand, MayAsk}
+use Rattle.concrete_syntax.specs.Trees.{Expression, Name as Named, Call, Simple, acts, steps_before, Part, Start, starts_with_nothing, starts_with, declares, Statement, statement_at, simple, calls, gives, skip, braces, conditional, while_loop, do_loop, for_loop, return, break, continue, Otherwise, without, otherwise, Items, none, declaration, statement}
+use Rattle.elaboration.specs.declared.fault.Rule.TheVariants.{Arguments}
+use Rattle.elaboration.specs.declared.functions.Signature.{Signature}
+use Rattle.elaboration.specs.Contexts.{Context, deeper, looping}
+use Rattle.elaboration.specs.Faults.{fault}
+use Rattle.elaboration.specs.Functions.{Functions, signature_of}
+use Rattle.elaboration.specs.Scopes.{Scope, Name, place_of}
+use Rattle.elaboration.specs.Expressions.{unknown_name, expression_faults}
+use Rattle.elaboration.specs.Statements.{simple_meaning, optional_simple_walked, initialiser_walked, part_walked, parts_walked, declaration_walked, start_walked, optional_faults, outside_faults, arguments_faults, signature_faults, value_faults, is_wanted, call_walked, statement_walked, otherwise_walked, items_walked}
 use Rattle.elaboration.proofs.Valid.{both_none, some_is_not_none}
 
-abbrev AllInside : Bool → List syntax.Statement → Type 0
-AllInside in_loop xs = IsInside in_loop (syntax.of_list xs)
+-- the table has the functions that are known, below this number
+pub record HasFunction (table : Table) (k f : ℕ) (s : Signature) : Type 0 where
+  pub below : f < k
+  pub params : (table f).params ≡ s.params
+  pub valued : (table f).valued ≡ s.valued
 
-inside_append : (in_loop : Bool) (xs ys : List syntax.Statement) → AllInside in_loop xs → AllInside in_loop ys → AllInside in_loop (xs ++ ys)
-inside_append in_loop [] ys first second = second
-inside_append in_loop (x ∷ xs) ys first second = (first.0, inside_append in_loop xs ys first.1 second)
+abbrev pub HasFunctions : Table → ℕ → Functions → Type 0
+HasFunctions table k functions = (x : Name) (s : Signature) → signature_of functions x ≡ Some s → HasFunction table k (place_of functions.names x) s
 
--- what assigns doesn't jump
-simple_inside : (in_loop : Bool) (scope : Scope) (s : Simple) → AllInside in_loop (simple_meaning scope s ∷ [])
-simple_inside in_loop scope (acts x action) = (tt, tt)
-simple_inside in_loop scope (steps_before at step x) = (tt, tt)
+value_wanted : (target : Option ℕ) (valued : Bool) (at : ℕ) → value_faults (is_wanted target) valued at ≡ [] → MayAsk target valued
+value_wanted (Some x) true at clean = refl
+value_wanted (Some x) false at clean = absurd (some_is_not_none _ [] clean)
+value_wanted None valued at clean = tt
 
-optional_simple_inside : (in_loop : Bool) (scope : Scope) (s : Option Simple) → AllInside in_loop (optional_simple_walked scope s).body
-optional_simple_inside in_loop scope (Some s) = simple_inside in_loop scope s
-optional_simple_inside in_loop scope None = tt
+-- what a call without a fault at its function's name tells
+pub call_known : (functions : Functions) (x : Named) (count : ℕ) (target : Option ℕ)
+    → signature_faults (signature_of functions x.bytes) x.at count (is_wanted target) ≡ []
+    → (s : Signature) × (signature_of functions x.bytes ≡ Some s) × MayAsk target s.valued × (count ≡ s.params)
+call_known functions x count target clean = by_signature (signature_of functions x.bytes) refl clean
+  where
+    by_count : (s : Signature) (same : Bool) → nat_eq count s.params ≡ same → (if same then [] else fault Arguments x.at ∷ []) ≡ [] → count ≡ s.params
+    by_count s true is h = (Decides-eqb count s.params).0 is
+    by_count s false is h = absurd (some_is_not_none _ [] h)
 
-initialiser_inside : (in_loop : Bool) (scope : Scope) (x : Name) (e : Option Expression) → AllInside in_loop (initialiser_walked scope x e).body
-initialiser_inside in_loop scope x (Some e) = (tt, tt)
-initialiser_inside in_loop scope x None = tt
+    by_signature : (found : Option Signature) → signature_of functions x.bytes ≡ found → signature_faults found x.at count (is_wanted target) ≡ []
+        → (s : Signature) × (signature_of functions x.bytes ≡ Some s) × MayAsk target s.valued × (count ≡ s.params)
+    by_signature None is h = absurd (some_is_not_none _ [] h)
+    by_signature (Some s) is h =
+        let faultless = both_none (value_faults (is_wanted target) s.valued x.at) (if nat_eq count s.params then [] else fault Arguments x.at ∷ []) h in
+        (s, is, value_wanted target s.valued x.at faultless.0, by_count s (nat_eq count s.params) refl faultless.1)
 
-parts_inside : (in_loop : Bool) (scope : Scope) (parts : List Part) → AllInside in_loop (parts_walked scope parts).body
-parts_inside in_loop scope [] = tt
-parts_inside in_loop scope (part ∷ more) =
-    inside_append in_loop (part_walked scope part).body (parts_walked (part_walked scope part).scope more).body
-    (initialiser_inside in_loop scope part.declared part.initialiser) (parts_inside in_loop (part_walked scope part).scope more)
+-- in the function of the number `k`, where a `return` may stand anywhere
+module _ (table : Table) (k : ℕ) where
+  abbrev pub AllInside : Bool → List Command → Type 0
+  AllInside in_loop xs = AllStand table k true in_loop (of_list xs)
 
-start_inside : (in_loop : Bool) (scope : Scope) (start : Start) → AllInside in_loop (start_walked scope start).body
-start_inside in_loop scope starts_with_nothing = tt
-start_inside in_loop scope (starts_with s) = simple_inside in_loop scope s
-start_inside in_loop scope (declares d) = parts_inside in_loop scope (d.part ∷ d.more)
+  inside_append : (in_loop : Bool) (xs ys : List Command) → AllInside in_loop xs → AllInside in_loop ys → AllInside in_loop (xs ++ ys)
+  inside_append in_loop [] ys first second = second
+  inside_append in_loop (x ∷ xs) ys first second = (first.0, inside_append in_loop xs ys first.1 second)
 
-jump_inside : (in_loop : Bool) (at : ℕ) → outside_faults in_loop at ≡ [] → IsTrue in_loop
-jump_inside true at clean = refl
-jump_inside false at clean = absurd (some_is_not_none _ [] clean)
+  -- what assigns doesn't jump
+  simple_inside : (in_loop : Bool) (scope : Scope) (s : Simple) → AllInside in_loop (simple_meaning scope s ∷ [])
+  simple_inside in_loop scope (acts x action) = (tt, tt)
+  simple_inside in_loop scope (steps_before at step x) = (tt, tt)
 
-mutual
-  statement_inside : (in_loop : Bool) (scope : Scope) (s : Statement) → (statement_walked in_loop scope s).faults ≡ []
-      → AllInside in_loop (statement_walked in_loop scope s).body
-  statement_inside in_loop scope (statement_at at (simple s)) clean = simple_inside in_loop scope s
-  statement_inside in_loop scope (statement_at at skip) clean = (tt, tt)
-  statement_inside in_loop scope (statement_at at (braces all)) clean = items_inside in_loop scope all clean
-  statement_inside in_loop scope (statement_at at (conditional test part other)) clean =
-      let middle = (statement_walked in_loop scope part).scope in
-      let outer = both_none (expression_faults scope test) ((statement_walked in_loop scope part).faults ++ (otherwise_walked in_loop middle other).faults) clean in
-      let inner = both_none (statement_walked in_loop scope part).faults (otherwise_walked in_loop middle other).faults outer.1 in
-      ((statement_inside in_loop scope part inner.0, otherwise_inside in_loop middle other inner.1), tt)
-  statement_inside in_loop scope (statement_at at (while_loop test body)) clean =
-      let faultless = both_none (expression_faults scope test) (statement_walked true scope body).faults clean in
-      ((statement_inside true scope body faultless.1, tt), tt)
-  statement_inside in_loop scope (statement_at at (do_loop body end test)) clean =
-      let middle = (statement_walked true scope body).scope in
-      let faultless = both_none (statement_walked true scope body).faults (expression_faults middle test) clean in
-      (statement_inside true scope body faultless.0, tt)
-  statement_inside in_loop scope (statement_at at (for_loop start test step body)) clean =
-      let inside = (start_walked scope start).scope in
-      let last = (optional_simple_walked inside step).faults ++ (statement_walked true inside body).faults in
-      let outer = both_none (start_walked scope start).faults (optional_faults inside test ++ last) clean in
-      let inner = both_none (optional_faults inside test) last outer.1 in
-      let faultless = both_none (optional_simple_walked inside step).faults (statement_walked true inside body).faults inner.1 in
-      inside_append in_loop (start_walked scope start).body (syntax.while_loop _ _ _ ∷ []) (start_inside in_loop scope start)
-      ((statement_inside true inside body faultless.1, optional_simple_inside in_loop inside step), tt)
-  statement_inside in_loop scope (statement_at at (return value)) clean = (tt, tt)
-  statement_inside in_loop scope (statement_at at break) clean = (jump_inside in_loop at clean, tt)
-  statement_inside in_loop scope (statement_at at continue) clean = (jump_inside in_loop at clean, tt)
+  optional_simple_inside : (in_loop : Bool) (scope : Scope) (s : Option Simple) → AllInside in_loop (optional_simple_walked scope s).body
+  optional_simple_inside in_loop scope (Some s) = simple_inside in_loop scope s
+  optional_simple_inside in_loop scope None = tt
 
-  otherwise_inside : (in_loop : Bool) (scope : Scope) (other : Otherwise) → (otherwise_walked in_loop scope other).faults ≡ []
-      → AllInside in_loop (otherwise_walked in_loop scope other).body
-  otherwise_inside in_loop scope without clean = tt
-  otherwise_inside in_loop scope (otherwise s) clean = statement_inside in_loop scope s clean
+  initialiser_inside : (in_loop : Bool) (scope behind : Scope) (x : Named) (e : Option Expression) → AllInside in_loop (initialiser_walked scope behind x e).body
+  initialiser_inside in_loop scope behind x (Some e) = (tt, tt)
+  initialiser_inside in_loop scope behind x None = tt
 
-  pub items_inside : (in_loop : Bool) (scope : Scope) (all : Items) → (items_walked in_loop scope all).faults ≡ []
-      → AllInside in_loop (items_walked in_loop scope all).body
-  items_inside in_loop scope none clean = tt
-  items_inside in_loop scope (declaration d more) clean =
-      let behind = (declaration_walked scope d).scope in
-      let parts = both_none (declaration_walked scope d).faults (items_walked in_loop behind more).faults clean in
-      inside_append in_loop (declaration_walked scope d).body (items_walked in_loop behind more).body
-      (parts_inside in_loop scope (d.part ∷ d.more)) (items_inside in_loop behind more parts.1)
-  items_inside in_loop scope (statement s more) clean =
-      let behind = (statement_walked in_loop scope s).scope in
-      let parts = both_none (statement_walked in_loop scope s).faults (items_walked in_loop behind more).faults clean in
-      inside_append in_loop (statement_walked in_loop scope s).body (items_walked in_loop behind more).body
-      (statement_inside in_loop scope s parts.0) (items_inside in_loop behind more parts.1)
+  parts_inside : (in_loop : Bool) (scope : Scope) (parts : List Part) → AllInside in_loop (parts_walked scope parts).body
+  parts_inside in_loop scope [] = tt
+  parts_inside in_loop scope (part ∷ more) =
+      inside_append in_loop (part_walked scope part).body (parts_walked (part_walked scope part).scope more).body
+      (initialiser_inside in_loop scope (part_walked scope part).scope part.declared part.initialiser)
+      (parts_inside in_loop (part_walked scope part).scope more)
+
+  start_inside : (in_loop : Bool) (scope : Scope) (start : Start) → AllInside in_loop (start_walked scope start).body
+  start_inside in_loop scope starts_with_nothing = tt
+  start_inside in_loop scope (starts_with s) = simple_inside in_loop scope s
+  start_inside in_loop scope (declares d) = parts_inside in_loop scope (d.part ∷ d.more)
+
+  jump_inside : (in_loop : Bool) (at : ℕ) → outside_faults in_loop at ≡ [] → IsTrue in_loop
+  jump_inside true at clean = refl
+  jump_inside false at clean = absurd (some_is_not_none _ [] clean)
+
+  call_inside : (c : Context) → HasFunctions table k c.functions → (scope : Scope) (target : Option ℕ) (call : Call)
+      → (call_walked c scope target call).faults ≡ [] → AllInside c.in_loop (call_walked c scope target call).body
+  call_inside c has scope target call clean =
+      let own = signature_faults (signature_of c.functions call.function.bytes) call.function.at (length call.arguments) (is_wanted target) in
+      let faultless = both_none own (arguments_faults scope call.arguments) clean in
+      let known = call_known c.functions call.function (length call.arguments) target faultless.0 in
+      let is = has call.function.bytes known.0 known.1 in
+      ((is.below, subst (MayAsk target) (sym is.valued) known.2), tt)
+
+  mutual
+    pub statement_inside : (c : Context) → HasFunctions table k c.functions → (scope : Scope) (s : Statement) → (statement_walked c scope s).faults ≡ []
+        → AllInside c.in_loop (statement_walked c scope s).body
+    statement_inside c has scope (statement_at at (simple s)) clean = simple_inside c.in_loop scope s
+    statement_inside c has scope (statement_at at (calls call)) clean = call_inside c has scope None call clean
+    statement_inside c has scope (statement_at at (gives x call)) clean =
+        let target = Some (place_of scope.declared x.bytes) in
+        let faultless = both_none (unknown_name scope x.at x.bytes) (call_walked c scope target call).faults clean in
+        call_inside c has scope target call faultless.1
+    statement_inside c has scope (statement_at at skip) clean = (tt, tt)
+    statement_inside c has scope (statement_at at (braces all)) clean = items_inside (deeper c) has scope all clean
+    statement_inside c has scope (statement_at at (conditional test part other)) clean =
+        let d = deeper c in
+        let middle = (statement_walked d scope part).scope in
+        let outer = both_none (expression_faults scope test) ((statement_walked d scope part).faults ++ (otherwise_walked d middle other).faults) clean in
+        let inner = both_none (statement_walked d scope part).faults (otherwise_walked d middle other).faults outer.1 in
+        ((statement_inside d has scope part inner.0, otherwise_inside d has middle other inner.1), tt)
+    statement_inside c has scope (statement_at at (while_loop test body)) clean =
+        let faultless = both_none (expression_faults scope test) (statement_walked (looping c) scope body).faults clean in
+        ((statement_inside (looping c) has scope body faultless.1, tt), tt)
+    statement_inside c has scope (statement_at at (do_loop body end test)) clean =
+        let middle = (statement_walked (looping c) scope body).scope in
+        let faultless = both_none (statement_walked (looping c) scope body).faults (expression_faults middle test) clean in
+        (statement_inside (looping c) has scope body faultless.0, tt)
+    statement_inside c has scope (statement_at at (for_loop start test step body)) clean =
+        let inside = (start_walked scope start).scope in
+        let last = (optional_simple_walked inside step).faults ++ (statement_walked (looping c) inside body).faults in
+        let outer = both_none (start_walked scope start).faults (optional_faults inside test ++ last) clean in
+        let inner = both_none (optional_faults inside test) last outer.1 in
+        let faultless = both_none (optional_simple_walked inside step).faults (statement_walked (looping c) inside body).faults inner.1 in
+        inside_append c.in_loop (start_walked scope start).body (unit.while_loop _ _ _ ∷ []) (start_inside c.in_loop scope start)
+        ((statement_inside (looping c) has inside body faultless.1, optional_simple_inside c.in_loop inside step), tt)
+    statement_inside c has scope (statement_at at (return value)) clean = (refl, tt)
+    statement_inside c has scope (statement_at at break) clean = (jump_inside c.in_loop at clean, tt)
+    statement_inside c has scope (statement_at at continue) clean = (jump_inside c.in_loop at clean, tt)
+
+    otherwise_inside : (c : Context) → HasFunctions table k c.functions → (scope : Scope) (other : Otherwise) → (otherwise_walked c scope other).faults ≡ []
+        → AllInside c.in_loop (otherwise_walked c scope other).body
+    otherwise_inside c has scope without clean = tt
+    otherwise_inside c has scope (otherwise s) clean = statement_inside (deeper c) has scope s clean
+
+    pub items_inside : (c : Context) → HasFunctions table k c.functions → (scope : Scope) (all : Items) → (items_walked c scope all).faults ≡ []
+        → AllInside c.in_loop (items_walked c scope all).body
+    items_inside c has scope none clean = tt
+    items_inside c has scope (declaration d more) clean =
+        let behind = (declaration_walked scope d).scope in
+        let parts = both_none (declaration_walked scope d).faults (items_walked c behind more).faults clean in
+        inside_append c.in_loop (declaration_walked scope d).body (items_walked c behind more).body
+        (parts_inside c.in_loop scope (d.part ∷ d.more)) (items_inside c has behind more parts.1)
+    items_inside c has scope (statement s more) clean =
+        let behind = (statement_walked c scope s).scope in
+        let parts = both_none (statement_walked c scope s).faults (items_walked c behind more).faults clean in
+        inside_append c.in_loop (statement_walked c scope s).body (items_walked c behind more).body
+        (statement_inside c has scope s parts.0) (items_inside c has behind more parts.1)

@@ -1,13 +1,15 @@
 -- Looking names up.
-use Rattle.std.proofs.Common.{◌≡◌, ◌≢◌, ℕ, zero, suc, ◌<◌, ◌+◌, nat_lt, Bool, true, false, ◌||◌, List, [], ◌∷◌, ◌++◌, length, map, slice_index_or, refl, sym, ap, ◌∙◌, arith, if◌then◌else◌, ◌⊎◌, inl, inr, vec_items, Some}
+use Rattle.std.proofs.Common.{◌≡◌, ◌≢◌, ℕ, zero, suc, ◌<◌, ◌+◌, nat_lt, Bool, true, false, not, ◌||◌, List, [], ◌∷◌, ◌++◌, length, map, slice_index_or, refl, sym, ap, ◌∙◌, arith, if◌then◌else◌, ◌⊎◌, inl, inr, vec_items, Some}
 use Rattle.std.specs.Str.{bytes_eq}
 use Rattle.std.specs.Global.{Vec}
 use Rattle.std.specs.List.{list_any, position}
-use Rattle.std.proofs.lemmas.Bool.{false_from_ne_true, false≢true, lt-ltb}
+use Rattle.std.proofs.lemmas.Bool.{false_from_ne_true, false≢true}
 use Rattle.std.proofs.lemmas.List.{get_or-map, length-map, map-append}
 use Rattle.std.proofs.lemmas.List.Quantifiers.{position-Some}
 use Rattle.std.proofs.lemmas.Option.{none-some}
 use Rattle.std.proofs.lemmas.Slice.Eq.{bytes_eq-Decides}
+use Rattle.elaboration.specs.declared.functions.Signature.{Signature}
+use Rattle.elaboration.specs.Functions.{Functions, with_function}
 use Rattle.elaboration.specs.Scopes.{is_among, place_of, with_variable, most_variables}
 
 -- the first place at which the name stands is its place
@@ -75,6 +77,18 @@ among_front (first ∷ xs) ys x is =
     by_first inner true h = refl
     by_first inner false h = inner h
 
+-- and keeps its place there
+pub place_front : (xs ys : List (List ℕ)) (x : List ℕ) → is_among xs x ≡ true → place_of (xs ++ ys) x ≡ place_of xs x
+place_front [] ys x is = absurd (false≢true is)
+place_front (first ∷ xs) ys x is =
+    let inner = place_front xs ys x in
+    by_first inner (bytes_eq first x) is
+  where
+    by_first : (is_among xs x ≡ true → place_of (xs ++ ys) x ≡ place_of xs x) → (same : Bool) → (same || is_among xs x) ≡ true
+        → (if same then 0 else place_of (xs ++ ys) x + 1) ≡ (if same then 0 else place_of xs x + 1)
+    by_first inner true h = refl
+    by_first inner false h = ap (λ n. n + 1) (inner h)
+
 pub among_last : (xs : List (List ℕ)) (x : List ℕ) → is_among (xs ++ x ∷ []) x ≡ true
 among_last [] x = let same : bytes_eq x x ≡ true = (bytes_eq-Decides x x).1 refl in rw same refl
 among_last (first ∷ xs) x =
@@ -128,6 +142,18 @@ differs (first ∷ xs) x (suc k) d none within e =
     by_first inner true h = false≢true (sym h)
     by_first inner false h = inner h (omega arith) e
 
+-- a new name's place is behind the others
+pub place_last : (xs : List (List ℕ)) (x : List ℕ) → is_among xs x ≡ false → place_of (xs ++ x ∷ []) x ≡ length xs
+place_last [] x none = let same : bytes_eq x x ≡ true = (bytes_eq-Decides x x).1 refl in rw same refl
+place_last (first ∷ xs) x none =
+    let inner = place_last xs x in
+    by_first inner (bytes_eq first x) none
+  where
+    by_first : (is_among xs x ≡ false → place_of (xs ++ x ∷ []) x ≡ length xs) → (same : Bool) → (same || is_among xs x) ≡ false
+        → (if same then 0 else place_of (xs ++ x ∷ []) x + 1) ≡ length (first ∷ xs)
+    by_first inner true h = absurd (false≢true (sym h))
+    by_first inner false h = let rest = inner h in omega arith
+
 -- ── In a set that keeps the order ──
 
 abbrev is_name : List ℕ → Vec ℕ → Bool
@@ -179,19 +205,35 @@ place_missing names x none =
 
 -- a new name goes last, where there is room
 pub added : (keys : List (Vec ℕ)) (name : Vec ℕ) (names : List (List ℕ)) (x : List ℕ) → map vec_items keys ≡ names → name.items ≡ x
-    → is_among names x ≡ false → length keys < 15
-    → map vec_items (if list_any (is_name name.items) keys then keys else keys ++ name ∷ []) ≡ with_variable names x
-added keys name names x are is none room =
+    → is_among names x ≡ false
+    → map vec_items (if list_any (is_name name.items) keys then keys else keys ++ name ∷ []) ≡ names ++ x ∷ []
+added keys name names x are is none =
     let fresh : list_any (is_name name.items) keys ≡ false =
     among_any keys name.items ∙ ap (λ ns. is_among ns name.items) are ∙ ap (is_among names) is ∙ none
-    in
-    let small : length names < 15 = omega (arith, length-map keys vec_items, ap length are) in
-    let there : with_variable names x ≡ names ++ x ∷ [] =
-    ap (λ known. if known then names else if nat_lt (length names) most_variables then names ++ x ∷ [] else names) none
-    ∙ ap (λ fits. if fits then names ++ x ∷ [] else names) (lt-ltb (length names) 15 small)
     in
     ap (λ known. map vec_items (if known then keys else keys ++ name ∷ [])) fresh
     ∙ map-append vec_items keys (name ∷ [])
     ∙ ap (λ ns. ns ++ name.items ∷ []) are
     ∙ ap (λ n. names ++ n ∷ []) is
-    ∙ sym there
+
+-- and so it becomes a variable, or stays none where there is no room
+pub with_room : (others : ℕ) (names : List (List ℕ)) (x : List ℕ) (room : Bool) → is_among names x ≡ false
+    → nat_lt (others + length names) most_variables ≡ room → with_variable others names x ≡ (if room then names ++ x ∷ [] else names)
+with_room others names x room none is =
+    ap (λ known. if known then names else if nat_lt (others + length names) most_variables then names ++ x ∷ [] else names) none
+    ∙ ap (λ fits. if fits then names ++ x ∷ [] else names) is
+
+abbrev pub functions_of : List (List ℕ) → List Signature → Functions
+functions_of names signatures = record { names = names; signatures = signatures }
+
+-- what isn't said not to be is
+pub not_false : (b : Bool) → false ≡ not b → b ≡ true
+not_false true e = refl
+not_false false e = e
+
+-- so does a new function
+abbrev pub pushed : Functions → List ℕ → Signature → Functions
+pushed functions x s = record { names = functions.names ++ x ∷ []; signatures = functions.signatures ++ s ∷ [] }
+
+pub with_new : (functions : Functions) (x : List ℕ) (s : Signature) → is_among functions.names x ≡ false → with_function functions x s ≡ pushed functions x s
+with_new functions x s none = ap (λ known. if known then functions else pushed functions x s) none

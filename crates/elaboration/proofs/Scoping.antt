@@ -1,28 +1,39 @@
 -- Behind items all that could be used before them can be used still.
-use Rattle.std.proofs.Common.{◌≡◌, ℕ, Bool, true, List, [], ◌∷◌, ◌++◌, length, take, refl, ap, sym, ◌∙◌}
+use Rattle.std.proofs.Common.{◌≡◌, ℕ, Option, List, [], ◌∷◌, ◌++◌, length, take, refl, ap, sym, ◌∙◌}
 use Rattle.std.proofs.lemmas.List.{append-nil, append_assoc}
 use Rattle.std.proofs.Math.Seq.{take-append_seam}
-use Rattle.concrete_syntax.specs.Trees.{Part, Statement, statement_at, simple, skip, braces, conditional, while_loop, do_loop, for_loop, return, break, continue, Otherwise, without, otherwise, Items, none, declaration, statement, Start, starts_with_nothing, starts_with, declares}
+use Rattle.concrete_syntax.specs.Trees.{Expression, Part, Statement, statement_at, simple, calls, gives, skip, braces, conditional, while_loop, do_loop, for_loop, return, break, continue, Otherwise, without, otherwise, Items, none, declaration, statement, Start, starts_with_nothing, starts_with, declares}
+use Rattle.elaboration.specs.declared.context.Body.{Body}
+use Rattle.elaboration.specs.declared.context.Body.TheVariants.{Main, Valued, Valueless}
+use Rattle.elaboration.specs.Contexts.{Context, deeper, looping}
 use Rattle.elaboration.specs.Scopes.{Scope, Name, close}
-use Rattle.elaboration.specs.Statements.{part_walked, parts_walked, declaration_walked, statement_walked, otherwise_walked, items_walked, start_walked}
+use Rattle.elaboration.specs.Statements.{part_walked, parts_walked, declaration_walked, return_walked, statement_walked, otherwise_walked, items_walked, start_walked}
 
 -- a statement leaves what may be used as it is
-mutual
-  pub statement_visible : (in_loop : Bool) (scope : Scope) (s : Statement) → (statement_walked in_loop scope s).scope.visible ≡ scope.visible
-  statement_visible in_loop scope (statement_at at (simple s)) = refl
-  statement_visible in_loop scope (statement_at at skip) = refl
-  statement_visible in_loop scope (statement_at at (braces all)) = refl
-  statement_visible in_loop scope (statement_at at (conditional test part other)) = otherwise_visible in_loop (statement_walked in_loop scope part).scope other ∙ statement_visible in_loop scope part
-  statement_visible in_loop scope (statement_at at (while_loop test body)) = statement_visible true scope body
-  statement_visible in_loop scope (statement_at at (do_loop body end test)) = statement_visible true scope body
-  statement_visible in_loop scope (statement_at at (for_loop start test step body)) = refl
-  statement_visible in_loop scope (statement_at at (return value)) = refl
-  statement_visible in_loop scope (statement_at at break) = refl
-  statement_visible in_loop scope (statement_at at continue) = refl
+return_visible : (body : Body) (scope : Scope) (at : ℕ) (value : Option Expression) → (return_walked body scope at value).scope.visible ≡ scope.visible
+return_visible Main scope at value = refl
+return_visible Valued scope at value = refl
+return_visible Valueless scope at value = refl
 
-  otherwise_visible : (in_loop : Bool) (scope : Scope) (other : Otherwise) → (otherwise_walked in_loop scope other).scope.visible ≡ scope.visible
-  otherwise_visible in_loop scope without = refl
-  otherwise_visible in_loop scope (otherwise s) = statement_visible in_loop scope s
+mutual
+  pub statement_visible : (c : Context) (scope : Scope) (s : Statement) → (statement_walked c scope s).scope.visible ≡ scope.visible
+  statement_visible c scope (statement_at at (simple s)) = refl
+  statement_visible c scope (statement_at at (calls call)) = refl
+  statement_visible c scope (statement_at at (gives x call)) = refl
+  statement_visible c scope (statement_at at skip) = refl
+  statement_visible c scope (statement_at at (braces all)) = refl
+  statement_visible c scope (statement_at at (conditional test part other)) =
+      otherwise_visible (deeper c) (statement_walked (deeper c) scope part).scope other ∙ statement_visible (deeper c) scope part
+  statement_visible c scope (statement_at at (while_loop test body)) = statement_visible (looping c) scope body
+  statement_visible c scope (statement_at at (do_loop body end test)) = statement_visible (looping c) scope body
+  statement_visible c scope (statement_at at (for_loop start test step body)) = refl
+  statement_visible c scope (statement_at at (return value)) = return_visible c.body scope at value
+  statement_visible c scope (statement_at at break) = refl
+  statement_visible c scope (statement_at at continue) = refl
+
+  otherwise_visible : (c : Context) (scope : Scope) (other : Otherwise) → (otherwise_walked c scope other).scope.visible ≡ scope.visible
+  otherwise_visible c scope without = refl
+  otherwise_visible c scope (otherwise s) = statement_visible (deeper c) scope s
 
 -- what could be used stays in front of what is declared
 abbrev Extends : List Name → List Name → Type 0
@@ -40,14 +51,14 @@ parts_extend scope (part ∷ more) =
     extends_on scope.visible (part_walked scope part).scope.visible (parts_walked (part_walked scope part).scope more).scope.visible
     (part.declared.bytes ∷ [], refl) (parts_extend (part_walked scope part).scope more)
 
-items_extend : (in_loop : Bool) (scope : Scope) (all : Items) → Extends scope.visible (items_walked in_loop scope all).scope.visible
-items_extend in_loop scope none = extends_same scope.visible
-items_extend in_loop scope (declaration d more) =
-    extends_on scope.visible (declaration_walked scope d).scope.visible (items_walked in_loop (declaration_walked scope d).scope more).scope.visible
-    (parts_extend scope (d.part ∷ d.more)) (items_extend in_loop (declaration_walked scope d).scope more)
-items_extend in_loop scope (statement s more) =
-    extends_on scope.visible (statement_walked in_loop scope s).scope.visible (items_walked in_loop (statement_walked in_loop scope s).scope more).scope.visible
-    ([], statement_visible in_loop scope s ∙ sym (append-nil scope.visible)) (items_extend in_loop (statement_walked in_loop scope s).scope more)
+items_extend : (c : Context) (scope : Scope) (all : Items) → Extends scope.visible (items_walked c scope all).scope.visible
+items_extend c scope none = extends_same scope.visible
+items_extend c scope (declaration d more) =
+    extends_on scope.visible (declaration_walked scope d).scope.visible (items_walked c (declaration_walked scope d).scope more).scope.visible
+    (parts_extend scope (d.part ∷ d.more)) (items_extend c (declaration_walked scope d).scope more)
+items_extend c scope (statement s more) =
+    extends_on scope.visible (statement_walked c scope s).scope.visible (items_walked c (statement_walked c scope s).scope more).scope.visible
+    ([], statement_visible c scope s ∙ sym (append-nil scope.visible)) (items_extend c (statement_walked c scope s).scope more)
 
 start_extends : (scope : Scope) (start : Start) → Extends scope.visible (start_walked scope start).scope.visible
 start_extends scope starts_with_nothing = extends_same scope.visible
@@ -58,22 +69,24 @@ start_extends scope (declares d) = parts_extend scope (d.part ∷ d.more)
 first_names : (outer inner : List Name) → Extends outer inner → take (length outer) inner ≡ outer
 first_names outer inner (more, is) = ap (take (length outer)) is ∙ take-append_seam outer more
 
-pub items_kept : (in_loop : Bool) (scope : Scope) (all : Items) → take (length scope.visible) (items_walked in_loop scope all).scope.visible ≡ scope.visible
-items_kept in_loop scope all = first_names scope.visible (items_walked in_loop scope all).scope.visible (items_extend in_loop scope all)
+pub items_kept : (c : Context) (scope : Scope) (all : Items) → take (length scope.visible) (items_walked c scope all).scope.visible ≡ scope.visible
+items_kept c scope all = first_names scope.visible (items_walked c scope all).scope.visible (items_extend c scope all)
 
-pub start_kept : (scope : Scope) (start : Start) (body : Statement)
-    → take (length scope.visible) (statement_walked true (start_walked scope start).scope body).scope.visible ≡ scope.visible
-start_kept scope start body =
-    ap (take (length scope.visible)) (statement_visible true (start_walked scope start).scope body)
+pub start_kept : (c : Context) (scope : Scope) (start : Start) (body : Statement)
+    → take (length scope.visible) (statement_walked c (start_walked scope start).scope body).scope.visible ≡ scope.visible
+start_kept c scope start body =
+    ap (take (length scope.visible)) (statement_visible c (start_walked scope start).scope body)
     ∙ first_names scope.visible (start_walked scope start).scope.visible (start_extends scope start)
 
-abbrev names_and : List Name → List Name → Scope
-names_and declared visible = record { declared = declared; visible = visible }
+-- a scope with other names
+abbrev pub with_visible : Scope → List Name → Scope
+with_visible scope names = record scope { visible = names }
+
+abbrev pub with_declared : Scope → List Name → Scope
+with_declared scope names = record scope { declared = names }
 
 -- a scope whose later names were taken off is closed, where the first names are those that could be used before
-pub closed : (outer inner new : Scope) (depth : ℕ) → depth ≡ length outer.visible
-    → new.declared ≡ inner.declared → new.visible ≡ take depth inner.visible
+pub closed : (outer inner new : Scope) (depth : ℕ) → depth ≡ length outer.visible → new ≡ record inner { visible = take depth inner.visible }
     → take (length outer.visible) inner.visible ≡ outer.visible → new ≡ close outer inner
-closed outer inner new depth deep declared visible kept =
-    ap (λ names. names_and names new.visible) declared
-    ∙ ap (names_and inner.declared) (visible ∙ ap (λ n. take n inner.visible) deep ∙ kept)
+closed outer inner new depth deep is kept =
+    is ∙ ap (λ (names : List Name). record inner { visible = names }) (ap (λ n. take n inner.visible) deep ∙ kept)

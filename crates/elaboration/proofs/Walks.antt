@@ -2,9 +2,9 @@
 use Rattle.std.proofs.Common.{◌≡◌, ℕ, ◌<◌, ◌+◌, List, [], ◌∷◌, ◌++◌, length, drop, suc, slice_index_or, ap, sym, ◌∙◌, subst, arith}
 use Rattle.std.proofs.Math.Seq.{drop-cons}
 use Rattle.std.proofs.lemmas.List.{append-nil, append_assoc, map-append}
-use Rattle.step_meaning.specs.declared.statement.Stmt.{Stmt}
-use Rattle.step_meaning.specs.Syntax.{parts}
-use Rattle.step_meaning.specs.Offsets.{all_offsets}
+use Rattle.call_meaning.specs.declared.statement.UnitStmt.{UnitStmt}
+use Rattle.call_meaning.specs.Tables.{parts}
+use Rattle.call_meaning.specs.Offsets.{all_offsets, all_levels}
 use Rattle.elaboration.specs.declared.fault.Fault.{Fault}
 use Rattle.elaboration.specs.declared.walk.Walk.{Walk}
 use Rattle.elaboration.specs.Scopes.{Scope}
@@ -16,7 +16,7 @@ use Rattle.elaboration.proofs.Firsts.{earliest_more}
 
 -- the names stay
 abbrev pub staying : Scope → List Fault → Walked
-staying scope faults = record { scope = scope; faults = faults; body = []; tokens = [] }
+staying scope faults = record { scope = scope; faults = faults; body = []; tokens = []; levels = [] }
 
 -- one walk and then another
 pub both_gone : (a b c : Walk) (first : Walked) (second : Scope → Walked) → HasGone a b first → HasGone b c (second b.scope)
@@ -37,18 +37,19 @@ both_found a b c first second one two = (
 )
 
 -- what is left finds from here on what the whole finds from the first on
-pub record IsLeft (now : Walk) (out : List Stmt) (left : Walked) (first : Walk) (before : List Stmt) (whole : Walked) : Type 0 where
+pub record IsLeft (now : Walk) (out : List UnitStmt) (left : Walked) (first : Walk) (before : List UnitStmt) (whole : Walked) : Type 0 where
   pub reads : now.tokens.now ≡ first.tokens.now
   pub goes : left.scope ≡ whole.scope
   pub finds : earliest now.least left.faults ≡ earliest first.least whole.faults
   pub makes : parts out ++ left.body ≡ parts before ++ whole.body
   pub stands : all_offsets out ++ offsets_in first.tokens.now left.tokens ≡ all_offsets before ++ offsets_in first.tokens.now whole.tokens
+  pub levels : all_levels out ++ left.levels ≡ all_levels before ++ whole.levels
 
 append_step : {A : Type 0} (out out' piece more whole : List A) → out' ≡ out ++ piece → out ++ (piece ++ more) ≡ whole → out' ++ more ≡ whole
 append_step out out' piece more whole is all = ap (λ t. t ++ more) is ∙ append_assoc out piece more ∙ all
 
 -- one step of a walk
-pub step_on : (now next first : Walk) (out out' before : List Stmt) (piece : Walked) (more : Scope → Walked) (left whole : Walked)
+pub step_on : (now next first : Walk) (out out' before : List UnitStmt) (piece : Walked) (more : Scope → Walked) (left whole : Walked)
     → HasGone now next piece → HasAdded now out out' piece → left ≡ joined piece (more piece.scope) → IsLeft now out left first before whole
     → IsLeft next out' (more next.scope) first before whole
 step_on now next first out out' before piece more left whole gone added is so_far =
@@ -64,16 +65,21 @@ step_on now next first out out' before piece more left whole gone added is so_fa
           (all_offsets before ++ offsets_in first.tokens.now whole.tokens)
           (added.1 ∙ ap (λ t. all_offsets out ++ offsets_in t piece.tokens) all.reads)
           (ap (λ t. all_offsets out ++ t) (sym (map-append (offset_in first.tokens.now) piece.tokens rest.tokens)) ∙ all.stands);
+      levels = append_step (all_levels out) (all_levels out') piece.levels rest.levels (all_levels before ++ whole.levels) added.2 all.levels;
     }
 
 -- where nothing is left, the whole was found
-pub all_gone : (now first : Walk) (out before : List Stmt) (whole : Walked) → IsLeft now out (nothing now.scope) first before whole
+pub all_gone : (now first : Walk) (out before : List UnitStmt) (whole : Walked) → IsLeft now out (nothing now.scope) first before whole
     → HasGone first now whole
 all_gone now first out before whole left = (left.reads, left.goes, left.finds)
 
-pub all_added : (now first : Walk) (out before : List Stmt) (whole : Walked) → IsLeft now out (nothing now.scope) first before whole
+pub all_added : (now first : Walk) (out before : List UnitStmt) (whole : Walked) → IsLeft now out (nothing now.scope) first before whole
     → HasAdded first before out whole
-all_added now first out before whole left = (sym (append-nil (parts out)) ∙ left.makes, sym (append-nil (all_offsets out)) ∙ left.stands)
+all_added now first out before whole left = (
+  sym (append-nil (parts out)) ∙ left.makes,
+  sym (append-nil (all_offsets out)) ∙ left.stands,
+  sym (append-nil (all_levels out)) ∙ left.levels,
+)
 
 -- what is left of a list from a place on
 pub drop_next : {A : Type 0} (xs : List A) (i : ℕ) (item : A) → i < length xs → item ≡ slice_index_or xs i item → drop i xs ≡ item ∷ drop (i + 1) xs

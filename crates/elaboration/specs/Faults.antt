@@ -1,7 +1,7 @@
--- Faults of names, sorts, jumps and divisors, each by the number of its token.
+-- Faults of names, sorts, jumps, divisors, returns and calls, each by the number of its token.
 use Rattle.std.specs.Prelude.{◌≡◌, ℕ, nat_lt, nat_eq, ◌&&◌, ◌||◌, Bool, if◌then◌else◌, List, [], ◌∷◌, Option, None, Some, All, Contains}
 use Rattle.elaboration.specs.declared.fault.Rule.{Rule}
-use Rattle.elaboration.specs.declared.fault.Rule.TheVariants.{Unknown, Twice, Mixed, BadRange, Variables, Outside, ZeroDivisor}
+use Rattle.elaboration.specs.declared.fault.Rule.TheVariants.{Unknown, Twice, Mixed, BadRange, Variables, Outside, ZeroDivisor, Placed, Arguments}
 use Rattle.elaboration.specs.declared.fault.Fault.{Fault}
 
 abbrev pub fault : Rule → ℕ → Fault
@@ -18,6 +18,8 @@ order_of BadRange = 3
 order_of Variables = 4
 order_of Outside = 5
 order_of ZeroDivisor = 6
+order_of Placed = 7
+order_of Arguments = 8
 
 -- the one fault comes before the other: it stands at an earlier token, or at the same one and its rule is the earlier one
 abbrev pub is_before : Fault → Fault → Bool

@@ -1,9 +1,9 @@
-//! Faults of names, sorts, jumps and divisors.
+//! Faults of names, sorts, jumps, divisors, returns and calls.
 
-ghost use Rattle.std.specs.Prelude.{◌≡◌};
-ghost use Rattle.elaboration.specs.Faults.{order_of, is_before};
+ghost use Rattle.std.specs.Prelude.{◌≡◌, [], ◌∷◌};
+ghost use Rattle.elaboration.specs.Faults.{order_of, is_before, earliest};
 
-/// The rules on names, sorts, jumps and divisors, each by what breaks it.
+/// The rules on names, sorts, jumps, divisors, returns and calls, each by what breaks it.
 #[derive(Clone, Copy, PartialEq, Eq, Debug)]
 pub enum Rule {
     /// A name is used where it isn't in scope.
@@ -20,6 +20,10 @@ pub enum Rule {
     Outside,
     /// A divisor is 0.
     ZeroDivisor,
+    /// A `return` of a function stands elsewhere than at its end, is missing there, or has a value or none against the function's type.
+    Placed,
+    /// A call has another number of arguments than its function has parameters.
+    Arguments,
 }
 
 /// A broken rule, and the number of the token where it is broken, counted from 0.
@@ -42,6 +46,8 @@ impl Rule {
             Rule::Variables => 4,
             Rule::Outside => 5,
             Rule::ZeroDivisor => 6,
+            Rule::Placed => 7,
+            Rule::Arguments => 8,
         }
     }
 }
@@ -53,5 +59,15 @@ impl Fault {
     {
         self.token < other.token
             || (self.token == other.token && self.rule.order() < other.rule.order())
+    }
+}
+
+/// The first of the faults so far and of one more.
+pub fn earlier(least: Option<Fault>, fault: Fault) -> Option<Fault>
+    ensures { result ≡ earliest least (fault ∷ []) }
+{
+    match &least {
+        Some(first) if !fault.is_before(first) => least,
+        _ => Some(fault),
     }
 }

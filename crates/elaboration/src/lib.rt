@@ -5,17 +5,25 @@
 //! program (Elaborates). Inside the crate: what the walk of the code does (Walking, Typing).
 #![tactic(auto)]
 
+mod call;
+mod context;
 mod expression;
 mod fault;
 mod front;
+mod function;
+mod functions;
 mod grouping;
 mod laws;
+mod levels;
+mod plain;
 mod scope;
 mod simple;
 mod statement;
 mod typed;
 mod walk;
 
+pub use context::{Body, Context};
 pub use fault::{Fault, Rule};
-pub use front::{Refusal, elaborate};
+pub use front::{Parts, Refusal, elaborate, elaborate_unit};
+pub use functions::{Functions, Signature};
 pub use laws::{one_group_is_by_the_ladder, operators_group_by_the_ladder};

@@ -1,6 +1,6 @@
-//! The names of a program, and which of them may be used.
+//! The names of a body, and which of them may be used.
 
-ghost use Rattle.std.specs.Prelude.{◌≡◌, ◌≤◌, ◌<◌, IfSome, IfNone, OnOk, IfOk, length, map, vec_items, take, true, false};
+ghost use Rattle.std.specs.Prelude.{◌≡◌, ◌+◌, ◌≤◌, ◌<◌, IfSome, IfNone, OnOk, IfOk, length, map, vec_items, take, true, false};
 ghost use Rattle.elaboration.specs.Scopes.{is_among, place_of};
 
 use indexmap::IndexSet;
@@ -8,39 +8,54 @@ use std::alloc::{AllocError, Global};
 use std::marker::Model;
 use step_meaning::Names;
 
-/// How many variables a program may have.
+/// How many variables the functions of a program may have together.
 pub const MOST_VARIABLES: usize = 15;
 
-/// The names declared so far, each once, in the order of their first declarations; and those that may be used here.
+/// What is known at a place of a body: how many variables the functions before have; the names declared so far, each once, in the order of their first
+/// declarations; those that may be used here; which variables were declared without initialiser; and the tokens at which a `return` of a function stood.
 #[derive(Drop)]
 pub struct Scope {
+    others: usize,
     declared: IndexSet<Vec<u8>>,
     visible: Vec<Vec<u8>>,
+    free: [bool; 16],
+    returns: Vec<usize>,
+}
+
+/// What is known behind a body: the names of its variables, which of them were declared without initialiser, and the tokens at which a `return` stood.
+#[derive(Drop)]
+pub struct Variables {
+    pub names: Names,
+    pub free: [bool; 16],
+    pub returns: Vec<usize>,
 }
 
 impl Model for Scope {
-    ghost use Rattle.std.specs.Prelude.{◌≤◌, length, map, vec_items};
+    ghost use Rattle.std.specs.Prelude.{◌≡◌, ◌+◌, ◌≤◌, length, map, vec_items};
     ghost use Rattle.elaboration.specs.Scopes as scopes;
 
     ghost Value = { scopes.Scope };
 
-    ghost view = { λ s. record { declared = map vec_items s.declared.keys; visible = map vec_items s.visible.items } };
+    ghost view = { λ s. record { others = s.others; declared = map vec_items s.declared.keys; visible = map vec_items s.visible.items; free = s.free; returns = s.returns.items } };
 
-    ghost invariant = { λ s. length s.declared.keys ≤ 15 };
+    ghost invariant = { λ s. s.others + length s.declared.keys ≤ 15 };
 }
 
 impl Scope {
-    ghost use Rattle.std.specs.Prelude.{◌≡◌, ◌≤◌, OnOk, IfOk, length, take, false, not, nat_lt};
-    ghost use Rattle.elaboration.specs.Elaborates.{no_names};
-    ghost use Rattle.elaboration.specs.Scopes.{declare, is_among, place_of, with_variable, most_variables};
+    ghost use Rattle.std.specs.Prelude.{◌≡◌, ◌+◌, ◌≤◌, OnOk, IfOk, length, take, true, false, not, nat_lt};
+    ghost use Rattle.elaboration.specs.Scopes.{declare, returned, no_names, is_among, place_of, with_variable, most_variables};
 
-    /// Before the first declaration.
-    pub fn new(alloc: Global) -> Scope
-        ensures { result ≡ no_names }
+    /// Before the first declaration, where the functions before have so many variables.
+    pub fn new(alloc: Global, others: usize) -> Scope
+        requires { others ≤ 15 }
+        ensures { result ≡ no_names others }
     {
         Scope {
+            others,
             declared: IndexSet::new(alloc),
             visible: Vec::new(alloc),
+            free: [false; 16],
+            returns: Vec::new(alloc),
         }
     }
 
@@ -68,16 +83,23 @@ impl Scope {
         position(&self.visible, name).is_some()
     }
 
-    /// Whether no more names may become variables.
-    pub fn is_full(&self) -> bool
-        ensures { result ≡ not (nat_lt (length self.now.declared) most_variables) }
+    /// How many variables there are.
+    pub fn count(&self) -> u8
+        ensures { result ≡ length self.now.declared }
     {
-        self.declared.len() >= MOST_VARIABLES
+        self.declared.len() as u8
     }
 
-    /// Declares a name. `AllocError` where it finds no room in memory.
+    /// Whether no more names may become variables.
+    pub fn is_full(&self) -> bool
+        ensures { result ≡ not (nat_lt (self.now.others + length self.now.declared) most_variables) }
+    {
+        self.others + self.declared.len() >= MOST_VARIABLES
+    }
+
+    /// Declares a name, which has an initialiser or is a parameter. `AllocError` where it finds no room in memory.
     pub fn declare(&mut self, alloc: Global, name: &[u8]) -> Result<(), AllocError>
-        ensures { OnOk result (self.new ≡ declare self.old name.now) }
+        ensures { OnOk result (self.new ≡ declare self.old name.now false) }
     {
         if !self.is_declared(name) {
             self.add_variable(alloc, name)?;
@@ -86,15 +108,34 @@ impl Scope {
         Ok(())
     }
 
+    /// Declares a name without initialiser. `AllocError` where it finds no room in memory.
+    pub fn declare_bare(&mut self, alloc: Global, name: &[u8]) -> Result<(), AllocError>
+        ensures { OnOk result (self.new ≡ declare self.old name.now true) }
+    {
+        self.declare(alloc, name)?;
+        if self.is_declared(name) {
+            let place = self.place(name);
+            self.free[place as usize] = true;
+        }
+        Ok(())
+    }
+
     // Makes a new name a variable, where there is room for one more.
     fn add_variable(&mut self, alloc: Global, name: &[u8]) -> Result<(), AllocError>
         requires { is_among self.old.declared name.now ≡ false }
-        ensures declared { OnOk result (self.new.declared ≡ with_variable self.old.declared name.now) }
-        ensures visible { OnOk result (self.new.visible ≡ self.old.visible) }
+        ensures { OnOk result (self.new ≡ record self.old { declared = with_variable self.old.others self.old.declared name.now }) }
     {
-        if self.declared.len() < MOST_VARIABLES {
+        if !self.is_full() {
             self.declared.insert(name.to_vec(alloc)?)?;
         }
+        Ok(())
+    }
+
+    /// Keeps where a `return` of a function stands. `AllocError` where it finds no room in memory.
+    pub fn add_return(&mut self, token: usize) -> Result<(), AllocError>
+        ensures { OnOk result (self.new ≡ returned self.old token) }
+    {
+        self.returns.push(token)?;
         Ok(())
     }
 
@@ -107,19 +148,25 @@ impl Scope {
 
     /// Ends the scope of the names behind the first `depth`.
     pub fn close(&mut self, depth: usize)
-        ensures declared { self.new.declared ≡ self.old.declared }
-        ensures visible { self.new.visible ≡ take depth self.old.visible }
+        ensures { self.new ≡ record self.old { visible = take depth self.old.visible } }
     {
         self.visible.truncate(depth);
     }
 
-    /// The variables. `AllocError` where their list finds no room.
-    pub fn into_names(self, alloc: Global) -> Result<Names, AllocError>
-        ensures names { IfOk result (λ names. names ≡ self.declared) }
-        ensures few { length self.declared ≤ 15 }
+    /// What is known behind a body. `AllocError` where the list of names finds no room.
+    pub fn into_variables(self, alloc: Global) -> Result<Variables, AllocError>
+        ensures names { IfOk result (λ variables. variables.names ≡ self.declared) }
+        ensures free { IfOk result (λ variables. variables.free ≡ self.free) }
+        ensures returns { IfOk result (λ variables. variables.returns.items ≡ self.returns) }
+        ensures few { self.others + length self.declared ≤ 15 }
     {
+        let free = self.free;
         let names = self.declared.into_iter().collect(alloc)?;
-        Ok(Names::of(names))
+        Ok(Variables {
+            names: Names::of(names),
+            free,
+            returns: self.returns,
+        })
     }
 }
 

@@ -3,16 +3,18 @@
 ghost use Rattle.std.specs.Prelude.{◌≡◌, ◌++◌, ◌∷◌, [], IfOk, OnOk};
 ghost use Rattle.concrete_syntax.specs.Mirror.{action as action_of, simple as simple_of, part as part_of, declaration as declaration_of};
 ghost use Rattle.step_meaning.specs.Syntax as syntax;
-ghost use Rattle.step_meaning.specs.Offsets.{all_offsets, offsets_at};
+ghost use Rattle.call_meaning.specs.Tables.{command, parts};
+ghost use Rattle.call_meaning.specs.Offsets.{all_levels, all_offsets, levels_in, offsets_at};
 ghost use Rattle.elaboration.specs.Offsets.{offset_in};
 ghost use Rattle.elaboration.specs.Statements.{action_meaning, action_faults, simple_walked, part_walked, declaration_walked, stepped, assigned, simple_at};
 ghost use Rattle.elaboration.specs.Walking.{HasFound, HasGone, HasAdded};
 
 use crate::expression::operation;
 use crate::walk::Walk;
+use call_meaning::{UnitKind, UnitStmt};
 use concrete_syntax::{Action, Assignment, Declaration, Part, Simple, Step};
 use std::alloc::{AllocError, Global};
-use step_meaning::{Expr, Op2, Stmt, StmtKind};
+use step_meaning::{Expr, Op2};
 
 impl<'a> Walk<'a> {
     /// A simple statement at the token `at`: its assignment is added to `out`. Faults are reported.
@@ -21,7 +23,7 @@ impl<'a> Walk<'a> {
         &mut self,
         at: usize,
         tree: &Simple,
-        out: &mut Vec<Stmt>,
+        out: &mut Vec<UnitStmt>,
     ) -> Result<(), AllocError>
         ensures gone { OnOk result (HasGone self.old self.new (simple_walked self.old.scope at (simple_of tree.now))) }
         ensures added { OnOk result (HasAdded self.old out.old.items out.new.items (simple_walked self.old.scope at (simple_of tree.now))) }
@@ -30,12 +32,12 @@ impl<'a> Walk<'a> {
             Simple::Acts { name, action } => {
                 let var = self.variable(name);
                 let value = self.action(action, var)?;
-                self.add(at, StmtKind::Assign { var, value }, out)
+                self.add(at, UnitKind::Assign { var, value }, out)
             }
             Simple::StepsBefore { step, name, .. } => {
                 let var = self.variable(name);
                 let value = stepped(self.alloc, var, *step)?;
-                self.add(at, StmtKind::Assign { var, value }, out)
+                self.add(at, UnitKind::Assign { var, value }, out)
             }
         }
     }
@@ -56,7 +58,11 @@ impl<'a> Walk<'a> {
 
     /// A declaration: its names are declared, and for each with an initialiser a statement is added to `out`. Faults are reported.
     #[tactic(auto, using(crate::proofs::Firsts::earliest_more))]
-    pub fn declaration(&mut self, tree: &Declaration, out: &mut Vec<Stmt>) -> Result<(), AllocError>
+    pub fn declaration(
+        &mut self,
+        tree: &Declaration,
+        out: &mut Vec<UnitStmt>,
+    ) -> Result<(), AllocError>
         ensures gone { OnOk result (HasGone self.old self.new (declaration_walked self.old.scope (declaration_of tree.now))) }
         ensures added { OnOk result (HasAdded self.old out.old.items out.new.items (declaration_walked self.old.scope (declaration_of tree.now))) }
     {
@@ -69,29 +75,30 @@ impl<'a> Walk<'a> {
 
     // A declared name, and its initialiser.
     #[tactic(auto, using(crate::proofs::Firsts::earliest_more))]
-    fn part(&mut self, tree: &Part, out: &mut Vec<Stmt>) -> Result<(), AllocError>
+    fn part(&mut self, tree: &Part, out: &mut Vec<UnitStmt>) -> Result<(), AllocError>
         ensures gone { OnOk result (HasGone self.old self.new (part_walked self.old.scope (part_of tree.now))) }
         ensures added { OnOk result (HasAdded self.old out.old.items out.new.items (part_walked self.old.scope (part_of tree.now))) }
     {
-        self.need_new(tree);
         let name = &tree.declared;
+        self.need_new(name, &tree.initialiser);
         match &tree.initialiser {
             Some(initialiser) => {
                 let value = self.number(initialiser)?;
                 self.scope.declare(self.alloc, &name.bytes)?;
                 let var = self.scope.place(&name.bytes);
-                self.add(name.at, StmtKind::Assign { var, value }, out)
+                self.add(name.at, UnitKind::Assign { var, value }, out)
             }
-            None => self.scope.declare(self.alloc, &name.bytes),
+            None => self.scope.declare_bare(self.alloc, &name.bytes),
         }
     }
 
     /// Adds a statement to `out`, at the offset of the token `at`.
-    pub fn add(&self, at: usize, kind: StmtKind, out: &mut Vec<Stmt>) -> Result<(), AllocError>
-        ensures meaning { OnOk result (syntax.parts out.new.items ≡ syntax.parts out.old.items ++ syntax.statement kind ∷ []) }
+    pub fn add(&self, at: usize, kind: UnitKind, out: &mut Vec<UnitStmt>) -> Result<(), AllocError>
+        ensures meaning { OnOk result (parts out.new.items ≡ parts out.old.items ++ command kind ∷ []) }
         ensures offsets { OnOk result (all_offsets out.new.items ≡ all_offsets out.old.items ++ offsets_at (offset_in self.now.tokens.now at) kind) }
+        ensures levels { OnOk result (all_levels out.new.items ≡ all_levels out.old.items ++ levels_in kind) }
     {
-        out.push(Stmt {
+        out.push(UnitStmt {
             at: self.offset(at),
             kind,
         })?;

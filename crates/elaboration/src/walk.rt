@@ -1,16 +1,16 @@
-//! A walk over a tree: what it knows, and what it reports.
+//! A walk over a body: what it knows, and what it reports.
 
 ghost use Rattle.std.specs.Prelude.{◌≡◌, ◌∷◌, []};
 ghost use Rattle.elaboration.specs.Expressions.{unknown_name};
 ghost use Rattle.elaboration.specs.Faults.{fault};
 
-use crate::fault::{Fault, Rule};
+use crate::fault::{Fault, Rule, earlier};
 use crate::scope::Scope;
-use concrete_syntax::{Name, Part};
+use concrete_syntax::{Expression, Name};
 use source_lex::{Token, start_of};
 use std::alloc::Global;
 
-/// A walk over a tree: the text's tokens, the names so far, and the first fault so far.
+/// A walk over a body: the text's tokens, the names so far, and the first fault so far.
 #[derive(Drop)]
 pub struct Walk<'a> {
     pub alloc: Global,
@@ -20,25 +20,25 @@ pub struct Walk<'a> {
 }
 
 impl<'a> Walk<'a> {
-    ghost use Rattle.std.specs.Prelude.{◌≡◌, ◌∷◌, [], None};
+    ghost use Rattle.std.specs.Prelude.{◌≡◌, ◌≤◌, ◌∷◌, []};
     ghost use Rattle.concrete_syntax.specs.Mirror.{name as name_of, optional};
-    ghost use Rattle.elaboration.specs.Elaborates.{no_names};
     ghost use Rattle.elaboration.specs.Offsets.{offset_in};
-    ghost use Rattle.elaboration.specs.Scopes.{place_of};
+    ghost use Rattle.elaboration.specs.Scopes.{no_names, place_of};
     ghost use Rattle.elaboration.specs.Statements.{name_faults, outside_faults};
     ghost use Rattle.elaboration.specs.Walking.{HasFound};
 
-    /// Before the first declaration.
-    pub fn new(alloc: Global, tokens: &'a [Token]) -> Walk<'a>
+    /// At the front of a body, where the functions before have so many variables and this is the first fault so far.
+    pub fn new(alloc: Global, tokens: &'a [Token], others: usize, least: Option<Fault>) -> Walk<'a>
+        requires { others ≤ 15 }
         ensures tokens { result.tokens.now ≡ tokens.now }
-        ensures scope { result.scope ≡ no_names }
-        ensures least { result.least ≡ None }
+        ensures scope { result.scope ≡ no_names others }
+        ensures least { result.least ≡ least }
     {
         Walk {
             alloc,
             tokens,
-            scope: Scope::new(alloc),
-            least: None,
+            scope: Scope::new(alloc, others),
+            least,
         }
     }
 
@@ -46,11 +46,7 @@ impl<'a> Walk<'a> {
     pub fn report(&mut self, rule: Rule, token: usize)
         ensures { HasFound self.old self.new (fault rule token ∷ []) }
     {
-        let fault = Fault { rule, token };
-        match &self.least {
-            Some(first) if !fault.is_before(first) => {}
-            _ => self.least = Some(fault),
-        }
+        self.least = earlier(self.least, Fault { rule, token });
     }
 
     /// Reports a name that may not be used here.
@@ -62,15 +58,14 @@ impl<'a> Walk<'a> {
         }
     }
 
-    /// Reports a name that may not be declared here.
-    pub fn need_new(&mut self, part: &Part)
-        ensures { HasFound self.old self.new (name_faults self.old.scope (name_of part.now.declared) (optional part.now.initialiser)) }
+    /// Reports a name that may not be declared here, with this initialiser or without one.
+    pub fn need_new(&mut self, name: &Name, initialiser: &Option<Expression>)
+        ensures { HasFound self.old self.new (name_faults self.old.scope (name_of name.now) (optional initialiser.now)) }
     {
-        let name = &part.declared;
         if self.scope.is_visible(&name.bytes) {
             self.report(Rule::Twice, name.at);
         } else if self.scope.is_declared(&name.bytes) {
-            if part.initialiser.is_none() {
+            if initialiser.is_none() {
                 self.report(Rule::Twice, name.at);
             }
         } else if self.scope.is_full() {

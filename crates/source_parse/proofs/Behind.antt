@@ -4,8 +4,8 @@ use Rattle.derivation.specs.declared.symbol.Symbol.TheVariants as S
 use Rattle.derivation.specs.Word.{number as numbered}
 use Rattle.derivation.specs.Pieces.{token, look}
 use Rattle.source_syntax.specs.Language.{Piece, is_at}
-use Rattle.concrete_syntax.specs.Trees.{Divisor, End, Operand, operand_at, OperandKind, number, name, truth, unknown, call, signed, parentheses, range, Link, operation, division, Tail, ended, further, Expression, Action, assigns, steps, Simple, acts, steps_before, Prelude, extern_call, typedef_bool}
-use Rattle.source_syntax.specs.Spelling.{plain, sign, size_pieces, minus_pieces, end_pieces, divisor_pieces, link_pieces, operand_pieces, operand_kind_pieces, tail_pieces, expression_pieces, optional_pieces, action_pieces, simple_pieces, initialiser_pieces, finish_pieces, test_pieces, void_pieces, prelude_pieces, preludes_pieces}
+use Rattle.concrete_syntax.specs.Trees.{Divisor, End, Operand, operand_at, OperandKind, number, name, truth, unknown, call, signed, parentheses, range, Link, operation, division, Tail, ended, further, Expression, Action, assigns, steps, Name, Simple, acts, steps_before, Start, starts_with_nothing, starts_with, declares, Part, Call, Statement, statement_at, StatementKind, simple, calls, gives, skip, braces, conditional, while_loop, do_loop, for_loop, return, break, continue, Otherwise, without, otherwise, Items, none, declaration, statement, Parameters, nothing, named, Function, Prelude, extern_call, typedef_bool}
+use Rattle.source_syntax.specs.Spelling.{plain, sign, leading, opening, size_pieces, minus_pieces, end_pieces, divisor_pieces, link_pieces, operand_pieces, operand_kind_pieces, tail_pieces, expression_pieces, optional_pieces, action_pieces, simple_pieces, initialiser_pieces, finish_pieces, test_pieces, where_allowed, arguments_pieces, further_arguments_pieces, call_pieces, part_pieces, parts_pieces, start_pieces, statement_pieces, statement_kind_pieces, otherwise_pieces, items_pieces, parameters_pieces, further_parameters_pieces, functions_pieces, void_pieces, prelude_pieces, preludes_pieces}
 
 -- the first pieces end with the others
 pub record EndsWith (pieces behind : List Piece) : Type 0 where
@@ -92,6 +92,24 @@ pub behind_test : (levels : ℕ) (test : Expression) (behind : List Piece) → E
 behind_test levels test behind =
     one_more (through (behind_expression (levels + 1) test (token (sign S.CloseParenthesis) ∷ behind)) (one_more itself))
 
+pub behind_allowed : (functions : Bool) (behind : List Piece) → EndsWith (where_allowed functions behind) behind
+behind_allowed true behind = itself
+behind_allowed false behind = one_more itself
+
+behind_further : (levels : ℕ) (more : List Expression) (behind : List Piece) → EndsWith (further_arguments_pieces levels more behind) behind
+behind_further levels [] behind = one_more itself
+behind_further levels (e ∷ more) behind =
+    one_more (through (behind_expression levels e (further_arguments_pieces levels more behind)) (behind_further levels more behind))
+
+behind_arguments : (levels : ℕ) (all : List Expression) (behind : List Piece) → EndsWith (arguments_pieces levels all behind) behind
+behind_arguments levels [] behind = one_more itself
+behind_arguments levels (e ∷ more) behind =
+    through (behind_expression levels e (further_arguments_pieces levels more behind)) (behind_further levels more behind)
+
+pub behind_call : (functions : Bool) (levels : ℕ) (c : Call) (behind : List Piece) → EndsWith (call_pieces functions levels c behind) behind
+behind_call functions levels c behind =
+    one_more (one_more (one_more (through (behind_allowed functions (arguments_pieces levels c.arguments behind)) (behind_arguments levels c.arguments behind))))
+
 pub behind_void : (void : Bool) (behind : List Piece) → EndsWith (void_pieces void behind) behind
 behind_void true behind = one_more (one_more itself)
 behind_void false behind = one_more itself
@@ -105,3 +123,88 @@ behind_prelude typedef_bool behind =
 pub behind_preludes : (preludes : List Prelude) (behind : List Piece) → EndsWith (preludes_pieces preludes behind) behind
 behind_preludes [] behind = itself
 behind_preludes (prelude ∷ more) behind = through (behind_prelude prelude (preludes_pieces more behind)) (behind_preludes more behind)
+
+-- ── Statements and functions ──
+
+behind_parts : (levels : ℕ) (parts : List Part) (behind : List Piece) → EndsWith (parts_pieces levels parts behind) behind
+behind_parts levels [] behind = one_more itself
+behind_parts levels (part ∷ more) behind =
+    one_more (one_more (one_more (through (behind_initialiser levels part.initialiser (parts_pieces levels more behind)) (behind_parts levels more behind))))
+
+behind_declaration : (levels : ℕ) (part : Part) (more : List Part) (behind : List Piece)
+    → EndsWith (token (sign S.Int) ∷ part_pieces levels part (parts_pieces levels more behind)) behind
+behind_declaration levels part more behind =
+    one_more (one_more (one_more (through (behind_initialiser levels part.initialiser (parts_pieces levels more behind)) (behind_parts levels more behind))))
+
+behind_start : (levels : ℕ) (start : Start) (behind : List Piece) → EndsWith (start_pieces levels start behind) behind
+behind_start levels starts_with_nothing behind = one_more itself
+behind_start levels (starts_with s) behind = through (behind_simple levels s (token (leading S.Semicolon) ∷ behind)) (one_more itself)
+behind_start levels (declares d) behind = behind_declaration levels d.part d.more behind
+
+mutual
+  behind_statement : (functions : Bool) (levels : ℕ) (s : Statement) (behind : List Piece) → EndsWith (statement_pieces functions levels s behind) behind
+  behind_statement functions levels (statement_at at kind) behind = one_more (behind_statement_kind functions levels kind behind)
+
+  behind_statement_kind : (functions : Bool) (levels : ℕ) (kind : StatementKind) (behind : List Piece)
+      → EndsWith (statement_kind_pieces functions levels kind behind) behind
+  behind_statement_kind functions levels (simple s) behind = through (behind_simple levels s (token (sign S.Semicolon) ∷ behind)) (one_more itself)
+  behind_statement_kind functions levels (calls c) behind = through (behind_call functions levels c (token (sign S.Semicolon) ∷ behind)) (one_more itself)
+  behind_statement_kind functions levels (gives x c) behind =
+      one_more (one_more (one_more (through (behind_call functions levels c (token (sign S.Semicolon) ∷ behind)) (one_more itself))))
+  behind_statement_kind functions levels skip behind = one_more itself
+  behind_statement_kind functions levels (braces all) behind =
+      one_more (through (behind_items functions (levels + 1) all (token (sign S.CloseBrace) ∷ behind)) (one_more itself))
+  behind_statement_kind functions levels (conditional test part other) behind =
+      let last = otherwise_pieces functions (levels + 1) other behind in
+      one_more
+      (through (behind_test (levels + 1) test (statement_pieces functions (levels + 1) part last))
+      (through (behind_statement functions (levels + 1) part last) (behind_otherwise functions (levels + 1) other behind)))
+  behind_statement_kind functions levels (while_loop test body) behind =
+      one_more
+      (through (behind_test (levels + 1) test (statement_pieces functions (levels + 1) body behind)) (behind_statement functions (levels + 1) body behind))
+  behind_statement_kind functions levels (do_loop body end test) behind =
+      let last = token (sign S.Semicolon) ∷ behind in
+      one_more
+      (through (behind_statement functions (levels + 1) body (look (is_at end) ∷ token (sign S.While) ∷ test_pieces (levels + 1) test last))
+      (one_more (one_more (through (behind_test (levels + 1) test last) (one_more itself)))))
+  behind_statement_kind functions levels (for_loop start test step body) behind =
+      let inner = statement_pieces functions (levels + 1) body behind in
+      let last = token (sign S.Semicolon) ∷ finish_pieces (levels + 1) step inner in
+      one_more (one_more
+      (through (behind_start (levels + 1) start (optional_pieces (levels + 1) test last))
+      (through (behind_optional (levels + 1) test last)
+      (one_more (through (behind_finish (levels + 1) step inner) (behind_statement functions (levels + 1) body behind))))))
+  behind_statement_kind functions levels (return value) behind =
+      one_more (through (behind_optional levels value (token (sign S.Semicolon) ∷ behind)) (one_more itself))
+  behind_statement_kind functions levels break behind = one_more (one_more itself)
+  behind_statement_kind functions levels continue behind = one_more (one_more itself)
+
+  behind_otherwise : (functions : Bool) (levels : ℕ) (other : Otherwise) (behind : List Piece) → EndsWith (otherwise_pieces functions levels other behind) behind
+  behind_otherwise functions levels without behind = one_more itself
+  behind_otherwise functions levels (otherwise s) behind = one_more (behind_statement functions (levels + 1) s behind)
+
+  behind_items : (functions : Bool) (levels : ℕ) (all : Items) (behind : List Piece) → EndsWith (items_pieces functions levels all behind) behind
+  behind_items functions levels none behind = itself
+  behind_items functions levels (declaration d more) behind =
+      through (behind_declaration levels d.part d.more (items_pieces functions levels more behind)) (behind_items functions levels more behind)
+  behind_items functions levels (statement s more) behind =
+      through (behind_statement functions levels s (items_pieces functions levels more behind)) (behind_items functions levels more behind)
+
+behind_further_parameters : (more : List Name) (behind : List Piece) → EndsWith (further_parameters_pieces more behind) behind
+behind_further_parameters [] behind = one_more itself
+behind_further_parameters (x ∷ more) behind = one_more (one_more (one_more (one_more (behind_further_parameters more behind))))
+
+pub behind_parameters : (parameters : Parameters) (behind : List Piece) → EndsWith (parameters_pieces parameters behind) behind
+behind_parameters (nothing void) behind = behind_void void behind
+behind_parameters (named x more) behind = one_more (one_more (one_more (behind_further_parameters more behind)))
+
+pub behind_functions : (functions : Bool) (all : List Function) (behind : List Piece) → EndsWith (functions_pieces functions all behind) behind
+behind_functions functions [] behind = itself
+behind_functions functions (f ∷ more) behind =
+    let rest = functions_pieces functions more behind in
+    let last = token (sign S.CloseBrace) ∷ look (is_at f.behind) ∷ rest in
+    let body = token (opening S.OpenBrace 1) ∷ items_pieces functions 1 f.items last in
+    one_more (one_more (one_more (one_more
+    (through (behind_allowed functions (parameters_pieces f.parameters body))
+    (through (behind_parameters f.parameters body)
+    (one_more (through (behind_items functions 1 f.items last) (one_more (one_more (behind_functions functions more behind))))))))))

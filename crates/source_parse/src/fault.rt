@@ -44,6 +44,12 @@ pub enum ParseFault {
     /// A divisor is 0.
     #[error("a divisor 0 at {at}")]
     ZeroDivisor { at: u32 },
+    /// A `return` of a function stands elsewhere than at its end, or has a value against the function's type, at the `return`; or one is missing, at the `}`.
+    #[error("a return in the wrong place at {at}")]
+    Placed { at: u32 },
+    /// A call has another number of arguments than the function has parameters, at the function's name.
+    #[error("another number of arguments at {at}")]
+    Arguments { at: u32 },
     /// The token that breaks a limit. `count` is a number above the limit.
     #[error("past a limit at {at}")]
     Limit { which: Which, at: u32, count: u32 },
@@ -55,7 +61,7 @@ pub enum ParseFault {
 impl ParseFault {
     ghost use Rattle.std.specs.Prelude.{◌≡◌};
 
-    /// The fault's number, from 1 to 11, 17 or 18, and its offset; `None` where memory ran out.
+    /// The fault's number, from 1 to 11 or from 17 to 20, and its offset; `None` where memory ran out.
     pub fn numbered(&self) -> Option<(u8, u32)>
         ensures { result ≡ numbered self.now }
     {
@@ -70,6 +76,8 @@ impl ParseFault {
             ParseFault::BadRange { at } => Some((8, *at)),
             ParseFault::Outside { at } => Some((17, *at)),
             ParseFault::ZeroDivisor { at } => Some((18, *at)),
+            ParseFault::Placed { at } => Some((19, *at)),
+            ParseFault::Arguments { at } => Some((20, *at)),
             ParseFault::Limit { which, at, .. } => match which {
                 Which::Variables => Some((9, *at)),
                 Which::Nesting => Some((10, *at)),

@@ -1,22 +1,23 @@
 //! The parser's front door.
 
-ghost use Rattle.std.specs.Prelude.{◌≡◌, ◌≤◌, ◌<◌, ℕ, List, length, IfOk, IfErr};
+ghost use Rattle.std.specs.Prelude.{◌≡◌, ◌≤◌, ◌<◌, ℕ, Bool, true, false, List, length, IfOk, IfErr};
 ghost use Rattle.source_lex.specs.Tokens.{TokensOf};
 ghost use Rattle.concrete_syntax.specs.Mirror.{program as program_tree};
 ghost use Rattle.step_meaning.specs.Offsets.{offsets};
 ghost use Rattle.step_meaning.specs.Syntax.{statements, size_of};
 ghost use Rattle.concrete_syntax.specs.Trees.{Program as Concrete};
-ghost use Rattle.elaboration.specs.Elaborates.{HasFirstFault, StandsFor, program_offsets};
+ghost use Rattle.elaboration.specs.Elaborates.{HasFirstFault, StandsFor, StandsForUnit, program_offsets};
 ghost use Rattle.source_syntax.specs.Texts.{IsTreeText as IsSyntaxOf, IsFaultOf as IsSyntaxFaultOf, offset_in};
-ghost use Rattle.source_parse.specs.Derives.{Derives, HasOffsets};
-ghost use Rattle.source_parse.specs.Faults.{IsFaultOf};
+ghost use Rattle.source_parse.specs.Derives.{Derives, HasOffsets, IsUnitText};
+ghost use Rattle.source_parse.specs.Faults.{IsFaultIn, IsFaultOf, IsUnitFaultOf};
 
 use crate::fault::{ParseFault, Which};
 use crate::laws::a_program_is_no_larger_than_its_text;
+use call_meaning::Unit;
 use concrete_syntax::Program as Tree;
 use derivation::Rule as SyntaxRule;
-use elaboration::{Fault, Refusal, Rule, elaborate};
-use source_lex::Token;
+use elaboration::{Fault, Parts, Refusal, Rule, elaborate, elaborate_unit};
+use source_lex::{Token, tokens_spell_their_kinds};
 use source_syntax::{SyntaxFault, offset_in, read_syntax};
 use std::alloc::Global;
 use step_meaning::Program;
@@ -35,7 +36,7 @@ pub fn parse(alloc: Global, text: &[u8]) -> Result<Program, ParseFault>
     ensures size { IfOk result (λ program. size_of (statements program.body) ≤ length text.now) }
 {
     a_program_is_no_larger_than_its_text();
-    let syntax = match read_syntax(alloc, text) {
+    let syntax = match read_syntax(alloc, text, false) {
         Ok(syntax) => syntax,
         Err(fault) => return Err(of_syntax(fault)),
     };
@@ -47,7 +48,7 @@ pub fn parse(alloc: Global, text: &[u8]) -> Result<Program, ParseFault>
 fn program(alloc: Global, text: &[u8], tree: &Tree, tokens: &[Token]) -> Result<Program, ParseFault>
     requires short { length text.now ≤ 65536 }
     requires lexed { TokensOf text.now tokens.now }
-    requires spelled { IsSyntaxOf text.now (program_tree tree.now) }
+    requires spelled { IsSyntaxOf false text.now (program_tree tree.now) }
     ensures program { IfOk result (λ program. StandsFor (program_tree tree.now) program.names (statements program.body)) }
     ensures offsets { IfOk result (λ program. offsets program.body ≡ program_offsets tokens.now (program_tree tree.now)) }
     ensures fault { IfErr result (IsFaultOf text.now) }
@@ -59,9 +60,56 @@ fn program(alloc: Global, text: &[u8], tree: &Tree, tokens: &[Token]) -> Result<
     }
 }
 
+/// The program of functions that the text is, or its first fault. The text has at most 65,536 bytes. Time is linear in the text, but that a name is looked up
+/// among those in scope, which are at most 15 where there is no fault.
+///
+/// Faults, in their order: as for `parse`, and with those of names, by their offset and at one offset behind the others, `Placed` and `Arguments`.
+pub fn parse_unit(alloc: Global, text: &[u8]) -> Result<Unit, ParseFault>
+    requires { length text.now ≤ 65536 }
+    ensures unit { IfOk result (IsUnitText text.now) }
+    ensures fault { IfErr result (IsUnitFaultOf text.now) }
+{
+    let syntax = match read_syntax(alloc, text, true) {
+        Ok(syntax) => syntax,
+        Err(fault) => return Err(of_syntax(fault)),
+    };
+    let unit = unit(alloc, text, &syntax.tree, &syntax.tokens)?;
+    Ok(unit)
+}
+
+// The program of functions that the concrete tree of a text stands for.
+fn unit(alloc: Global, text: &[u8], tree: &Tree, tokens: &[Token]) -> Result<Unit, ParseFault>
+    requires short { length text.now ≤ 65536 }
+    requires lexed { TokensOf text.now tokens.now }
+    requires spelled { IsSyntaxOf true text.now (program_tree tree.now) }
+    ensures unit { IfOk result (λ unit. StandsForUnit tokens.now (program_tree tree.now) unit.func_names unit.funcs unit.names unit.body) }
+    ensures fault { IfErr result (IsUnitFaultOf text.now) }
+{
+    match elaborate_unit(alloc, tree, tokens) {
+        Ok(parts) => Ok(of_parts(text, tree, tokens, parts)),
+        Err(Refusal::Fault(fault)) => Err(of_names(text, tokens, fault)),
+        Err(Refusal::Memory(error)) => Err(ParseFault::Memory(error)),
+    }
+}
+
+// The unit of the parts that the concrete tree of a text stands for: it is valid, since no name of a text has a dot.
+fn of_parts(text: &[u8], tree: &Tree, tokens: &[Token], parts: Parts) -> Unit
+    requires spelled { IsSyntaxOf true text.now (program_tree tree.now) }
+    requires stands { StandsForUnit tokens.now (program_tree tree.now) parts.func_names parts.funcs parts.names parts.body }
+    ensures { StandsForUnit tokens.now (program_tree tree.now) result.func_names result.funcs result.names result.body }
+{
+    tokens_spell_their_kinds();
+    Unit {
+        func_names: parts.func_names,
+        funcs: parts.funcs,
+        names: parts.names,
+        body: parts.body,
+    }
+}
+
 // The fault of a text that is no program by its syntax.
 fn of_syntax(fault: SyntaxFault) -> ParseFault
-    ensures { (text : List ℕ) → IsSyntaxFaultOf text fault → IsFaultOf text result }
+    ensures { (functions : Bool) (text : List ℕ) → IsSyntaxFaultOf functions text fault → IsFaultIn functions text result }
 {
     match fault {
         SyntaxFault::Lex(fault) => ParseFault::Lex(fault),
@@ -82,10 +130,11 @@ fn of_syntax(fault: SyntaxFault) -> ParseFault
     }
 }
 
-// The fault of a text whose tree has one of names, sorts, jumps and divisors.
+// The fault of a text whose tree has one of names, sorts, jumps, divisors, returns and calls.
 fn of_names(text: &[u8], tokens: &[Token], fault: Fault) -> ParseFault
     requires { length text.now ≤ 65536 }
-    ensures { (tree : Concrete) → TokensOf text.now tokens.now → IsSyntaxOf text.now tree → HasFirstFault tree fault → IsFaultOf text.now result }
+    ensures { (functions : Bool) (tree : Concrete) → TokensOf text.now tokens.now → IsSyntaxOf functions text.now tree → HasFirstFault tree fault
+        → IsFaultIn functions text.now result }
 {
     let at = offset_in(text, tokens, fault.token);
     match fault.rule {
@@ -100,5 +149,7 @@ fn of_names(text: &[u8], tokens: &[Token], fault: Fault) -> ParseFault
         },
         Rule::Outside => ParseFault::Outside { at },
         Rule::ZeroDivisor => ParseFault::ZeroDivisor { at },
+        Rule::Placed => ParseFault::Placed { at },
+        Rule::Arguments => ParseFault::Arguments { at },
     }
 }

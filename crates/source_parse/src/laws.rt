@@ -1,6 +1,6 @@
 //! Laws of derivations, each the contract of a function that does nothing.
 
-ghost use Rattle.source_parse.specs.Laws.{TextsAreUnique, ProgramsHaveNoFault, FaultsAgree, ProgramsAreSmall, ProgramsAreValid, NamesAreDistinct, NamesAreNames};
+ghost use Rattle.source_parse.specs.Laws.{TextsAreUnique, ProgramsHaveNoFault, FaultsAgree, ProgramsAreSmall, ProgramsAreValid, NamesAreDistinct, NamesAreNames, NamesOfUnitsAreNames, UnitsAreUnique, UnitsHaveNoFault};
 
 use source_lex::{tokens_are_in_order, tokens_are_unique, tokens_spell_their_kinds};
 use source_syntax::{
@@ -56,3 +56,26 @@ pub fn names_are_spelled_as_names()
 pub fn names_are_distinct()
     ensures { NamesAreDistinct }
 {}
+
+/// A text is at most one program of functions.
+pub fn a_text_is_one_unit()
+    ensures { UnitsAreUnique }
+{
+    trees_are_unique();
+    tokens_are_unique();
+}
+
+/// Of a text that is a program of functions nothing but want of memory may be answered in its place.
+pub fn a_unit_has_no_fault()
+    ensures { UnitsHaveNoFault }
+{
+    trees_are_unique();
+    syntax_has_no_fault();
+}
+
+/// The names of a program of functions are spelled as names.
+pub fn names_of_units_are_spelled_as_names()
+    ensures { NamesOfUnitsAreNames }
+{
+    tokens_spell_their_kinds();
+}

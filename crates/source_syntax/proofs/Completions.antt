@@ -4,10 +4,11 @@ use Rattle.derivation.specs.Pieces.{first_before, number_behind, Fits}
 use Rattle.derivation.specs.Comes.{MayStandFor}
 use Rattle.derivation.specs.Word.{Word}
 use Rattle.derivation.proofs.Grammars.{Lawful}
-use Rattle.source_syntax.specs.Language.{language, Look, is_at, no_operator, no_else, Meets, IsQuiet}
+use Rattle.source_syntax.specs.Language.{language, Look, is_at, no_operator, no_else, forbidden, Meets, IsQuiet}
+use Rattle.source_syntax.specs.Ends.{evaluates, continues, does, is_main}
 use Rattle.concrete_syntax.specs.declared.sign.Step.TheVariants as Step
-use Rattle.concrete_syntax.specs.Trees.{operand_at, number, ended, Expression, Name, steps, steps_before, starts_with_nothing, statement_at, skip, without, none}
-use Rattle.source_syntax.specs.Pending.{Pending, exactly, exactly_at, a_name, bytes_of_a_name, a_size, an_end, a_number, a_number_at, a_divisor, an_operand, an_operand_kind, a_tail, an_expression, an_optional, a_test, an_action, a_simple, a_part_end, parts, a_declaration, a_start, a_finish, a_statement, a_statement_kind, an_otherwise, items, a_void, a_program, TreeOf, pieces_of, Trees, pieces, grammar}
+use Rattle.concrete_syntax.specs.Trees.{operand_at, number, ended, Expression, Name, steps, steps_before, starts_with_nothing, statement_at, skip, without, none, nothing}
+use Rattle.source_syntax.specs.Pending.{Pending, exactly, exactly_at, a_name, bytes_of_a_name, a_size, an_end, a_number, a_number_at, a_divisor, an_operand, an_operand_kind, a_tail, an_expression, an_optional, a_test, an_action, a_simple, a_part_end, parts, a_declaration, a_start, a_finish, a_value, a_value_end, arguments, further_arguments, a_statement_end, a_statement, a_statement_kind, an_otherwise, items, a_void, parameters, further_parameters, a_place, definitions_end, definitions, a_program, TreeOf, pieces_of, Trees, pieces, grammar}
 
 abbrev zero_at : ℕ → Expression
 zero_at at = record { operand = operand_at at (number (pos 0)); tail = ended }
@@ -39,12 +40,22 @@ short at (parts n) = []
 short at (a_declaration n) = record { part = record { declared = empty_name (at + 1); initialiser = None }; more = [] }
 short at (a_start n) = starts_with_nothing
 short at (a_finish n) = None
-short at (a_statement n) = statement_at at skip
-short at (a_statement_kind n) = skip
-short at (an_otherwise n) = without
-short at (items n) = none
+short at (a_value n) = evaluates (zero_at at)
+short at (a_value_end n) = continues ended
+short at (arguments n) = []
+short at (further_arguments n) = []
+short at (a_statement_end functions n) = does (steps Step.Increment)
+short at (a_statement functions n) = statement_at at skip
+short at (a_statement_kind functions n) = skip
+short at (an_otherwise functions n) = without
+short at (items functions n) = none
 short at a_void = false
-short at a_program = record { preludes = []; void = false; items = none }
+short at parameters = nothing false
+short at further_parameters = []
+short at a_place = at
+short at definitions_end = is_main false none
+short at (definitions functions) = record { functions = []; void = false; items = none }
+short at (a_program functions) = record { preludes = []; functions = []; void = false; items = none }
 
 abbrev complete : ℕ → (all : List Pending) → Trees all
 complete at [] = tt
@@ -75,12 +86,22 @@ completes at (parts n ∷ more) = ((completes _ more).0, (refl, refl))
 completes at (a_declaration n ∷ more) = ((refl, (completes _ more).0), (refl, refl))
 completes at (a_start n ∷ more) = ((completes _ more).0, (refl, refl))
 completes at (a_finish n ∷ more) = ((completes _ more).0, (refl, refl))
-completes at (a_statement n ∷ more) = ((refl, (completes _ more).0), (refl, refl))
-completes at (a_statement_kind n ∷ more) = ((completes _ more).0, (refl, refl))
-completes at (an_otherwise n ∷ more) = (((completes at more).1.1, (completes at more).0), (completes at more).1)
-completes at (items n ∷ more) = ((completes _ more).0, (refl, refl))
+completes at (a_value n ∷ more) = ((refl, (refl, (completes _ more).0)), (refl, refl))
+completes at (a_value_end n ∷ more) = ((refl, (completes _ more).0), (refl, refl))
+completes at (arguments n ∷ more) = ((completes _ more).0, (refl, refl))
+completes at (further_arguments n ∷ more) = ((completes _ more).0, (refl, refl))
+completes at (a_statement_end functions n ∷ more) = ((completes _ more).0, (refl, refl))
+completes at (a_statement functions n ∷ more) = ((refl, (completes _ more).0), (refl, refl))
+completes at (a_statement_kind functions n ∷ more) = ((completes _ more).0, (refl, refl))
+completes at (an_otherwise functions n ∷ more) = (((completes at more).1.1, (completes at more).0), (completes at more).1)
+completes at (items functions n ∷ more) = ((completes _ more).0, (refl, refl))
 completes at (a_void ∷ more) = ((completes _ more).0, (refl, refl))
-completes at (a_program ∷ more) = ((completes _ more).0, (refl, refl))
+completes at (parameters ∷ more) = ((completes _ more).0, (refl, refl))
+completes at (further_parameters ∷ more) = ((completes _ more).0, (refl, refl))
+completes at (a_place ∷ more) = ((refl, (completes at more).0), (completes at more).1)
+completes at (definitions_end ∷ more) = ((completes _ more).0, (refl, refl))
+completes at (definitions functions ∷ more) = ((completes _ more).0, (refl, refl))
+completes at (a_program functions ∷ more) = ((completes _ more).0, (refl, refl))
 
 -- a word that no end forbids may stand for each
 pub quiet_stands : (next other : Option Word) → IsQuiet next → MayStandFor language next other
@@ -90,6 +111,7 @@ quiet_stands next other quiet = stands
     stands (is_at m) n meets = meets
     stands no_operator n meets = quiet.0
     stands no_else n meets = quiet.1
+    stands forbidden n meets = meets
 
 abbrev pub lawful : Lawful grammar
 lawful = record {

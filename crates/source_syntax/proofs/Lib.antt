@@ -1,6 +1,8 @@
 pub mod Completions
 pub mod Expressions
 pub mod Statements
+pub mod Calling
+pub mod Programs
 pub mod Words
 pub mod Answering
 pub mod Reading

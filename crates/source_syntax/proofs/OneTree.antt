@@ -8,6 +8,7 @@ use Rattle.derivation.specs.Pieces.{spelling, Fits}
 use Rattle.source_syntax.specs.Language.{Token, link_opening, is_else, IsQuiet}
 use Rattle.source_syntax.specs.declared.opening.LinkOpening.TheVariants as Link
 use Rattle.derivation.proofs.Calculus.{first_spelling}
+use Rattle.derivation.proofs.Choices.{begins}
 use Rattle.derivation.proofs.OneTree.{IsOnly as IsOnlyIn, own, fitting, through, headed_one, chosen, begun, not_begun, numbered_one}
 use Rattle.concrete_syntax.specs.declared.sign.Assignment.{Assignment}
 use Rattle.concrete_syntax.specs.declared.sign.Step.{Step}
@@ -15,17 +16,22 @@ use Rattle.source_syntax.specs.declared.opening.OperandOpening.TheVariants as Op
 use Rattle.source_syntax.specs.declared.opening.SizeOpening.TheVariants as SizeOpening
 use Rattle.source_syntax.specs.declared.opening.PreludeOpening.TheVariants as PreludeOpening
 use Rattle.source_syntax.specs.declared.opening.ActionOpening.{ActionOpening}
+use Rattle.source_syntax.specs.declared.opening.EndOpening.{EndOpening}
 use Rattle.source_syntax.specs.declared.opening.SimpleOpening.{SimpleOpening}
 use Rattle.source_syntax.specs.declared.opening.StatementOpening.{StatementOpening}
 use Rattle.source_syntax.specs.declared.opening.ItemOpening.{ItemOpening}
 use Rattle.source_syntax.specs.declared.opening.StartOpening.{StartOpening}
-use Rattle.source_syntax.specs.Openings.{opening_of_simple, opening_of_action}
-use Rattle.concrete_syntax.specs.Trees.{Divisor, End, Operand, operand_at, OperandKind, number, name, truth, unknown, call, signed, parentheses, range, Tail, ended, further, Expression, Name, Action, assigns, steps, Simple, acts, steps_before, Part, Declaration, Start, starts_with_nothing, starts_with, declares, Statement, statement_at, StatementKind, simple, skip, braces, conditional, while_loop, do_loop, for_loop, return, break, continue, Otherwise, without, otherwise, Items, none, declaration, statement, Prelude, extern_call, typedef_bool, Program, operation, division}
-use Rattle.source_syntax.specs.Spelling.{sign, leading, opening, assignment_sign, step_sign}
-use Rattle.source_syntax.specs.Pending.{Pending, exactly, exactly_at, a_name, bytes_of_a_name, a_size, an_end, a_number, a_number_at, a_divisor, an_operand, an_operand_kind, a_tail, an_expression, an_optional, a_test, an_action, a_simple, a_part_end, parts, a_declaration, a_start, a_finish, a_statement, a_statement_kind, an_otherwise, items, a_void, a_program, Trees, pieces, grammar}
+use Rattle.source_syntax.specs.Openings.{opening_of_simple, opening_of_action, opening_of_prelude, is_name}
+use Rattle.concrete_syntax.specs.Trees.{Divisor, End, Operand, operand_at, OperandKind, number, name, truth, unknown, call, signed, parentheses, range, Tail, ended, further, Expression, Name, Action, assigns, steps, Simple, acts, steps_before, Part, Declaration, Start, starts_with_nothing, starts_with, declares, Call, Statement, statement_at, StatementKind, simple, calls, gives, skip, braces, conditional, while_loop, do_loop, for_loop, return, break, continue, Otherwise, without, otherwise, Items, none, declaration, statement, Prelude, extern_call, typedef_bool, Parameters, nothing, named as named_parameters, Function, Program, operation, division}
+use Rattle.source_syntax.specs.Spelling.{sign, leading, assignment_sign, step_sign, type_sign}
+use Rattle.source_syntax.specs.Pending.{Pending, exactly, exactly_at, a_name, bytes_of_a_name, a_size, an_end, a_number, a_number_at, a_divisor, an_operand, an_operand_kind, a_tail, an_expression, an_optional, a_test, an_action, a_simple, a_part_end, parts, a_declaration, a_start, a_finish, a_value, a_value_end, arguments, further_arguments, a_statement_end, a_statement, a_statement_kind, an_otherwise, items, a_void, parameters, further_parameters, definitions, a_program, Trees, pieces, grammar}
 use Rattle.source_syntax.proofs.Answering.{AreQuiet, in_turn, units}
 use Rattle.source_syntax.proofs.Expressions.{located_tokens, names, located_numbers, divisor_of, divisors, sizes, ends, operands, located_operands, tokens, name_bytes, numbers, prefixes, link_signs, tail_ends, expression_goes}
-use Rattle.source_syntax.proofs.Statements.{actions, simples, simple_begins, opens_simply, part_ends, further_parts, declaration_goes, test_goes, no_semicolon, optionals, starts, no_parenthesis, finishes, statements, located_statements, statement_among, all_items, voids, extern_signs, extern_quiet, typedef_signs, typedef_quiet, main_signs, main_quiet, beginnings, otherwise_ends, elses}
+use Rattle.source_syntax.proofs.Statements.{actions, simples, simple_begins, opens_simply, part_ends, further_parts, declaration_goes, test_goes, no_semicolon, optionals, starts, no_parenthesis, finishes, statements, located_statements, statement_among, all_items, voids, otherwise_ends, elses}
+use Rattle.source_syntax.specs.Ends.{Value, evaluates, answers, ValueEnd, continues, called, StatementEnd, does, applied, given, Definitions, is_main, is_function, function_of, after_function}
+use Rattle.source_syntax.specs.Reads.{main_end, function_end}
+use Rattle.source_syntax.proofs.Calling.{statement_ends, no_calls, values, tail_begins, value_ends, argument_begins, first_arguments, more_arguments}
+use Rattle.source_syntax.proofs.Programs.{all_parameters, more_parameters, places, all_definitions, definitions_ends, main_signs, main_quiet, no_functions, extern_signs, extern_quiet, typedef_signs, typedef_quiet, whole, beginnings}
 
 -- all trees that spell the words of these are these
 abbrev IsOnly : (A : List Pending) → Trees A → Type 0
@@ -166,80 +172,209 @@ start_one : (n : ℕ) (start : Start) (S : List Pending) (rest : Trees S) → Is
 start_one n starts_with_nothing S rest d = chosen (starts n S) StartOpening.Nothing (tt, rest) refl (exactly_one _ _ S rest d)
 start_one n (declares declared) S rest d = chosen (starts n S) StartOpening.Declaration (declared, rest) refl (declaration_one n declared S rest d)
 start_one n (starts_with s) S rest d =
-    chosen (starts n S) StartOpening.Simple (s, (tt, rest)) (opens_simply _ (simple_begins n (exactly (leading Sym.Semicolon) (refl, refl) ∷ S) s (tt, rest))).1
+    chosen (starts n S) StartOpening.Simple (s, (tt, rest)) (opens_simply _ (simple_begins n (exactly (leading Sym.Semicolon) (refl, refl) ∷ S) s (tt, rest)))
     (simple_one n s _ _ (exactly_one _ _ S rest d))
 
 finish_one : (n : ℕ) (step : Option Simple) (S : List Pending) (rest : Trees S) → IsOnly S rest → IsOnly (a_finish n ∷ S) (step, rest)
 finish_one n None S rest d = begun (finishes n S) rest d
 finish_one n (Some s) S rest d = not_begun (finishes n S) (s, (tt, rest)) (no_parenthesis n S s rest) (simple_one n s _ _ (exactly_one _ _ S rest d))
 
+-- calls
+further_arguments_one : (n : ℕ) (all : List Expression) (S : List Pending) (rest : Trees S) → IsOnly S rest → IsOnly (further_arguments n ∷ S) (all, rest)
+further_arguments_one n [] S rest d = not_begun (more_arguments n S) (tt, rest) (λ e. cc) (exactly_one _ _ S rest d)
+further_arguments_one n (e ∷ more) S rest d =
+    begun (more_arguments n S) (e, (more, rest)) (expression_one n e _ _ (further_arguments_one n more S rest d))
+
+arguments_one : (n : ℕ) (all : List Expression) (S : List Pending) (rest : Trees S) → IsOnly S rest → IsOnly (arguments n ∷ S) (all, rest)
+arguments_one n [] S rest d = begun (first_arguments n S) rest d
+arguments_one n (e ∷ more) S rest d =
+    not_begun (first_arguments n S) (e, (more, rest)) (argument_begins n S e more rest) (expression_one n e _ _ (further_arguments_one n more S rest d))
+
+value_end_one : (n : ℕ) (end : ValueEnd) (S : List Pending) (rest : Trees S) → IsOnly S rest → IsOnly (a_value_end n ∷ S) (end, rest)
+value_end_one n (called all) S rest d = begun (value_ends n S) (all, (tt, rest)) (arguments_one n all _ _ (exactly_one _ _ S rest d))
+value_end_one n (continues t) S rest d =
+    not_begun (value_ends n S) (t, (tt, rest)) (tail_begins n S t rest) (tail_one n t _ _ (exactly_one _ _ S rest d))
+
+-- an expression that doesn't begin with a name
+plain_value : (n : ℕ) (e : Expression) (S : List Pending) (rest : Trees S) → is_name (begins grammar (a_value n ∷ S) (evaluates e, rest)) ≡ false → IsOnly S rest
+    → IsOnly (a_value n ∷ S) (evaluates e, rest)
+plain_value n e S rest plain d = chosen (values n S) false (e, (tt, rest)) plain (expression_one n e _ _ (exactly_one _ _ S rest d))
+
+expression_value : (n at : ℕ) (kind : OperandKind) (t : Tail) (S : List Pending) (rest : Trees S) → IsOnly S rest
+    → IsOnly (a_value n ∷ S) (evaluates (record { operand = operand_at at kind; tail = t }), rest)
+expression_value n at (name x) t S rest d =
+    chosen (values n S) true (record { at = at; bytes = x }, (continues t, rest)) refl (name_one _ _ _ (value_end_one n (continues t) S rest d))
+expression_value n at (number z) t S rest d = plain_value n _ S rest refl d
+expression_value n at (truth b) t S rest d = plain_value n _ S rest refl d
+expression_value n at unknown t S rest d = plain_value n _ S rest refl d
+expression_value n at call t S rest d = plain_value n _ S rest refl d
+expression_value n at (signed p e) t S rest d = plain_value n _ S rest refl d
+expression_value n at (parentheses e more) t S rest d = plain_value n _ S rest refl d
+expression_value n at (range lo hi) t S rest d = plain_value n _ S rest refl d
+
+by_operand : (n : ℕ) (e : Operand) (t : Tail) (S : List Pending) (rest : Trees S) → IsOnly S rest
+    → IsOnly (a_value n ∷ S) (evaluates (record { operand = e; tail = t }), rest)
+by_operand n (operand_at at kind) t S rest d = expression_value n at kind t S rest d
+
+value_one : (n : ℕ) (value : Value) (S : List Pending) (rest : Trees S) → IsOnly S rest → IsOnly (a_value n ∷ S) (value, rest)
+value_one n (evaluates e) S rest d = by_operand n e.operand e.tail S rest d
+value_one n (answers c) S rest d =
+    chosen (values n S) true (c.function, (called c.arguments, rest)) refl (name_one c.function _ _ (value_end_one n (called c.arguments) S rest d))
+
+statement_end_one : (functions : Bool) (n : ℕ) (end : StatementEnd) (S : List Pending) (rest : Trees S) → IsOnly S rest
+    → IsOnly (a_statement_end functions n ∷ S) (end, rest)
+statement_end_one false n (does action) S rest d =
+    through (action, (tt, rest)) (λ m. no_calls n 0 S (own grammar m (a_statement_end false n ∷ S) (does action, rest))) (action_one n action _ _ (exactly_one _ _ S rest d))
+statement_end_one false n (applied all) S rest d = fitting (λ m fits. absurd fits.0)
+statement_end_one false n (given c) S rest d = fitting (λ m fits. absurd fits.1.0)
+statement_end_one true n (does (assigns Assignment.Assign e)) S rest d =
+    chosen (statement_ends n S) EndOpening.Value (tt, (evaluates e, rest)) refl (exactly_one _ _ _ _ (value_one n (evaluates e) S rest d))
+statement_end_one true n (does (assigns Assignment.Add e)) S rest d =
+    chosen (statement_ends n S) EndOpening.Action (assigns Assignment.Add e, (tt, rest)) refl (action_one n _ _ _ (exactly_one _ _ S rest d))
+statement_end_one true n (does (assigns Assignment.Subtract e)) S rest d =
+    chosen (statement_ends n S) EndOpening.Action (assigns Assignment.Subtract e, (tt, rest)) refl (action_one n _ _ _ (exactly_one _ _ S rest d))
+statement_end_one true n (does (assigns Assignment.Multiply e)) S rest d =
+    chosen (statement_ends n S) EndOpening.Action (assigns Assignment.Multiply e, (tt, rest)) refl (action_one n _ _ _ (exactly_one _ _ S rest d))
+statement_end_one true n (does (steps Step.Increment)) S rest d =
+    chosen (statement_ends n S) EndOpening.Action (steps Step.Increment, (tt, rest)) refl (action_one n _ _ _ (exactly_one _ _ S rest d))
+statement_end_one true n (does (steps Step.Decrement)) S rest d =
+    chosen (statement_ends n S) EndOpening.Action (steps Step.Decrement, (tt, rest)) refl (action_one n _ _ _ (exactly_one _ _ S rest d))
+statement_end_one true n (applied all) S rest d =
+    chosen (statement_ends n S) EndOpening.Call (tt, (all, (tt, rest))) refl (exactly_one _ _ _ _ (arguments_one n all _ _ (exactly_one _ _ S rest d)))
+statement_end_one true n (given c) S rest d =
+    chosen (statement_ends n S) EndOpening.Value (tt, (answers c, rest)) refl (exactly_one _ _ _ _ (value_one n (answers c) S rest d))
+
 -- statements
 mutual
-  statement_one : (n : ℕ) (s : Statement) (S : List Pending) (rest : Trees S) → IsOnly S rest → IsOnly (a_statement n ∷ S) (s, rest)
-  statement_one n (statement_at m kind) S rest d = numbered_one (located_statements n S) m (kind, rest) (statement_kind_one n kind S rest d)
+  statement_one : (functions : Bool) (n : ℕ) (s : Statement) (S : List Pending) (rest : Trees S) → IsOnly S rest → IsOnly (a_statement functions n ∷ S) (s, rest)
+  statement_one functions n (statement_at m kind) S rest d = numbered_one (located_statements functions n S) m (kind, rest) (statement_kind_one functions n kind S rest d)
 
-  statement_kind_one : (n : ℕ) (s : StatementKind) (S : List Pending) (rest : Trees S) → IsOnly S rest → IsOnly (a_statement_kind n ∷ S) (s, rest)
-  statement_kind_one n (simple s) S rest d =
-      chosen (statements n S) StatementOpening.Simple (s, (tt, rest))
-      (opens_simply _ (simple_begins n (exactly (sign Sym.Semicolon) (refl, refl) ∷ S) s (tt, rest))).0
-      (simple_one n s _ _ (exactly_one _ _ S rest d))
-  statement_kind_one n skip S rest d = chosen (statements n S) StatementOpening.Skip (tt, rest) refl (exactly_one _ _ S rest d)
-  statement_kind_one n (braces all) S rest d = chosen (statements n S) StatementOpening.Braces (tt, (all, rest)) refl (exactly_one _ _ _ _ (items_one (n + 1) all S rest d))
-  statement_kind_one n (conditional test part other) S rest d =
-      chosen (statements n S) StatementOpening.If (tt, (test, (part, (other, rest)))) refl
-      (exactly_one _ _ _ _ (test_one (n + 1) test _ _ (statement_one (n + 1) part _ _ (otherwise_one (n + 1) other S rest d))))
-  statement_kind_one n (while_loop test body) S rest d =
-      chosen (statements n S) StatementOpening.While (tt, (test, (body, rest))) refl
-      (exactly_one _ _ _ _ (test_one (n + 1) test _ _ (statement_one (n + 1) body S rest d)))
-  statement_kind_one n (do_loop body end test) S rest d =
-      chosen (statements n S) StatementOpening.Do (tt, (body, (end, (test, (tt, rest))))) refl
-      (exactly_one _ _ _ _ (statement_one (n + 1) body _ _ (exactly_at_one _ _ end _ _ (test_one (n + 1) test _ _ (exactly_one _ _ S rest d)))))
-  statement_kind_one n (for_loop start test step body) S rest d =
-      chosen (statements n S) StatementOpening.For (tt, (tt, (start, (test, (step, (body, rest)))))) refl
+  statement_kind_one : (functions : Bool) (n : ℕ) (s : StatementKind) (S : List Pending) (rest : Trees S) → IsOnly S rest → IsOnly (a_statement_kind functions n ∷ S) (s, rest)
+  statement_kind_one functions n (simple (acts x action)) S rest d =
+      chosen (statements functions n S) StatementOpening.Name (x, (does action, rest)) refl (name_one x _ _ (statement_end_one functions n (does action) S rest d))
+  statement_kind_one functions n (simple (steps_before at Step.Increment x)) S rest d =
+      chosen (statements functions n S) StatementOpening.Steps (steps_before at Step.Increment x, (tt, rest)) refl (simple_one n _ _ _ (exactly_one _ _ S rest d))
+  statement_kind_one functions n (simple (steps_before at Step.Decrement x)) S rest d =
+      chosen (statements functions n S) StatementOpening.Steps (steps_before at Step.Decrement x, (tt, rest)) refl (simple_one n _ _ _ (exactly_one _ _ S rest d))
+  statement_kind_one functions n (calls c) S rest d =
+      chosen (statements functions n S) StatementOpening.Name (c.function, (applied c.arguments, rest)) refl
+      (name_one c.function _ _ (statement_end_one functions n (applied c.arguments) S rest d))
+  statement_kind_one functions n (gives x c) S rest d =
+      chosen (statements functions n S) StatementOpening.Name (x, (given c, rest)) refl (name_one x _ _ (statement_end_one functions n (given c) S rest d))
+  statement_kind_one functions n skip S rest d = chosen (statements functions n S) StatementOpening.Skip (tt, rest) refl (exactly_one _ _ S rest d)
+  statement_kind_one functions n (braces all) S rest d = chosen (statements functions n S) StatementOpening.Braces (tt, (all, rest)) refl (exactly_one _ _ _ _ (items_one functions (n + 1) all S rest d))
+  statement_kind_one functions n (conditional test part other) S rest d =
+      chosen (statements functions n S) StatementOpening.If (tt, (test, (part, (other, rest)))) refl
+      (exactly_one _ _ _ _ (test_one (n + 1) test _ _ (statement_one functions (n + 1) part _ _ (otherwise_one functions (n + 1) other S rest d))))
+  statement_kind_one functions n (while_loop test body) S rest d =
+      chosen (statements functions n S) StatementOpening.While (tt, (test, (body, rest))) refl
+      (exactly_one _ _ _ _ (test_one (n + 1) test _ _ (statement_one functions (n + 1) body S rest d)))
+  statement_kind_one functions n (do_loop body end test) S rest d =
+      chosen (statements functions n S) StatementOpening.Do (tt, (body, (end, (test, (tt, rest))))) refl
+      (exactly_one _ _ _ _ (statement_one functions (n + 1) body _ _ (exactly_at_one _ _ end _ _ (test_one (n + 1) test _ _ (exactly_one _ _ S rest d)))))
+  statement_kind_one functions n (for_loop start test step body) S rest d =
+      chosen (statements functions n S) StatementOpening.For (tt, (tt, (start, (test, (step, (body, rest)))))) refl
       (exactly_one _ _ _ _ (exactly_one _ _ _ _ (start_one (n + 1) start _ _ (optional_one (n + 1) test _ _
-      (finish_one (n + 1) step _ _ (statement_one (n + 1) body S rest d))))))
-  statement_kind_one n (return value) S rest d =
-      chosen (statements n S) StatementOpening.Return (tt, (value, rest)) refl (exactly_one _ _ _ _ (optional_one n value S rest d))
-  statement_kind_one n break S rest d =
-      chosen (statements n S) StatementOpening.Break (tt, (tt, rest)) refl (exactly_one _ _ _ _ (exactly_one _ _ S rest d))
-  statement_kind_one n continue S rest d =
-      chosen (statements n S) StatementOpening.Continue (tt, (tt, rest)) refl (exactly_one _ _ _ _ (exactly_one _ _ S rest d))
+      (finish_one (n + 1) step _ _ (statement_one functions (n + 1) body S rest d))))))
+  statement_kind_one functions n (return value) S rest d =
+      chosen (statements functions n S) StatementOpening.Return (tt, (value, rest)) refl (exactly_one _ _ _ _ (optional_one n value S rest d))
+  statement_kind_one functions n break S rest d =
+      chosen (statements functions n S) StatementOpening.Break (tt, (tt, rest)) refl (exactly_one _ _ _ _ (exactly_one _ _ S rest d))
+  statement_kind_one functions n continue S rest d =
+      chosen (statements functions n S) StatementOpening.Continue (tt, (tt, rest)) refl (exactly_one _ _ _ _ (exactly_one _ _ S rest d))
 
-  otherwise_one : (n : ℕ) (other : Otherwise) (S : List Pending) (rest : Trees S) → IsOnly S rest → IsOnly (an_otherwise n ∷ S) (other, rest)
-  otherwise_one n without S rest d =
-      fitting (λ at fits. through rest (λ m. otherwise_ends n 0 S (own grammar m (an_otherwise n ∷ S) (without, rest))
+  otherwise_one : (functions : Bool) (n : ℕ) (other : Otherwise) (S : List Pending) (rest : Trees S) → IsOnly S rest → IsOnly (an_otherwise functions n ∷ S) (other, rest)
+  otherwise_one functions n without S rest d =
+      fitting (λ at fits. through rest (λ m. otherwise_ends functions n 0 S (own grammar m (an_otherwise functions n ∷ S) (without, rest))
       (subst (λ next. IsFalse (is_else next)) (sym (first_spelling (pieces S rest))) fits.0)) d)
-  otherwise_one n (otherwise part) S rest d =
-      headed_one (elses n S) (part, rest) (statement_one (n + 1) part S rest d)
+  otherwise_one functions n (otherwise part) S rest d =
+      headed_one (elses functions n S) (part, rest) (statement_one functions (n + 1) part S rest d)
 
-  items_one : (n : ℕ) (all : Items) (S : List Pending) (rest : Trees S) → IsOnly S rest → IsOnly (items n ∷ S) (all, rest)
-  items_one n none S rest d = chosen (all_items n S) ItemOpening.Close (tt, rest) refl (exactly_one _ _ S rest d)
-  items_one n (declaration first_one more) S rest d =
-      chosen (all_items n S) ItemOpening.Declaration (first_one, (more, rest)) refl (declaration_one n first_one _ _ (items_one n more S rest d))
-  items_one n (statement first_one more) S rest d =
-      chosen (all_items n S) ItemOpening.Statement (first_one, (more, rest)) (statement_among n (items n ∷ S) first_one (more, rest))
-      (statement_one n first_one _ _ (items_one n more S rest d))
+  items_one : (functions : Bool) (n : ℕ) (all : Items) (S : List Pending) (rest : Trees S) → IsOnly S rest → IsOnly (items functions n ∷ S) (all, rest)
+  items_one functions n none S rest d = chosen (all_items functions n S) ItemOpening.Close (tt, rest) refl (exactly_one _ _ S rest d)
+  items_one functions n (declaration first_one more) S rest d =
+      chosen (all_items functions n S) ItemOpening.Declaration (first_one, (more, rest)) refl (declaration_one n first_one _ _ (items_one functions n more S rest d))
+  items_one functions n (statement first_one more) S rest d =
+      chosen (all_items functions n S) ItemOpening.Statement (first_one, (more, rest)) (statement_among functions n (items functions n ∷ S) first_one (more, rest))
+      (statement_one functions n first_one _ _ (items_one functions n more S rest d))
 
 -- programs
 void_one : (void : Bool) (S : List Pending) (rest : Trees S) → IsOnly S rest → IsOnly (a_void ∷ S) (void, rest)
 void_one true S rest d = begun (voids S) (tt, rest) (exactly_one _ _ S rest d)
 void_one false S rest d = not_begun (voids S) (tt, rest) (λ e. cc) (exactly_one _ _ S rest d)
 
-program_of : (list : List Prelude) (void : Bool) (all : Items) (S : List Pending) (rest : Trees S) → IsOnly S rest
-    → IsOnly (a_program ∷ S) (record { preludes = list; void = void; items = all }, rest)
-program_of [] void all S rest d =
-    chosen (beginnings S) PreludeOpening.Main (units main_signs main_quiet (a_void ∷ exactly (opening Sym.OpenBrace 1) (refl, refl) ∷ items 1 ∷ S) (void, (tt, (all, rest)))) refl
-    (signs_one main_signs main_quiet _ _ (void_one void _ _ (exactly_one _ _ _ _ (items_one 1 all S rest d))))
-program_of (extern_call written ∷ more) void all S rest d =
-    chosen (beginnings S) PreludeOpening.Extern
-    (units extern_signs extern_quiet (a_void ∷ exactly (sign Sym.Semicolon) (refl, refl) ∷ a_program ∷ S) (written, (tt, (record { preludes = more; void = void; items = all }, rest)))) refl
-    (signs_one extern_signs extern_quiet _ _ (void_one written _ _ (exactly_one _ _ _ _ (program_of more void all S rest d))))
-program_of (typedef_bool ∷ more) void all S rest d =
-    chosen (beginnings S) PreludeOpening.Typedef (units typedef_signs typedef_quiet (a_program ∷ S) (record { preludes = more; void = void; items = all }, rest)) refl
-    (signs_one typedef_signs typedef_quiet _ _ (program_of more void all S rest d))
+further_parameters_one : (all : List Name) (S : List Pending) (rest : Trees S) → IsOnly S rest → IsOnly (further_parameters ∷ S) (all, rest)
+further_parameters_one [] S rest d = not_begun (more_parameters S) (tt, rest) (λ e. cc) (exactly_one _ _ S rest d)
+further_parameters_one (x ∷ more) S rest d =
+    begun (more_parameters S) (tt, (x, (more, rest))) (exactly_one _ _ _ _ (name_one x _ _ (further_parameters_one more S rest d)))
+
+parameters_one : (all : Parameters) (S : List Pending) (rest : Trees S) → IsOnly S rest → IsOnly (parameters ∷ S) (all, rest)
+parameters_one (named_parameters x more) S rest d = begun (all_parameters S) (x, (more, rest)) (name_one x _ _ (further_parameters_one more S rest d))
+parameters_one (nothing true) S rest d = not_begun (all_parameters S) (true, rest) (λ e. cc) (void_one true S rest d)
+parameters_one (nothing false) S rest d = not_begun (all_parameters S) (false, rest) (λ e. cc) (void_one false S rest d)
+
+main_end_one : (functions void : Bool) (all : Items) (S : List Pending) (rest : Trees S) → IsOnly S rest
+    → IsOnly (main_end functions S) (tt, (void, (tt, (all, rest))))
+main_end_one functions void all S rest d = exactly_one _ _ _ _ (void_one void _ _ (exactly_one _ _ _ _ (items_one functions 1 all S rest d)))
+
+function_end_one : (f : Function) (S : List Pending) (rest : Trees S) → IsOnly S rest
+    → IsOnly (function_end S) (f.name, (tt, (f.parameters, (tt, (f.items, (f.behind, rest))))))
+function_end_one f S rest d =
+    name_one f.name _ _ (exactly_one _ _ _ _ (parameters_one f.parameters _ _ (exactly_one _ _ _ _ (items_one true 1 f.items _ _ (numbered_one (places S) f.behind rest d)))))
+
+by_type : (valued : Bool) (f : Function) (more : List Function) (void : Bool) (all : Items) (S : List Pending) (rest : Trees S)
+    → IsOnly (definitions true ∷ S) (record { functions = more; void = void; items = all }, rest)
+    → IsOnly (definitions true ∷ S) (after_function (function_of valued f.name f.parameters f.items f.behind) (record { functions = more; void = void; items = all }), rest)
+by_type true f more void all S rest d =
+    let others : Definitions = record { functions = more; void = void; items = all } in
+    not_begun (all_definitions S) (tt, (is_function f.name f.parameters f.items f.behind others, rest)) (λ e. cc) (exactly_one _ _ _ _
+    (not_begun (definitions_ends S) (f.name, (tt, (f.parameters, (tt, (f.items, (f.behind, (others, rest))))))) (λ e. cc) (function_end_one f _ _ d)))
+by_type false f more void all S rest d =
+    begun (all_definitions S) (f.name, (tt, (f.parameters, (tt, (f.items, (f.behind, (record { functions = more; void = void; items = all }, rest)))))))
+    (function_end_one f _ _ d)
+
+definitions_of : (list : List Function) (void : Bool) (all : Items) (S : List Pending) (rest : Trees S) → IsOnly S rest
+    → IsOnly (definitions true ∷ S) (record { functions = list; void = void; items = all }, rest)
+definitions_of [] void all S rest d =
+    not_begun (all_definitions S) (tt, (is_main void all, rest)) (λ e. cc) (exactly_one _ _ _ _
+    (begun (definitions_ends S) (tt, (void, (tt, (all, rest)))) (main_end_one true void all S rest d)))
+definitions_of (f ∷ more) void all S rest d = by_type f.valued f more void all S rest (definitions_of more void all S rest d)
+
+definitions_one : (functions : Bool) (all : Definitions) (S : List Pending) (rest : Trees S) → IsOnly S rest → IsOnly (definitions functions ∷ S) (all, rest)
+definitions_one true all S rest d = definitions_of all.functions all.void all.items S rest d
+definitions_one false all S rest d = without_functions all.functions all.void all.items
+  where
+    without_functions : (list : List Function) (void : Bool) (inner : Items)
+        → IsOnly (definitions false ∷ S) (record { functions = list; void = void; items = inner }, rest)
+    without_functions [] void inner =
+        through (units main_signs main_quiet (main_end false S) (tt, (void, (tt, (inner, rest)))))
+        (λ m. no_functions 0 S (own grammar m (definitions false ∷ S) (record { functions = []; void = void; items = inner }, rest)))
+        (signs_one main_signs main_quiet _ _ (main_end_one false void inner S rest d))
+    without_functions (f ∷ more) void inner = fitting (λ m fits. absurd fits.1.0)
+
+module _ (functions : Bool) (all : Definitions) (S : List Pending) (rest : Trees S) (d : IsOnly S rest) where
+  main_begins : (valued : Bool) → opening_of_prelude (Some (symbol (type_sign valued))) ≡ PreludeOpening.Main
+  main_begins true = refl
+  main_begins false = refl
+
+  by_functions : (list : List Function) → opening_of_prelude (begins grammar (definitions functions ∷ S) (record { functions = list; void = all.void; items = all.items }, rest)) ≡ PreludeOpening.Main
+  by_functions [] = refl
+  by_functions (f ∷ more) = main_begins f.valued
+
+  program_of : (list : List Prelude) → IsOnly (a_program functions ∷ S) (whole functions S list all rest)
+  program_of [] = chosen (beginnings functions S) PreludeOpening.Main (all, rest) (by_functions all.functions) (definitions_one functions all S rest d)
+  program_of (extern_call written ∷ more) =
+      chosen (beginnings functions S) PreludeOpening.Extern
+      (units extern_signs extern_quiet (a_void ∷ exactly (sign Sym.Semicolon) (refl, refl) ∷ a_program functions ∷ S) (written, (tt, whole functions S more all rest))) refl
+      (signs_one extern_signs extern_quiet _ _ (void_one written _ _ (exactly_one _ _ _ _ (program_of more))))
+  program_of (typedef_bool ∷ more) =
+      chosen (beginnings functions S) PreludeOpening.Typedef (units typedef_signs typedef_quiet (a_program functions ∷ S) (whole functions S more all rest)) refl
+      (signs_one typedef_signs typedef_quiet _ _ (program_of more))
 
 -- two programs with the same words are the same
-pub one_program : (p other : Program) → Fits 0 (pieces (a_program ∷ []) (p, tt)) → Fits 0 (pieces (a_program ∷ []) (other, tt))
-    → spelling (pieces (a_program ∷ []) (p, tt)) ≡ spelling (pieces (a_program ∷ []) (other, tt)) → other ≡ p
-one_program p other fits other_fits e =
-    ap (λ trees. trees.0) ((program_of p.preludes p.void p.items [] tt (record { same = λ n others f g w. refl })).same 0 (other, tt) fits other_fits e)
+pub one_program : (functions : Bool) (p other : Program) → Fits 0 (pieces (a_program functions ∷ []) (p, tt)) → Fits 0 (pieces (a_program functions ∷ []) (other, tt))
+    → spelling (pieces (a_program functions ∷ []) (p, tt)) ≡ spelling (pieces (a_program functions ∷ []) (other, tt)) → other ≡ p
+one_program functions p other fits other_fits e =
+    ap (λ trees. trees.0)
+    ((program_of functions (record { functions = p.functions; void = p.void; items = p.items }) [] tt (record { same = λ n others f g w. refl }) p.preludes).same
+    0 (other, tt) fits other_fits e)

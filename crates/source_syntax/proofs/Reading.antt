@@ -23,10 +23,10 @@ use Rattle.concrete_syntax.specs.Mirror.{link, links}
 use Rattle.concrete_syntax.proofs.Chains.{tail_of-append}
 use Rattle.concrete_syntax.specs.Trees.{Divisor, Operand, Link, operation, division, Tail, number, truth, unknown, further, ended}
 use Rattle.source_syntax.specs.Spelling.{truth_word}
-use Rattle.source_syntax.specs.Pending.{Pending, a_size, a_divisor, an_operand, an_operand_kind, a_tail, an_expression, TreeOf, Leads}
+use Rattle.source_syntax.specs.Pending.{Pending, a_size, a_divisor, an_operand, an_operand_kind, a_tail, TreeOf, Leads}
 use Rattle.source_syntax.specs.Reads.{ReadsCounting, RefusesCounting, ReadsRight, RefusesRight, ComesToTail, right_of, link_of}
-use Rattle.derivation.proofs.Grammars.{over, refilled}
-use Rattle.source_syntax.proofs.Expressions.{sizes, operands, tail_ends, expression_goes, truth_quiet}
+use Rattle.derivation.proofs.Grammars.{over, stay, refilled}
+use Rattle.source_syntax.proofs.Expressions.{sizes, operands, tail_ends, truth_quiet}
 use Rattle.derivation.proofs.Choices.{goes}
 use Rattle.source_syntax.proofs.Words.{next_word, one_behind, operand_word, size_word}
 use Rattle.source_syntax.proofs.Answering.{sign_reads, number_reads}
@@ -93,32 +93,26 @@ pub division_refused : {count : ℕ} {opening : LinkOpening} {from to : Rest} {r
     → RefusesCounting count a_divisor from rule to → RefusesRight count levels opening from rule to
 division_refused {count} {opening} {from} {to} {rule} levels is h = subst (λ o. RefusesRight count levels o from rule to) (sym is) h
 
--- the loop of an expression
+-- the loop of a tail
 module _ (count levels : ℕ) (start : Rest) where
-  pub tail_from : (now : ℕ) (here : Rest) (e : Operand) (links : List Link) → links ≡ [] → ReadsCounting count (an_operand levels) e start now here
-      → ComesToTail count levels e links start now here
-  tail_from now here e links none r = subst (λ links. ComesToTail count levels e links start now here) (sym none) (record {
-    comes = λ behind. over (expression_goes levels count behind start) (r.comes (a_tail levels ∷ behind));
-  })
+  pub tail_from : (links : List Link) → links ≡ [] → ComesToTail count levels links start count start
+  tail_from links none = subst (λ links. ComesToTail count levels links start count start) (sym none) (record { comes = λ behind. stay count (a_tail levels ∷ behind) start })
 
-  pub tail_over : (now next : ℕ) (here inner to : Rest) (o : LinkOpening) (e : Operand) (one : Link) (links more : List Link)
-      → more ≡ links ++ one ∷ [] → ComesToTail count levels e links start now here
+  pub tail_over : (now next : ℕ) (here inner to : Rest) (o : LinkOpening) (one : Link) (links more : List Link)
+      → more ≡ links ++ one ∷ [] → ComesToTail count levels links start now here
       → ((behind : List Pending) → Leads now (a_tail levels ∷ behind) here (now + 1) (right_of levels o ∷ a_tail levels ∷ behind) inner (λ g. (further (link_of levels o g.0) g.1.0, g.1.1)))
-      → ReadsRight (now + 1) levels o one inner next to → ComesToTail count levels e more start next to
-  tail_over now next here inner to o e one links more pushed h step r = record {
+      → ReadsRight (now + 1) levels o one inner next to → ComesToTail count levels more start next to
+  tail_over now next here inner to o one links more pushed h step r = record {
     comes = λ behind.
-        refilled (λ trees. ap (λ t. (record { operand = e; tail = t }, trees.1))
+        refilled (λ trees. ap (λ t. (t, trees.1))
         (sym (ap (λ l. tail_of l trees.0) pushed ∙ tail_of-append links (one ∷ []) trees.0 ∙ ap (λ l. tail_of links (further l trees.0)) r.made)))
         (over (h.comes behind) (over (step behind) (r.reads.comes (a_tail levels ∷ behind))));
   }
 
-  pub tail_done : (now : ℕ) (here : Rest) (e : Operand) (links : List Link) (tail : Tail) → ComesToTail count levels e links start now here
-      → None ≡ link_opening (first here.words) → tail ≡ tail_of links ended
-      → ReadsCounting count (an_expression levels) (record { operand = e; tail = tail }) start now here
-  tail_done now here e links tail h none made = record {
-    comes = λ behind.
-        refilled (λ trees. ap (λ t. (record { operand = e; tail = t }, trees)) (sym made))
-        (over (h.comes behind) (tail_ends levels now behind here none));
+  pub tail_done : (now : ℕ) (here : Rest) (links : List Link) (tail : Tail) → ComesToTail count levels links start now here
+      → None ≡ link_opening (first here.words) → tail ≡ tail_of links ended → ReadsCounting count (a_tail levels) tail start now here
+  tail_done now here links tail h none made = record {
+    comes = λ behind. refilled (λ trees. ap (λ t. (t, trees)) (sym made)) (over (h.comes behind) (tail_ends levels now behind here none));
   }
 
 -- a link more in a list

@@ -6,7 +6,7 @@ use Rattle.derivation.specs.declared.symbol.Symbol.TheVariants as Sym
 use Rattle.derivation.specs.Word.{Word, symbol, name as named, number as numbered, unknown as unreadable}
 use Rattle.derivation.specs.Pieces.{look, first, Fits}
 use Rattle.source_syntax.specs.Language.{Rest, is_else, no_else, IsQuiet}
-use Rattle.source_syntax.specs.Pending.{Leads, Pending, exactly, exactly_at, a_name, a_tail, an_expression, an_optional, a_test, an_action, a_simple, a_part_end, parts, a_declaration, a_start, a_finish, a_statement, a_statement_kind, an_otherwise, items, a_void, a_program, Trees, pieces, grammar}
+use Rattle.source_syntax.specs.Pending.{Leads, Pending, exactly, exactly_at, a_name, a_tail, an_expression, an_optional, a_test, an_action, a_simple, a_part_end, parts, a_declaration, a_start, a_finish, a_statement_end, a_statement, a_statement_kind, an_otherwise, items, a_void, Trees, pieces, grammar}
 use Rattle.derivation.proofs.Grammars.{opens, becomes, Headed}
 use Rattle.concrete_syntax.specs.declared.sign.Assignment.{Assignment}
 use Rattle.concrete_syntax.specs.declared.sign.Step.{Step}
@@ -15,12 +15,12 @@ use Rattle.source_syntax.specs.declared.opening.SimpleOpening.{SimpleOpening}
 use Rattle.source_syntax.specs.declared.opening.StatementOpening.{StatementOpening}
 use Rattle.source_syntax.specs.declared.opening.ItemOpening.{ItemOpening}
 use Rattle.source_syntax.specs.declared.opening.StartOpening.{StartOpening}
-use Rattle.source_syntax.specs.declared.opening.PreludeOpening.{PreludeOpening}
-use Rattle.source_syntax.specs.Openings.{opening_of_simple, opening_of_action, opening_of_statement, opening_of_item, opening_of_start, opening_of_prelude, opening_of_operand}
-use Rattle.concrete_syntax.specs.Trees.{Expression, assigns, steps, Simple, acts, steps_before, Part, starts_with_nothing, starts_with, declares, Statement, statement_at, simple, skip, braces, conditional, while_loop, do_loop, for_loop, return, break, continue, Otherwise, without, otherwise, Items, none, declaration, statement, Prelude, extern_call, typedef_bool}
+use Rattle.source_syntax.specs.Openings.{opening_of_simple, opening_of_action, opening_of_statement, opening_of_item, opening_of_start, opening_of_operand}
+use Rattle.concrete_syntax.specs.Trees.{Expression, assigns, steps, Simple, acts, steps_before, Part, starts_with_nothing, starts_with, declares, Name, Statement, statement_at, simple, calls, gives, skip, braces, conditional, while_loop, do_loop, for_loop, return, break, continue, Otherwise, without, otherwise, none, declaration, statement}
+use Rattle.source_syntax.specs.Ends.{StatementEnd, does, applied, given, kind_of}
 use Rattle.source_syntax.specs.Spelling.{sign, leading, opening, leading_opening, assignment_sign, step_sign}
 use Rattle.source_syntax.proofs.Completions.{lawful}
-use Rattle.source_syntax.proofs.Answering.{AreQuiet, in_turn, units, behind_units}
+use Rattle.source_syntax.proofs.Answering.{AreQuiet, in_turn}
 use Rattle.derivation.proofs.Choices.{begins, Way, Choice, Sides, Fork, Held}
 use Rattle.source_syntax.proofs.Expressions.{Same, IsOperand, operand_begins}
 
@@ -177,15 +177,14 @@ module _ (n c : ℕ) (S : List Pending) (from : Rest) where
       (exactly (leading_opening Sym.OpenParenthesis (n + 1)) (refl, refl) ∷ an_expression (n + 1) ∷ exactly (sign Sym.CloseParenthesis) (refl, refl) ∷ S)
       c from (λ g. (g.1.0, g.1.1.1)) (λ g. refl) (λ f. ((tt, (f.0, (tt, f.1))), refl))
 
--- how what begins with a simple statement opens
-pub opens_simply : (next : Option Word) → IsSimple (opening_of_simple next)
-    → (opening_of_statement next ≡ StatementOpening.Simple) × (opening_of_start next ≡ StartOpening.Simple)
+-- how a `for` goes on that begins with a simple statement
+pub opens_simply : (next : Option Word) → IsSimple (opening_of_simple next) → opening_of_start next ≡ StartOpening.Simple
 opens_simply None h = absurd h
-opens_simply (Some (named x)) h = (refl, refl)
+opens_simply (Some (named x)) h = refl
 opens_simply (Some (numbered z)) h = absurd h
 opens_simply (Some unreadable) h = absurd h
-opens_simply (Some (symbol Sym.Increment)) h = (refl, refl)
-opens_simply (Some (symbol Sym.Decrement)) h = (refl, refl)
+opens_simply (Some (symbol Sym.Increment)) h = refl
+opens_simply (Some (symbol Sym.Decrement)) h = refl
 opens_simply (Some (symbol _)) h = absurd h
 
 pub simple_begins : (n : ℕ) (S : List Pending) (s : Simple) (rest : Trees S) → IsSimple (opening_of_simple (begins grammar (a_simple n ∷ S) (s, rest)))
@@ -217,7 +216,7 @@ module _ (n : ℕ) where
       view (declares d, rest) = (tt, (d, rest), refl)
       view (starts_with s, rest) =
           subst (λ o. Way grammar (a_start n ∷ S) (λ o. Unit {0}) (λ o. start_rest o S) (λ o. start_tree o S) o (starts_with s, rest))
-          (sym (opens_simply _ (simple_begins n (exactly (leading Sym.Semicolon) (refl, refl) ∷ S) s (tt, rest))).1) (tt, (s, (tt, rest)), refl)
+          (sym (opens_simply _ (simple_begins n (exactly (leading Sym.Semicolon) (refl, refl) ∷ S) s (tt, rest)))) (tt, (s, (tt, rest)), refl)
 
 -- a word that jumps, and the `;` behind it
 abbrev pub break_signs : List Symbol
@@ -237,22 +236,24 @@ abbrev pub IsStatement : StatementOpening → Type 0
 IsStatement StatementOpening.Nothing = ⊥
 IsStatement _ = Unit {0}
 
-module _ (n : ℕ) where
+module _ (functions : Bool) (n : ℕ) where
   abbrev pub statement_rest : StatementOpening → List Pending → List Pending
-  statement_rest StatementOpening.Simple S = a_simple n ∷ exactly (sign Sym.Semicolon) (refl, refl) ∷ S
+  statement_rest StatementOpening.Name S = a_name ∷ a_statement_end functions n ∷ S
+  statement_rest StatementOpening.Steps S = a_simple n ∷ exactly (sign Sym.Semicolon) (refl, refl) ∷ S
   statement_rest StatementOpening.Skip S = exactly (sign Sym.Semicolon) (refl, refl) ∷ S
-  statement_rest StatementOpening.Braces S = exactly (opening Sym.OpenBrace (n + 1)) (refl, refl) ∷ items (n + 1) ∷ S
-  statement_rest StatementOpening.If S = exactly (opening Sym.If (n + 1)) (refl, refl) ∷ a_test (n + 1) ∷ a_statement (n + 1) ∷ an_otherwise (n + 1) ∷ S
-  statement_rest StatementOpening.While S = exactly (opening Sym.While (n + 1)) (refl, refl) ∷ a_test (n + 1) ∷ a_statement (n + 1) ∷ S
-  statement_rest StatementOpening.Do S = exactly (opening Sym.Do (n + 1)) (refl, refl) ∷ a_statement (n + 1) ∷ exactly_at (sign Sym.While) (refl, refl) ∷ a_test (n + 1) ∷ exactly (sign Sym.Semicolon) (refl, refl) ∷ S
-  statement_rest StatementOpening.For S = exactly (opening Sym.For (n + 1)) (refl, refl) ∷ exactly (sign Sym.OpenParenthesis) (refl, refl) ∷ a_start (n + 1) ∷ an_optional (n + 1) ∷ a_finish (n + 1) ∷ a_statement (n + 1) ∷ S
+  statement_rest StatementOpening.Braces S = exactly (opening Sym.OpenBrace (n + 1)) (refl, refl) ∷ items functions (n + 1) ∷ S
+  statement_rest StatementOpening.If S = exactly (opening Sym.If (n + 1)) (refl, refl) ∷ a_test (n + 1) ∷ a_statement functions (n + 1) ∷ an_otherwise functions (n + 1) ∷ S
+  statement_rest StatementOpening.While S = exactly (opening Sym.While (n + 1)) (refl, refl) ∷ a_test (n + 1) ∷ a_statement functions (n + 1) ∷ S
+  statement_rest StatementOpening.Do S = exactly (opening Sym.Do (n + 1)) (refl, refl) ∷ a_statement functions (n + 1) ∷ exactly_at (sign Sym.While) (refl, refl) ∷ a_test (n + 1) ∷ exactly (sign Sym.Semicolon) (refl, refl) ∷ S
+  statement_rest StatementOpening.For S = exactly (opening Sym.For (n + 1)) (refl, refl) ∷ exactly (sign Sym.OpenParenthesis) (refl, refl) ∷ a_start (n + 1) ∷ an_optional (n + 1) ∷ a_finish (n + 1) ∷ a_statement functions (n + 1) ∷ S
   statement_rest StatementOpening.Return S = exactly (leading Sym.Return) (refl, refl) ∷ an_optional n ∷ S
   statement_rest StatementOpening.Break S = in_turn break_signs break_quiet S
   statement_rest StatementOpening.Continue S = in_turn continue_signs continue_quiet S
-  statement_rest StatementOpening.Nothing S = a_statement_kind n ∷ S
+  statement_rest StatementOpening.Nothing S = a_statement_kind functions n ∷ S
 
-  abbrev pub statement_tree : (o : StatementOpening) → (S : List Pending) → Trees (statement_rest o S) → Trees (a_statement_kind n ∷ S)
-  statement_tree StatementOpening.Simple S g = (simple g.0, g.1.1)
+  abbrev pub statement_tree : (o : StatementOpening) → (S : List Pending) → Trees (statement_rest o S) → Trees (a_statement_kind functions n ∷ S)
+  statement_tree StatementOpening.Name S g = (kind_of g.0 g.1.0, g.1.1)
+  statement_tree StatementOpening.Steps S g = (simple g.0, g.1.1)
   statement_tree StatementOpening.Skip S g = (skip, g.1)
   statement_tree StatementOpening.Braces S g = (braces g.1.0, g.1.1)
   statement_tree StatementOpening.If S g = (conditional g.1.0 g.1.1.0 g.1.1.1.0, g.1.1.1.1)
@@ -264,11 +265,18 @@ module _ (n : ℕ) where
   statement_tree StatementOpening.Continue S g = (continue, g.1.1)
   statement_tree StatementOpening.Nothing S g = g
 
-  pub statements : (S : List Pending) → Choice grammar (a_statement_kind n ∷ S) opening_of_statement IsStatement (λ o. statement_rest o S) (λ o. statement_tree o S)
+  pub statements : (S : List Pending) → Choice grammar (a_statement_kind functions n ∷ S) opening_of_statement IsStatement (λ o. statement_rest o S) (λ o. statement_tree o S)
   statements S = record { spells = spells; view = view }
     where
-      spells : (o : StatementOpening) → (g : Trees (statement_rest o S)) → pieces (a_statement_kind n ∷ S) (statement_tree o S g) ≡ pieces (statement_rest o S) g
-      spells StatementOpening.Simple g = refl
+      named_spells : (x : Name) (end : StatementEnd) (rest : Trees S)
+          → pieces (a_statement_kind functions n ∷ S) (kind_of x end, rest) ≡ pieces (a_name ∷ a_statement_end functions n ∷ S) (x, (end, rest))
+      named_spells x (does action) rest = refl
+      named_spells x (applied arguments) rest = refl
+      named_spells x (given c) rest = refl
+
+      spells : (o : StatementOpening) → (g : Trees (statement_rest o S)) → pieces (a_statement_kind functions n ∷ S) (statement_tree o S g) ≡ pieces (statement_rest o S) g
+      spells StatementOpening.Name g = named_spells g.0 g.1.0 g.1.1
+      spells StatementOpening.Steps g = refl
       spells StatementOpening.Skip g = refl
       spells StatementOpening.Braces g = refl
       spells StatementOpening.If g = refl
@@ -280,12 +288,14 @@ module _ (n : ℕ) where
       spells StatementOpening.Continue g = refl
       spells StatementOpening.Nothing g = refl
 
-      view : (f : Trees (a_statement_kind n ∷ S))
-          → Way grammar (a_statement_kind n ∷ S) IsStatement (λ o. statement_rest o S) (λ o. statement_tree o S)
-          (opening_of_statement (begins grammar (a_statement_kind n ∷ S) f)) f
-      view (simple s, rest) =
-          subst (λ o. Way grammar (a_statement_kind n ∷ S) IsStatement (λ o. statement_rest o S) (λ o. statement_tree o S) o (simple s, rest))
-          (sym (opens_simply _ (simple_begins n (exactly (sign Sym.Semicolon) (refl, refl) ∷ S) s (tt, rest))).0) (tt, (s, (tt, rest)), refl)
+      view : (f : Trees (a_statement_kind functions n ∷ S))
+          → Way grammar (a_statement_kind functions n ∷ S) IsStatement (λ o. statement_rest o S) (λ o. statement_tree o S)
+          (opening_of_statement (begins grammar (a_statement_kind functions n ∷ S) f)) f
+      view (simple (acts x action), rest) = (tt, (x, (does action, rest)), refl)
+      view (simple (steps_before at Step.Increment x), rest) = (tt, (steps_before at Step.Increment x, (tt, rest)), refl)
+      view (simple (steps_before at Step.Decrement x), rest) = (tt, (steps_before at Step.Decrement x, (tt, rest)), refl)
+      view (calls c, rest) = (tt, (c.function, (applied c.arguments, rest)), refl)
+      view (gives x c, rest) = (tt, (x, (given c, rest)), refl)
       view (skip, rest) = (tt, (tt, rest), refl)
       view (braces all, rest) = (tt, (tt, (all, rest)), refl)
       view (conditional test part other, rest) = (tt, (tt, (test, (part, (other, rest)))), refl)
@@ -296,11 +306,11 @@ module _ (n : ℕ) where
       view (break, rest) = (tt, (tt, (tt, rest)), refl)
       view (continue, rest) = (tt, (tt, (tt, rest)), refl)
 
-  pub located_statements : (S : List Pending) → Held lawful (a_statement n ∷ S) (λ m. a_statement_kind n ∷ S) (λ m g. (statement_at m g.0, g.1))
+  pub located_statements : (S : List Pending) → Held lawful (a_statement functions n ∷ S) (λ m. a_statement_kind functions n ∷ S) (λ m g. (statement_at m g.0, g.1))
   located_statements S = record { spells = λ m g. refl; view = λ f. view f.0 f.1 }
     where
       view : (s : Statement) (rest : Trees S)
-          → (m : ℕ) × (g : Trees (a_statement_kind n ∷ S)) × Same (a_statement n ∷ S) (s, rest) (statement_at m g.0, g.1)
+          → (m : ℕ) × (g : Trees (a_statement_kind functions n ∷ S)) × Same (a_statement functions n ∷ S) (s, rest) (statement_at m g.0, g.1)
       view (statement_at m kind) rest = (m, (kind, rest), refl)
 
 -- what begins with a statement among items
@@ -314,105 +324,55 @@ is_statement (Some (symbol Sym.Int)) h = absurd h
 is_statement (Some (symbol _)) h = refl
 
 -- items, and the `}` behind them
-module _ (n : ℕ) where
+module _ (functions : Bool) (n : ℕ) where
   abbrev pub items_rest : ItemOpening → List Pending → List Pending
   items_rest ItemOpening.Close S = exactly (sign Sym.CloseBrace) (refl, refl) ∷ S
-  items_rest ItemOpening.Declaration S = a_declaration n ∷ items n ∷ S
-  items_rest ItemOpening.Statement S = a_statement n ∷ items n ∷ S
+  items_rest ItemOpening.Declaration S = a_declaration n ∷ items functions n ∷ S
+  items_rest ItemOpening.Statement S = a_statement functions n ∷ items functions n ∷ S
 
-  abbrev pub items_tree : (o : ItemOpening) → (S : List Pending) → Trees (items_rest o S) → Trees (items n ∷ S)
+  abbrev pub items_tree : (o : ItemOpening) → (S : List Pending) → Trees (items_rest o S) → Trees (items functions n ∷ S)
   items_tree ItemOpening.Close S g = (none, g.1)
   items_tree ItemOpening.Declaration S g = (declaration g.0 g.1.0, g.1.1)
   items_tree ItemOpening.Statement S g = (statement g.0 g.1.0, g.1.1)
 
-  pub statement_among : (S : List Pending) (s : Statement) (rest : Trees S) → opening_of_item (begins grammar (a_statement n ∷ S) (s, rest)) ≡ ItemOpening.Statement
-  statement_among S (statement_at at kind) rest = is_statement _ ((statements n S).view (kind, rest)).0
+  pub statement_among : (S : List Pending) (s : Statement) (rest : Trees S) → opening_of_item (begins grammar (a_statement functions n ∷ S) (s, rest)) ≡ ItemOpening.Statement
+  statement_among S (statement_at at kind) rest = is_statement _ ((statements functions n S).view (kind, rest)).0
 
-  pub all_items : (S : List Pending) → Choice grammar (items n ∷ S) opening_of_item (λ o. Unit {0}) (λ o. items_rest o S) (λ o. items_tree o S)
+  pub all_items : (S : List Pending) → Choice grammar (items functions n ∷ S) opening_of_item (λ o. Unit {0}) (λ o. items_rest o S) (λ o. items_tree o S)
   all_items S = record { spells = spells; view = view }
     where
-      spells : (o : ItemOpening) → (g : Trees (items_rest o S)) → pieces (items n ∷ S) (items_tree o S g) ≡ pieces (items_rest o S) g
+      spells : (o : ItemOpening) → (g : Trees (items_rest o S)) → pieces (items functions n ∷ S) (items_tree o S g) ≡ pieces (items_rest o S) g
       spells ItemOpening.Close g = refl
       spells ItemOpening.Declaration g = refl
       spells ItemOpening.Statement g = refl
 
-      view : (f : Trees (items n ∷ S))
-          → Way grammar (items n ∷ S) (λ o. Unit {0}) (λ o. items_rest o S) (λ o. items_tree o S) (opening_of_item (begins grammar (items n ∷ S) f)) f
+      view : (f : Trees (items functions n ∷ S))
+          → Way grammar (items functions n ∷ S) (λ o. Unit {0}) (λ o. items_rest o S) (λ o. items_tree o S) (opening_of_item (begins grammar (items functions n ∷ S) f)) f
       view (none, rest) = (tt, (tt, rest), refl)
       view (declaration d more, rest) = (tt, (d, (more, rest)), refl)
       view (statement s more, rest) =
-          subst (λ o. Way grammar (items n ∷ S) (λ o. Unit {0}) (λ o. items_rest o S) (λ o. items_tree o S) o (statement s more, rest))
-          (sym (statement_among (items n ∷ S) s (more, rest))) (tt, (s, (more, rest)), refl)
-
--- a program, and what stands before its `main`
-abbrev pub extern_signs : List Symbol
-extern_signs = Sym.Extern ∷ Sym.Int ∷ Sym.Nondeterministic ∷ Sym.OpenParenthesis ∷ []
-
-abbrev pub extern_quiet : AreQuiet extern_signs
-extern_quiet = ((refl, refl), ((refl, refl), ((refl, refl), ((refl, refl), tt))))
-
-abbrev pub typedef_signs : List Symbol
-typedef_signs = Sym.Typedef ∷ Sym.Enum ∷ Sym.OpenBrace ∷ Sym.False ∷ Sym.Comma ∷ Sym.True ∷ Sym.CloseBrace ∷ Sym.Bool ∷ Sym.Semicolon ∷ []
-
-abbrev pub typedef_quiet : AreQuiet typedef_signs
-typedef_quiet = ((refl, refl), ((refl, refl), ((refl, refl), ((refl, refl), ((refl, refl), ((refl, refl), ((refl, refl), ((refl, refl), ((refl, refl), tt)))))))))
-
-abbrev pub main_signs : List Symbol
-main_signs = Sym.Int ∷ Sym.Main ∷ Sym.OpenParenthesis ∷ []
-
-abbrev pub main_quiet : AreQuiet main_signs
-main_quiet = ((refl, refl), ((refl, refl), ((refl, refl), tt)))
-
-abbrev pub program_rest : PreludeOpening → List Pending → List Pending
-program_rest PreludeOpening.Extern S = in_turn extern_signs extern_quiet (a_void ∷ exactly (sign Sym.Semicolon) (refl, refl) ∷ a_program ∷ S)
-program_rest PreludeOpening.Typedef S = in_turn typedef_signs typedef_quiet (a_program ∷ S)
-program_rest PreludeOpening.Main S = in_turn main_signs main_quiet (a_void ∷ exactly (opening Sym.OpenBrace 1) (refl, refl) ∷ items 1 ∷ S)
-
-abbrev behind_prelude : (S : List Pending) → Prelude → Trees (a_program ∷ S) → Trees (a_program ∷ S)
-behind_prelude S prelude g = (record { preludes = prelude ∷ g.0.preludes; void = g.0.void; items = g.0.items }, g.1)
-
-abbrev pub program_tree : (o : PreludeOpening) → (S : List Pending) → Trees (program_rest o S) → Trees (a_program ∷ S)
-program_tree PreludeOpening.Extern S g =
-    let h = behind_units extern_signs extern_quiet (a_void ∷ exactly (sign Sym.Semicolon) (refl, refl) ∷ a_program ∷ S) g in behind_prelude S (extern_call h.0) h.1.1
-program_tree PreludeOpening.Typedef S g = behind_prelude S typedef_bool (behind_units typedef_signs typedef_quiet (a_program ∷ S) g)
-program_tree PreludeOpening.Main S g =
-    let h = behind_units main_signs main_quiet (a_void ∷ exactly (opening Sym.OpenBrace 1) (refl, refl) ∷ items 1 ∷ S) g in
-    (record { preludes = []; void = h.0; items = h.1.1.0 }, h.1.1.1)
-
-pub beginnings : (S : List Pending) → Choice grammar (a_program ∷ S) opening_of_prelude (λ o. Unit {0}) (λ o. program_rest o S) (λ o. program_tree o S)
-beginnings S = record { spells = spells; view = λ f. view f.0.preludes f.0.void f.0.items f.1 }
-  where
-    spells : (o : PreludeOpening) → (g : Trees (program_rest o S)) → pieces (a_program ∷ S) (program_tree o S g) ≡ pieces (program_rest o S) g
-    spells PreludeOpening.Extern g = refl
-    spells PreludeOpening.Typedef g = refl
-    spells PreludeOpening.Main g = refl
-
-    view : (before : List Prelude) (v : Bool) (all : Items) (rest : Trees S) → Way grammar (a_program ∷ S) (λ o. Unit {0}) (λ o. program_rest o S) (λ o. program_tree o S)
-        (opening_of_prelude (begins grammar (a_program ∷ S) (record { preludes = before; void = v; items = all }, rest))) (record { preludes = before; void = v; items = all }, rest)
-    view (extern_call w ∷ more) v all rest =
-        (tt, units extern_signs extern_quiet (a_void ∷ exactly (sign Sym.Semicolon) (refl, refl) ∷ a_program ∷ S) (w, (tt, (record { preludes = more; void = v; items = all }, rest))), refl)
-    view (typedef_bool ∷ more) v all rest = (tt, units typedef_signs typedef_quiet (a_program ∷ S) (record { preludes = more; void = v; items = all }, rest), refl)
-    view [] v all rest = (tt, units main_signs main_quiet (a_void ∷ exactly (opening Sym.OpenBrace 1) (refl, refl) ∷ items 1 ∷ S) (v, (tt, (all, rest))), refl)
+          subst (λ o. Way grammar (items functions n ∷ S) (λ o. Unit {0}) (λ o. items_rest o S) (λ o. items_tree o S) o (statement s more, rest))
+          (sym (statement_among (items functions n ∷ S) s (more, rest))) (tt, (s, (more, rest)), refl)
 
 -- the second part of an `if`: none where no `else` follows
-module _ (n c : ℕ) (S : List Pending) (from : Rest) where
-  pub otherwise_ends : IsFalse (is_else (first from.words)) → Leads c (an_otherwise n ∷ S) from c S from (λ g. (without, g))
+module _ (functions : Bool) (n c : ℕ) (S : List Pending) (from : Rest) where
+  pub otherwise_ends : IsFalse (is_else (first from.words)) → Leads c (an_otherwise functions n ∷ S) from c S from (λ g. (without, g))
   otherwise_ends e =
-      opens grammar (an_otherwise n ∷ S) S c from (λ next. IsFalse (is_else next)) (look no_else ∷ []) (λ g. (without, g)) refl refl tt refl
+      opens grammar (an_otherwise functions n ∷ S) S c from (λ next. IsFalse (is_else next)) (look no_else ∷ []) (λ g. (without, g)) refl refl tt refl
       (e, tt) (λ g. refl) (λ f fits missing. view f.0 f.1 missing) e
     where
-      view : (t : Otherwise) (rest : Trees S) → IsFalse (is_else (begins grammar (an_otherwise n ∷ S) (t, rest)))
-          → (g : Trees S) × Same (an_otherwise n ∷ S) (t, rest) (without, g)
+      view : (t : Otherwise) (rest : Trees S) → IsFalse (is_else (begins grammar (an_otherwise functions n ∷ S) (t, rest)))
+          → (g : Trees S) × Same (an_otherwise functions n ∷ S) (t, rest) (without, g)
       view without rest missing = (rest, refl)
       view (otherwise part) rest missing = absurd (cc)
 
 -- a second part that begins with an `else`
-pub elses : (n : ℕ) (S : List Pending) → Headed grammar (an_otherwise n ∷ S) (opening Sym.Else (n + 1)) (a_statement (n + 1) ∷ S) (λ g. (otherwise g.0, g.1))
-elses n S = record { spells = λ g. refl; view = λ m f fits next. view m f.0 f.1 fits next }
+pub elses : (functions : Bool) (n : ℕ) (S : List Pending) → Headed grammar (an_otherwise functions n ∷ S) (opening Sym.Else (n + 1)) (a_statement functions (n + 1) ∷ S) (λ g. (otherwise g.0, g.1))
+elses functions n S = record { spells = λ g. refl; view = λ m f fits next. view m f.0 f.1 fits next }
   where
-    view : (m : ℕ) (t : Otherwise) (rest : Trees S) → Fits m (pieces (an_otherwise n ∷ S) (t, rest))
-        → begins grammar (an_otherwise n ∷ S) (t, rest) ≡ Some (symbol Sym.Else)
-        → (g : Trees (a_statement (n + 1) ∷ S)) × Same (an_otherwise n ∷ S) (t, rest) (otherwise g.0, g.1)
+    view : (m : ℕ) (t : Otherwise) (rest : Trees S) → Fits m (pieces (an_otherwise functions n ∷ S) (t, rest))
+        → begins grammar (an_otherwise functions n ∷ S) (t, rest) ≡ Some (symbol Sym.Else)
+        → (g : Trees (a_statement functions (n + 1) ∷ S)) × Same (an_otherwise functions n ∷ S) (t, rest) (otherwise g.0, g.1)
     view m without rest fits found = absurd (let seen = subst (λ next. IsFalse (is_else next)) found fits.0 in cc)
     view m (otherwise part) rest fits found = ((part, rest), refl)
 

@@ -34,17 +34,19 @@ abbrev pub is_else : Option Word → Bool
 is_else (Some (symbol Symbol.Else)) = true
 is_else _ = false
 
--- what is asked of the next token: its number; that it is no binary operator, where an expression has ended; or that it is no `else`, where
--- an `if` has ended without one
+-- what is asked of the next token: its number; that it is no binary operator, where an expression has ended; that it is no `else`, where
+-- an `if` has ended without one; or what none meets, where something stands that isn't allowed
 pub data Look : Type 0 where
   is_at : ℕ → Look
   no_operator : Look
   no_else : Look
+  forbidden : Look
 
 abbrev pub Meets : Look → ℕ → Option Word → Type 0
 Meets (is_at number) n next = number ≡ n
 Meets no_operator n next = link_opening next ≡ None
 Meets no_else n next = IsFalse (is_else next)
+Meets forbidden n next = ⊥
 
 abbrev pub language : Language
 language = record { Word = Word; Look = Look; Meets = Meets; most_operators = 256 }

@@ -1,5 +1,5 @@
 -- How each kind of phrase opens, by its next word.
-use Rattle.std.specs.Prelude.{true, false, Option, Some}
+use Rattle.std.specs.Prelude.{Bool, true, false, Option, Some}
 use Rattle.derivation.specs.declared.symbol.Symbol.TheVariants as Symbol
 use Rattle.derivation.specs.Word.{Word, symbol, name, number}
 use Rattle.source_syntax.specs.declared.opening.ActionOpening.{ActionOpening}
@@ -10,6 +10,7 @@ use Rattle.source_syntax.specs.declared.opening.SimpleOpening.{SimpleOpening}
 use Rattle.source_syntax.specs.declared.opening.SizeOpening.{SizeOpening}
 use Rattle.source_syntax.specs.declared.opening.StartOpening.{StartOpening}
 use Rattle.source_syntax.specs.declared.opening.StatementOpening.{StatementOpening}
+use Rattle.source_syntax.specs.declared.opening.EndOpening.{EndOpening}
 use Rattle.concrete_syntax.specs.declared.sign.Prefix.TheVariants as Prefix
 use Rattle.concrete_syntax.specs.declared.sign.Assignment.TheVariants as Assignment
 use Rattle.concrete_syntax.specs.declared.sign.Step.TheVariants as Step
@@ -49,9 +50,9 @@ opening_of_action (Some (symbol Symbol.Decrement)) = ActionOpening.Steps Step.De
 opening_of_action _ = ActionOpening.Nothing
 
 abbrev pub opening_of_statement : Option Word → StatementOpening
-opening_of_statement (Some (name x)) = StatementOpening.Simple
-opening_of_statement (Some (symbol Symbol.Increment)) = StatementOpening.Simple
-opening_of_statement (Some (symbol Symbol.Decrement)) = StatementOpening.Simple
+opening_of_statement (Some (name x)) = StatementOpening.Name
+opening_of_statement (Some (symbol Symbol.Increment)) = StatementOpening.Steps
+opening_of_statement (Some (symbol Symbol.Decrement)) = StatementOpening.Steps
 opening_of_statement (Some (symbol Symbol.Semicolon)) = StatementOpening.Skip
 opening_of_statement (Some (symbol Symbol.OpenBrace)) = StatementOpening.Braces
 opening_of_statement (Some (symbol Symbol.If)) = StatementOpening.If
@@ -62,6 +63,15 @@ opening_of_statement (Some (symbol Symbol.Return)) = StatementOpening.Return
 opening_of_statement (Some (symbol Symbol.Break)) = StatementOpening.Break
 opening_of_statement (Some (symbol Symbol.Continue)) = StatementOpening.Continue
 opening_of_statement _ = StatementOpening.Nothing
+
+abbrev pub opening_of_end : Option Word → EndOpening
+opening_of_end (Some (symbol Symbol.OpenParenthesis)) = EndOpening.Call
+opening_of_end (Some (symbol Symbol.Assign)) = EndOpening.Value
+opening_of_end _ = EndOpening.Action
+
+abbrev pub is_name : Option Word → Bool
+is_name (Some (name x)) = true
+is_name _ = false
 
 abbrev pub opening_of_item : Option Word → ItemOpening
 opening_of_item (Some (symbol Symbol.CloseBrace)) = ItemOpening.Close

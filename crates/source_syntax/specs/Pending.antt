@@ -6,12 +6,13 @@ use Rattle.derivation.specs.declared.rule.Rule.{Rule}
 use Rattle.derivation.specs.Pieces.{token, look}
 use Rattle.derivation.specs.Grammars.{Grammar, Leads as LeadsIn, Stops as StopsIn}
 use Rattle.source_syntax.specs.Language.{language, Token, Piece, Phrase, Rest, is_at, IsQuiet}
-use Rattle.concrete_syntax.specs.Trees.{Divisor, End, Operand, OperandKind, Tail, Expression, Name, Action, Simple, Part, Declaration, Start, Statement, StatementKind, Otherwise, Items, Program}
-use Rattle.source_syntax.specs.Spelling.{plain, sign, size_pieces, end_pieces, divisor_pieces, operand_pieces, operand_kind_pieces, tail_pieces, expression_pieces, optional_pieces, name_pieces, action_pieces, simple_pieces, initialiser_pieces, parts_pieces, declaration_pieces, start_pieces, finish_pieces, test_pieces, statement_pieces, statement_kind_pieces, otherwise_pieces, items_pieces, void_pieces, program_pieces}
+use Rattle.concrete_syntax.specs.Trees.{Divisor, End, Operand, OperandKind, Tail, Expression, Name, Action, Simple, Part, Declaration, Start, Statement, StatementKind, Otherwise, Items, Parameters, Program}
+use Rattle.source_syntax.specs.Spelling.{plain, sign, size_pieces, end_pieces, divisor_pieces, operand_pieces, operand_kind_pieces, tail_pieces, expression_pieces, optional_pieces, name_pieces, action_pieces, simple_pieces, initialiser_pieces, parts_pieces, declaration_pieces, start_pieces, finish_pieces, test_pieces, statement_pieces, statement_kind_pieces, otherwise_pieces, items_pieces, arguments_pieces, further_arguments_pieces, void_pieces, parameters_pieces, further_parameters_pieces, program_pieces}
+use Rattle.source_syntax.specs.Ends.{Value, ValueEnd, StatementEnd, Definitions, DefinitionsEnd, value_pieces, value_end_pieces, statement_end_pieces, definitions_pieces, definitions_end_pieces}
 
--- Something to be read, where so many levels are open. Some take the sign behind them along, by which the next word tells their end:
--- an optional expression its `;`, the parts of a declaration their `;`, the start of a `for` its `;`, its last part the `)`, and items
--- the `}`.
+-- Something to be read, where so many levels are open; some where functions are allowed, or aren't. Some take the sign behind them along, by
+-- which the next word tells their end: an optional expression its `;`, the parts of a declaration their `;`, the start of a `for` its `;`, its
+-- last part the `)`, a value its `;`, arguments and parameters the `)`, and items the `}`.
 pub data Pending : Type 0 where
   exactly : (t : Token) → IsQuiet (Some t.word) → Pending
   exactly_at : (t : Token) → IsQuiet (Some t.word) → Pending
@@ -35,12 +36,22 @@ pub data Pending : Type 0 where
   a_declaration : ℕ → Pending
   a_start : ℕ → Pending
   a_finish : ℕ → Pending
-  a_statement : ℕ → Pending
-  a_statement_kind : ℕ → Pending
-  an_otherwise : ℕ → Pending
-  items : ℕ → Pending
+  a_value : ℕ → Pending
+  a_value_end : ℕ → Pending
+  arguments : ℕ → Pending
+  further_arguments : ℕ → Pending
+  a_statement_end : Bool → ℕ → Pending
+  a_statement : Bool → ℕ → Pending
+  a_statement_kind : Bool → ℕ → Pending
+  an_otherwise : Bool → ℕ → Pending
+  items : Bool → ℕ → Pending
   a_void : Pending
-  a_program : Pending
+  parameters : Pending
+  further_parameters : Pending
+  a_place : Pending
+  definitions_end : Pending
+  definitions : Bool → Pending
+  a_program : Bool → Pending
 
 abbrev pub TreeOf : Pending → Type 0
 TreeOf (exactly t quiet) = Unit {0}
@@ -65,12 +76,22 @@ TreeOf (parts n) = List Part
 TreeOf (a_declaration n) = Declaration
 TreeOf (a_start n) = Start
 TreeOf (a_finish n) = Option Simple
-TreeOf (a_statement n) = Statement
-TreeOf (a_statement_kind n) = StatementKind
-TreeOf (an_otherwise n) = Otherwise
-TreeOf (items n) = Items
+TreeOf (a_value n) = Value
+TreeOf (a_value_end n) = ValueEnd
+TreeOf (arguments n) = List Expression
+TreeOf (further_arguments n) = List Expression
+TreeOf (a_statement_end functions n) = StatementEnd
+TreeOf (a_statement functions n) = Statement
+TreeOf (a_statement_kind functions n) = StatementKind
+TreeOf (an_otherwise functions n) = Otherwise
+TreeOf (items functions n) = Items
 TreeOf a_void = Bool
-TreeOf a_program = Program
+TreeOf parameters = Parameters
+TreeOf further_parameters = List Name
+TreeOf a_place = ℕ
+TreeOf definitions_end = DefinitionsEnd
+TreeOf (definitions functions) = Definitions
+TreeOf (a_program functions) = Program
 
 abbrev pub pieces_of : (p : Pending) → TreeOf p → List Piece → List Piece
 pieces_of (exactly t quiet) tree behind = token t ∷ behind
@@ -95,12 +116,22 @@ pieces_of (parts n) more behind = parts_pieces n more behind
 pieces_of (a_declaration n) d behind = declaration_pieces n d behind
 pieces_of (a_start n) start behind = start_pieces n start behind
 pieces_of (a_finish n) step behind = finish_pieces n step behind
-pieces_of (a_statement n) s behind = statement_pieces n s behind
-pieces_of (a_statement_kind n) kind behind = statement_kind_pieces n kind behind
-pieces_of (an_otherwise n) other behind = otherwise_pieces n other behind
-pieces_of (items n) all behind = items_pieces n all (token (sign S.CloseBrace) ∷ behind)
+pieces_of (a_value n) value behind = value_pieces n value behind
+pieces_of (a_value_end n) end behind = value_end_pieces n end behind
+pieces_of (arguments n) all behind = arguments_pieces n all behind
+pieces_of (further_arguments n) all behind = further_arguments_pieces n all behind
+pieces_of (a_statement_end functions n) end behind = statement_end_pieces functions n end behind
+pieces_of (a_statement functions n) s behind = statement_pieces functions n s behind
+pieces_of (a_statement_kind functions n) kind behind = statement_kind_pieces functions n kind behind
+pieces_of (an_otherwise functions n) other behind = otherwise_pieces functions n other behind
+pieces_of (items functions n) all behind = items_pieces functions n all (token (sign S.CloseBrace) ∷ behind)
 pieces_of a_void void behind = void_pieces void behind
-pieces_of a_program p behind = program_pieces p behind
+pieces_of parameters all behind = parameters_pieces all behind
+pieces_of further_parameters all behind = further_parameters_pieces all behind
+pieces_of a_place at behind = look (is_at at) ∷ behind
+pieces_of definitions_end end behind = definitions_end_pieces end behind
+pieces_of (definitions functions) all behind = definitions_pieces functions all behind
+pieces_of (a_program functions) p behind = program_pieces functions p behind
 
 -- trees of all that is to be read, and their pieces
 abbrev pub Trees : List Pending → Type 0

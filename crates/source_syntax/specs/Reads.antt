@@ -1,5 +1,5 @@
 -- What the readers of the parser answer, for whatever is to be read behind.
-use Rattle.std.specs.Prelude.{◌≡◌, ◌≢◌, ◌⊎◌, refl, ℕ, ◌<◌, ℤ, Option, List, [], ◌∷◌, ◌++◌}
+use Rattle.std.specs.Prelude.{◌≡◌, ◌≢◌, ◌⊎◌, refl, ℕ, ◌<◌, ℤ, Bool, true, Option, List, [], ◌∷◌, ◌++◌}
 use Rattle.derivation.specs.declared.rule.Rule.{Rule}
 use Rattle.derivation.specs.declared.rule.Rule.TheVariants.{Expected, Nesting, Operators}
 use Rattle.derivation.specs.declared.symbol.Symbol.{Symbol}
@@ -7,10 +7,14 @@ use Rattle.derivation.specs.declared.symbol.Symbol.TheVariants as S
 use Rattle.derivation.specs.Word.{Word, symbol, name as named, number as numbered}
 use Rattle.derivation.specs.Comes.{IsNext}
 use Rattle.source_syntax.specs.Language.{Rest}
-use Rattle.concrete_syntax.specs.Trees.{Operand, Link, operation, division, Expression, Simple, Part, Start, Prelude, Program}
+use Rattle.concrete_syntax.specs.Trees.{Link, operation, division, Expression, Name, Simple, Part, Start, StatementKind, Items, Prelude, named as named_parameters, Function, Program}
+use Rattle.concrete_syntax.specs.declared.program.Function.{Function as RustFunction}
+use Rattle.concrete_syntax.specs.declared.statement.Items.{Items as RustItems}
+use Rattle.concrete_syntax.specs.Mirror.{functions, items as items_tree}
 use Rattle.concrete_syntax.specs.Chains.{tail_of}
-use Rattle.source_syntax.specs.Spelling.{sign}
-use Rattle.source_syntax.specs.Pending.{Pending, exactly, exactly_at, an_operand, a_divisor, an_expression, a_tail, an_optional, a_test, a_name, a_part_end, parts, a_declaration, a_start, a_finish, TreeOf, Leads, Stops}
+use Rattle.source_syntax.specs.Spelling.{sign, opening}
+use Rattle.source_syntax.specs.Ends.{Value, ValueEnd, value_of, StatementEnd, kind_of, given_value, Definitions}
+use Rattle.source_syntax.specs.Pending.{Pending, exactly, exactly_at, an_operand, a_divisor, a_tail, an_optional, a_test, a_name, a_part_end, parts, a_declaration, a_start, a_finish, a_value, a_value_end, arguments, further_arguments, a_statement_end, items, a_void, parameters, further_parameters, a_place, TreeOf, Leads, Stops}
 use Rattle.source_syntax.specs.declared.opening.LinkOpening.{LinkOpening}
 use Rattle.source_syntax.specs.declared.opening.LinkOpening.TheVariants.{Operation, Division}
 
@@ -84,21 +88,51 @@ pub record ReadsRight (count levels : ℕ) (opening : LinkOpening) (link : Link)
 abbrev pub RefusesRight : ℕ → ℕ → LinkOpening → Rest → Rule → Rest → Type 0
 RefusesRight count levels opening = RefusesCounting count (right_of levels opening)
 
--- Reading an expression from `start` has read this operand and these links behind it, and has come to reading the tail that is left from
--- `here`.
-pub record ComesToTail (count levels : ℕ) (operand : Operand) (links : List Link) (start : Rest) (now : ℕ) (here : Rest) : Type 0 where
+-- Reading a tail from `start` has read these links, and has come to reading what is left of it from `here`.
+pub record ComesToTail (count levels : ℕ) (links : List Link) (start : Rest) (now : ℕ) (here : Rest) : Type 0 where
   pub comes : (behind : List Pending)
-      → Leads count (an_expression levels ∷ behind) start now (a_tail levels ∷ behind) here
-      (λ trees. (record { operand = operand; tail = tail_of links trees.0 }, trees.1))
+      → Leads count (a_tail levels ∷ behind) start now (a_tail levels ∷ behind) here (λ trees. (tail_of links trees.0, trees.1))
+
+-- the words up to `to` are the value that a statement gives this name by `=`: an expression or a call, with its `;`
+pub record ReadsValue (levels : ℕ) (target : Name) (kind : StatementKind) (from to : Rest) : Type 0 where
+  pub value : Value
+  pub made : kind ≡ kind_of target (given_value value)
+  pub reads : ReadsAfresh (a_value levels) value from to
+
+-- the words up to `to` are what stands behind the name that such a value begins with
+pub record ReadsValueEnd (levels : ℕ) (target first : Name) (kind : StatementKind) (from to : Rest) : Type 0 where
+  pub end : ValueEnd
+  pub made : kind ≡ kind_of target (given_value (value_of first end))
+  pub reads : ReadsAfresh (a_value_end levels) end from to
+
+-- the words up to `to` are what stands behind the name of a statement of this kind, with its `;`
+pub record ReadsEnd (functions : Bool) (levels : ℕ) (name : Name) (kind : StatementKind) (from to : Rest) : Type 0 where
+  pub end : StatementEnd
+  pub made : kind ≡ kind_of name end
+  pub reads : Reads (a_statement_end functions levels) end from to
+
+-- Reading arguments from `start` has read these, and has come to reading further ones from `here`.
+pub record ComesToArguments (levels : ℕ) (so_far : List Expression) (start here : Rest) : Type 0 where
+  pub comes : (behind : List Pending)
+      → (now : ℕ) × Leads 0 (arguments levels ∷ behind) start now (further_arguments levels ∷ behind) here (λ trees. (so_far ++ trees.0, trees.1))
 
 -- Reading a `p` from `from` has come to reading what is left of it from `to`: the whole is made so of what is left.
 pub record Continues (p : Pending) (whole : TreeOf p → TreeOf p) (from to : Rest) : Type 0 where
   pub comes : (count : ℕ) (behind : List Pending)
       → (now : ℕ) × Leads count (p ∷ behind) from now (p ∷ behind) to (λ trees. (whole trees.0, trees.1))
 
--- a program, with these before what else stands before its `main`
+-- a program, with these before what else stands before its functions
 abbrev pub behind_preludes : List Prelude → Program → Program
-behind_preludes front program = record { preludes = front ++ program.preludes; void = program.void; items = program.items }
+behind_preludes front program =
+    record { preludes = front ++ program.preludes; functions = program.functions; void = program.void; items = program.items }
+
+-- what stands behind preludes, by the parts that a reader answers
+abbrev pub definitions_tree : List RustFunction → Bool → RustItems → Definitions
+definitions_tree list void all = record { functions = functions list; void = void; items = items_tree all }
+
+-- the same with these before its other functions
+abbrev pub behind_functions : List Function → Definitions → Definitions
+behind_functions front all = record { functions = front ++ all.functions; void = all.void; items = all.items }
 
 -- the words up to `to` are this part of a declaration, before further parts
 pub record ReadsPart (levels : ℕ) (part : Part) (from to : Rest) : Type 0 where
@@ -138,3 +172,42 @@ pub record ReadsHeadOfFor (levels : ℕ) (start : Start) (test : Option Expressi
 
 abbrev pub RefusesHeadOfFor : ℕ → Rest → Rule → Rest → Type 0
 RefusesHeadOfFor levels from rule to = (count : ℕ) (behind : List Pending) → Stops count (head_of_for levels behind) from rule to
+
+-- what stands behind the name of `main`
+abbrev pub main_end : Bool → List Pending → List Pending
+main_end functions behind =
+    exactly (sign S.OpenParenthesis) (refl, refl) ∷ a_void ∷ exactly (opening S.OpenBrace 1) (refl, refl) ∷ items functions 1 ∷ behind
+
+-- the words up to `to` are that of a `main` with these items
+pub record ReadsMain (functions void : Bool) (all : Items) (from to : Rest) : Type 0 where
+  pub comes : (count : ℕ) (behind : List Pending)
+      → (now : ℕ) × Leads count (main_end functions behind) from now behind to (λ trees. (tt, (void, (tt, (all, trees)))))
+
+abbrev pub RefusesMain : Bool → Rest → Rule → Rest → Type 0
+RefusesMain functions from rule to = (count : ℕ) (behind : List Pending) → Stops count (main_end functions behind) from rule to
+
+-- what stands behind the type of a function
+abbrev pub function_end : List Pending → List Pending
+function_end behind =
+    a_name ∷ exactly (sign S.OpenParenthesis) (refl, refl) ∷ parameters ∷ exactly (opening S.OpenBrace 1) (refl, refl) ∷ items true 1 ∷ a_place ∷ behind
+
+-- the words up to `to` are that of this function
+pub record ReadsFunction (f : Function) (from to : Rest) : Type 0 where
+  pub comes : (count : ℕ) (behind : List Pending)
+      → (now : ℕ) × Leads count (function_end behind) from now behind to (λ trees. (f.name, (tt, (f.parameters, (tt, (f.items, (f.behind, trees)))))))
+
+abbrev pub RefusesFunction : Rest → Rule → Rest → Type 0
+RefusesFunction from rule to = (count : ℕ) (behind : List Pending) → Stops count (function_end behind) from rule to
+
+-- Reading parameters from `start` has read these, and has come to reading further ones from `here`.
+pub record ComesToParameters (first : Name) (so_far : List Name) (start here : Rest) : Type 0 where
+  pub comes : (count : ℕ) (behind : List Pending)
+      → (now : ℕ) × Leads count (parameters ∷ behind) start now (further_parameters ∷ behind) here (λ trees. (named_parameters first (so_far ++ trees.0), trees.1))
+
+-- the words up to `to` are a further parameter
+pub record ReadsParameter (x : Name) (from to : Rest) : Type 0 where
+  pub comes : (count : ℕ) (behind : List Pending)
+      → (now : ℕ) × Leads count (exactly (sign S.Int) (refl, refl) ∷ a_name ∷ behind) from now behind to (λ trees. (tt, (x, trees)))
+
+abbrev pub RefusesParameter : Rest → Rule → Rest → Type 0
+RefusesParameter from rule to = (count : ℕ) (behind : List Pending) → Stops count (exactly (sign S.Int) (refl, refl) ∷ a_name ∷ behind) from rule to

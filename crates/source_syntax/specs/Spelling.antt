@@ -6,11 +6,11 @@ use Rattle.derivation.specs.declared.symbol.Symbol.{Symbol}
 use Rattle.derivation.specs.declared.symbol.Symbol.TheVariants as S
 use Rattle.derivation.specs.Word.{Word, symbol, name as named, number as numbered}
 use Rattle.derivation.specs.Pieces.{keeps, one_more, anew, token, look}
-use Rattle.source_syntax.specs.Language.{Token, Piece, is_at, no_operator, no_else}
+use Rattle.source_syntax.specs.Language.{Token, Piece, is_at, no_operator, no_else, forbidden}
 use Rattle.concrete_syntax.specs.declared.sign.Prefix.{Prefix}
 use Rattle.concrete_syntax.specs.declared.sign.Assignment.{Assignment}
 use Rattle.concrete_syntax.specs.declared.sign.Step.{Step}
-use Rattle.concrete_syntax.specs.Trees.{Divisor, End, Operand, operand_at, OperandKind, number, name, truth, unknown, call, signed, parentheses, range, Link, operation, division, Tail, ended, further, Expression, Name, Action, assigns, steps, Simple, acts, steps_before, Part, Declaration, Start, starts_with_nothing, starts_with, declares, Statement, statement_at, StatementKind, simple, skip, braces, conditional, while_loop, do_loop, for_loop, return, break, continue, Otherwise, without, otherwise, Items, none, declaration, statement, Prelude, extern_call, typedef_bool, Program}
+use Rattle.concrete_syntax.specs.Trees.{Divisor, End, Operand, operand_at, OperandKind, number, name, truth, unknown, call, signed, parentheses, range, Link, operation, division, Tail, ended, further, Expression, Name, Action, assigns, steps, Simple, acts, steps_before, Part, Declaration, Start, starts_with_nothing, starts_with, declares, Call, Statement, statement_at, StatementKind, simple, calls, gives, skip, braces, conditional, while_loop, do_loop, for_loop, return, break, continue, Otherwise, without, otherwise, Items, none, declaration, statement, Prelude, extern_call, typedef_bool, Parameters, nothing, named as named_parameters, Function, Program}
 
 -- a token that opens no level
 abbrev pub plain : Word → Token
@@ -167,44 +167,66 @@ abbrev pub test_pieces : ℕ → Expression → List Piece → List Piece
 test_pieces levels test behind =
     token (leading_opening S.OpenParenthesis (levels + 1)) ∷ expression_pieces (levels + 1) test (token (sign S.CloseParenthesis) ∷ behind)
 
+-- what only stands where functions are allowed
+abbrev pub where_allowed : Bool → List Piece → List Piece
+where_allowed true behind = behind
+where_allowed false behind = look forbidden ∷ behind
+
+-- further arguments of a call, and its `)`
+abbrev pub further_arguments_pieces : ℕ → List Expression → List Piece → List Piece
+further_arguments_pieces levels [] behind = token (sign S.CloseParenthesis) ∷ behind
+further_arguments_pieces levels (e ∷ more) behind = token (leading S.Comma) ∷ expression_pieces levels e (further_arguments_pieces levels more behind)
+
+abbrev pub arguments_pieces : ℕ → List Expression → List Piece → List Piece
+arguments_pieces levels [] behind = token (sign S.CloseParenthesis) ∷ behind
+arguments_pieces levels (e ∷ more) behind = expression_pieces levels e (further_arguments_pieces levels more behind)
+
+-- a call: its `(` opens no level, and each argument is an expression of its own
+abbrev pub call_pieces : Bool → ℕ → Call → List Piece → List Piece
+call_pieces functions levels c behind =
+    name_pieces c.function (token (leading S.OpenParenthesis) ∷ where_allowed functions (arguments_pieces levels c.arguments behind))
+
 -- `{`, `if`, `else`, `while`, `do` and `for` open a level for as long as their statement lasts; so does the `(` before a test. The
 -- `while` that ends a `do` and the `(` of a `for` open none. An `else` belongs to the nearest `if`: where an `if` has none, none follows.
 abbrev mutual
-  pub statement_pieces : ℕ → Statement → List Piece → List Piece
-  statement_pieces levels (statement_at at kind) behind = look (is_at at) ∷ statement_kind_pieces levels kind behind
+  pub statement_pieces : Bool → ℕ → Statement → List Piece → List Piece
+  statement_pieces functions levels (statement_at at kind) behind = look (is_at at) ∷ statement_kind_pieces functions levels kind behind
 
-  pub statement_kind_pieces : ℕ → StatementKind → List Piece → List Piece
-  statement_kind_pieces levels (simple s) behind = simple_pieces levels s (token (sign S.Semicolon) ∷ behind)
-  statement_kind_pieces levels skip behind = token (sign S.Semicolon) ∷ behind
-  statement_kind_pieces levels (braces items) behind =
-      token (opening S.OpenBrace (levels + 1)) ∷ items_pieces (levels + 1) items (token (sign S.CloseBrace) ∷ behind)
-  statement_kind_pieces levels (conditional test part other) behind =
-      token (opening S.If (levels + 1)) ∷ test_pieces (levels + 1) test (statement_pieces (levels + 1) part (otherwise_pieces (levels + 1) other behind))
-  statement_kind_pieces levels (while_loop test body) behind =
-      token (opening S.While (levels + 1)) ∷ test_pieces (levels + 1) test (statement_pieces (levels + 1) body behind)
-  statement_kind_pieces levels (do_loop body end test) behind =
+  pub statement_kind_pieces : Bool → ℕ → StatementKind → List Piece → List Piece
+  statement_kind_pieces functions levels (simple s) behind = simple_pieces levels s (token (sign S.Semicolon) ∷ behind)
+  statement_kind_pieces functions levels (calls c) behind = call_pieces functions levels c (token (sign S.Semicolon) ∷ behind)
+  statement_kind_pieces functions levels (gives x c) behind =
+      name_pieces x (token (leading S.Assign) ∷ call_pieces functions levels c (token (sign S.Semicolon) ∷ behind))
+  statement_kind_pieces functions levels skip behind = token (sign S.Semicolon) ∷ behind
+  statement_kind_pieces functions levels (braces items) behind =
+      token (opening S.OpenBrace (levels + 1)) ∷ items_pieces functions (levels + 1) items (token (sign S.CloseBrace) ∷ behind)
+  statement_kind_pieces functions levels (conditional test part other) behind =
+      token (opening S.If (levels + 1)) ∷ test_pieces (levels + 1) test (statement_pieces functions (levels + 1) part (otherwise_pieces functions (levels + 1) other behind))
+  statement_kind_pieces functions levels (while_loop test body) behind =
+      token (opening S.While (levels + 1)) ∷ test_pieces (levels + 1) test (statement_pieces functions (levels + 1) body behind)
+  statement_kind_pieces functions levels (do_loop body end test) behind =
       token (opening S.Do (levels + 1))
-      ∷ statement_pieces (levels + 1) body
+      ∷ statement_pieces functions (levels + 1) body
       (look (is_at end) ∷ token (sign S.While) ∷ test_pieces (levels + 1) test (token (sign S.Semicolon) ∷ behind))
-  statement_kind_pieces levels (for_loop start test step body) behind =
+  statement_kind_pieces functions levels (for_loop start test step body) behind =
       token (opening S.For (levels + 1)) ∷ token (sign S.OpenParenthesis)
       ∷ start_pieces (levels + 1) start
       (optional_pieces (levels + 1) test
-      (token (sign S.Semicolon) ∷ finish_pieces (levels + 1) step (statement_pieces (levels + 1) body behind)))
-  statement_kind_pieces levels (return value) behind =
+      (token (sign S.Semicolon) ∷ finish_pieces (levels + 1) step (statement_pieces functions (levels + 1) body behind)))
+  statement_kind_pieces functions levels (return value) behind =
       token (leading S.Return) ∷ optional_pieces levels value (token (sign S.Semicolon) ∷ behind)
-  statement_kind_pieces levels break behind = token (sign S.Break) ∷ token (sign S.Semicolon) ∷ behind
-  statement_kind_pieces levels continue behind = token (sign S.Continue) ∷ token (sign S.Semicolon) ∷ behind
+  statement_kind_pieces functions levels break behind = token (sign S.Break) ∷ token (sign S.Semicolon) ∷ behind
+  statement_kind_pieces functions levels continue behind = token (sign S.Continue) ∷ token (sign S.Semicolon) ∷ behind
 
-  pub otherwise_pieces : ℕ → Otherwise → List Piece → List Piece
-  otherwise_pieces levels without behind = look no_else ∷ behind
-  otherwise_pieces levels (otherwise part) behind = token (opening S.Else (levels + 1)) ∷ statement_pieces (levels + 1) part behind
+  pub otherwise_pieces : Bool → ℕ → Otherwise → List Piece → List Piece
+  otherwise_pieces functions levels without behind = look no_else ∷ behind
+  otherwise_pieces functions levels (otherwise part) behind = token (opening S.Else (levels + 1)) ∷ statement_pieces functions (levels + 1) part behind
 
   -- items, without the `}` behind them
-  pub items_pieces : ℕ → Items → List Piece → List Piece
-  items_pieces levels none behind = behind
-  items_pieces levels (declaration d more) behind = declaration_pieces levels d (items_pieces levels more behind)
-  items_pieces levels (statement s more) behind = statement_pieces levels s (items_pieces levels more behind)
+  pub items_pieces : Bool → ℕ → Items → List Piece → List Piece
+  items_pieces functions levels none behind = behind
+  items_pieces functions levels (declaration d more) behind = declaration_pieces levels d (items_pieces functions levels more behind)
+  items_pieces functions levels (statement s more) behind = statement_pieces functions levels s (items_pieces functions levels more behind)
 
 abbrev pub void_pieces : Bool → List Piece → List Piece
 void_pieces true behind = token (sign S.Void) ∷ token (sign S.CloseParenthesis) ∷ behind
@@ -222,10 +244,36 @@ abbrev pub preludes_pieces : List Prelude → List Piece → List Piece
 preludes_pieces [] behind = behind
 preludes_pieces (prelude ∷ more) behind = prelude_pieces prelude (preludes_pieces more behind)
 
--- a program's pieces: the brace of `main` opens level 1
-abbrev pub program_pieces : Program → List Piece → List Piece
-program_pieces p behind =
-    preludes_pieces p.preludes
-    (token (sign S.Int) ∷ token (sign S.Main) ∷ token (sign S.OpenParenthesis)
-    ∷ void_pieces p.void
-    (token (opening S.OpenBrace 1) ∷ items_pieces 1 p.items (token (sign S.CloseBrace) ∷ behind)))
+-- further parameters of a function, and its `)`
+abbrev pub further_parameters_pieces : List Name → List Piece → List Piece
+further_parameters_pieces [] behind = token (sign S.CloseParenthesis) ∷ behind
+further_parameters_pieces (x ∷ more) behind = token (sign S.Comma) ∷ token (sign S.Int) ∷ name_pieces x (further_parameters_pieces more behind)
+
+abbrev pub parameters_pieces : Parameters → List Piece → List Piece
+parameters_pieces (nothing void) behind = void_pieces void behind
+parameters_pieces (named_parameters x more) behind = token (sign S.Int) ∷ name_pieces x (further_parameters_pieces more behind)
+
+abbrev pub type_sign : Bool → Symbol
+type_sign true = S.Int
+type_sign false = S.Void
+
+-- what stands behind the type of a function
+abbrev pub function_end_pieces : Bool → Function → List Piece → List Piece
+function_end_pieces functions f behind =
+    name_pieces f.name (token (sign S.OpenParenthesis) ∷ where_allowed functions (parameters_pieces f.parameters
+    (token (opening S.OpenBrace 1) ∷ items_pieces functions 1 f.items (token (sign S.CloseBrace) ∷ look (is_at f.behind) ∷ behind))))
+
+abbrev pub functions_pieces : Bool → List Function → List Piece → List Piece
+functions_pieces functions [] behind = behind
+functions_pieces functions (f ∷ more) behind = token (sign (type_sign f.valued)) ∷ function_end_pieces functions f (functions_pieces functions more behind)
+
+-- what stands behind the name of `main`
+abbrev pub main_end_pieces : Bool → Bool → Items → List Piece → List Piece
+main_end_pieces functions void items behind =
+    token (sign S.OpenParenthesis)
+    ∷ void_pieces void (token (opening S.OpenBrace 1) ∷ items_pieces functions 1 items (token (sign S.CloseBrace) ∷ behind))
+
+-- a program's pieces: the braces of `main` and of each function open level 1
+abbrev pub program_pieces : Bool → Program → List Piece → List Piece
+program_pieces functions p behind =
+    preludes_pieces p.preludes (functions_pieces functions p.functions (token (sign S.Int) ∷ token (sign S.Main) ∷ main_end_pieces functions p.void p.items behind))

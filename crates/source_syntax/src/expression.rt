@@ -1,15 +1,15 @@
 //! Expressions. Only nesting recurses: the operators and operands of one expression are read by a loop.
 
-ghost use Rattle.std.specs.Prelude.{◌≡◌, ◌≤◌, ℕ, IfOk, IfErr};
+ghost use Rattle.std.specs.Prelude.{◌≡◌, ◌≤◌, ℕ, length, IfOk, IfErr};
 ghost use Rattle.derivation.specs.Pieces.{first};
 ghost use Rattle.derivation.specs.Spelled.{words_from, IsBehind};
 ghost use Rattle.source_syntax.specs.Language.{rest_from};
-ghost use Rattle.concrete_syntax.specs.Mirror.{operand as operand_tree, operand_kind as kind_tree, expression as expression_tree, link as link_tree, divisor as divisor_tree, range_end as end_tree};
+ghost use Rattle.concrete_syntax.specs.Mirror.{operand as operand_tree, operand_kind as kind_tree, expression as expression_tree, tail as tail_tree, link as link_tree, divisor as divisor_tree, range_end as end_tree};
 ghost use Rattle.concrete_syntax.specs.Trees.{call as call_tree, range as range_tree};
 ghost use Rattle.source_syntax.specs.Openings.{opening_of_operand};
 ghost use Rattle.source_syntax.specs.declared.opening.OperandOpening.TheVariants.{Call, Parenthesis, Bracket, Signed};
 ghost use Rattle.derivation.specs.Failures.{IfFault};
-ghost use Rattle.source_syntax.specs.Pending.{an_operand, an_operand_kind, an_expression, a_divisor, an_end, a_size};
+ghost use Rattle.source_syntax.specs.Pending.{an_operand, an_operand_kind, an_expression, a_tail, a_divisor, an_end, a_size};
 ghost use Rattle.source_syntax.specs.Reads.{ReadsCounting, RefusesCounting, ReadsRight, RefusesRight};
 
 use crate::opening::{
@@ -40,7 +40,32 @@ pub fn expression(
     ensures forward { IfOk result (λ found. IsBehind words.now at found.1) }
     ensures refused { IfFault result (λ fault. RefusesCounting operators (an_expression levels) (rest_from words.now at) fault.rule (rest_from words.now fault.at)) }
 {
-    let (first, mut here, mut count) = operand(alloc, words, at, levels, operators)?;
+    let (operand, behind, before) = operand(alloc, words, at, levels, operators)?;
+    let (tail, next, count) = tail(alloc, words, behind, levels, before)?;
+    Ok((Expression { operand, tail }, next, count))
+}
+
+/// Reads what stands behind the first operand of an expression where `levels` levels are open, behind `operators` operators of the same
+/// whole expression. Answers it, the number of the word behind it and the count of operators by then.
+#[cycle(expressions)]
+pub fn tail(
+    alloc: Global,
+    words: &[Lexeme<'_>],
+    at: usize,
+    levels: u32,
+    operators: u32,
+) -> Result<(Tail, usize, u32), Failure>
+    requires shallow { levels ≤ 64 }
+    requires few { operators ≤ 256 }
+    requires within { at ≤ length words.now }
+    ensures read { IfOk result (λ found. ReadsCounting operators (a_tail levels) (tail_tree found.0) (rest_from words.now at) found.2 (rest_from words.now found.1)) }
+    ensures counted { IfOk result (λ found. found.2 ≤ 256) }
+    ensures forward { IfOk result (λ found. at ≤ found.1) }
+    ensures inside { IfOk result (λ found. found.1 ≤ length words.now) }
+    ensures refused { IfFault result (λ fault. RefusesCounting operators (a_tail levels) (rest_from words.now at) fault.rule (rest_from words.now fault.at)) }
+{
+    let mut here = at;
+    let mut count = operators;
     let mut links = Vec::new(alloc);
     'operators: loop {
         match link_opening(words, here) {
@@ -57,15 +82,8 @@ pub fn expression(
                 count = now;
             }
             None => {
-                let tail = Tail::of(alloc, links)?;
-                return Ok((
-                    Expression {
-                        operand: first,
-                        tail,
-                    },
-                    here,
-                    count,
-                ));
+                let made = Tail::of(alloc, links)?;
+                return Ok((made, here, count));
             }
         }
     }

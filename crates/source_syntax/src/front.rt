@@ -23,15 +23,16 @@ pub struct Syntax {
 }
 
 /// The tokens and the concrete tree of a text that is a program by its syntax: its grammar and the limits on nesting (64 levels) and on
-/// the binary operators of one expression (256). Names and sorts have no part in it. The text has at most 65,536 bytes. Time is linear in the text.
+/// the binary operators of one expression (256). Where `functions` is false, it has no calls and no functions but `main`. Names and sorts have no part in it.
+/// The text has at most 65,536 bytes. Time is linear in the text.
 ///
 /// The first fault is answered where there is one: `Lex` where the text has no tokens; else the first token that breaks a rule, of
 /// `Expected` where it breaks a limit too. `Memory` where the tokens or the tree find no room.
-pub fn read_syntax(alloc: Global, text: &[u8]) -> Result<Syntax, SyntaxFault>
+pub fn read_syntax(alloc: Global, text: &[u8], functions: bool) -> Result<Syntax, SyntaxFault>
     requires { length text.now ≤ 65536 }
     ensures tokens { IfOk result (λ read. TokensOf text.now read.tokens.items) }
-    ensures syntax { IfOk result (λ read. IsTreeText text.now (program_tree read.tree)) }
-    ensures fault { IfErr result (IsFaultOf text.now) }
+    ensures syntax { IfOk result (λ read. IsTreeText functions text.now (program_tree read.tree)) }
+    ensures fault { IfErr result (IsFaultOf functions text.now) }
 {
     let tokens = match lex(alloc, text) {
         Ok(tokens) => tokens,
@@ -42,19 +43,19 @@ pub fn read_syntax(alloc: Global, text: &[u8]) -> Result<Syntax, SyntaxFault>
         Ok(words) => words,
         Err(error) => return Err(SyntaxFault::Memory(error)),
     };
-    match read_words(alloc, &words) {
+    match read_words(alloc, &words, functions) {
         Ok(tree) => Ok(Syntax { tokens, tree }),
-        Err(Failure::Fault(fault)) => Err(placed(text, &tokens, fault)),
+        Err(Failure::Fault(fault)) => Err(placed(text, &tokens, fault, functions)),
         Err(Failure::Memory(error)) => Err(SyntaxFault::Memory(error)),
     }
 }
 
 // The tree that all the words spell.
-fn read_words(alloc: Global, words: &[Lexeme<'_>]) -> Result<Program, Failure>
-    ensures syntax { IfOk result (λ tree. IsSpelledBy programs (all_spelled words.now) (program_tree tree)) }
-    ensures fault { IfFault result (λ fault. FirstFault programs (all_spelled words.now) fault.rule (words_from words.now fault.at)) }
+fn read_words(alloc: Global, words: &[Lexeme<'_>], functions: bool) -> Result<Program, Failure>
+    ensures syntax { IfOk result (λ tree. IsSpelledBy (programs functions) (all_spelled words.now) (program_tree tree)) }
+    ensures fault { IfFault result (λ fault. FirstFault (programs functions) (all_spelled words.now) fault.rule (words_from words.now fault.at)) }
 {
-    let (tree, end) = program(alloc, words, 0)?;
+    let (tree, end) = program(alloc, words, 0, functions)?;
     if end < words.len() {
         return Err(Failure::Fault(Fault {
             rule: Rule::Expected,
@@ -65,11 +66,11 @@ fn read_words(alloc: Global, words: &[Lexeme<'_>]) -> Result<Program, Failure>
 }
 
 // The fault with its offset in the text.
-fn placed(text: &[u8], tokens: &[Token], fault: Fault) -> SyntaxFault
+fn placed(text: &[u8], tokens: &[Token], fault: Fault, functions: bool) -> SyntaxFault
     requires short { length text.now ≤ 65536 }
     requires lexed { TokensOf text.now tokens.now }
-    requires breaks { FirstFault programs (words text.now tokens.now) fault.rule (drop fault.at (words text.now tokens.now)) }
-    ensures { IsFaultOf text.now result }
+    requires breaks { FirstFault (programs functions) (words text.now tokens.now) fault.rule (drop fault.at (words text.now tokens.now)) }
+    ensures { IsFaultOf functions text.now result }
 {
     SyntaxFault::Broken {
         rule: fault.rule,

@@ -3,6 +3,7 @@
 //! calculus of reading of `derivation`. In `specs/`: the pieces that a tree spells (Spelling), and the trees of a text (Texts).
 #![tactic(auto)]
 
+mod call;
 mod declaration;
 mod expression;
 mod front;

@@ -5,7 +5,7 @@ ghost use Rattle.derivation.specs.Spelled.{words_from};
 ghost use Rattle.derivation.specs.Word.{symbol};
 ghost use Rattle.source_syntax.specs.Language.{link_opening};
 ghost use Rattle.derivation.specs.Pieces.{first};
-ghost use Rattle.source_syntax.specs.Openings.{opening_of_operand, opening_of_simple, opening_of_action, opening_of_statement, opening_of_item, opening_of_prelude, size_opening, opening_of_start};
+ghost use Rattle.source_syntax.specs.Openings.{opening_of_operand, opening_of_simple, opening_of_action, opening_of_statement, opening_of_end, is_name, opening_of_item, opening_of_prelude, size_opening, opening_of_start};
 
 use concrete_syntax::{Assignment, Division, Operator, Prefix, Step};
 use derivation::{Lexeme, Symbol};
@@ -58,7 +58,8 @@ pub enum ActionOpening {
 /// How a statement opens.
 #[derive(Clone, Copy)]
 pub enum StatementOpening {
-    Simple,
+    Name,
+    Steps,
     Skip,
     Braces,
     If,
@@ -69,6 +70,14 @@ pub enum StatementOpening {
     Break,
     Continue,
     Nothing,
+}
+
+/// How a statement goes on behind the name that it begins with, where functions are allowed.
+#[derive(Clone, Copy)]
+pub enum EndOpening {
+    Call,
+    Value,
+    Action,
 }
 
 /// How what stands in braces goes on.
@@ -218,9 +227,9 @@ pub fn opening_of_statement(words: &[Lexeme<'_>], at: usize) -> StatementOpening
         return StatementOpening::Nothing;
     };
     match *word {
-        Lexeme::Name(_) => StatementOpening::Simple,
-        Lexeme::Symbol(Symbol::Increment) => StatementOpening::Simple,
-        Lexeme::Symbol(Symbol::Decrement) => StatementOpening::Simple,
+        Lexeme::Name(_) => StatementOpening::Name,
+        Lexeme::Symbol(Symbol::Increment) => StatementOpening::Steps,
+        Lexeme::Symbol(Symbol::Decrement) => StatementOpening::Steps,
         Lexeme::Symbol(Symbol::Semicolon) => StatementOpening::Skip,
         Lexeme::Symbol(Symbol::OpenBrace) => StatementOpening::Braces,
         Lexeme::Symbol(Symbol::If) => StatementOpening::If,
@@ -231,6 +240,33 @@ pub fn opening_of_statement(words: &[Lexeme<'_>], at: usize) -> StatementOpening
         Lexeme::Symbol(Symbol::Break) => StatementOpening::Break,
         Lexeme::Symbol(Symbol::Continue) => StatementOpening::Continue,
         _ => StatementOpening::Nothing,
+    }
+}
+
+/// How a statement goes on behind its name at this word.
+pub fn opening_of_end(words: &[Lexeme<'_>], at: usize) -> EndOpening
+    ensures { result ≡ opening_of_end (first (words_from words.now at)) }
+{
+    let Some(word) = words.get(at) else {
+        return EndOpening::Action;
+    };
+    match *word {
+        Lexeme::Symbol(Symbol::OpenParenthesis) => EndOpening::Call,
+        Lexeme::Symbol(Symbol::Assign) => EndOpening::Value,
+        _ => EndOpening::Action,
+    }
+}
+
+/// Whether this word is a name.
+pub fn is_name(words: &[Lexeme<'_>], at: usize) -> bool
+    ensures { result ≡ is_name (first (words_from words.now at)) }
+{
+    let Some(word) = words.get(at) else {
+        return false;
+    };
+    match *word {
+        Lexeme::Name(_) => true,
+        _ => false,
     }
 }
 

@@ -88,8 +88,8 @@ pub fn simple(
     }
 }
 
-// Reads what a simple statement does to the name that it begins with.
-fn action(
+/// Reads what a simple statement does to the name that it begins with.
+pub fn action(
     alloc: Global,
     words: &[Lexeme<'_>],
     at: usize,

@@ -1,5 +1,5 @@
 -- Trees whose numbers may be wrong.
-use Rattle.std.specs.Prelude.{◌≡◌, List, [], ◌∷◌, None, ⊤}
+use Rattle.std.specs.Prelude.{◌≡◌, Bool, List, [], ◌∷◌, None, ⊤}
 use Rattle.derivation.specs.Pieces.{token, look, first_before, Fits}
 use Rattle.concrete_syntax.specs.Trees.{Program}
 use Rattle.source_syntax.specs.Language.{Token, Piece, is_at, Meets}
@@ -21,5 +21,6 @@ tokens_in (look l ∷ more) = tokens_in more
 -- where each token of a tree is as it is asked for, its number aside, a tree with right numbers spells the same tokens
 abbrev pub TreesCanBeNumbered : Type 0
 TreesCanBeNumbered =
-    (tree : Program) → FitsButForNumbers (programs.pieces tree)
-    → (numbered : Program) × Fits 0 (programs.pieces numbered) × (tokens_in (programs.pieces numbered) ≡ tokens_in (programs.pieces tree))
+    (functions : Bool) (tree : Program) → FitsButForNumbers ((programs functions).pieces tree)
+    → (numbered : Program) × Fits 0 ((programs functions).pieces numbered)
+    × (tokens_in ((programs functions).pieces numbered) ≡ tokens_in ((programs functions).pieces tree))

@@ -9,11 +9,11 @@ use source_parse::parse;
 use source_syntax::{SyntaxFault, read_syntax};
 use std::alloc::{AllocError, Global};
 
-/// The number of the text's first fault by the grammar and its limits, and its offset; none where it has a tree.
-fn first_fault(alloc: Global, text: &[u8]) -> Result<Option<(u8, u32)>, AllocError>
+/// The number of the text's first fault by the grammar and its limits, and its offset; none where it has a tree. Functions are allowed or aren't.
+fn first_fault(alloc: Global, text: &[u8], functions: bool) -> Result<Option<(u8, u32)>, AllocError>
     requires { length text.now ≤ 65536 }
 {
-    match read_syntax(alloc, text) {
+    match read_syntax(alloc, text, functions) {
         Ok(_) => Ok(None),
         Err(fault) => Ok(Some(numbered(fault)?)),
     }
@@ -40,10 +40,15 @@ fn number_of(rule: Rule) -> u8 {
 }
 
 /// Adds the tree of the text, or its first fault by the grammar and its limits.
-pub fn push_read(alloc: Global, text: &[u8], answer: &mut Answer) -> Result<(), AllocError>
+pub fn push_read(
+    alloc: Global,
+    text: &[u8],
+    functions: bool,
+    answer: &mut Answer,
+) -> Result<(), AllocError>
     requires { length text.now ≤ 65536 }
 {
-    match read_syntax(alloc, text) {
+    match read_syntax(alloc, text, functions) {
         Ok(syntax) => push_tree(&syntax.tree, answer),
         Err(fault) => push_numbered(Some(numbered(fault)?), "", answer),
     }
@@ -51,10 +56,15 @@ pub fn push_read(alloc: Global, text: &[u8], answer: &mut Answer) -> Result<(), 
 }
 
 /// Adds the first fault by the grammar and its limits, or that the text has a tree.
-pub fn push_syntax(alloc: Global, text: &[u8], answer: &mut Answer) -> Result<(), AllocError>
+pub fn push_syntax(
+    alloc: Global,
+    text: &[u8],
+    functions: bool,
+    answer: &mut Answer,
+) -> Result<(), AllocError>
     requires { length text.now ≤ 65536 }
 {
-    push_numbered(first_fault(alloc, text)?, "a tree", answer);
+    push_numbered(first_fault(alloc, text, functions)?, "a tree", answer);
     Ok(())
 }
 
@@ -76,7 +86,7 @@ pub fn push_beginnings(alloc: Global, text: &[u8], answer: &mut Answer) -> Resul
 {
     let mut seen = [false; 19];
     for length in 0..text.len() {
-        let number = match first_fault(alloc, &text[..length])? {
+        let number = match first_fault(alloc, &text[..length], false)? {
             Some((number, _)) => number,
             None => 0,
         };

@@ -2,6 +2,7 @@
 //! - `tokens` has its tokens, each with its offset and the offset behind it, or its fault, and `pieces` has their bytes, with `|` behind each, and `count` how many there are.
 //! - `syntax` says whether it has a tree or which fault is its first, as the number of the fault and its offset.
 //! - `tree` has its concrete tree, with the number of a token before what begins with it, and braces around each part of a statement.
+//! - `functions` and `function_tree` say the same where functions are allowed beside `main`; the number of the token behind a function stands behind it.
 //! - `beginnings` has what `syntax` says of the texts that begin it and are shorter, without the offsets and each once.
 //! - `fault` says whether it is a program or which fault is its first.
 //! - `program` has the program whose `main` has these items: operators have parentheses, the parts of a statement braces, and a missing end of a range is `*`.
@@ -43,8 +44,10 @@ pub fn answers(
         "tokens" => tokens::push_tokens(alloc, text, answer)?,
         "pieces" => tokens::push_pieces(alloc, text, answer)?,
         "count" => tokens::push_count(alloc, text, answer)?,
-        "syntax" => faults::push_syntax(alloc, text, answer)?,
-        "tree" => faults::push_read(alloc, text, answer)?,
+        "syntax" => faults::push_syntax(alloc, text, false, answer)?,
+        "tree" => faults::push_read(alloc, text, false, answer)?,
+        "functions" => faults::push_syntax(alloc, text, true, answer)?,
+        "function_tree" => faults::push_read(alloc, text, true, answer)?,
         "beginnings" => faults::push_beginnings(alloc, text, answer)?,
         "fault" => faults::push_fault(alloc, text, answer)?,
         "program" => programs::push_program(alloc, text, words, answer)?,

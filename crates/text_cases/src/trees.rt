@@ -1,9 +1,9 @@
 //! The concrete trees of texts. The number of a token stands before what begins with it, and a part of a statement has braces.
 use case_text::Answer;
 use concrete_syntax::{
-    Action, Assignment, Declaration, Division, Divisor, End, Expression, ForLoop, Items, Link,
-    Name, Operand, OperandKind, Operator, Otherwise, Part, Prefix, Prelude, Program, Simple, Start,
-    Statement, StatementKind, Step, Tail,
+    Action, Assignment, Call, Declaration, Division, Divisor, End, Expression, ForLoop, Function,
+    Items, Link, Name, Operand, OperandKind, Operator, Otherwise, Parameters, Part, Prefix,
+    Prelude, Program, Simple, Start, Statement, StatementKind, Step, Tail,
 };
 
 /// Adds the tree.
@@ -15,6 +15,9 @@ pub fn push_tree(tree: &Program, answer: &mut Answer) {
             Prelude::ExternCall { void: true } => "call(void); ",
         });
     }
+    for function in &tree.functions {
+        push_function(function, answer);
+    }
     answer.push(if tree.void {
         "main(void) {"
     } else {
@@ -22,6 +25,27 @@ pub fn push_tree(tree: &Program, answer: &mut Answer) {
     });
     push_items(&tree.items, answer);
     answer.push("}");
+}
+
+/// Adds a function, and the number of the token behind it.
+fn push_function(function: &Function, answer: &mut Answer) {
+    answer.push(if function.valued { "int " } else { "void " });
+    push_name(&function.name, answer);
+    answer.push("(");
+    match &function.parameters {
+        Parameters::Nothing { void } => answer.push(if *void { "void" } else { "" }),
+        Parameters::Named { first, more } => {
+            push_name(first, answer);
+            for name in more {
+                answer.push(", ");
+                push_name(name, answer);
+            }
+        }
+    }
+    answer.push(") {");
+    push_items(&function.items, answer);
+    answer.push("} ");
+    push_at(function.behind, answer);
 }
 
 /// Adds the number of a token.
@@ -56,6 +80,16 @@ fn push_statement(statement: &Statement, answer: &mut Answer) {
     match &statement.kind {
         StatementKind::Simple(simple) => {
             push_simple(simple, answer);
+            answer.push(";");
+        }
+        StatementKind::Calls(call) => {
+            push_call(call, answer);
+            answer.push(";");
+        }
+        StatementKind::Gives { target, call } => {
+            push_name(target, answer);
+            answer.push(" = ");
+            push_call(call, answer);
             answer.push(";");
         }
         StatementKind::Skip => answer.push(";"),
@@ -125,6 +159,16 @@ fn push_for(parts: &ForLoop, answer: &mut Answer) {
     }
     answer.push(")");
     push_part(&parts.body, answer);
+}
+
+fn push_call(call: &Call, answer: &mut Answer) {
+    push_name(&call.function, answer);
+    answer.push("(");
+    for (place, argument) in call.arguments.iter().enumerate() {
+        answer.push(if place > 0 { ", " } else { "" });
+        push_expression(argument, answer);
+    }
+    answer.push(")");
 }
 
 fn push_declaration(declaration: &Declaration, answer: &mut Answer) {

@@ -22,3 +22,9 @@ returns-in-Outside c = grind (arith, common_steps)
 
 pub returns-in-ZeroDivisor : goal.returns-in-ZeroDivisor
 returns-in-ZeroDivisor c = grind (arith, common_steps)
+
+pub returns-in-Placed : goal.returns-in-Placed
+returns-in-Placed c = grind (arith, common_steps)
+
+pub returns-in-Arguments : goal.returns-in-Arguments
+returns-in-Arguments c = grind (arith, common_steps)

@@ -1,9 +1,10 @@
+use Rattle.std.proofs.Common.{false}
 use Rattle.concrete_syntax.specs.Mirror.{program as program_tree}
 use Rattle.step_meaning.specs.Syntax.{statements}
 use Rattle.source_parse.proofs.front.parse.Goals as goal
 
 pub returns-in-Err-clause-fault : goal.returns-in-Err-clause-fault
-returns-in-Err-clause-fault c = c.of_syntax.ensures c.args.text.now c.in-Err.ensures.fault
+returns-in-Err-clause-fault c = c.of_syntax.ensures false c.args.text.now c.in-Err.ensures.fault
 
 pub returns-clause-size : goal.returns-clause-size
 returns-clause-size c =

@@ -18,45 +18,55 @@ use Rattle.source_syntax.proofs.Answering.{sign_reads, opening_reads, bytes_read
 use Rattle.source_syntax.proofs.Reading.{operand_number, operand_truth, operand_unknown, operation_reads, operation_refused, division_reads, division_refused, tail_from, tail_over, tail_done, one_link_more, told}
 use Rattle.source_syntax.proofs.expression.+expressions.Goals as goal
 
-pub expression-returns-in_err-first-clause-refused : goal.expression-returns-in_err-first-clause-refused
-expression-returns-in_err-first-clause-refused t c =
-    passed_on _ _ _ _ c.from_residual.ensures c.in_err-first.ensures.refused
+pub expression-returns-in_err-operand-clause-refused : goal.expression-returns-in_err-operand-clause-refused
+expression-returns-in_err-operand-clause-refused t c =
+    passed_on _ _ _ _ c.from_residual.ensures c.in_err-operand.ensures.refused
     (λ fault refused behind. fails (expression_goes _ _ behind _) (refused _))
 
-pub expression-operators-init : goal.expression-operators-init
-expression-operators-init t c = record {
-  forward = omega (arith, c.in_ok-first.ensures.forward.forward);
-  inside = c.in_ok-first.ensures.forward.inside;
-  few = c.in_ok-first.ensures.counted;
-  comes = tail_from _ _ _ _ _ _ _ (let none : c.new-links.result.items ≡ [] = search rules in ap links none) c.in_ok-first.ensures.read;
+pub expression-returns-in_err-tail-clause-refused : goal.expression-returns-in_err-tail-clause-refused
+expression-returns-in_err-tail-clause-refused t c =
+    passed_on _ _ _ _ c.from_residual-in_err-tail.ensures c.in_err-tail.ensures.refused
+    (λ fault refused behind. fails (expression_goes _ _ behind _) (fails (c.in_ok-operand.ensures.read.comes _) (refused _)))
+
+pub expression-returns-clause-read : goal.expression-returns-clause-read
+expression-returns-clause-read t c = record {
+  comes = λ behind. over (expression_goes _ _ behind _) (over (c.in_ok-operand.ensures.read.comes _) (c.in_ok-tail.ensures.read.comes _));
 }
 
-pub expression-returns-then-count-gt-MOST_OPERATORS-clause-refused : goal.expression-returns-then-count-gt-MOST_OPERATORS-clause-refused
-expression-returns-then-count-gt-MOST_OPERATORS-clause-refused t c = λ behind.
+pub tail-operators-init : goal.tail-operators-init
+tail-operators-init t c = record {
+  forward = omega arith;
+  inside = c.requires.within;
+  few = c.requires.few;
+  comes = tail_from _ _ _ _ (let none : c.new-links.result.items ≡ [] = search rules in ap links none);
+}
+
+pub tail-returns-then-count-gt-MOST_OPERATORS-clause-refused : goal.tail-returns-then-count-gt-MOST_OPERATORS-clause-refused
+tail-returns-then-count-gt-MOST_OPERATORS-clause-refused t c = λ behind.
     fails (c.operators.invariant.comes.comes behind)
     (exceeds (link_signs _ behind c.in-Some.link) lawful
     (next_word c.args.words.now c.operators.here (link_word _ c.in-Some.link (sym c.in-Some.is ∙ c.link_opening.ensures))) Operators (λ e. cc) (omega arith, c.if-count-gt-MOST_OPERATORS.true))
 
-pub expression-returns-in_err-further-in-Some-clause-refused : goal.expression-returns-in_err-further-in-Some-clause-refused
-expression-returns-in_err-further-in-Some-clause-refused t c =
+pub tail-returns-in_err-further-in-Some-clause-refused : goal.tail-returns-in_err-further-in-Some-clause-refused
+tail-returns-in_err-further-in-Some-clause-refused t c =
     let next = next_word c.args.words.now c.operators.here (link_word _ c.in-Some.link (sym c.in-Some.is ∙ c.link_opening.ensures)) in
-    passed_on _ _ _ _ c.from_residual-in_err-further-in-Some.ensures c.in_err-further-in-Some.ensures.refused
+    passed_on _ _ _ _ c.from_residual.ensures c.in_err-further-in-Some.ensures.refused
     (λ fault refused behind. fails (c.operators.invariant.comes.comes behind) (fails (read (link_signs _ behind c.in-Some.link) next (omega arith, c.if-count-gt-MOST_OPERATORS.false)) (refused _)))
 
-pub expression-operators-preserved : goal.expression-operators-preserved
-expression-operators-preserved t c =
+pub tail-operators-preserved : goal.tail-operators-preserved
+tail-operators-preserved t c =
     let next = next_word c.args.words.now c.operators.here (link_word _ c.in-Some.link (sym c.in-Some.is ∙ c.link_opening.ensures)) in
     record {
       forward = omega (arith, c.operators.invariant.forward, c.in_ok-further-in-Some.ensures.forward.forward);
       inside = c.in_ok-further-in-Some.ensures.forward.inside;
       few = c.in_ok-further-in-Some.ensures.counted;
-      comes = tail_over _ _ _ _ _ _ _ _ c.in-Some.link _ _ _ _ (one_link_more _ _ c.in_ok-further-in-Some.further (search rules)) c.operators.invariant.comes
+      comes = tail_over _ _ _ _ _ _ _ _ c.in-Some.link _ _ _ (one_link_more _ _ c.in_ok-further-in-Some.further (search rules)) c.operators.invariant.comes
           (λ behind. read (link_signs _ behind c.in-Some.link) next (omega arith, c.if-count-gt-MOST_OPERATORS.false)) c.in_ok-further-in-Some.ensures.read;
     }
 
-pub expression-returns-in-None-clause-read : goal.expression-returns-in-None-clause-read
-expression-returns-in-None-clause-read t c =
-    tail_done _ _ _ _ _ _ _ _ c.operators.invariant.comes (sym c.in-None.is ∙ c.link_opening.ensures) c.in_ok-tail-in-None.ensures
+pub tail-returns-in-None-clause-read : goal.tail-returns-in-None-clause-read
+tail-returns-in-None-clause-read t c =
+    tail_done _ _ _ _ _ _ _ c.operators.invariant.comes (sym c.in-None.is ∙ c.link_opening.ensures) c.in_ok-made-in-None.ensures
 
 pub right-returns-in_err-operand-in-Operation-clause-refused : goal.right-returns-in_err-operand-in-Operation-clause-refused
 right-returns-in_err-operand-in-Operation-clause-refused t c =

@@ -1,11 +1,14 @@
 use Rattle.std.proofs.Common.{◌+◌, ◌-◌, ◌*◌, ◌≤◌, length}
 use Rattle.source_syntax.specs.Language.{rest_from}
-use Rattle.concrete_syntax.specs.Mirror.{operand, links}
+use Rattle.concrete_syntax.specs.Mirror.{links}
 use Rattle.source_syntax.specs.Reads.{ComesToTail}
 use Rattle.source_syntax.proofs.expression.+expressions.Given as goal
 
 abbrev pub decreases-expression : goal.decreases-expression
 decreases-expression l = 4 * (length l.words.now - l.at) + 3
+
+abbrev pub decreases-tail : goal.decreases-tail
+decreases-tail l = 4 * (length l.words.now - l.at)
 
 abbrev pub decreases-right : goal.decreases-right
 decreases-right l = 4 * (length l.words.now - l.at) + 3
@@ -22,14 +25,14 @@ decreases-signed l = 4 * (length l.words.now - l.at)
 abbrev pub decreases-parentheses : goal.decreases-parentheses
 decreases-parentheses l = 4 * (length l.words.now - l.at)
 
--- reading an expression has read its first operand and these links, and has come to reading the tail that is left
-abbrev pub invariant-expression-operators : goal.invariant-expression-operators
-invariant-expression-operators l = record {
-  forward : l.at + 1 ≤ l.here;
+-- reading a tail has read these links, and has come to reading what is left of it
+abbrev pub invariant-tail-operators : goal.invariant-tail-operators
+invariant-tail-operators l = record {
+  forward : l.at ≤ l.here;
   inside : l.here ≤ length l.words;
   few : l.count ≤ 256;
-  comes : ComesToTail l.operators l.levels (operand l.first) (links l.links.items) (rest_from l.words l.at) l.count (rest_from l.words l.here);
+  comes : ComesToTail l.operators l.levels (links l.links.items) (rest_from l.words l.at) l.count (rest_from l.words l.here);
 }
 
-abbrev pub decreases-expression-operators : goal.decreases-expression-operators
-decreases-expression-operators l = length l.words - l.here
+abbrev pub decreases-tail-operators : goal.decreases-tail-operators
+decreases-tail-operators l = length l.words - l.here

@@ -4,4 +4,4 @@ use Rattle.source_syntax.specs.Texts.{programs}
 use Rattle.source_syntax.proofs.laws.first_faults_agree.Goals as goal
 
 pub returns : goal.returns
-returns c = one_fault word programs
+returns c = λ functions. one_fault word (programs functions)

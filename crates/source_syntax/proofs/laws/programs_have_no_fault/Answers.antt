@@ -4,4 +4,4 @@ use Rattle.source_syntax.specs.Texts.{programs}
 use Rattle.source_syntax.proofs.laws.programs_have_no_fault.Goals as goal
 
 pub returns : goal.returns
-returns c = no_fault word programs
+returns c = λ functions. no_fault word (programs functions)

@@ -5,4 +5,4 @@ use Rattle.source_syntax.proofs.OneTree.{one_program}
 use Rattle.source_syntax.proofs.laws.trees_are_unique.Goals as goal
 
 pub returns : goal.returns
-returns c = one_tree word programs one_program
+returns c = λ functions. one_tree word (programs functions) (one_program functions)

@@ -17,97 +17,97 @@ use Rattle.source_syntax.proofs.statement.+statements.Goals as goal
 pub braces-returns-in_err-inner-clause-refused : goal.braces-returns-in_err-inner-clause-refused
 braces-returns-in_err-inner-clause-refused t c =
     failed_on _ _ _ c.from_residual.ensures
-    (λ count behind. fails (goes (statements _ behind) count _ StatementOpening.Braces c.requires.opens) (opening_refused _ _ c.in_err-inner.field-0.0 Sym.OpenBrace _ (refl, refl) c.in_err-inner.ensures.missed))
+    (λ count behind. fails (goes (statements _ _ behind) count _ StatementOpening.Braces c.requires.opens) (opening_refused _ _ c.in_err-inner.field-0.0 Sym.OpenBrace _ (refl, refl) c.in_err-inner.ensures.missed))
 
 pub braces-returns-in_err-all-clause-refused : goal.braces-returns-in_err-all-clause-refused
 braces-returns-in_err-all-clause-refused t c =
     passed_on _ _ _ _ c.from_residual-in_err-all.ensures c.in_err-all.ensures.refused
-    (λ fault refused count behind. fails (goes (statements _ behind) count _ StatementOpening.Braces c.requires.opens) (fails (opening_reads Sym.OpenBrace _ (refl, refl) c.in_ok-inner.ensures.read c.in_ok-inner.ensures.shallow) (refused _ _)))
+    (λ fault refused count behind. fails (goes (statements _ _ behind) count _ StatementOpening.Braces c.requires.opens) (fails (opening_reads Sym.OpenBrace _ (refl, refl) c.in_ok-inner.ensures.read c.in_ok-inner.ensures.shallow) (refused _ _)))
 
 pub braces-returns-clause-read : goal.braces-returns-clause-read
 braces-returns-clause-read t c = record {
-  comes = λ count behind. (_, over (goes (statements _ behind) count _ StatementOpening.Braces c.requires.opens) (over (opening_reads Sym.OpenBrace _ (refl, refl) c.in_ok-inner.ensures.read c.in_ok-inner.ensures.shallow) (c.in_ok-all.ensures.read.comes _ _).1));
+  comes = λ count behind. (_, over (goes (statements _ _ behind) count _ StatementOpening.Braces c.requires.opens) (over (opening_reads Sym.OpenBrace _ (refl, refl) c.in_ok-inner.ensures.read c.in_ok-inner.ensures.shallow) (c.in_ok-all.ensures.read.comes _ _).1));
 }
 
 pub conditional-returns-in_err-open-clause-refused : goal.conditional-returns-in_err-open-clause-refused
 conditional-returns-in_err-open-clause-refused t c =
     failed_on _ _ _ c.from_residual.ensures
-    (λ count behind. fails (goes (statements _ behind) count _ StatementOpening.If c.requires.opens) (opening_refused _ _ c.in_err-open.field-0.0 Sym.If _ (refl, refl) c.in_err-open.ensures.missed))
+    (λ count behind. fails (goes (statements _ _ behind) count _ StatementOpening.If c.requires.opens) (opening_refused _ _ c.in_err-open.field-0.0 Sym.If _ (refl, refl) c.in_err-open.ensures.missed))
 
 pub conditional-returns-in_err-tested-clause-refused : goal.conditional-returns-in_err-tested-clause-refused
 conditional-returns-in_err-tested-clause-refused t c =
     passed_on _ _ _ _ c.from_residual-in_err-tested.ensures c.in_err-tested.ensures.refused
-    (λ fault refused count behind. fails (goes (statements _ behind) count _ StatementOpening.If c.requires.opens) (fails (opening_reads Sym.If _ (refl, refl) c.in_ok-open.ensures.read c.in_ok-open.ensures.shallow) (refused _ _)))
+    (λ fault refused count behind. fails (goes (statements _ _ behind) count _ StatementOpening.If c.requires.opens) (fails (opening_reads Sym.If _ (refl, refl) c.in_ok-open.ensures.read c.in_ok-open.ensures.shallow) (refused _ _)))
 
 pub conditional-returns-in_err-part-clause-refused : goal.conditional-returns-in_err-part-clause-refused
 conditional-returns-in_err-part-clause-refused t c =
     passed_on _ _ _ _ c.from_residual-in_err-part.ensures c.in_err-part.ensures.refused
-    (λ fault refused count behind. fails (goes (statements _ behind) count _ StatementOpening.If c.requires.opens) (fails (opening_reads Sym.If _ (refl, refl) c.in_ok-open.ensures.read c.in_ok-open.ensures.shallow) (fails (c.in_ok-tested.ensures.read.comes _ _).1 (refused _ _))))
+    (λ fault refused count behind. fails (goes (statements _ _ behind) count _ StatementOpening.If c.requires.opens) (fails (opening_reads Sym.If _ (refl, refl) c.in_ok-open.ensures.read c.in_ok-open.ensures.shallow) (fails (c.in_ok-tested.ensures.read.comes _ _).1 (refused _ _))))
 
 pub conditional-returns-in_err-other-clause-refused : goal.conditional-returns-in_err-other-clause-refused
 conditional-returns-in_err-other-clause-refused t c =
     passed_on _ _ _ _ c.from_residual-in_err-other.ensures c.in_err-other.ensures.refused
-    (λ fault refused count behind. fails (goes (statements _ behind) count _ StatementOpening.If c.requires.opens) (fails (opening_reads Sym.If _ (refl, refl) c.in_ok-open.ensures.read c.in_ok-open.ensures.shallow) (fails (c.in_ok-tested.ensures.read.comes _ _).1 (fails (c.in_ok-part.ensures.read.comes _ _).1 (refused _ _)))))
+    (λ fault refused count behind. fails (goes (statements _ _ behind) count _ StatementOpening.If c.requires.opens) (fails (opening_reads Sym.If _ (refl, refl) c.in_ok-open.ensures.read c.in_ok-open.ensures.shallow) (fails (c.in_ok-tested.ensures.read.comes _ _).1 (fails (c.in_ok-part.ensures.read.comes _ _).1 (refused _ _)))))
 
 pub conditional-returns-clause-read : goal.conditional-returns-clause-read
 conditional-returns-clause-read t c = record {
-  comes = λ count behind. (_, over (goes (statements _ behind) count _ StatementOpening.If c.requires.opens) (over (opening_reads Sym.If _ (refl, refl) c.in_ok-open.ensures.read c.in_ok-open.ensures.shallow) (over (c.in_ok-tested.ensures.read.comes _ _).1 (over (c.in_ok-part.ensures.read.comes _ _).1 (c.in_ok-other.ensures.read.comes _ _).1))));
+  comes = λ count behind. (_, over (goes (statements _ _ behind) count _ StatementOpening.If c.requires.opens) (over (opening_reads Sym.If _ (refl, refl) c.in_ok-open.ensures.read c.in_ok-open.ensures.shallow) (over (c.in_ok-tested.ensures.read.comes _ _).1 (over (c.in_ok-part.ensures.read.comes _ _).1 (c.in_ok-other.ensures.read.comes _ _).1))));
 }
 
 pub while_loop-returns-in_err-open-clause-refused : goal.while_loop-returns-in_err-open-clause-refused
 while_loop-returns-in_err-open-clause-refused t c =
     failed_on _ _ _ c.from_residual.ensures
-    (λ count behind. fails (goes (statements _ behind) count _ StatementOpening.While c.requires.opens) (opening_refused _ _ c.in_err-open.field-0.0 Sym.While _ (refl, refl) c.in_err-open.ensures.missed))
+    (λ count behind. fails (goes (statements _ _ behind) count _ StatementOpening.While c.requires.opens) (opening_refused _ _ c.in_err-open.field-0.0 Sym.While _ (refl, refl) c.in_err-open.ensures.missed))
 
 pub while_loop-returns-in_err-tested-clause-refused : goal.while_loop-returns-in_err-tested-clause-refused
 while_loop-returns-in_err-tested-clause-refused t c =
     passed_on _ _ _ _ c.from_residual-in_err-tested.ensures c.in_err-tested.ensures.refused
-    (λ fault refused count behind. fails (goes (statements _ behind) count _ StatementOpening.While c.requires.opens) (fails (opening_reads Sym.While _ (refl, refl) c.in_ok-open.ensures.read c.in_ok-open.ensures.shallow) (refused _ _)))
+    (λ fault refused count behind. fails (goes (statements _ _ behind) count _ StatementOpening.While c.requires.opens) (fails (opening_reads Sym.While _ (refl, refl) c.in_ok-open.ensures.read c.in_ok-open.ensures.shallow) (refused _ _)))
 
 pub while_loop-returns-in_err-body-clause-refused : goal.while_loop-returns-in_err-body-clause-refused
 while_loop-returns-in_err-body-clause-refused t c =
     passed_on _ _ _ _ c.from_residual-in_err-body.ensures c.in_err-body.ensures.refused
-    (λ fault refused count behind. fails (goes (statements _ behind) count _ StatementOpening.While c.requires.opens) (fails (opening_reads Sym.While _ (refl, refl) c.in_ok-open.ensures.read c.in_ok-open.ensures.shallow) (fails (c.in_ok-tested.ensures.read.comes _ _).1 (refused _ _))))
+    (λ fault refused count behind. fails (goes (statements _ _ behind) count _ StatementOpening.While c.requires.opens) (fails (opening_reads Sym.While _ (refl, refl) c.in_ok-open.ensures.read c.in_ok-open.ensures.shallow) (fails (c.in_ok-tested.ensures.read.comes _ _).1 (refused _ _))))
 
 pub while_loop-returns-clause-read : goal.while_loop-returns-clause-read
 while_loop-returns-clause-read t c = record {
-  comes = λ count behind. (_, over (goes (statements _ behind) count _ StatementOpening.While c.requires.opens) (over (opening_reads Sym.While _ (refl, refl) c.in_ok-open.ensures.read c.in_ok-open.ensures.shallow) (over (c.in_ok-tested.ensures.read.comes _ _).1 (c.in_ok-body.ensures.read.comes _ _).1)));
+  comes = λ count behind. (_, over (goes (statements _ _ behind) count _ StatementOpening.While c.requires.opens) (over (opening_reads Sym.While _ (refl, refl) c.in_ok-open.ensures.read c.in_ok-open.ensures.shallow) (over (c.in_ok-tested.ensures.read.comes _ _).1 (c.in_ok-body.ensures.read.comes _ _).1)));
 }
 
 pub do_loop-returns-in_err-inner-clause-refused : goal.do_loop-returns-in_err-inner-clause-refused
 do_loop-returns-in_err-inner-clause-refused t c =
     failed_on _ _ _ c.from_residual.ensures
-    (λ count behind. fails (goes (statements _ behind) count _ StatementOpening.Do c.requires.opens) (opening_refused _ _ c.in_err-inner.field-0.0 Sym.Do _ (refl, refl) c.in_err-inner.ensures.missed))
+    (λ count behind. fails (goes (statements _ _ behind) count _ StatementOpening.Do c.requires.opens) (opening_refused _ _ c.in_err-inner.field-0.0 Sym.Do _ (refl, refl) c.in_err-inner.ensures.missed))
 
 pub do_loop-returns-in_err-body-clause-refused : goal.do_loop-returns-in_err-body-clause-refused
 do_loop-returns-in_err-body-clause-refused t c =
     passed_on _ _ _ _ c.from_residual-in_err-body.ensures c.in_err-body.ensures.refused
-    (λ fault refused count behind. fails (goes (statements _ behind) count _ StatementOpening.Do c.requires.opens) (fails (opening_reads Sym.Do _ (refl, refl) c.in_ok-inner.ensures.read c.in_ok-inner.ensures.shallow) (refused _ _)))
+    (λ fault refused count behind. fails (goes (statements _ _ behind) count _ StatementOpening.Do c.requires.opens) (fails (opening_reads Sym.Do _ (refl, refl) c.in_ok-inner.ensures.read c.in_ok-inner.ensures.shallow) (refused _ _)))
 
 pub do_loop-returns-in_err-test-clause-refused : goal.do_loop-returns-in_err-test-clause-refused
 do_loop-returns-in_err-test-clause-refused t c =
     passed_on _ _ _ _ c.from_residual-in_err-test.ensures c.in_err-test.ensures.refused
-    (λ fault refused count behind. fails (goes (statements _ behind) count _ StatementOpening.Do c.requires.opens) (fails (opening_reads Sym.Do _ (refl, refl) c.in_ok-inner.ensures.read c.in_ok-inner.ensures.shallow) (fails (c.in_ok-body.ensures.read.comes _ _).1 (refused _ _))))
+    (λ fault refused count behind. fails (goes (statements _ _ behind) count _ StatementOpening.Do c.requires.opens) (fails (opening_reads Sym.Do _ (refl, refl) c.in_ok-inner.ensures.read c.in_ok-inner.ensures.shallow) (fails (c.in_ok-body.ensures.read.comes _ _).1 (refused _ _))))
 
 pub do_loop-returns-clause-read : goal.do_loop-returns-clause-read
 do_loop-returns-clause-read t c = record {
-  comes = λ count behind. (_, over (goes (statements _ behind) count _ StatementOpening.Do c.requires.opens) (over (opening_reads Sym.Do _ (refl, refl) c.in_ok-inner.ensures.read c.in_ok-inner.ensures.shallow) (over (c.in_ok-body.ensures.read.comes _ _).1 (c.in_ok-test.ensures.read.comes _ _).1)));
+  comes = λ count behind. (_, over (goes (statements _ _ behind) count _ StatementOpening.Do c.requires.opens) (over (opening_reads Sym.Do _ (refl, refl) c.in_ok-inner.ensures.read c.in_ok-inner.ensures.shallow) (over (c.in_ok-body.ensures.read.comes _ _).1 (c.in_ok-test.ensures.read.comes _ _).1)));
 }
 
 pub for_loop-returns-in_err-open-clause-refused : goal.for_loop-returns-in_err-open-clause-refused
 for_loop-returns-in_err-open-clause-refused t c =
     failed_on _ _ _ c.from_residual.ensures
-    (λ count behind. fails (goes (statements _ behind) count _ StatementOpening.For c.requires.opens) (opening_refused _ _ c.in_err-open.field-0.0 Sym.For _ (refl, refl) c.in_err-open.ensures.missed))
+    (λ count behind. fails (goes (statements _ _ behind) count _ StatementOpening.For c.requires.opens) (opening_refused _ _ c.in_err-open.field-0.0 Sym.For _ (refl, refl) c.in_err-open.ensures.missed))
 
 pub for_loop-returns-in_err-head-clause-refused : goal.for_loop-returns-in_err-head-clause-refused
 for_loop-returns-in_err-head-clause-refused t c =
     passed_on _ _ _ _ c.from_residual-in_err-head.ensures c.in_err-head.ensures.refused
-    (λ fault refused count behind. fails (goes (statements _ behind) count _ StatementOpening.For c.requires.opens) (fails (opening_reads Sym.For _ (refl, refl) c.in_ok-open.ensures.read c.in_ok-open.ensures.shallow) (refused _ _)))
+    (λ fault refused count behind. fails (goes (statements _ _ behind) count _ StatementOpening.For c.requires.opens) (fails (opening_reads Sym.For _ (refl, refl) c.in_ok-open.ensures.read c.in_ok-open.ensures.shallow) (refused _ _)))
 
 pub for_loop-returns-in_err-body-clause-refused : goal.for_loop-returns-in_err-body-clause-refused
 for_loop-returns-in_err-body-clause-refused t c =
     passed_on _ _ _ _ c.from_residual-in_err-body.ensures c.in_err-body.ensures.refused
-    (λ fault refused count behind. fails (goes (statements _ behind) count _ StatementOpening.For c.requires.opens) (fails (opening_reads Sym.For _ (refl, refl) c.in_ok-open.ensures.read c.in_ok-open.ensures.shallow) (fails (c.in_ok-head.ensures.read.comes _ _).1 (refused _ _))))
+    (λ fault refused count behind. fails (goes (statements _ _ behind) count _ StatementOpening.For c.requires.opens) (fails (opening_reads Sym.For _ (refl, refl) c.in_ok-open.ensures.read c.in_ok-open.ensures.shallow) (fails (c.in_ok-head.ensures.read.comes _ _).1 (refused _ _))))
 
 pub for_loop-returns-clause-read : goal.for_loop-returns-clause-read
 for_loop-returns-clause-read t c =
@@ -116,25 +116,25 @@ for_loop-returns-clause-read t c =
     search rules
     in
     told_reads (ap for_kind kept) (record {
-      comes = λ count behind. (_, over (goes (statements _ behind) count _ StatementOpening.For c.requires.opens) (over (opening_reads Sym.For _ (refl, refl) c.in_ok-open.ensures.read c.in_ok-open.ensures.shallow) (over (c.in_ok-head.ensures.read.comes _ _).1 (c.in_ok-body.ensures.read.comes _ _).1)));
+      comes = λ count behind. (_, over (goes (statements _ _ behind) count _ StatementOpening.For c.requires.opens) (over (opening_reads Sym.For _ (refl, refl) c.in_ok-open.ensures.read c.in_ok-open.ensures.shallow) (over (c.in_ok-head.ensures.read.comes _ _).1 (c.in_ok-body.ensures.read.comes _ _).1)));
     })
 
 pub otherwise-returns-in_err-part-clause-refused : goal.otherwise-returns-in_err-part-clause-refused
 otherwise-returns-in_err-part-clause-refused t c =
     passed_on _ _ _ _ c.from_residual.ensures c.in_err-part.ensures.refused
-    (λ fault refused count behind. fails (read (elses _ behind) c.in-Some.ensures.read (c.if-inner_levels-gt-MOST_LEVELS.false, tt)) (refused count behind))
+    (λ fault refused count behind. fails (read (elses _ _ behind) c.in-Some.ensures.read (c.if-inner_levels-gt-MOST_LEVELS.false, tt)) (refused count behind))
 
 pub items-further-init : goal.items-further-init
-items-further-init t c = record { forward = omega arith; comes = items_from _ _ _ (let none : c.new-list.result.items ≡ [] = search rules in ap (map item) none) }
+items-further-init t c = record { forward = omega arith; comes = items_from _ _ _ _ (let none : c.new-list.result.items ≡ [] = search rules in ap (map item) none) }
 
 pub statement-returns-in_err-kind-clause-refused : goal.statement-returns-in_err-kind-clause-refused
 statement-returns-in_err-kind-clause-refused t c =
     passed_on _ _ _ _ c.from_residual.ensures c.in_err-kind.ensures.refused
-    (λ fault refused count behind. fails (held (located_statements _ behind) count _) (refused count behind))
+    (λ fault refused count behind. fails (held (located_statements _ _ behind) count _) (refused count behind))
 
 pub statement-returns-clause-read : goal.statement-returns-clause-read
 statement-returns-clause-read t c = record {
-  comes = λ count behind. (_, over (held (located_statements _ behind) count _) (c.in_ok-kind.ensures.read.comes count behind).1);
+  comes = λ count behind. (_, over (held (located_statements _ _ behind) count _) (c.in_ok-kind.ensures.read.comes count behind).1);
 }
 
 pub boxed_statement-returns-clause-read : goal.boxed_statement-returns-clause-read
@@ -143,47 +143,47 @@ boxed_statement-returns-clause-read t c =
     told_reads (ap statement kept) c.in_ok-inner.ensures.read
 
 pub statement_kind-returns-in-Nothing-clause-refused : goal.statement_kind-returns-in-Nothing-clause-refused
-statement_kind-returns-in-Nothing-clause-refused t c = λ count behind. stuck (statements _ behind) lawful count _ _ (λ shut. shut) (sym c.in-Nothing.is ∙ c.opening_of_statement.ensures)
+statement_kind-returns-in-Nothing-clause-refused t c = λ count behind. stuck (statements _ _ behind) lawful count _ _ (λ shut. shut) (sym c.in-Nothing.is ∙ c.opening_of_statement.ensures)
 
 pub items-further-preserved-in-Declaration : goal.items-further-preserved-in-Declaration
 items-further-preserved-in-Declaration t c =
     let pushed : c.push.new.self.items ≡ c.further.list.items ++ Item.Declaration c.in_ok-further-in-Declaration.further ∷ [] = search rules in record {
       forward = omega (arith, c.further.invariant.forward, c.in_ok-further-in-Declaration.ensures.forward.forward);
-      comes = items_declaration _ _ _ _ _ _ _ (one_item_more _ _ _ pushed) c.further.invariant.comes (sym c.in-Declaration.is ∙ c.opening_of_item.ensures) c.in_ok-further-in-Declaration.ensures.read;
+      comes = items_declaration _ _ _ _ _ _ _ _ (one_item_more _ _ _ pushed) c.further.invariant.comes (sym c.in-Declaration.is ∙ c.opening_of_item.ensures) c.in_ok-further-in-Declaration.ensures.read;
     }
 
 pub items-further-preserved : goal.items-further-preserved
 items-further-preserved t c =
     let pushed : c.push-in-Statement.new.self.items ≡ c.further.list.items ++ Item.Statement c.in_ok-further-in-Statement.further ∷ [] = search rules in record {
       forward = omega (arith, c.further.invariant.forward, c.in_ok-further-in-Statement.ensures.forward.forward);
-      comes = items_statement _ _ _ _ _ _ _ (one_item_more _ _ _ pushed) c.further.invariant.comes (sym c.in-Statement.is ∙ c.opening_of_item.ensures) c.in_ok-further-in-Statement.ensures.read;
+      comes = items_statement _ _ _ _ _ _ _ _ (one_item_more _ _ _ pushed) c.further.invariant.comes (sym c.in-Statement.is ∙ c.opening_of_item.ensures) c.in_ok-further-in-Statement.ensures.read;
     }
 
 pub items-returns-in-Close-clause-read : goal.items-returns-in-Close-clause-read
-items-returns-in-Close-clause-read t c = items_close _ _ _ _ _ _ c.further.invariant.comes (sym c.in-Close.is ∙ c.opening_of_item.ensures) c.in_ok-next-in-Close.ensures.read c.in_ok-all-in-Close.ensures
+items-returns-in-Close-clause-read t c = items_close _ _ _ _ _ _ _ c.further.invariant.comes (sym c.in-Close.is ∙ c.opening_of_item.ensures) c.in_ok-next-in-Close.ensures.read c.in_ok-all-in-Close.ensures
 
 pub items-returns-in_err-further-in-Declaration-clause-refused : goal.items-returns-in_err-further-in-Declaration-clause-refused
 items-returns-in_err-further-in-Declaration-clause-refused t c =
     passed_on _ _ _ _ c.from_residual-in_err-further-in-Declaration.ensures c.in_err-further-in-Declaration.ensures.refused
     (λ fault refused count behind. fails (c.further.invariant.comes.comes count behind).1
-    (fails (goes (all_items _ behind) _ _ ItemOpening.Declaration (sym c.in-Declaration.is ∙ c.opening_of_item.ensures)) (refused _ _)))
+    (fails (goes (all_items _ _ behind) _ _ ItemOpening.Declaration (sym c.in-Declaration.is ∙ c.opening_of_item.ensures)) (refused _ _)))
 
 pub items-returns-in_err-further-in-Statement-clause-refused : goal.items-returns-in_err-further-in-Statement-clause-refused
 items-returns-in_err-further-in-Statement-clause-refused t c =
     passed_on _ _ _ _ c.from_residual-in_err-further-in-Statement.ensures c.in_err-further-in-Statement.ensures.refused
     (λ fault refused count behind. fails (c.further.invariant.comes.comes count behind).1
-    (fails (goes (all_items _ behind) _ _ ItemOpening.Statement (sym c.in-Statement.is ∙ c.opening_of_item.ensures)) (refused _ _)))
+    (fails (goes (all_items _ _ behind) _ _ ItemOpening.Statement (sym c.in-Statement.is ∙ c.opening_of_item.ensures)) (refused _ _)))
 
 pub otherwise-returns-clause-read : goal.otherwise-returns-clause-read
 otherwise-returns-clause-read t c = record {
-  comes = λ count behind. (_, over (read (elses _ behind) c.in-Some.ensures.read (c.if-inner_levels-gt-MOST_LEVELS.false, tt)) (c.in_ok-part.ensures.read.comes count behind).1);
+  comes = λ count behind. (_, over (read (elses _ _ behind) c.in-Some.ensures.read (c.if-inner_levels-gt-MOST_LEVELS.false, tt)) (c.in_ok-part.ensures.read.comes count behind).1);
 }
 
 pub otherwise-returns-then-inner_levels-gt-MOST_LEVELS-clause-refused : goal.otherwise-returns-then-inner_levels-gt-MOST_LEVELS-clause-refused
 otherwise-returns-then-inner_levels-gt-MOST_LEVELS-clause-refused t c =
-    λ count behind. exceeds (elses _ behind) lawful c.in-Some.ensures.read Nesting (λ e. cc) c.if-inner_levels-gt-MOST_LEVELS.true
+    λ count behind. exceeds (elses _ _ behind) lawful c.in-Some.ensures.read Nesting (λ e. cc) c.if-inner_levels-gt-MOST_LEVELS.true
 
 pub otherwise-returns-in_default-clause-read : goal.otherwise-returns-in_default-clause-read
 otherwise-returns-in_default-clause-read t c = record {
-  comes = λ count behind. (_, otherwise_ends _ count behind _ (not_else _ c.in_default.ensures.read));
+  comes = λ count behind. (_, otherwise_ends _ _ count behind _ (not_else _ c.in_default.ensures.read));
 }

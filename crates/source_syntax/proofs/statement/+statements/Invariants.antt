@@ -40,7 +40,7 @@ decreases-for_loop l = 4 * (length l.words.now - l.at)
 abbrev pub invariant-items-further : goal.invariant-items-further
 invariant-items-further l = record {
   forward : l.at ≤ l.here;
-  comes : Continues (pending_items l.levels) (items_of (map item l.list.items)) (rest_from l.words l.at) (rest_from l.words l.here);
+  comes : Continues (pending_items l.functions l.levels) (items_of (map item l.list.items)) (rest_from l.words l.at) (rest_from l.words l.here);
 }
 
 abbrev pub decreases-items-further : goal.decreases-items-further

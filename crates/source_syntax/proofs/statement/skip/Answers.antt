@@ -11,9 +11,9 @@ use Rattle.source_syntax.proofs.statement.skip.Goals as goal
 pub returns-in_err-next-clause-refused : goal.returns-in_err-next-clause-refused
 returns-in_err-next-clause-refused c =
     handed_on _ _ _ c.from_residual.ensures
-    (λ count behind. fails (goes (statements _ behind) count _ StatementOpening.Skip c.requires.opens) (sign_refused _ _ c.in_err-next.field-0.0 Sym.Semicolon (refl, refl) c.in_err-next.ensures.missed))
+    (λ count behind. fails (goes (statements _ _ behind) count _ StatementOpening.Skip c.requires.opens) (sign_refused _ _ c.in_err-next.field-0.0 Sym.Semicolon (refl, refl) c.in_err-next.ensures.missed))
 
 pub returns-clause-read : goal.returns-clause-read
 returns-clause-read c = record {
-  comes = λ count behind. (_, over (goes (statements _ behind) count _ StatementOpening.Skip c.requires.opens) (sign_reads Sym.Semicolon (refl, refl) c.in_ok-next.ensures.read));
+  comes = λ count behind. (_, over (goes (statements _ _ behind) count _ StatementOpening.Skip c.requires.opens) (sign_reads Sym.Semicolon (refl, refl) c.in_ok-next.ensures.read));
 }

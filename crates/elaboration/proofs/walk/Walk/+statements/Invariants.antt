@@ -1,6 +1,7 @@
 use Rattle.std.proofs.Common.{◌≤◌, ◌+◌, ◌*◌}
 use Rattle.concrete_syntax.specs.Mirror.{statement as statement_of, otherwise as otherwise_of, items as items_of}
 use Rattle.elaboration.specs.Statements.{items_walked}
+use Rattle.elaboration.specs.Walking.{context_of}
 use Rattle.elaboration.proofs.Walks.{IsLeft}
 use Rattle.elaboration.proofs.Weights.{statement_weight, otherwise_weight, items_weight}
 use Rattle.elaboration.proofs.walk.Walk.+statements.Given as goal
@@ -35,6 +36,6 @@ decreases-items l = 4 * items_weight (items_of l.tree.now)
 -- the items that are left find, behind what was found, what the whole finds
 abbrev pub invariant-items-loop-left : goal.invariant-items-loop-left
 invariant-items-loop-left l =
-    IsLeft l.self l.out.items (items_walked l.in_loop l.self.scope (items_of l.left))
-    l.fn.self l.fn.out.items (items_walked l.fn.in_loop l.fn.self.scope (items_of l.tree))
+    IsLeft l.self l.out.items (items_walked (context_of l.context) l.self.scope (items_of l.left))
+    l.fn.self l.fn.out.items (items_walked (context_of l.fn.context) l.fn.self.scope (items_of l.tree))
     × (items_weight (items_of l.left) ≤ items_weight (items_of l.tree))

@@ -14,7 +14,7 @@ loop-more-init c =
     (step_on first c.part.new.self first c.args.out.now.items c.part.new.out.items c.args.out.now.items
     (part_walked first.scope item) (λ s. parts_walked s rest) (parts_walked first.scope (item ∷ rest)) (parts_walked first.scope (item ∷ rest))
     c.in_ok-part.ensures.gone c.in_ok-part.ensures.added refl
-    record { reads = refl; goes = refl; finds = refl; makes = refl; stands = refl })
+    record { reads = refl; goes = refl; finds = refl; makes = refl; stands = refl; levels = refl })
 
 pub loop-more-preserved : goal.loop-more-preserved
 loop-more-preserved c =

@@ -1,0 +1,38 @@
+-- The greatest level of a list is none below that around it.
+use Rattle.std.proofs.Common.{◌≡◌, ℕ, ◌≤◌, max, List, [], ◌∷◌, Option, None, Some, arith}
+use Rattle.concrete_syntax.specs.Trees.{Expression, Tail, ended, further, Part, Items, none, declaration, statement}
+use Rattle.elaboration.specs.Levels.{tail_levels, all_levels, optional_levels, parts_levels, items_levels}
+
+pub tail_above : (level : ℕ) (more : Tail) → level ≤ tail_levels level more
+tail_above level ended = omega arith
+tail_above level (further link more) = let rest = tail_above level more in omega (arith, rest)
+
+pub all_above : (level : ℕ) (arguments : List Expression) → level ≤ all_levels level arguments
+all_above level [] = omega arith
+all_above level (e ∷ more) = let rest = all_above level more in omega (arith, rest)
+
+pub optional_above : (level : ℕ) (e : Option Expression) → level ≤ optional_levels level e
+optional_above level (Some e) = let rest = tail_above level e.tail in omega (arith, rest)
+optional_above level None = omega arith
+
+pub parts_above : (level : ℕ) (parts : List Part) → level ≤ parts_levels level parts
+parts_above level [] = omega arith
+parts_above level (part ∷ more) = let rest = parts_above level more in omega (arith, rest)
+
+pub items_above : (level : ℕ) (all : Items) → level ≤ items_levels level all
+items_above level none = omega arith
+items_above level (declaration d more) = let rest = items_above level more in omega (arith, rest)
+items_above level (statement s more) = let rest = items_above level more in omega (arith, rest)
+
+-- the greatest so far and of what is left is that of all
+pub from_first : (level all : ℕ) → level ≤ all → max level all ≡ all
+from_first level all above = omega (arith, above)
+
+pub one_on : (most one rest left all : ℕ) → left ≡ max one rest → max most left ≡ all → max (max most one) rest ≡ all
+one_on most one rest left all is so_far = omega (arith, is, so_far)
+
+pub none_on : (level most rest left all : ℕ) → left ≡ max level rest → level ≤ rest → max most left ≡ all → max most rest ≡ all
+none_on level most rest left all is above so_far = omega (arith, is, above, so_far)
+
+pub at_last : (level most left all : ℕ) → left ≡ level → level ≤ most → max most left ≡ all → most ≡ all
+at_last level most left all is above so_far = omega (arith, is, above, so_far)

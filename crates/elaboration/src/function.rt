@@ -1,0 +1,183 @@
+//! Functions.
+
+ghost use Rattle.std.specs.Prelude.{◌≡◌, ◌≤◌, ◌++◌, ◌∷◌, [], None, OnOk, IfOk, map};
+ghost use Rattle.concrete_syntax.specs.Mirror.{name as name_of, parameters as parameters_tree, function as function_tree};
+ghost use Rattle.call_meaning.specs.Tables.{parts};
+ghost use Rattle.elaboration.specs.declared.fault.Rule.TheVariants.{Placed};
+ghost use Rattle.elaboration.specs.Faults.{earliest, fault};
+ghost use Rattle.elaboration.specs.Functions.{no_functions};
+ghost use Rattle.elaboration.specs.Elaborates.{ends_with_return, function_faults, function_made, functions_behind, made_of, others_behind, parameters_of, returns_faults, twice_faults};
+ghost use Rattle.elaboration.specs.Walking.{HasDeclared, HasFound, HaveBeenDeclared};
+
+use crate::context::{Body, Context};
+use crate::fault::{Fault, Rule, earlier};
+use crate::functions::{Functions, Signature};
+use crate::levels::items_levels;
+use crate::scope::Variables;
+use crate::walk::Walk;
+use call_meaning::{Func, UnitBlock, UnitKind, UnitStmt};
+use concrete_syntax::{Function, Name, Parameters};
+use source_lex::Token;
+use std::alloc::{AllocError, Global};
+
+/// The functions of a program so far: what calls have to know of them, what they are, how many variables they have together, and the first fault so far.
+#[derive(Drop)]
+pub struct Whole<'a> {
+    alloc: Global,
+    tokens: &'a [Token],
+    pub functions: Functions,
+    pub funcs: Vec<Func>,
+    pub others: usize,
+    pub least: Option<Fault>,
+}
+
+impl<'a> Whole<'a> {
+    ghost use Rattle.std.specs.Prelude.{◌≡◌, ◌≤◌, ◌++◌, ◌∷◌, [], None, OnOk, map};
+
+    /// Before the first function.
+    pub fn new(alloc: Global, tokens: &'a [Token]) -> Whole<'a>
+        ensures tokens { result.tokens.now ≡ tokens.now }
+        ensures functions { result.functions ≡ no_functions }
+        ensures funcs { result.funcs.items ≡ [] }
+        ensures others { result.others ≡ 0 }
+        ensures least { result.least ≡ None }
+    {
+        Whole {
+            alloc,
+            tokens,
+            functions: Functions::new(alloc),
+            funcs: Vec::new(alloc),
+            others: 0,
+            least: None,
+        }
+    }
+
+    /// One more function.
+    pub fn function(&mut self, tree: &Function) -> Result<(), AllocError>
+        requires { self.old.others ≤ 15 }
+        ensures tokens { OnOk result (self.new.tokens.now ≡ self.old.tokens.now) }
+        ensures functions { OnOk result (self.new.functions ≡ functions_behind self.old.functions self.old.others (function_tree tree.now)) }
+        ensures funcs { OnOk result (map made_of self.new.funcs.items ≡ map made_of self.old.funcs.items ++ function_made self.old.tokens.now self.old.functions self.old.others (function_tree tree.now) ∷ []) }
+        ensures others { OnOk result (self.new.others ≡ others_behind self.old.functions self.old.others (function_tree tree.now)) }
+        ensures few { OnOk result (self.new.others ≤ 15) }
+        ensures least { OnOk result (self.new.least ≡ earliest self.old.least (function_faults self.old.functions self.old.others (function_tree tree.now))) }
+    {
+        let mut walk = Walk::new(self.alloc, self.tokens, self.others, self.least);
+        walk.need_new_function(&tree.name, &self.functions);
+        walk.parameters(&tree.parameters)?;
+        let params = walk.scope.count();
+        let mut list = Vec::new(self.alloc);
+        let context = Context::top(&self.functions, Body::of(tree.valued));
+        walk.items(&tree.items, context, &mut list)?;
+        let ends = ends_with_return(&list);
+        let Walk { scope, least, .. } = walk;
+        let Variables {
+            names,
+            free,
+            returns,
+        } = scope.into_variables(self.alloc)?;
+        self.least = with_returns(least, returns, ends, tree.valued, tree.behind)?;
+        self.others += names.items().len();
+        let valued = tree.valued;
+        self.functions
+            .add(self.alloc, &tree.name.bytes, Signature { params, valued })?;
+        self.funcs.push(Func {
+            params,
+            levels: items_levels(&tree.items, 1)?,
+            names,
+            free,
+            body: UnitBlock::of(self.alloc, list)?,
+        })?;
+        Ok(())
+    }
+}
+
+impl<'a> Walk<'a> {
+    ghost use Rattle.std.specs.Prelude.{◌≡◌, OnOk};
+
+    /// Reports the name of a function that there is already.
+    fn need_new_function(&mut self, name: &Name, functions: &Functions)
+        ensures { HasFound self.old self.new (twice_faults functions.now (name_of name.now)) }
+    {
+        if functions.is_known(&name.bytes) {
+            self.report(Rule::Twice, name.at);
+        }
+    }
+
+    /// Declares the parameters of a function. Faults are reported.
+    fn parameters(&mut self, tree: &Parameters) -> Result<(), AllocError>
+        ensures { OnOk result (HaveBeenDeclared self.old self.new (parameters_of (parameters_tree tree.now))) }
+    {
+        if let Parameters::Named { first, more } = tree {
+            self.parameter(first)?;
+            for name in more.iter() {
+                self.parameter(name)?;
+            }
+        }
+        Ok(())
+    }
+
+    // Declares a parameter.
+    fn parameter(&mut self, name: &Name) -> Result<(), AllocError>
+        ensures { OnOk result (HasDeclared self.old self.new (name_of name.now)) }
+    {
+        self.need_new(name, &None);
+        self.scope.declare(self.alloc, &name.bytes)
+    }
+}
+
+// Whether the last statement is a `return`.
+fn ends_with_return(list: &[UnitStmt]) -> bool
+    ensures { result ≡ ends_with_return (parts list.now) }
+{
+    match list.last() {
+        Some(last) => match &last.kind {
+            UnitKind::Return { value: _ } => true,
+            _ => false,
+        },
+        None => false,
+    }
+}
+
+// With the faults of the returns of a function at these tokens: each but the last one, where that `ends` the body, and the `}` before the token `behind`
+// where one is missing.
+#[tactic(auto, using(crate::proofs::Ending::none_but_last))]
+fn with_returns(
+    least: Option<Fault>,
+    mut returns: Vec<usize>,
+    ends: bool,
+    valued: bool,
+    behind: usize,
+) -> Result<Option<Fault>, AllocError>
+    ensures { IfOk result (λ first. first ≡ earliest least (returns_faults ends valued returns.items behind)) }
+{
+    if ends {
+        match returns.pop() {
+            Some(_) => Ok(with_misplaced(least, &returns)),
+            None => Ok(least),
+        }
+    } else if valued {
+        returns.push(behind.saturating_sub(1))?;
+        Ok(with_misplaced(least, &returns))
+    } else {
+        Ok(with_misplaced(least, &returns))
+    }
+}
+
+// With the fault of a return at each of these tokens.
+fn with_misplaced(least: Option<Fault>, tokens: &[usize]) -> Option<Fault>
+    ensures { result ≡ earliest least (map (fault Placed) tokens.now) }
+{
+    let mut least = least;
+    for token in tokens.iter() {
+        let rule = Rule::Placed;
+        least = earlier(
+            least,
+            Fault {
+                rule,
+                token: *token,
+            },
+        );
+    }
+    least
+}

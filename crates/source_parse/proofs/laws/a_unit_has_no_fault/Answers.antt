@@ -1,0 +1,5 @@
+use Rattle.source_parse.proofs.Parsed.{units_clean}
+use Rattle.source_parse.proofs.laws.a_unit_has_no_fault.Goals as goal
+
+pub returns : goal.returns
+returns c = units_clean c.trees_are_unique.ensures c.programs_have_no_fault.ensures
