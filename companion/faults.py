@@ -24,6 +24,8 @@ OF_PROGRAMS = {
     14: "the text goes on past 65,536 bytes",
     17: "this stands in no body of a loop",
     18: "this divisor is 0",
+    19: "a function returns at its end alone, and with a value exactly where it gives one",
+    20: "this function has another number of parameters",
 }
 OF_FORMULAS = {
     1: "no token of formulas begins here",
@@ -102,7 +104,7 @@ def tell(fault, text, names=()):
 
 def hint_for(fault, place):
     """What to write instead in a program, for the usual causes, or None."""
-    hints = {1: byte_hint, 4: token_hint, 5: name_hint, 6: again_hint, 7: truth_hint, 8: range_hint, 17: jump_hint}
+    hints = {1: byte_hint, 4: token_hint, 5: name_hint, 6: again_hint, 7: truth_hint, 8: range_hint, 17: jump_hint, 19: return_hint, 20: arguments_hint}
     return hints[fault.number](place) if fault.number in hints else None
 
 
@@ -131,8 +133,6 @@ def byte_hint(place):
 def token_hint(place):
     """Of a token that no program goes on with."""
     word, last = place.word(), place.last()
-    if not place.before and re.match(r"\w+\s+(?!main\b)\w+\s*\(", place.rest()):
-        return "there are no functions but main: write what it does in the place of each call"
     if not place.before:
         return "a program is int main() { .. }" if not word else "a program begins with int main() {, and variables are declared inside it"
     if last in TYPES or word in TYPES:
@@ -157,13 +157,18 @@ def bracket_hint(place):
         return "there are no arrays: write a variable for each element that matters"
     if word != "(" or not is_name:
         return None
-    if last in ASSUMPTIONS:
+    return library_hint(last) or f"a call is a statement of its own, {last}(..); or y = {last}(..);: keep its value in a variable"
+
+
+def library_hint(name):
+    """Of a function that some file of competitions or of the library has, and no text here."""
+    if name in ASSUMPTIONS:
         return "there is no assume: write if (c) { .. } around what follows it"
-    if last in ("assert", "__VERIFIER_assert"):
+    if name in ("assert", "__VERIFIER_assert"):
         return "there is no assert: take it out, or ask by --ctl whether it holds"
-    if last.startswith("__VERIFIER_nondet_"):
+    if name.startswith("__VERIFIER_nondet_"):
         return "the only choice of a number is __VERIFIER_nondet_int(), without bounds, or ?; a range is written [0, 255]"
-    return f"there are no calls: write what {last} does in its place, or take it out"
+    return None
 
 
 def declaration_hint(place):
@@ -172,8 +177,10 @@ def declaration_hint(place):
     inside = any(token.text == "main" for token in place.before)
     if last == "(" and place.last(2) == "main":
         return "main has no parameters: write int main(), and declare argc inside it"
-    if not inside and last == "int":
-        return "there are no functions but main, and variables are declared inside it"
+    if not inside and word == ";" and last == ")":
+        return "there are no prototypes: a function stands above those that call it, and none calls itself"
+    if not inside and place.last(2) == "int" and word in (";", "=", ",", "["):
+        return "variables are declared inside a function"
     if not inside and last == "extern":
         return "of functions elsewhere only extern int __VERIFIER_nondet_int(void); is read: take the declaration out"
     if not inside:
@@ -223,6 +230,8 @@ def missing_hint(place):
         return "is a ) missing in front of this?"
     if not word:
         return f"{opened} {'{ is' if opened == 1 else '{ are'} open: is a }} missing?" if opened > 0 else None
+    if previous.text == "}" and opened == 0 and word in ("int", "void"):
+        return "main is the last function: the others stand above it"
     if previous.text == "}" and opened == 0:
         return "main ends here: is there a } too much?"
     return None
@@ -245,6 +254,8 @@ def name_hint(place):
         return "numbers have no bounds here: write the number that is meant"
     if re.search(rf"(?m)^\s*#\s*define\s+{word}\b", place.text):
         return "definitions of the preprocessor aren't read: write what the name stands for"
+    if place.behind and place.behind[0].text == "(":
+        return library_hint(word) or f"no function {word} ends above: write it there, or take the call out"
     if any(token.text == word for token in place.before):
         return "its declaration stands in a block that has ended, or behind this place: declare it at the start of main"
     return f"write int {word}; at the start of main"
@@ -267,6 +278,17 @@ def truth_hint(place):
 
 def range_hint(_):
     return "a range is [least, greatest], as [0, 10] or [-inf, 5]"
+
+
+def return_hint(place):
+    """Of a `return` of a function, or of its `}` where one is missing."""
+    if place.word() == "}":
+        return "write return e; in front of this, or void in front of the function"
+    return "keep the value in a variable, and return it at the end; a function void f(..) returns none"
+
+
+def arguments_hint(place):
+    return f"give {place.word()} as many arguments as it has parameters"
 
 
 def jump_hint(place):

@@ -16,11 +16,13 @@ class OfPrograms(InFolder):
         ("unsigned int x;", 10, "no program goes on like this", "int", "write int for unsigned"),
         ("  bool c;", 3, "no program goes on like this", "bool", "write int, with 1 for true"),
         ("int a[10];", 6, "no program goes on like this", "[", "there are no arrays"),
-        ("int x; x = f(3);", 13, "no program goes on like this", "(", "there are no calls: write what f does"),
+        ("int x; x = f(3);", 12, "this name isn't declared here", "f", "no function f ends above"),
+        ("int x; x = 1 + f(3);", 17, "no program goes on like this", "(", "a call is a statement of its own"),
+        ("int x = f(3);", 10, "no program goes on like this", "(", "a call is a statement of its own"),
         ("int x; x = 0x10;", 13, "no token of the language begins here", "x10", "in decimal: 16"),
         ("int x; int x;", 12, "this name is declared already", "x", "its first declaration is in line 2"),
-        ("int x; assume(x > 0);", 14, "no program goes on like this", "(", "write if (c) { .. } around"),
-        ("int x; __VERIFIER_assume(x > 0);", 25, "no program goes on like this", "(", "write if (c) { .. } around"),
+        ("int x; assume(x > 0);", 8, "this name isn't declared here", "assume", "write if (c) { .. } around"),
+        ("int x; __VERIFIER_assume(x > 0);", 8, "this name isn't declared here", "__VERIFIER_assume", "write if (c) { .. } around"),
         ("long x;", 6, "no program goes on like this", "x", "write int for long"),
         ("int x; x = 010;", 13, "no token of the language begins here", "010", "begins with no 0"),
         ("int x; x = 10u;", 14, "no token of the language begins here", "u", "no suffix"),
@@ -67,8 +69,10 @@ class OfPrograms(InFolder):
                          (3, "f.c:4:3: no program goes on like this: x\n    x = 2;\n    ^\n  is a ; missing at the end of line 3?\n"))
 
     def test_what_stands_outside_main(self):
-        for text, place, hint in [("int main(int argc, char **argv) { }", "f.c:1:10", "main has no parameters"), ("int x;\nint main() { }", "f.c:1:5", "variables are declared inside"),
-                                  ("int f(int x) { }", "f.c:1:5", "there are no functions but main"), ("void f() { }\nint main() { }", "f.c:1:1", "there are no functions but main"), ("void main() { }", "f.c:1:1", "begins with int main()"),
+        for text, place, hint in [("int main(int argc, char **argv) { }", "f.c:1:10", "main has no parameters"), ("int x;\nint main() { }", "f.c:1:6", "variables are declared inside"),
+                                  ("int f(int x);\nint main() { }", "f.c:1:13", "there are no prototypes"), ("int main() { }\nvoid f() { }", "f.c:2:1", "the others stand above it"), ("void main() { }", "f.c:1:6", "int main() { .. }"),
+                                  ("int f() { }\nint main() { }", "f.c:1:11", "return e; in front of this"), ("int f(int a) { if (a) return 1; return a; }\nint main() { }", "f.c:1:23", "return it at the end"),
+                                  ("int f(int a) { return a; }\nint main() { f(); }", "f.c:2:14", "as many arguments"),
                                   ("#include <stdio.h>\nint main() { }", "f.c:1:1", "take this line out"), ("#define N 3\nint main() { }", "f.c:1:1", "write what the name stands for"),
                                   ("\xef\xbb\xbfint main() { }".encode("latin-1"), "f.c:1:1", "byte order mark"), ("int main() { } }", "f.c:1:16", "a } too much")]:
             with self.subTest(text):
@@ -85,8 +89,9 @@ class OfPrograms(InFolder):
         many = "".join(f"int v{number}; " for number in range(16))
         texts = {2: "int main() { int x; x = 9223372036854775808; }", 3: "int main() { } /*", 9: "int main() { " + many + "}",
                  10: "int main() { int x; x = " + "(" * 64 + "1" + ")" * 64 + "; }", 11: "int main() { int x; x = 1" + " + 1" * 257 + "; }", 12: "int main() { " + ";" * 1024 + " }",
-                 13: "int main() { int x; while (" + " && ".join(["x != 1"] * 7) + ") ; }", 14: " " * 65537, 18: "int main() { int x; x = x / 0; }"}
-        columns = {2: 25, 3: 16, 9: 14 + len(many) - 5, 10: 25 + 63, 11: 25 + 1 + 4 * 256 + 1, 12: 14 + 1023, 13: 21, 14: 65537, 18: 29}
+                 13: "int main() { int x; while (" + " && ".join(["x != 1"] * 7) + ") ; }", 14: " " * 65537, 18: "int main() { int x; x = x / 0; }", 19: "void f() { return 1; } int main() { }",
+                 20: "void f() { } int main() { f(1); }"}
+        columns = {2: 25, 3: 16, 9: 14 + len(many) - 5, 10: 25 + 63, 11: 25 + 1 + 4 * 256 + 1, 12: 14 + 1023, 13: 21, 14: 65537, 18: 29, 19: 12, 20: 27}
         for number, text in texts.items():
             with self.subTest(number):
                 status, err = self.refused(text)

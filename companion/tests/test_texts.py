@@ -142,7 +142,7 @@ class Shown(InFolder):
 
     def test_a_place_behind_a_change_stays(self):
         self.write("f.c", "#include <a.h>\nextern void abort(void);\nint main() { abort(); }\n")
-        self.assertEqual(self.run_here("f.c")[2].splitlines()[1], "f.c:3:19: no program goes on like this: (")
+        self.assertEqual(self.run_here("f.c")[2].splitlines()[1], "f.c:3:14: this name isn't declared here: abort")
 
 
 def never(*_):
@@ -167,7 +167,7 @@ class Families(unittest.TestCase):
     }
     # From which inputs a run that never ends is told at least, where there is one.
     NEVER = {"never_stops": lambda x: x >= 1, "stays_at_ten": lambda x: x >= 11, "odd_jump": lambda x: x < 0 or x == 1}
-    REFUSED = {"array_use": (10, 10, "there are no arrays"), "assumes": (7, 22, "there is no assume"), "unsigned_one": (10, 14, "write int for unsigned")}
+    REFUSED = {"array_use": (10, 10, "there are no arrays"), "assumes": (7, 5, "there is no assume"), "unsigned_one": (10, 14, "write int for unsigned")}
 
     def told(self, name):
         return answer(path(), Question({}, inputs=True), name, (FAMILIES / f"{name}.c").read_text())

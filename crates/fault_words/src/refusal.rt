@@ -70,6 +70,8 @@ fn of_program(number: u64) -> &'static str {
         14 => "the text goes on past 65,536 bytes",
         17 => "this stands in no body of a loop",
         18 => "this divisor is 0",
+        19 => "a function returns at its end alone, and with a value exactly where it gives one",
+        20 => "this function has another number of parameters",
         _ => "this is refused",
     }
 }

@@ -91,7 +91,7 @@ module _ (known : KnownTexts) (task : Task) (text : Bytes) (subject : Subject) (
   leads {asked} {input} little on =
       let cover = plan_of on.found.cover in
       let there = which_leaf (eval cover input) (whole_defined input cover (on.analysed.finds.strength.countdown ends counts)) in
-      let fits = on.analysed.finds.strength.ways ends counts little input (numbers_small subject.names asked input on.input_is) in
+      let fits = on.analysed.finds.strength.ways ends counts little input (numbers_small subject.own asked input on.input_is) in
       (there.1, record { fits = fits; why = there.0; is = there.2 })
 
   told_claims : {asked : Bytes} {input : Store} {status : Status} {turns : ℕ} {bytes : Bytes} → HasSmallFactors subject.body

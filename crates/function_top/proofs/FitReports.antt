@@ -6,7 +6,7 @@ use Rattle.decision_tree.specs.declared.affine_rank.AffineRank.{AffineRank}
 use Rattle.decision_tree.specs.Plans.{Plan}
 use Rattle.int_fit.specs.Narrowing.{narrowed}
 use Rattle.fit_check.specs.Safety.{IsFitTree}
-use Rattle.source_parse.specs.Derives.{IsProgramText}
+use Rattle.function_top.specs.ProgramText.{IsProgramText}
 use Rattle.report_text.specs.declared.line.Line.{Line}
 use Rattle.function_top.specs.declared.status.Status.{Status}
 use Rattle.function_top.specs.Fitting.{AreMetByInts, IsFitDueOn, IsFitReportOn, refused, reported}
@@ -19,7 +19,6 @@ use Rattle.function_top.specs.Text.{IsRead}
 use Rattle.function_top.proofs.Formed.{fit_report_known, formula_known, program_known, usage_known}
 use Rattle.function_top.proofs.Headline.{IsRefusalText, of_formula, of_program, refusal_text, refused_otherwise, told_read, usage}
 use Rattle.function_top.proofs.MetOnce.{met_by_ints}
-use Rattle.function_top.proofs.Named.{program_names}
 use Rattle.function_top.proofs.Truth.{SaysTrue, fit_report_true, formula_silent, program_silent, silent_true, usage_silent}
 use Rattle.report_text.proofs.Frame.{Bytes}
 use Rattle.function_top.proofs.Written.{EachWhole}
@@ -38,7 +37,7 @@ fit_turns (refused refusal reason says unasked) = unasked
 
 module _ (known : KnownTexts) (text : Bytes) where
   own_lines : (names : List Bytes) (body : Statements) → IsProgramText text names body → KnownLines names
-  own_lines names body is = known.lines names (program_names known.spelled known.distinct text names body is)
+  own_lines names body is = known.lines names (known.named text names body is)
 
   -- a report is on the program that is given
   own_report : {own names : List Bytes} {its body : Statements} {fits unknown : List Line} {bytes : Bytes} → IsProgramText text names body

@@ -2,9 +2,10 @@
 use Rattle.std.proofs.Common.{◌≡◌, ◌≢◌, pos, ℕ, inl, inr, List, length, Option, None, Some, codes, refl, sym, ap, ◌∙◌, subst, arith}
 use Rattle.std.proofs.lemmas.Option.{same_Some}
 use Rattle.step_meaning.specs.Outcome.{Store}
+use Rattle.step_meaning.specs.Run.{IsInput}
 use Rattle.step_meaning.specs.Syntax.{Statements}
 use Rattle.ctl_formula.specs.Formulas.{Ctl, normal}
-use Rattle.source_parse.specs.Derives.{IsProgramText}
+use Rattle.function_top.specs.ProgramText.{IsProgramText}
 use Rattle.line_text.specs.declared.claim.Claim.{Claim}
 use Rattle.line_text.specs.declared.claim.Claim.TheVariants.{Exactly}
 use Rattle.line_text.specs.Names.{AreNames}
@@ -33,10 +34,10 @@ use Rattle.function_top.specs.TrueLine.{IsTrueOf}
 use Rattle.function_top.proofs.Formed.{claim_known, formula_known, program_known, report_known, usage_known}
 use Rattle.function_top.proofs.Claiming.{no_exact_number}
 use Rattle.function_top.proofs.ToldExactly.{made_whole, numbers_small, tells_alone, told_exactly}
-use Rattle.function_top.proofs.Named.{program_names}
 use Rattle.function_top.proofs.Truth.{SaysTrue, formula_silent, program_silent, report_true, silent_true, usage_silent}
 use Rattle.function_top.proofs.OneTold.{TellsTrue, colon_tells, fault_colon, told_is_true}
 use Rattle.report_text.proofs.Frame.{Bytes}
+use Rattle.function_top.proofs.Wider.{wider_input}
 use Rattle.function_top.proofs.Written.{EachWhole, one_good}
 
 -- ---- the subject of a text
@@ -52,16 +53,18 @@ module _ (known : KnownTexts) where
   pub same_subject : (task : Task) (text : Bytes) (one other : Subject) → IsSubject task text one → IsSubject task text other → one ≡ other
   same_subject task text one other here there =
       let same = known.unique text one.names other.names one.body other.body here.program there.program in
-      let formula = same_formula other.names task.formula one.formula other.formula
-      (subst (λ names. IsFormulaAsked names task.formula one.formula) same.0 here.formula) there.formula
+      let own = known.own_unique text one.own other.own here.own there.own in
+      let formula = same_formula other.own task.formula one.formula other.formula
+      (subst (λ names. IsFormulaAsked names task.formula one.formula) own here.formula) there.formula
       in
-      ap {B = Subject} (λ names. record { names = names; body = one.body; formula = one.formula }) same.0
-      ∙ ap {B = Subject} (λ body. record { names = other.names; body = body; formula = one.formula }) same.1
-      ∙ ap {B = Subject} (λ formula. record { names = other.names; body = other.body; formula = formula }) formula
+      ap {B = Subject} (λ names. record { names = names; own = one.own; body = one.body; formula = one.formula }) same.0
+      ∙ ap {B = Subject} (λ own. record { names = other.names; own = own; body = one.body; formula = one.formula }) own
+      ∙ ap {B = Subject} (λ body. record { names = other.names; own = other.own; body = body; formula = one.formula }) same.1
+      ∙ ap {B = Subject} (λ formula. record { names = other.names; own = other.own; body = other.body; formula = formula }) formula
 
   -- the names of a text that is a program
   pub own_names : {task : Task} {text : Bytes} {subject : Subject} → IsSubject task text subject → AreNames subject.names
-  own_names {task} {text} {subject} is = program_names known.spelled known.distinct text subject.names subject.body is.program
+  own_names {task} {text} {subject} is = known.named text subject.names subject.body is.program
 
 -- ---- the lines of what is refused
 
@@ -114,13 +117,17 @@ module _ (known : KnownTexts) (task : Task) (text : Bytes) (subject : Subject) (
       subst (λ s. IsAnswerOn task text asked s input status turns bytes) (same_subject known task text own subject on.analysed.is h) on
 
   own_input : {other asked : Bytes} {its input : Store} {status : Status} {turns : ℕ} {bytes : Bytes} → task.input ≡ Some other → task.input ≡ Some asked
-      → IsInputText subject.names asked input → IsAnswerOn task text other subject its status turns bytes
+      → IsInputText subject.own asked input → IsAnswerOn task text other subject its status turns bytes
       → IsAnswerOn task text asked subject input status turns bytes
   own_input {other} {asked} {its} {input} {status} {turns} {bytes} two one given on =
       let here : IsAnswerOn task text asked subject its status turns bytes =
       subst (λ a. IsAnswerOn task text a subject its status turns bytes) (same_Some other asked (sym two ∙ one)) on in
       subst (λ i. IsAnswerOn task text asked subject i status turns bytes)
-      (same_input subject.names (own_names known h) asked input its given here.input_is.input_is here.input_is.some) here
+      (same_input subject.own (known.own_named text subject.own h.own) asked input its given here.input_is.input_is here.input_is.some) here
+
+  -- an input of `main` is one of the whole program
+  whole_input : {input : Store} → IsInput (length subject.own) input → IsInput (length subject.names) input
+  whole_input is = wider_input (known.own_fewer text subject.names subject.own subject.body h.program h.own) is
 
   -- what is due with the status of a report is one on the subject, or what is told of the input that is asked for
   pub due_report : {status : Status} {advisers turns : ℕ} {bytes : Bytes} → IsReport status → IsDueOn task text status advisers turns bytes
@@ -131,7 +138,7 @@ module _ (known : KnownTexts) (task : Task) (text : Bytes) (subject : Subject) (
       absurd (refused_otherwise refusal status bytes says is)
 
   pub due_answer : {status : Status} {advisers turns : ℕ} {bytes : Bytes} → IsReport status → IsDueOn task text status advisers turns bytes
-      → {asked : Bytes} {input : Store} → task.input ≡ Some asked → IsInputText subject.names asked input
+      → {asked : Bytes} {input : Store} → task.input ≡ Some asked → IsInputText subject.own asked input
       → IsAnswerOn task text asked subject input status turns bytes
   due_answer is (reported own report whole on verdict) one given = absurd (none_some task one whole)
   due_answer is (answered other own its two on) one given = own_input two one given (own_answer on)
@@ -176,13 +183,13 @@ module _ (known : KnownTexts) (task : Task) (text : Bytes) (subject : Subject) (
       (fault_colon (codes "formula") number offset) refl
 
   pub due_told : {status : Status} {advisers turns : ℕ} {bytes : Bytes} → IsDueOn task text status advisers turns bytes → {asked : Bytes} {input : Store}
-      → task.input ≡ Some asked → IsInputText subject.names asked input → EachWhole (TellsTrue subject input) bytes
+      → task.input ≡ Some asked → IsInputText subject.own asked input → EachWhole (TellsTrue subject input) bytes
   due_told (reported own report whole on verdict) one given = absurd (none_some task one whole)
   due_told {status} {advisers} {turns} {bytes} (answered other own its two on) {asked} {input} one given =
       let here = own_input two one given (own_answer on) in
       one_good (TellsTrue subject input) here.line bytes (claims.newline here.line here.claim here.tells)
       (λ claim tells. subst (λ k. IsTrueOf subject k input) (claims.one here.line here.claim claim here.tells tells)
-      (told_is_true subject known.opening input here.input_is.input_is task here.found status here.claim here.analysed.finds here.told))
+      (told_is_true subject known.opening input (whole_input here.input_is.input_is) task here.found status here.claim here.analysed.finds here.told))
       here.is_line
   due_told {status} {advisers} {turns} {bytes} (refused refusal reason says unasked) {asked} {input} one given =
       told_refusal input (refusal_text refusal status bytes says)
@@ -194,8 +201,8 @@ module _ (known : KnownTexts) (task : Task) (text : Bytes) (subject : Subject) (
       let exact : IsExact (length subject.names) subject.body task.delay on.found.exact =
       subst (λ formula. IsExactPart formula subject task.delay on.found.exact) unasked on.analysed.finds.exactness.part in
       let made = made_whole subject.body task.delay small (length subject.names) on.found.exact exact in
-      let told = told_exactly (length subject.names) subject.body task.delay made.stop made.tree made.level small.growth input on.input_is.input_is
-      (numbers_small subject.names asked input on.input_is) n on.found made.is
+      let told = told_exactly (length subject.names) subject.body task.delay made.stop made.tree made.level small.growth input (whole_input on.input_is.input_is)
+      (numbers_small subject.own asked input on.input_is) n on.found made.is
       (subst (λ claims. claims ≢ Counted) (sym on.analysed.finds.truth.claims) (no_exact_number (normal subject.formula))) status on.claim on.told in
       let alone = tells_alone subject.names claims on.line bytes on.claim on.tells on.is_line (Exactly (pos n)) in
       ((λ says. told.0 (alone.0 says)), (λ ends. alone.1 (told.1 ends)))

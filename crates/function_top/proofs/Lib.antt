@@ -10,6 +10,8 @@ pub mod ToldExactly
 pub mod Claiming
 pub mod Formed
 pub mod Named
+pub mod Parsed
+pub mod Wider
 pub mod Over
 pub mod Headline
 pub mod FitReports

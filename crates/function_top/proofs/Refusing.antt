@@ -13,13 +13,12 @@ use Rattle.formula_parse.specs.FaultOf.{IsNormalFault}
 use Rattle.formula_parse.specs.Laws.{FormulasHaveNoFault}
 use Rattle.formula_parse.specs.Laws as formulas
 use Rattle.source_parse.specs.declared.fault.ParseFault.{ParseFault}
-use Rattle.source_parse.specs.declared.fault.ParseFault.TheVariants.{Lex, Expected, Unknown, Twice, Mixed, BadRange, Outside, ZeroDivisor, Limit, Memory}
-use Rattle.source_parse.specs.Derives.{DerivesNone}
-use Rattle.source_parse.specs.Faults.{IsFaultOf, IsMemory, numbered}
-use Rattle.source_parse.specs.Laws.{ProgramsHaveNoFault}
+use Rattle.source_parse.specs.declared.fault.ParseFault.TheVariants.{Lex, Expected, Unknown, Twice, Mixed, BadRange, Outside, ZeroDivisor, Placed, Arguments, Limit, Memory}
+use Rattle.source_parse.specs.Faults.{IsMemory, IsUnitFaultOf, numbered}
 use Rattle.command_words.specs.Order.{Task}
 use Rattle.function_top.specs.Asking.{IsFaultAsked, IsInputGiven}
 use Rattle.function_top.specs.Output.{IsFormulaRefused, IsLongFormula}
+use Rattle.function_top.specs.ProgramText.{DerivesNone, ProgramsHaveNoFault}
 use Rattle.function_top.specs.Text.{HasGraph, IsRead}
 
 -- an error that is passed on holds what it held
@@ -38,9 +37,11 @@ is_no_memory (Mixed at) found told memory = memory
 is_no_memory (BadRange at) found told memory = memory
 is_no_memory (Outside at) found told memory = memory
 is_no_memory (ZeroDivisor at) found told memory = memory
+is_no_memory (Placed at) found told memory = memory
+is_no_memory (Arguments at) found told memory = memory
 is_no_memory (Limit which at count) found told memory = memory
 
-pub refused : (text : List ℕ) (fault : ParseFault) (found : ℕ × ℕ) → ProgramsHaveNoFault → IsFaultOf text fault → numbered fault ≡ Some found
+pub refused : (text : List ℕ) (fault : ParseFault) (found : ℕ × ℕ) → ProgramsHaveNoFault → IsUnitFaultOf text fault → numbered fault ≡ Some found
     → DerivesNone text
 refused text fault found law is told names body h = is_no_memory fault found told (law text names body fault h is)
 

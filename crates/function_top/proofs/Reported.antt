@@ -46,14 +46,14 @@ read_given names (Some text) None read = absurd read
 -- ---- what was found
 
 module _ (task : Task) (text : List ℕ) (question : Question) (is : IsQuestion task text question) (found : Found) (turns : ℕ) (bytes : List ℕ)
-    (finds : IsFound (task_of question.query) (subject_of question.graph is.formula.meant) found) (times : turns ≡ found.turns) where
+    (finds : IsFound (task_of question.query) (subject_of question.graph question.own is.formula.meant) found) (times : turns ≡ found.turns) where
   abbrev subject : Subject
-  subject = subject_of question.graph is.formula.meant
+  subject = subject_of question.graph question.own is.formula.meant
 
   analysed : IsFoundOn task text subject found turns
   analysed = record {
-    is = record { program = is.graph.parsed.derived; formula = is.formula.is };
-    within = record { program = question.graph; graph = is.graph; names_are = refl };
+    is = record { program = is.graph.parsed.derived; own = is.own; formula = is.formula.is };
+    within = record { program = question.graph; graph = is.graph; own_is = is.own };
     limited = is.formula.limited;
     finds = subst (λ t. IsFound t subject found) is.task_is finds;
     asked = times;
@@ -71,7 +71,7 @@ module _ (task : Task) (text : List ℕ) (question : Question) (is : IsQuestion 
       → IsReportText question.graph.names report bytes → (status : Status) → IsVerdict status report.unknown
       → IsDueOn task text status advisers turns bytes
   report_due all report advisers shows explains printed status verdict =
-      reported subject report (read_none question.graph.names task.input (subst (IsReadAs question.graph.names task.input) all is.input)) record {
+      reported subject report (read_none question.own task.input (subst (IsReadAs question.own task.input) all is.input)) record {
         found = found;
         analysed = analysed;
         advised = λ some. (eight report shows some, λ unadvised. times ∙ finds.advice.spares unadvised);
@@ -84,7 +84,7 @@ module _ (task : Task) (text : List ℕ) (question : Question) (is : IsQuestion 
   pub answer_due : (input : Store) → question.input ≡ Some input → (claim : Claim) (line : List ℕ) → Tells question.graph.names line claim
       → bytes ≡ line ++ 10 ∷ [] → (status : Status) → IsToldOf found input status claim → (advisers : ℕ) → IsDueOn task text status advisers turns bytes
   answer_due input one claim line tells is_line status told advisers =
-      let read = read_some question.graph.names task.input input (subst (IsReadAs question.graph.names task.input) one is.input) in
+      let read = read_some question.own task.input input (subst (IsReadAs question.own task.input) one is.input) in
       answered read.text subject input read.is record {
         found = found;
         analysed = analysed;

@@ -5,12 +5,12 @@ use Rattle.std.proofs.lemmas.List.{append_cancel_left, take_all}
 use Rattle.std.proofs.lemmas.Option.{same_Some}
 use Rattle.outside.specs.Faults.{Rose}
 use Rattle.outside.specs.Sink.{AppendsFront}
-use Rattle.step_meaning.specs.Syntax.{Statements, statements}
+use Rattle.step_meaning.specs.Syntax.{Statements}
 use Rattle.ctl_formula.specs.Formulas.{normal}
 use Rattle.normal_form.specs.Operators.{operators}
 use Rattle.formula_parse.specs.Derives.{IsFormulaOf}
 use Rattle.ctl_rounds.specs.Asked.{RoseBy}
-use Rattle.source_parse.specs.Derives.{IsProgramText}
+use Rattle.function_top.specs.ProgramText.{IsProgramText}
 use Rattle.command_words.specs.declared.order.Domain.{Domain}
 use Rattle.command_words.specs.Order.{Accepted, Ask, Request, Task, analysis, demo, fit}
 use Rattle.function_top.specs.declared.question.Refusal.{Refusal}
@@ -94,11 +94,9 @@ module _ (call : Call) where
 -- ---- a text with a subject within the limits isn't refused
 
 module _ (known : KnownTexts) (task : Task) (text : Bytes) (subject : Subject) (h : IsSubject task text subject) (limits : IsWithinLimits text)
-    (given : IsInputGiven subject.names task.input) (limited : operators (normal subject.formula) ≤ 256) where
-  own_graph : (names : List Bytes) → HasGraph text names → subject.names ≡ names
-  own_graph names within =
-      let program = within.program in
-      (known.unique text subject.names program.names subject.body (statements program.body) h.program within.graph.parsed.derived).0 ∙ within.names_are
+    (given : IsInputGiven subject.own task.input) (limited : operators (normal subject.formula) ≤ 256) where
+  own_graph : (names : List Bytes) → HasGraph text names → subject.own ≡ names
+  own_graph names within = known.own_unique text subject.own names h.own within.own_is
 
   meant_not_refused : (names : List Bytes) (formula : Bytes) (number offset : ℕ) → IsFormulaOf formula names subject.formula
       → IsNoFormula names formula number offset ⊎ IsLongFormula names formula number offset → ⊥
@@ -115,8 +113,8 @@ module _ (known : KnownTexts) (task : Task) (text : Bytes) (subject : Subject) (
   not_refused (R.Program number offset) status bytes (inr (inr past)) says = limits.graph number offset past
   not_refused R.Input status bytes due says = due.refused (subst (λ names. IsInputGiven names task.input) (own_graph due.names due.within) given)
   not_refused (R.Formula number offset) status bytes due says =
-      let asked : IsFormulaOf due.formula subject.names subject.formula =
-      subst (λ asked. IsFormulaAsked subject.names asked subject.formula) due.asked h.formula in
+      let asked : IsFormulaOf due.formula subject.own subject.formula =
+      subst (λ asked. IsFormulaAsked subject.own asked subject.formula) due.asked h.formula in
       meant_not_refused due.names due.formula number offset
       (subst (λ names. IsFormulaOf due.formula names subject.formula) (own_graph due.names due.within) asked) due.refused
   not_refused R.Memory status bytes due says = says

@@ -1,5 +1,5 @@
 -- Something is told of one input of a program without loops exactly where its start satisfies the formula, where the measures of the two are small.
-use Rattle.std.proofs.Common.{◌≡◌, ◌⊎◌, ◌↔◌, ◌∙◌, ℕ, true, inl, inr, length, Option, None, Some, refl, sym, ap, subst}
+use Rattle.std.proofs.Common.{◌≡◌, ◌⊎◌, ◌↔◌, ◌∙◌, ℕ, ◌≤◌, true, inl, inr, length, Option, None, Some, refl, sym, ap, subst}
 use Rattle.std.specs.Prelude.{IsSome}
 use Rattle.step_meaning.specs.Outcome.{Store}
 use Rattle.step_meaning.specs.Run.{IsInput, start}
@@ -23,6 +23,7 @@ use Rattle.function_top.specs.Found.{HasSmallMeasures, IsExactPart, IsFound}
 use Rattle.function_top.specs.OneInput.{IsToldOf, LeadsExactly, LeadsTo}
 use Rattle.function_top.specs.Subject.{IsFormulaAsked, Subject}
 use Rattle.function_top.proofs.ToldExactly.{numbers_small}
+use Rattle.function_top.proofs.Wider.{wider_input}
 use Rattle.report_text.proofs.Frame.{Bytes}
 
 -- ---- what was found
@@ -35,7 +36,7 @@ one_whole (leaf why rank) is = tt
 one_whole (branch row this that) is = absurd (cc)
 
 module _ (task : Task) (subject : Subject) (found : Found) (finds : IsFound task subject found)
-    (formula : IsFormulaAsked subject.names task.formula subject.formula) (small : HasSmallMeasures subject) (input : Store)
+    (formula : IsFormulaAsked subject.own task.formula subject.formula) (small : HasSmallMeasures subject) (input : Store)
     (is_input : IsInput (length subject.names) input) (numbers : HasSmallNumbers input) where
   abbrev IsSatisfied : Type 0
   IsSatisfied = Sat subject.formula (start subject.body input)
@@ -47,7 +48,7 @@ module _ (task : Task) (subject : Subject) (found : Found) (finds : IsFound task
   is_whole : subject.formula ≡ af_exit → IsWhole (plan_of found.cover)
   is_whole ends = one_whole (plan_of found.cover) (finds.strength.loopless (ap normal ends) small.loopless.free)
 
-  asked_or_whole : (asked : Option Bytes) → IsFormulaAsked subject.names asked subject.formula → IsSome asked ⊎ IsWhole (plan_of found.cover)
+  asked_or_whole : (asked : Option Bytes) → IsFormulaAsked subject.own asked subject.formula → IsSome asked ⊎ IsWhole (plan_of found.cover)
   asked_or_whole None ends = inr (is_whole ends)
   asked_or_whole (Some text) meant = inl refl
 
@@ -59,7 +60,7 @@ module _ (task : Task) (subject : Subject) (found : Found) (finds : IsFound task
       let none = finds.truth.unranked (asked_or_whole task.formula formula) in
       let here : bottom ≡ leaf way.why rank = sym (ap (λ tree. eval tree input) none) ∙ way.is in absurd (cc)
 
-  by_exact : (asked : Option Bytes) → IsFormulaAsked subject.names asked subject.formula → IsExactPart asked subject task.delay found.exact
+  by_exact : (asked : Option Bytes) → IsFormulaAsked subject.own asked subject.formula → IsExactPart asked subject task.delay found.exact
       → (rank : AffineRank) → LeadsExactly found.exact input rank → IsSatisfied
   by_exact None ends exact rank way = claimed.0 (whole_defined input (plan_of found.cover) (is_whole ends))
   by_exact (Some text) meant exact rank way = absurd (subst (λ e. LeadsExactly e input rank) exact way)
@@ -81,8 +82,8 @@ module _ (task : Task) (subject : Subject) (found : Found) (finds : IsFound task
 -- ---- what was due
 
 pub satisfied_answer : {task : Task} {text asked : Bytes} {subject : Subject} {input : Store} {status : Status} {turns : ℕ} {bytes : Bytes}
-    → HasSmallMeasures subject → IsAnswerOn task text asked subject input status turns bytes
+    → length subject.own ≤ length subject.names → HasSmallMeasures subject → IsAnswerOn task text asked subject input status turns bytes
     → (status ≡ AllInputs) ↔ Sat subject.formula (start subject.body input)
-satisfied_answer {task} {text} {asked} {subject} {input} {status} small on =
-    told_of_satisfied task subject on.found on.analysed.finds on.analysed.is.formula small input on.input_is.input_is (numbers_small subject.names asked input on.input_is)
+satisfied_answer {task} {text} {asked} {subject} {input} {status} fewer small on =
+    told_of_satisfied task subject on.found on.analysed.finds on.analysed.is.formula small input (wider_input fewer on.input_is.input_is) (numbers_small subject.own asked input on.input_is)
     status on.claim on.told

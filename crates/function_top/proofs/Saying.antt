@@ -30,6 +30,6 @@ module _ (known : KnownTexts) (task : Task) (text : Bytes) (subject : Subject) (
             let on = report whole in
             proves_exactly subject lines known.opening task on.1.found on.0 bytes on.1.analysed.finds on.1.shows on.1.printed loopless within;
         exactly = λ asked input one given. exact_answer known task text subject h (due_answer known task text subject h is due one given);
-        satisfied = λ asked input one given small. satisfied_answer small (due_answer known task text subject h is due one given);
+        satisfied = λ asked input one given small. satisfied_answer (known.own_fewer text subject.names subject.own subject.body h.program h.own) small (due_answer known task text subject h is due one given);
         countdowns = λ certain ends counts. due_covers known task text subject h ends counts certain due;
       }

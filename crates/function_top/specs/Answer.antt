@@ -15,7 +15,7 @@ use Rattle.function_top.specs.Output.{IsDueOn, IsReport, IsWithinLimits}
 use Rattle.function_top.specs.Form.{Form}
 use Rattle.function_top.specs.Fitting.{AreMetByInts, IsFitDueOn}
 use Rattle.function_top.specs.Headline.{AnswerHeadline, FitHeadline, Headline}
-use Rattle.source_parse.specs.Derives.{IsProgramText}
+use Rattle.function_top.specs.ProgramText.{IsProgramText}
 use Rattle.step_meaning.specs.Syntax.{Statements}
 use Rattle.command_words.specs.declared.order.Domain.{Domain}
 use Rattle.command_words.specs.Order.{Accepted, Ask, Request, Task, analysis, demo, fit}

@@ -12,6 +12,7 @@ use Rattle.formula_parse.specs.Derives.{IsFormulaOf}
 use Rattle.formula_parse.specs.FaultOf.{IsFaultOf, IsNormalFault}
 use Rattle.formula_parse.specs.Laws.{IsMemory}
 use Rattle.function_top.specs.declared.question.Question.{Question}
+use Rattle.function_top.specs.ProgramText.{HasOwnNames}
 use Rattle.function_top.specs.Subject.{IsFormulaAsked}
 use Rattle.function_top.specs.Text.{IsGraphOf}
 
@@ -53,11 +54,12 @@ IsReadAs names (Some text) (Some input) = IsInputText names text input
 IsReadAs names None (Some input) = ⊥
 IsReadAs names (Some text) None = ⊥
 
--- This is asked of the text by the task: of the program that it is, within the limits, about the normal form of a formula whose atoms are over its
--- variables, and about the input that was read, if one is asked for.
+-- This is asked of the text by the task: of the program that it is, within the limits, about the normal form of a formula whose atoms are over the variables
+-- of `main`, and about the input that was read, if one is asked for.
 pub record IsQuestion (task : Task) (text : List ℕ) (question : Question) : Type 0 where
   pub task_is : task_of question.query ≡ task
   pub graph : IsGraphOf text question.graph
-  pub input : IsReadAs question.graph.names task.input question.input
-  pub formula : IsNormalAsked question.graph.names task.formula (ctl question.formula)
+  pub own : HasOwnNames text question.own
+  pub input : IsReadAs question.own task.input question.input
+  pub formula : IsNormalAsked question.own task.formula (ctl question.formula)
   pub over : RowsAreOver (length question.graph.names) (ctl question.formula)

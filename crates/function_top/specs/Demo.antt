@@ -27,7 +27,7 @@ defaults = record { domain = Boxes; delay = 2; formula = None; input = None; exp
 
 -- the demo program of a number, and that each of its runs ends
 abbrev pub demo_subject : ℕ → Subject
-demo_subject number = record { names = demo_names; body = demo_body number; formula = af_exit }
+demo_subject number = record { names = demo_names; own = demo_names; body = demo_body number; formula = af_exit }
 
 -- By the demo program of this number these bytes are due, and each adviser is asked for them so many times: with the defaults this was found of
 -- the program, and the report that shows it covers all inputs; the bytes are its summary.

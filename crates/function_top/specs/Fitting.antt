@@ -1,10 +1,11 @@
 -- What is due where it is asked from which inputs no number of a run leaves 32 bits.
 use Rattle.std.specs.Prelude.{◌≡◌, ℕ, List, length}
 use Rattle.step_meaning.specs.Outcome.{Store}
+use Rattle.step_meaning.specs.declared.program.Program.{Program}
 use Rattle.step_meaning.specs.Syntax.{Statements}
 use Rattle.decision_tree.specs.declared.affine_rank.AffineRank.{AffineRank}
 use Rattle.decision_tree.specs.Plans.{Plan}
-use Rattle.source_parse.specs.Derives.{IsProgramText}
+use Rattle.function_top.specs.ProgramText.{IsProgramText}
 use Rattle.int_fit.specs.Fitting.{AreInts}
 use Rattle.int_fit.specs.Narrowing.{narrowed}
 use Rattle.fit_check.specs.Safety.{FitsWhere}
@@ -16,7 +17,7 @@ use Rattle.function_top.specs.declared.status.Status.{Status}
 use Rattle.function_top.specs.declared.question.Refusal.{Refusal}
 use Rattle.function_top.specs.Meeting.{MeetsOne}
 use Rattle.function_top.specs.Output.{IsReason, IsVerdict, SaysRefusal}
-use Rattle.function_top.specs.Text.{HasGraph}
+use Rattle.function_top.specs.Text.{IsGraphOf}
 
 -- each input whose variables are numbers of 32 bits meets exactly one line of the text
 abbrev pub AreMetByInts : List (List ℕ) → List ℕ → Type 0
@@ -28,7 +29,8 @@ AreMetByInts names text = (input : Store) → AreInts (length names) input → M
 -- where the runs of the narrowed program fit.
 pub record IsFitReportOn (text : List ℕ) (names : List (List ℕ)) (body : Statements) (fits unknown : List Line) (bytes : List ℕ) : Type 0 where
   pub program : IsProgramText text names body
-  pub within : HasGraph text names
+  pub parsed : Program
+  pub within : IsGraphOf text parsed
   pub tree : Plan AffineRank
   pub tells : FitsWhere (length names) (narrowed body) tree
   pub lines : AreFitLines (length names) tree fits unknown

@@ -2,7 +2,7 @@
 -- a person would take for a claim escapes the headline.
 use Rattle.std.specs.Prelude.{◌≡◌, ◌⊎◌, ℕ, List, [], ◌++◌, Option, Some, Contains, codes}
 use Rattle.step_meaning.specs.Syntax.{Statements}
-use Rattle.source_parse.specs.Derives.{IsProgramText}
+use Rattle.function_top.specs.ProgramText.{IsProgramText}
 use Rattle.linear_cons.specs.declared.affine.Affine.{Affine}
 use Rattle.line_text.specs.declared.claim.Claim.{Claim}
 use Rattle.line_text.specs.Spells.{Spells}

@@ -8,7 +8,7 @@ use Rattle.report_text.specs.Sections.{IsWholeLine}
 use Rattle.claim_line.specs.Tells.{Tells}
 use Rattle.input_text.specs.Input.{IsInputText}
 use Rattle.function_top.specs.Call.{Call}
-use Rattle.source_parse.specs.Derives.{IsProgramText}
+use Rattle.function_top.specs.ProgramText.{IsProgramText}
 use Rattle.command_words.specs.declared.order.Domain.{Domain}
 use Rattle.command_words.specs.Order.{Ask, Task, analysis, fit}
 use Rattle.function_top.specs.Subject.{IsSubject, Subject, asked_names}

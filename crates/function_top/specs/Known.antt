@@ -1,12 +1,12 @@
 -- What is known of the texts of programs, of formulas and of lines.
 use Rattle.std.specs.Prelude.{◌≡◌, ◌≢◌, ℕ, List, All}
 use Rattle.formula_parse.specs.Laws.{TextsAreUnique as FormulasAreUnique}
-use Rattle.source_parse.specs.Laws.{NamesAreDistinct, NamesAreNames, TextsAreUnique}
 use Rattle.linear_cons.specs.declared.affine.Affine.{Affine}
 use Rattle.line_text.specs.declared.claim.Claim.{Claim}
 use Rattle.line_text.specs.Names.{AreNames}
 use Rattle.line_text.specs.Spells.{OpensAsLine, Spells}
 use Rattle.claim_line.specs.Tells.{Tells}
+use Rattle.function_top.specs.ProgramText.{OwnNamesAreFewer, OwnNamesAreNames, OwnNamesAreUnique, ProgramsAreNamed, TextsAreUnique}
 
 -- the line lacks the byte
 abbrev pub LacksByte : ℕ → List ℕ → Type 0
@@ -32,8 +32,10 @@ OpenAsLines = (names : List (List ℕ)) (line : List ℕ) (condition : List Affi
 pub record KnownTexts : Type 0 where
   pub unique : TextsAreUnique
   pub formulas : FormulasAreUnique
-  pub spelled : NamesAreNames
-  pub distinct : NamesAreDistinct
+  pub named : ProgramsAreNamed
+  pub own_unique : OwnNamesAreUnique
+  pub own_named : OwnNamesAreNames
+  pub own_fewer : OwnNamesAreFewer
   pub opening : OpenAsLines
   pub lines : (names : List (List ℕ)) → AreNames names → KnownLines names
   pub alone : (names : List (List ℕ)) → AreNames names → KnownClaims names

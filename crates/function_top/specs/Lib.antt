@@ -1,3 +1,4 @@
+pub mod ProgramText
 pub mod Call
 pub mod Text
 pub mod Subject

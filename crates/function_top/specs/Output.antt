@@ -10,8 +10,11 @@ use Rattle.formula_parse.specs.Derives.{IsFormulaOf}
 use Rattle.formula_parse.specs.FaultOf.{IsFaultOf as IsFormulaFaultOf}
 use Rattle.formula_parse.specs.Laws.{numbered as formula_numbered}
 use Rattle.source_parse.specs.declared.fault.ParseFault.{ParseFault}
-use Rattle.source_parse.specs.Derives.{DerivesNone}
-use Rattle.source_parse.specs.Faults.{IsFaultOf, numbered}
+use Rattle.source_parse.specs.Faults.{IsUnitFaultOf, numbered}
+use Rattle.source_parse.specs.Derives.{IsUnitText}
+use Rattle.call_meaning.specs.declared.unit.Unit.{Unit}
+use Rattle.call_inline.specs.declared.fault.InlineFault.{InlineFault}
+use Rattle.call_inline.specs.Faults.{IsInlineFault}
 use Rattle.control_flow.specs.declared.fault.FlowFault.{FlowFault}
 use Rattle.control_flow.specs.declared.fault.FlowFault.TheVariants.{Labels, Conjunctions, Memory}
 use Rattle.control_flow.specs.Faults.{IsFlowFault}
@@ -32,6 +35,7 @@ use Rattle.function_top.specs.Explained.{explained, explanation}
 use Rattle.function_top.specs.Found.{IsFound}
 use Rattle.command_words.specs.Order.{Task}
 use Rattle.function_top.specs.OneInput.{IsToldOf}
+use Rattle.function_top.specs.ProgramText.{DerivesNone, inline_numbered}
 use Rattle.function_top.specs.Refusals.{formula_text, program_text, usage_text}
 use Rattle.function_top.specs.Shown.{Shows}
 use Rattle.function_top.specs.Subject.{IsSubject, Subject, asked_names}
@@ -46,7 +50,7 @@ AreTurnsFor normal_form turns = (IsAdvised normal_form → turns ≡ 8) × (¬ I
 -- form of its formula has at most 256 operators.
 pub record IsFoundOn (task : Task) (text : List ℕ) (subject : Subject) (found : Found) (turns : ℕ) : Type 0 where
   pub is : IsSubject task text subject
-  pub within : HasGraph text subject.names
+  pub within : HasGraph text subject.own
   pub limited : operators (normal subject.formula) ≤ 256
   pub finds : IsFound task subject found
   pub asked : turns ≡ found.turns
@@ -83,7 +87,7 @@ pub record IsNoProgram (text : List ℕ) (number offset : ℕ) : Type 0 where
   pub short : length text ≤ 65536
   pub none : DerivesNone text
   pub fault : ParseFault
-  pub fault_of : IsFaultOf text fault
+  pub fault_of : IsUnitFaultOf text fault
   pub number_of : numbered fault ≡ Some (number, offset)
 
 -- the number and the offset of a fault of a program's graph
@@ -92,15 +96,27 @@ flow_numbered (Labels at count) = Some (12, at)
 flow_numbered (Conjunctions at count) = Some (13, at)
 flow_numbered (Memory error) = None
 
+-- the text is a program, in which with a body in the place of a call too many levels are open or there are more than 1,024 labels, which is told with this
+-- number and offset
+pub record IsPastInlining (text : List ℕ) (number offset : ℕ) : Type 0 where
+  pub unit : Unit
+  pub derived : IsUnitText text unit
+  pub fault : InlineFault
+  pub fault_of : IsInlineFault fault unit.funcs unit.body
+  pub number_of : inline_numbered fault ≡ Some (number, offset)
+
 -- the text is a program with more labels than 1,024 or a test that spreads to more than 64 conjunctions, which is told with this number and offset
-pub record IsPastLimits (text : List ℕ) (number offset : ℕ) : Type 0 where
+pub record IsPastGraph (text : List ℕ) (number offset : ℕ) : Type 0 where
   pub program : Parsed
   pub parsed : IsParsed text program
   pub fault : FlowFault
   pub fault_of : IsFlowFault fault program.body
   pub number_of : flow_numbered fault ≡ Some (number, offset)
 
--- one input is asked for of the program that the text is; the program is within the limits, but the input's text is that of none over its names
+abbrev pub IsPastLimits : List ℕ → ℕ → ℕ → Type 0
+IsPastLimits text number offset = IsPastInlining text number offset ⊎ IsPastGraph text number offset
+
+-- one input is asked for of the program that the text is; the program is within the limits, but the input's text is that of none over the names of `main`
 pub record IsInputRefused (task : Task) (text : List ℕ) : Type 0 where
   pub names : List (List ℕ)
   pub within : HasGraph text names
@@ -121,7 +137,7 @@ pub record IsLongFormula (names : List (List ℕ)) (formula : List ℕ) (number 
   pub number_is : number ≡ 11
   pub offset_is : offset ≡ 0
 
--- A formula is asked about, over the names of the program that the text is; the program is within the limits, and so is the input that is asked for,
+-- A formula is asked about, over the names of `main` in the program that the text is; the program is within the limits, and so is the input that is asked for,
 -- if one is, but the formula's text is no formula, or one that is too long.
 pub record IsFormulaRefused (task : Task) (text : List ℕ) (number offset : ℕ) : Type 0 where
   pub names : List (List ℕ)
@@ -163,7 +179,7 @@ pub data IsDueOn (task : Task) (text : List ℕ) (status : Status) (advisers tur
       → IsDueOn task text status advisers turns bytes
   refused : (refusal : Refusal) → IsReason task text refusal → SaysRefusal refusal status bytes → turns ≡ 0 → IsDueOn task text status advisers turns bytes
 
--- The text is of at most 65,536 bytes, and past no limit of its graph.
+-- The text is of at most 65,536 bytes, and past no limit of its bodies in the places of calls and of its graph.
 pub record IsWithinLimits (text : List ℕ) : Type 0 where
   pub short : length text ≤ 65536
   pub graph : (number offset : ℕ) → ¬ IsPastLimits text number offset

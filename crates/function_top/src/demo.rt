@@ -10,7 +10,6 @@ ghost use Rattle.function_top.specs.Demo.{IsDemoDue, summary_lines};
 
 use crate::finding::find;
 use crate::output::Output;
-use crate::question::graph_of;
 use crate::report::shown;
 use crate::status::Status;
 use advice::Adviser;
@@ -25,8 +24,9 @@ use demo_program::laws::{
 use interval_dom::Boxes;
 use line_text::push_numeral;
 use report_text::Report;
-use source_parse::a_text_is_one_program;
+use source_parse::{a_text_is_one_program, parse};
 use std::alloc::{AllocError, Global};
+use step_meaning::Program;
 
 /// What is asked of an analysis where nothing is chosen.
 const DEFAULTS: Query<'static> = Query {
@@ -51,15 +51,36 @@ pub(crate) fn demo(
     ensures status { IfOk result (λ due. due.status ≡ Status.AllInputs) }
     ensures asked { AreAskedAlike (λ adviser. asked_of adviser) advisers.old.items advisers.new.items (λ times. IfOk result (λ due. due.turns ≡ times)) }
 {
+    let text = demo_text(alloc, number)?;
+    let graph = demo_graph(alloc, number, &text)?;
+    summarised(alloc, number, text.len(), &graph, advisers)
+}
+
+/// The graph of the demo program of a number, by its text. The only error is want of memory.
+fn demo_graph(alloc: Global, number: u32, text: &[u8]) -> Result<Graph, AllocError>
+    requires few { number ≤ 1000 }
+    requires text { text.now ≡ demo_text number }
+    ensures names { IfOk result (λ graph. graph.names ≡ demo_names) }
+    ensures body { IfOk result (λ graph. statements graph.body ≡ demo_body number) }
+{
     demo_texts_are_programs();
     demo_texts_are_short();
     a_text_is_one_program();
-    let text = demo_text(alloc, number)?;
     // by the laws the text is a program within the limits, so that nothing but memory can be wanting
-    let Ok(graph) = graph_of(alloc, &text) else {
-        return Err(AllocError);
-    };
-    summarised(alloc, number, text.len(), &graph, advisers)
+    match parse(alloc, text) {
+        Ok(program) => Ok(graph_of(alloc, program)?),
+        Err(_) => Err(AllocError),
+    }
+}
+
+/// The graph of a program.
+fn graph_of(alloc: Global, program: Program) -> Result<Graph, AllocError>
+    ensures { IfOk result (λ graph. graph ≡ program) }
+{
+    match Graph::of(alloc, program) {
+        Ok(graph) => Ok(graph),
+        Err(_) => Err(AllocError),
+    }
 }
 
 /// The summary of the report on a demo program with its graph, whose text has so many bytes.

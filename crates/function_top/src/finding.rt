@@ -1,6 +1,6 @@
 //! From a program and a formula to what is found of them.
 
-ghost use Rattle.std.specs.Prelude.{◌≡◌, ◌≤◌, ◌^◌, ◌⊎◌, ◌↔◌, Bool, All, IfOk, IsSome, IsTrue, Some, length};
+ghost use Rattle.std.specs.Prelude.{◌≡◌, ◌≤◌, ◌^◌, ◌⊎◌, ◌↔◌, Bool, All, IfOk, IsSome, IsTrue, Some, length, ℕ, List};
 ghost use Rattle.step_meaning.specs.Syntax.{statements};
 ghost use Rattle.ctl_formula.specs.Formulas.{Ctl, normal, until};
 ghost use Rattle.ctl_formula.specs.Mirror.{ctl};
@@ -51,8 +51,8 @@ pub(crate) fn find<D: NumDomain>(
 ) -> Result<Found, AllocError>
     requires over { RowsAreOver (length graph.now.names) (ctl formula.now) }
     requires patient { All (λ adviser. asked_of adviser ≤ 2 ^ 32) advisers.old.items }
-    ensures finds { IfOk result (λ found. (meant : Ctl) → ctl formula.now ≡ normal meant
-        → IsFound (task_of query.now) (subject_of graph.now meant) found) }
+    ensures finds { IfOk result (λ found. (own : List (List ℕ)) (meant : Ctl) → ctl formula.now ≡ normal meant
+        → IsFound (task_of query.now) (subject_of graph.now own meant) found) }
     ensures printable { IfOk result (λ found. IsFoundPrintable (length graph.now.names) found) }
     ensures asked { AreAskedAlike (λ adviser. asked_of adviser) advisers.old.items advisers.new.items (λ times. IfOk result (λ found. found.turns ≡ times)) }
 {
@@ -71,8 +71,8 @@ pub(crate) fn find<D: NumDomain>(
 
 /// What is known exactly of a program with its graph, where no formula is asked about.
 fn exact_part(alloc: Global, query: &Query, graph: &Graph) -> Result<Exact, AllocError>
-    ensures exact { IfOk result (λ exact. (meant : Ctl)
-        → IsExactPart (task_of query.now).formula (subject_of graph.now meant) query.now.delay exact) }
+    ensures exact { IfOk result (λ exact. (own : List (List ℕ)) (meant : Ctl)
+        → IsExactPart (task_of query.now).formula (subject_of graph.now own meant) query.now.delay exact) }
     ensures printable { IfOk result (λ exact. IsExactPrintable (length graph.now.names) exact) }
 {
     match query.formula {

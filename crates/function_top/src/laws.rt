@@ -25,7 +25,7 @@ ghost use Rattle.function_top.specs.Known.{KnownTexts};
 use claim_line::laws::{a_line_tells_at_most_one_claim, claims_have_their_own_form};
 use formula_parse::a_text_is_one_formula;
 use line_text::laws::{a_line_spells_at_most_one_claim, lines_have_their_own_form};
-use source_parse::{a_text_is_one_program, names_are_distinct, names_are_spelled_as_names};
+use source_parse::{a_text_is_one_unit, names_of_units_are_spelled_as_names};
 
 /// A law: each input of a program meets exactly one line of the sections of its report below the exact part, which claims what the trees that were found
 /// do.
@@ -60,10 +60,9 @@ pub fn proved_lines_are_met_by_satisfied_inputs()
 pub(crate) fn texts_are_known()
     ensures { KnownTexts }
 {
-    a_text_is_one_program();
+    a_text_is_one_unit();
     a_text_is_one_formula();
-    names_are_spelled_as_names();
-    names_are_distinct();
+    names_of_units_are_spelled_as_names();
     lines_have_their_own_form();
     a_line_spells_at_most_one_claim();
     a_line_tells_at_most_one_claim();

@@ -1,21 +1,25 @@
 //! From a text to what is asked of its program, or to why nothing is analysed.
 
-ghost use Rattle.std.specs.Prelude.{ℕ, List, IfErr, IfOk};
+ghost use Rattle.std.specs.Prelude.{ℕ, ◌≤◌, List, IfErr, IfOk, length};
 ghost use Rattle.command_words.specs.Order.{Task, task_of};
+ghost use Rattle.source_parse.specs.Derives.{IsUnitText};
 ghost use Rattle.function_top.specs.Asking.{IsQuestion};
 ghost use Rattle.function_top.specs.Output.{IsReason};
+ghost use Rattle.function_top.specs.ProgramText.{HasOwnNames};
 ghost use Rattle.function_top.specs.Text.{IsGraphOf, IsParsed};
 
 use crate::formula::formula_asked;
 use crate::input::input_asked;
 use crate::laws::texts_are_known;
+use call_inline::{InlineFault, inline};
+use call_meaning::Unit;
 use command_words::Query;
 use control_flow::{FlowFault, Graph};
 use ctl_formula::Formula;
 use formula_parse::a_formula_has_no_fault;
-use source_parse::{a_program_has_no_fault, parse};
+use source_parse::{a_unit_has_no_fault, parse_unit};
 use std::alloc::Global;
-use step_meaning::Program;
+use step_meaning::{Names, Program};
 
 /// Why nothing is analysed.
 #[derive(Clone, Copy)]
@@ -30,13 +34,21 @@ pub(crate) enum Refusal {
     Memory,
 }
 
-/// What is asked of a program, by its graph: about a formula in normal form, and about one input where one is asked for.
+/// What is asked of a program, by its graph and the names of `main`'s variables: about a formula in normal form, and about one input where one is asked for.
 #[derive(Drop)]
 pub(crate) struct Question<'q> {
     pub query: Query<'q>,
     pub graph: Graph,
+    pub own: Names,
     pub input: Option<[i128; 16]>,
     pub formula: Formula,
+}
+
+/// The program that a text is, with the bodies of functions in the places of their calls, and the names of `main`'s variables.
+#[derive(Drop)]
+pub(crate) struct Whole {
+    pub program: Program,
+    pub own: Names,
 }
 
 /// What is asked of the program that the text is. The order is: program, input, formula, and the first fault ends it.
@@ -50,15 +62,16 @@ pub(crate) fn question_of<'q>(
 {
     texts_are_known();
     a_formula_has_no_fault();
-    let graph = graph_of(alloc, text)?;
-    let names = &graph.program().names;
-    let Some(input) = input_asked(query.input, names) else {
+    let whole = whole_of(alloc, text)?;
+    let graph = limited(alloc, whole.program)?;
+    let Some(input) = input_asked(query.input, &whole.own) else {
         return Err(Refusal::Input);
     };
-    match formula_asked(alloc, query.formula, names) {
+    match formula_asked(alloc, query.formula, &whole.own) {
         Ok(formula) => Ok(Question {
             query: *query,
             graph,
+            own: whole.own,
             input,
             formula,
         }),
@@ -69,20 +82,21 @@ pub(crate) fn question_of<'q>(
     }
 }
 
-/// The graph of the program that the text is, within the limits.
-pub(crate) fn graph_of(alloc: Global, text: &[u8]) -> Result<Graph, Refusal>
-    ensures graph { IfOk result (λ graph. IsGraphOf text.now graph) }
+/// The program that the text is.
+pub(crate) fn whole_of(alloc: Global, text: &[u8]) -> Result<Whole, Refusal>
+    ensures parsed { IfOk result (λ whole. IsParsed text.now whole.program) }
+    ensures own { IfOk result (λ whole. HasOwnNames text.now whole.own) }
     ensures refused { IfErr result (λ refusal. (task : Task) → IsReason task text.now refusal) }
 {
-    a_program_has_no_fault();
+    a_unit_has_no_fault();
     if text.len() > 65_536 {
         return Err(Refusal::Program {
             number: 14,
             offset: 65_536,
         });
     }
-    match parse(alloc, text) {
-        Ok(program) => Ok(limited(alloc, program)?),
+    match parse_unit(alloc, text) {
+        Ok(unit) => Ok(inlined(alloc, unit)?),
         Err(fault) => match fault.numbered() {
             Some((number, offset)) => Err(Refusal::Program { number, offset }),
             None => Err(Refusal::Memory),
@@ -90,8 +104,31 @@ pub(crate) fn graph_of(alloc: Global, text: &[u8]) -> Result<Graph, Refusal>
     }
 }
 
+/// The program that a unit becomes, which a text of at most 65,536 bytes is.
+fn inlined(alloc: Global, unit: Unit) -> Result<Whole, Refusal>
+    ensures parsed { IfOk result (λ whole. (text : List ℕ) → length text ≤ 65536 → IsUnitText text unit → IsParsed text whole.program) }
+    ensures own { IfOk result (λ whole. (text : List ℕ) → IsUnitText text unit → HasOwnNames text whole.own) }
+    ensures refused { IfErr result (λ refusal. (task : Task) (text : List ℕ) → IsUnitText text unit → IsReason task text refusal) }
+{
+    match inline(alloc, &unit) {
+        Ok(program) => Ok(Whole {
+            program,
+            own: unit.names,
+        }),
+        Err(InlineFault::Nesting { at, count: _ }) => Err(Refusal::Program {
+            number: 10,
+            offset: at,
+        }),
+        Err(InlineFault::Labels { at, count: _ }) => Err(Refusal::Program {
+            number: 12,
+            offset: at,
+        }),
+        Err(InlineFault::Memory(_)) => Err(Refusal::Memory),
+    }
+}
+
 /// The graph of a program that a text is.
-fn limited(alloc: Global, program: Program) -> Result<Graph, Refusal>
+pub(crate) fn limited(alloc: Global, program: Program) -> Result<Graph, Refusal>
     ensures graph { IfOk result (λ graph. (text : List ℕ) → IsParsed text program → IsGraphOf text graph) }
     ensures refused { IfErr result (λ refusal. (task : Task) (text : List ℕ) → IsParsed text program → IsReason task text refusal) }
 {

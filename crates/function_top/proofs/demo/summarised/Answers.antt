@@ -4,7 +4,7 @@ use Rattle.step_meaning.specs.Syntax.{Statements}
 use Rattle.control_flow.specs.Labels.{all_labels}
 use Rattle.ctl_formula.specs.Formulas.{af_exit}
 use Rattle.report_text.specs.Printed.{ended_lines}
-use Rattle.demo_program.specs.Demo.{demo_text}
+use Rattle.demo_program.specs.Demo.{demo_names, demo_text}
 use Rattle.function_top.specs.Demo.{defaults, demo_subject, summary_lines}
 use Rattle.function_top.specs.Found.{IsFound}
 use Rattle.function_top.specs.Subject.{Subject, subject_of}
@@ -18,10 +18,10 @@ pub returns-clause-due : goal.returns-clause-due
 returns-clause-due g c =
     let number = c.args.number in
     let found = c.in_ok-found.found in
-    let same : subject_of c.args.graph.now af_exit ≡ demo_subject number =
-    ap₂ (λ (names : List (List ℕ)) (body : Statements). record { names = names; body = body; formula = af_exit }) c.requires.names c.requires.body in
+    let same : subject_of c.args.graph.now demo_names af_exit ≡ demo_subject number =
+    ap₂ (λ (names : List (List ℕ)) (body : Statements). record { names = names; own = demo_names; body = body; formula = af_exit }) c.requires.names c.requires.body in
     let finds : IsFound defaults (demo_subject number) found =
-    subst (λ (s : Subject). IsFound defaults s found) same (c.in_ok-found.ensures.finds af_exit c.in_ok-formula.ensures) in
+    subst (λ (s : Subject). IsFound defaults s found) same (c.in_ok-found.ensures.finds demo_names af_exit c.in_ok-formula.ensures) in
     let labels : c.labels.result ≡ number + 3 =
     c.labels.ensures.count ∙ ap (λ (body : Statements). length (all_labels body)) c.requires.body ∙ c.demo_programs_have_few_labels.ensures number in
     record {

@@ -18,8 +18,8 @@ pub returns-in_err-exact-clause-asked : goal.returns-in_err-exact-clause-asked
 returns-in_err-exact-clause-asked g c = (0, omega (arith), unasked (λ a. (goal.Adviser-dyn g (a.vtable, a.value)).asked_of a.value) c.args.advisers.now.items, search rules)
 
 pub returns-clause-finds : goal.returns-clause-finds
-returns-clause-finds g c = λ meant is.
-    let subject = subject_of c.args.graph.now meant in
+returns-clause-finds g c = λ own_names meant is.
+    let subject = subject_of c.args.graph.now own_names meant in
     let cover = plan_of c.in_ok-cover.cover in
     let own = c.in_ok-cover.ensures in
     let mean_the_same = c.normal_forms_mean_the_same.ensures in
@@ -33,7 +33,7 @@ returns-clause-finds g c = λ meant is.
         unranked = own.unranked;
       };
       exactness = record {
-        part = c.in_ok-exact.ensures.exact meant;
+        part = c.in_ok-exact.ensures.exact own_names meant;
         covers = λ loopless within.
             claims_exactly mean_the_same subject cover (subst (λ f. SatisfiesInputs (length subject.names) subject.body f cover) is own.satisfied)
             (subst (λ f. CoversInputs (length subject.names) subject.body f cover) is

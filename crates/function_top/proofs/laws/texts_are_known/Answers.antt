@@ -1,11 +1,15 @@
+use Rattle.function_top.proofs.Named.{own_named, programs_named}
+use Rattle.function_top.proofs.Parsed.{one_program, one_main, own_fewer}
 use Rattle.function_top.proofs.laws.texts_are_known.Goals as goal
 
 pub returns : goal.returns
 returns c = record {
-  unique = c.a_text_is_one_program.ensures;
+  unique = one_program c.a_text_is_one_unit.ensures;
   formulas = c.a_text_is_one_formula.ensures;
-  spelled = c.names_are_spelled_as_names.ensures;
-  distinct = c.names_are_distinct.ensures;
+  named = programs_named c.names_of_units_are_spelled_as_names.ensures;
+  own_unique = one_main c.a_text_is_one_unit.ensures;
+  own_named = own_named c.names_of_units_are_spelled_as_names.ensures;
+  own_fewer = own_fewer c.a_text_is_one_unit.ensures;
   opening = c.lines_have_their_own_form.ensures.opening;
   lines = λ names are. record {
     newline = λ line condition claim. c.lines_have_their_own_form.ensures.newline names line condition claim are;

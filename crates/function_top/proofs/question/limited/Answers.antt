@@ -10,20 +10,20 @@ returns-in-Ok-clause-graph c = λ text parsed.
 
 pub returns-in-Err-Labels-clause-refused : goal.returns-in-Err-Labels-clause-refused
 returns-in-Err-Labels-clause-refused c = λ task text parsed.
-    inr (inr record {
+    inr (inr (inr record {
       program = c.args.program;
       parsed = parsed;
       fault = c.in-Err-Labels.field-0;
       fault_of = c.in-Err-Labels.ensures.fault;
       number_of = ap flow_numbered c.in-Err-Labels.field-0-is;
-    })
+    }))
 
 pub returns-in-Err-Conjunctions-clause-refused : goal.returns-in-Err-Conjunctions-clause-refused
 returns-in-Err-Conjunctions-clause-refused c = λ task text parsed.
-    inr (inr record {
+    inr (inr (inr record {
       program = c.args.program;
       parsed = parsed;
       fault = c.in-Err-Conjunctions.field-0;
       fault_of = c.in-Err-Conjunctions.ensures.fault;
       number_of = ap flow_numbered c.in-Err-Conjunctions.field-0-is;
-    })
+    }))

@@ -1,52 +1,64 @@
-use Rattle.std.proofs.Common.{◌≡◌, ◌∙◌, length, subst, sym, refl, Some}
-use Rattle.step_meaning.specs.declared.program.Program.{Program}
+use Rattle.std.proofs.Common.{◌≡◌, ◌∙◌, Some, refl, sym}
 use Rattle.step_meaning.specs.Syntax.{statements}
 use Rattle.ctl_formula.specs.Mirror.{ctl}
-use Rattle.normal_form.specs.Rows.{RowsAreOver}
 use Rattle.formula_parse.specs.Laws.{numbered}
-use Rattle.line_text.specs.Names.{AreNames}
 use Rattle.command_words.specs.Order.{task_of}
-use Rattle.function_top.specs.Asking.{IsFaultAsked, IsInputGiven, IsNormalAsked, IsReadAs}
-use Rattle.function_top.proofs.Named.{program_names}
 use Rattle.function_top.specs.Output.{IsReason}
+use Rattle.function_top.proofs.Parsed.{own_few}
 use Rattle.function_top.proofs.Refusing.{asked_refused, passed_on}
 use Rattle.function_top.proofs.Reported.{read_given}
+use Rattle.function_top.proofs.Wider.{wider_rows}
 use Rattle.function_top.proofs.question.question_of.Goals as goal
+
+pub returns-in_err-whole-clause-refused : goal.returns-in_err-whole-clause-refused
+returns-in_err-whole-clause-refused c =
+    passed_on _ _ (IsReason (task_of c.args.query.now) c.args.text.now) c.from_residual.ensures (c.in_err-whole.ensures.refused (task_of c.args.query.now))
 
 pub returns-in_err-graph-clause-refused : goal.returns-in_err-graph-clause-refused
 returns-in_err-graph-clause-refused c =
-    passed_on _ _ (IsReason (task_of c.args.query.now) c.args.text.now) c.from_residual.ensures (c.in_err-graph.ensures.refused (task_of c.args.query.now))
+    passed_on _ _ (IsReason (task_of c.args.query.now) c.args.text.now) c.from_residual-in_err-graph.ensures
+    (c.in_err-graph.ensures.refused (task_of c.args.query.now) c.args.text.now c.in_ok-whole.ensures.parsed)
+
+pub input_asked-requires : goal.input_asked-requires
+input_asked-requires c = own_few c.args.text.now c.in_ok-whole.whole.own c.in_ok-whole.ensures.own
+
+pub formula_asked-requires : goal.formula_asked-requires
+formula_asked-requires c = own_few c.args.text.now c.in_ok-whole.whole.own c.in_ok-whole.ensures.own
 
 pub returns-in_default-clause-refused : goal.returns-in_default-clause-refused
 returns-in_default-clause-refused c =
-    let graph = c.in_ok-graph.graph in
-    let known = c.texts_are_known.ensures in
-    let names = program_names known.spelled known.distinct c.args.text.now graph.names (statements graph.body) c.in_ok-graph.ensures.graph.parsed.derived in
+    let own = c.in_ok-whole.whole.own in
     record {
-      names = graph.names;
-      within = record { program = graph; graph = c.in_ok-graph.ensures.graph; names_are = refl };
-      refused = subst (λ (p : Program). ¬ IsInputGiven p.names (task_of c.args.query.now).input) c.program.ensures
-          (c.in_default.ensures.none (subst (λ (p : Program). AreNames p.names) (sym c.program.ensures) names));
+      names = own;
+      within = record {
+        program = c.in_ok-graph.graph;
+        graph = c.in_ok-graph.ensures.graph c.args.text.now c.in_ok-whole.ensures.parsed;
+        own_is = c.in_ok-whole.ensures.own;
+      };
+      refused = c.in_default.ensures.none (c.texts_are_known.ensures.own_named c.args.text.now own c.in_ok-whole.ensures.own);
     }
 
 pub returns-in-Ok-clause-asked : goal.returns-in-Ok-clause-asked
 returns-in-Ok-clause-asked c =
-    let task = task_of c.args.query.now in
-    let formula = c.in-Ok.formula in
+    let own = c.in_ok-whole.whole.own in
+    let graph = c.in_ok-graph.graph in
+    let within = c.in_ok-graph.ensures.graph c.args.text.now c.in_ok-whole.ensures.parsed in
+    let fewer = c.texts_are_known.ensures.own_fewer c.args.text.now graph.names own (statements graph.body) within.parsed.derived c.in_ok-whole.ensures.own in
     record {
       task_is = refl;
-      graph = c.in_ok-graph.ensures.graph;
-      input = subst (λ (p : Program). IsReadAs p.names task.input c.in-Some.input) c.program.ensures c.in-Some.ensures.given;
-      formula = subst (λ (p : Program). IsNormalAsked p.names task.formula (ctl formula)) c.program.ensures c.in-Ok.ensures.formula;
-      over = subst (λ (p : Program). RowsAreOver (length p.names) (ctl formula)) c.program.ensures c.in-Ok.ensures.variables;
+      graph = within;
+      own = c.in_ok-whole.ensures.own;
+      input = c.in-Some.ensures.given;
+      formula = c.in-Ok.ensures.formula;
+      over = wider_rows (ctl c.in-Ok.formula) fewer c.in-Ok.ensures.variables;
     }
 
 pub returns-in-Some-numbered-clause-refused : goal.returns-in-Some-numbered-clause-refused
 returns-in-Some-numbered-clause-refused c =
-    let graph = c.in_ok-graph.graph in
+    let own = c.in_ok-whole.whole.own in
     let task = task_of c.args.query.now in
     let told : numbered c.in-Err.fault ≡ Some (c.in-Some-numbered.number, c.in-Some-numbered.offset) = sym c.numbered.ensures ∙ c.in-Some-numbered.is in
-    let input = subst (λ (p : Program). IsReadAs p.names task.input c.in-Some.input) c.program.ensures c.in-Some.ensures.given in
-    asked_refused task c.args.text.now graph.names (record { program = graph; graph = c.in_ok-graph.ensures.graph; names_are = refl })
-    (read_given graph.names task.input c.in-Some.input input) task.formula refl c.in-Err.fault c.in-Some-numbered.number c.in-Some-numbered.offset
-    c.a_formula_has_no_fault.ensures (subst (λ (p : Program). IsFaultAsked p.names task.formula c.in-Err.fault) c.program.ensures c.in-Err.ensures.fault) told
+    let graph = c.in_ok-graph.ensures.graph c.args.text.now c.in_ok-whole.ensures.parsed in
+    asked_refused task c.args.text.now own (record { program = c.in_ok-graph.graph; graph = graph; own_is = c.in_ok-whole.ensures.own })
+    (read_given own task.input c.in-Some.input c.in-Some.ensures.given) task.formula refl c.in-Err.fault c.in-Some-numbered.number c.in-Some-numbered.offset
+    c.a_formula_has_no_fault.ensures c.in-Err.ensures.fault told

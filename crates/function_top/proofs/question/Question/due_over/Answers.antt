@@ -9,7 +9,7 @@ use Rattle.function_top.proofs.question.Question.due_over.Goals as goal
 pub returns-in-Some-clause-due : goal.returns-in-Some-clause-due
 returns-in-Some-clause-due g c = λ task text asked.
     let told = c.in_ok-answer_at-in-Some.ensures.told in
-    answer_due task text c.args.self.now asked c.in_ok-found.found _ _ (c.in_ok-found.ensures.finds asked.formula.meant asked.formula.normal_form)
+    answer_due task text c.args.self.now asked c.in_ok-found.found _ _ (c.in_ok-found.ensures.finds c.args.self.now.own asked.formula.meant asked.formula.normal_form)
     c.in_ok-answer_at-in-Some.ensures.turns c.in-Some.input c.in-Some.is told.0 told.2.0
     (subst (λ (p : Program). Tells p.names told.2.0 told.0) c.program.ensures told.2.1) told.2.2 _ told.1 (length c.args.advisers.now.items)
 
@@ -28,7 +28,7 @@ returns-clause-due g c = λ task text asked.
     let explains = shows.4
     ∙ ap (λ (n : ℕ). explained own.query.explain (explanation labels found.families n found.turns)) count
     ∙ ap (λ (n : ℕ). explained own.query.explain (explanation labels found.families (length c.args.advisers.now.items) n)) (sym turns) in
-    report_due task text own asked found _ _ (c.in_ok-found.ensures.finds asked.formula.meant asked.formula.normal_form) turns c.in-None.is shows.0
+    report_due task text own asked found _ _ (c.in_ok-found.ensures.finds c.args.self.now.own asked.formula.meant asked.formula.normal_form) turns c.in-None.is shows.0
     (length c.args.advisers.now.items) shows.1 explains shows.2 _ shows.3
 
 pub returns-clause-asked : goal.returns-clause-asked
