@@ -1,6 +1,6 @@
 #!/usr/bin/env python3
-"""Sees that docs/PROOFS.md shows the headline and lists the definitions that its reader has to believe: all that `Headline`, `AnswerHeadline`, `FitHeadline` and `Form`
-name, and what those name, down to the words of the standard library; and that in each file they stand first, before a line that says where they end.
+"""Sees that docs/PROOFS.md shows the headline and lists the definitions that its reader has to believe: all that `Headline`, `AnswerHeadline`, `FitHeadline`, `Form`,
+`FramedHeadline` and `FramedAnswerHeadline` name, and what those name, down to the words of the standard library; and that in each file they stand first, before a line that says where they end.
 
 The list is made of tables between two marks, one for each question that a reader may have. A row has a digest of its definitions: of their text without
 comments, and of where each imported word in it comes from. So a definition that says something else is another page, though its name stayed. Where the page
@@ -23,6 +23,7 @@ SHOWN = ("<!-- begin: the headline, by checks/believe.py -->", "<!-- end of the 
 ROOTS = [("function_top", file, name) for file, name in [
     ("Headline", "Headline"), ("Headline", "IsTrueText"), ("TrueLine", "TrueLine"), ("TrueLine", "IsTrueOf"),
     ("Headline", "AnswerHeadline"), ("Headline", "IsTrueAnswer"), ("Headline", "FitHeadline"), ("Form", "Form"),
+    ("Framed", "FramedHeadline"), ("Framed", "FramedAnswerHeadline"),
 ]]
 SHOWN_ROOTS = 7
 
@@ -40,7 +41,7 @@ PORTS = ("clap",)
 # What stands behind the definitions that the list names, in a file that has more.
 LAST = "-- What follows has no part in the headline."
 # Definitions that stand on the wrong side of that line until their file is changed for another reason: their crates stand below nearly all others, which would be proved anew.
-WAITING = {"step_meaning/Syntax": {"of_list", "expression"}, "source_lex/Spans": {"IsWithin", "InOrderFrom"}}
+WAITING = {"step_meaning/Syntax": {"of_list", "expression"}, "step_meaning/Run": {"EndsWithin"}, "source_lex/Spans": {"IsWithin", "InOrderFrom"}}
 
 HEAD = re.compile(r"^(\s*)(?:abbrev |unfoldable )?(?:pub )?(?:abbrev |unfoldable )?(data |record )?([\w'-]+)(?: [({][^=]*)? : ")
 IMPORT = re.compile(r"^\s*(?:pub )?use ([\w.]+?)(?:\.\{([^}]*)\})?(?: as (\w+))?$")

@@ -14,6 +14,7 @@ pub mod Parsed
 pub mod Wider
 pub mod Over
 pub mod Headline
+pub mod Framed
 pub mod FitReports
 pub mod Certain
 pub mod Satisfied

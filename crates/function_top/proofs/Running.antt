@@ -24,6 +24,7 @@ use Rattle.function_top.specs.Demo.{defaults}
 use Rattle.function_top.specs.Fitting.{IsFitDueOn}
 use Rattle.function_top.specs.Fitting as F
 use Rattle.function_top.specs.Form.{HasKnownLines, IsKnown}
+use Rattle.function_top.specs.Headline.{AnswerHeadline, Headline}
 use Rattle.function_top.specs.Known.{KnownTexts}
 use Rattle.function_top.specs.Output.{IsDueOn, IsLongFormula, IsNoFormula, IsReason, IsReport, IsWithinLimits, SaysRefusal, answered, refused, reported}
 use Rattle.function_top.specs.Refusals.{usage_text}
@@ -31,6 +32,7 @@ use Rattle.function_top.specs.Subject.{IsFormulaAsked, IsSubject, Subject}
 use Rattle.function_top.specs.Text.{HasGraph}
 use Rattle.function_top.proofs.Formed.{summary_known, usage_known}
 use Rattle.function_top.proofs.FitReports.{fit_due_known, fit_due_met, fit_due_true}
+use Rattle.function_top.proofs.Framed.{framed_answer_headline, framed_headline}
 use Rattle.function_top.proofs.Headline.{due_known, due_told, due_true, told_read, told_report, verdict_report}
 use Rattle.function_top.proofs.OneTold.{TellsTrue}
 use Rattle.function_top.proofs.Saying.{due_says}
@@ -261,13 +263,19 @@ module _ (words : List Bytes) (call : Call) where
   run_settled known once status result bytes was settled =
       let answers = answers_by known words once call status bytes was result settled was.request was.due in
       let due = by_task known words once call status bytes was in
+      let headline : Headline words call = λ task told before written subject ask is h taken taken' line condition claim whole s.
+      front_written call (SaysTrue subject) status result bytes settled (due_true known task told subject h (due task told ask is))
+      before written taken taken' line whole condition claim s
+      in
+      let answer : AnswerHeadline words call = λ task told before written asked subject input ask is h one given taken taken' line claim whole tells.
+      front_written call (TellsTrue subject input) status result bytes settled (due_told known task told subject h (due task told ask is) one given)
+      before written taken taken' line whole claim tells
+      in
       record {
-        headline = λ task told before written subject ask is h taken taken' line condition claim whole s.
-            front_written call (SaysTrue subject) status result bytes settled (due_true known task told subject h (due task told ask is))
-            before written taken taken' line whole condition claim s;
-        answer = λ task told before written asked subject input ask is h one given taken taken' line claim whole tells.
-            front_written call (TellsTrue subject input) status result bytes settled (due_told known task told subject h (due task told ask is) one given)
-            before written taken taken' line whole claim tells;
+        headline = headline;
+        answer = answer;
+        framed = framed_headline known words call headline;
+        framed_answer = framed_answer_headline known words call answer;
         form = front_written call (IsKnown call.left) status result bytes settled (known_by known words once call status bytes was was.request was.due);
         answers = answers;
         refuses = λ none. absurd (none (was.request, was.asked));
@@ -287,14 +295,22 @@ module _ (words : List Bytes) (call : Call) where
       }
 
   -- nothing was written
-  run_silent : (result : Status) → call.taken_after ≡ call.taken → (IsReport result → ⊥) → Answers words result call
+  silent_headline : call.taken_after ≡ call.taken → Headline words call
+  silent_headline stays = λ task told before written subject ask is h taken taken' line condition claim whole s.
+      nothing_written call (SaysTrue subject) stays before written taken taken' line whole condition claim s
+
+  silent_answer : call.taken_after ≡ call.taken → AnswerHeadline words call
+  silent_answer stays = λ task told before written asked subject input ask is h one given taken taken' line claim whole tells.
+      nothing_written call (TellsTrue subject input) stays before written taken taken' line whole claim tells
+
+  run_silent : KnownTexts → (result : Status) → call.taken_after ≡ call.taken → (IsReport result → ⊥) → Answers words result call
       → (¬ Accepted words → (result ≡ Words) ⊎ (result ≡ NoMemory)) → IsComplete words result call → CoversDemos words result call
       → IsFitComplete words result call → IsRun words result call
-  run_silent result stays none answers refuses complete demos fit_complete = record {
-    headline = λ task told before written subject ask is h taken taken' line condition claim whole s.
-        nothing_written call (SaysTrue subject) stays before written taken taken' line whole condition claim s;
-    answer = λ task told before written asked subject input ask is h one given taken taken' line claim whole tells.
-        nothing_written call (TellsTrue subject input) stays before written taken taken' line whole claim tells;
+  run_silent known result stays none answers refuses complete demos fit_complete = record {
+    headline = silent_headline stays;
+    answer = silent_answer stays;
+    framed = framed_headline known words call (silent_headline stays);
+    framed_answer = framed_answer_headline known words call (silent_answer stays);
     form = nothing_written call (IsKnown call.left) stays;
     answers = answers;
     refuses = refuses;
@@ -308,26 +324,26 @@ module _ (words : List Bytes) (call : Call) where
   }
 
   -- since a read failed
-  pub run_unread : AskOnce words → (task : Task) → Ask words (analysis task) → call.taken_after ≡ call.taken → Answers words ReadFault call
+  pub run_unread : KnownTexts → AskOnce words → (task : Task) → Ask words (analysis task) → call.taken_after ≡ call.taken → Answers words ReadFault call
       → IsRun words ReadFault call
-  run_unread once task ask stays answers =
-      run_silent ReadFault stays (λ report. elim report [ inl all ↦ cc | inr some ↦ cc ]) answers (λ none. absurd (none (analysis task, ask)))
+  run_unread known once task ask stays answers =
+      run_silent known ReadFault stays (λ report. elim report [ inl all ↦ cc | inr some ↦ cc ]) answers (λ none. absurd (none (analysis task, ask)))
       (λ task text subject ask is h limits given limited reads writes. absurd (reads answers.0))
       (λ number own. absurd (no_demo words once task ask number own))
       (λ domain text names body own. absurd (no_fit words once task ask domain own))
 
-  pub run_fit_unread : AskOnce words → (domain : Domain) → Ask words (fit domain) → call.taken_after ≡ call.taken → Answers words ReadFault call
+  pub run_fit_unread : KnownTexts → AskOnce words → (domain : Domain) → Ask words (fit domain) → call.taken_after ≡ call.taken → Answers words ReadFault call
       → IsRun words ReadFault call
-  run_fit_unread once domain ask stays answers =
-      run_silent ReadFault stays (λ report. elim report [ inl all ↦ cc | inr some ↦ cc ]) answers (λ none. absurd (none (fit domain, ask)))
+  run_fit_unread known once domain ask stays answers =
+      run_silent known ReadFault stays (λ report. elim report [ inl all ↦ cc | inr some ↦ cc ]) answers (λ none. absurd (none (fit domain, ask)))
       (λ task text subject own. absurd (no_fit words once task own domain ask))
       (λ number own. absurd (fit_no_demo words once domain ask number own))
       (λ domain text names body ask is h limits reads writes. absurd (reads answers.0))
 
   -- since memory ran out
-  pub run_out : call.taken_after ≡ call.taken → Answers words NoMemory call → IsRun words NoMemory call
-  run_out stays answers =
-      run_silent NoMemory stays (λ report. elim report [ inl all ↦ cc | inr some ↦ cc ]) answers (λ none. inr refl)
+  pub run_out : KnownTexts → call.taken_after ≡ call.taken → Answers words NoMemory call → IsRun words NoMemory call
+  run_out known stays answers =
+      run_silent known NoMemory stays (λ report. elim report [ inl all ↦ cc | inr some ↦ cc ]) answers (λ none. inr refl)
       (λ task text subject ask is h limits given limited reads writes. inr (inr refl)) (λ number ask writes. inr refl)
       (λ domain text names body ask is h limits reads writes. inr (inr refl))
 
@@ -338,6 +354,8 @@ module _ (words : List Bytes) (call : Call) where
       record {
         headline = λ task told before written subject ask. absurd (none (analysis task, ask));
         answer = λ task told before written asked subject input ask. absurd (none (analysis task, ask));
+        framed = λ task told before written subject unit ask. absurd (none (analysis task, ask));
+        framed_answer = λ task told before written asked subject unit input ask. absurd (none (analysis task, ask));
         form = front_written call (IsKnown call.left) Words result usage_text settled (usage_known call.left);
         answers = rw whole.0 (inl none, whole.1);
         refuses = λ none. inl whole.0;

@@ -14,6 +14,7 @@ use Rattle.function_top.specs.Demo.{IsDemoDue}
 use Rattle.function_top.specs.Output.{IsDueOn, IsReport, IsWithinLimits}
 use Rattle.function_top.specs.Form.{Form}
 use Rattle.function_top.specs.Fitting.{AreMetByInts, IsFitDueOn}
+use Rattle.function_top.specs.Framed.{FramedAnswerHeadline, FramedHeadline}
 use Rattle.function_top.specs.Headline.{AnswerHeadline, FitHeadline, Headline}
 use Rattle.function_top.specs.ProgramText.{IsProgramText}
 use Rattle.step_meaning.specs.Syntax.{Statements}
@@ -110,6 +111,8 @@ SaysWhatFits words status call =
 pub record IsRun (words : List (List ℕ)) (status : Status) (call : Call) : Type 0 where
   pub headline : Headline words call
   pub answer : AnswerHeadline words call
+  pub framed : FramedHeadline words call
+  pub framed_answer : FramedAnswerHeadline words call
   pub form : Form call
   pub answers : Answers words status call
   pub refuses : ¬ Accepted words → (status ≡ Words) ⊎ (status ≡ NoMemory)

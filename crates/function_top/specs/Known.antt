@@ -1,6 +1,7 @@
 -- What is known of the texts of programs, of formulas and of lines.
 use Rattle.std.specs.Prelude.{◌≡◌, ◌≢◌, ℕ, List, All}
-use Rattle.formula_parse.specs.Laws.{TextsAreUnique as FormulasAreUnique}
+use Rattle.normal_form.specs.Laws.{NormalFormsKeepVariables}
+use Rattle.formula_parse.specs.Laws.{TextsAreUnique as FormulasAreUnique, TextsNameTheirVariables}
 use Rattle.linear_cons.specs.declared.affine.Affine.{Affine}
 use Rattle.line_text.specs.declared.claim.Claim.{Claim}
 use Rattle.line_text.specs.Names.{AreNames}
@@ -36,6 +37,8 @@ pub record KnownTexts : Type 0 where
   pub own_unique : OwnNamesAreUnique
   pub own_named : OwnNamesAreNames
   pub own_fewer : OwnNamesAreFewer
+  pub variables : TextsNameTheirVariables
+  pub normal_variables : NormalFormsKeepVariables
   pub opening : OpenAsLines
   pub lines : (names : List (List ℕ)) → AreNames names → KnownLines names
   pub alone : (names : List (List ℕ)) → AreNames names → KnownClaims names

@@ -5,6 +5,7 @@ pub mod Subject
 pub mod Asking
 pub mod TrueLine
 pub mod Headline
+pub mod Framed
 pub mod Refusals
 pub mod Exact
 pub mod Found

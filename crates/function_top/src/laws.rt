@@ -23,8 +23,9 @@ ghost use Rattle.function_top.specs.Subject.{Subject};
 ghost use Rattle.function_top.specs.Known.{KnownTexts};
 
 use claim_line::laws::{a_line_tells_at_most_one_claim, claims_have_their_own_form};
-use formula_parse::a_text_is_one_formula;
+use formula_parse::{a_text_is_one_formula, texts_name_their_variables};
 use line_text::laws::{a_line_spells_at_most_one_claim, lines_have_their_own_form};
+use normal_form::normal_forms_keep_variables;
 use source_parse::{a_text_is_one_unit, names_of_units_are_spelled_as_names};
 
 /// A law: each input of a program meets exactly one line of the sections of its report below the exact part, which claims what the trees that were found
@@ -62,6 +63,8 @@ pub(crate) fn texts_are_known()
 {
     a_text_is_one_unit();
     a_text_is_one_formula();
+    texts_name_their_variables();
+    normal_forms_keep_variables();
     names_of_units_are_spelled_as_names();
     lines_have_their_own_form();
     a_line_spells_at_most_one_claim();

@@ -1,3 +1,4 @@
+pub mod Agreeing
 pub mod Comings
 pub mod Ending
 pub mod Lawful

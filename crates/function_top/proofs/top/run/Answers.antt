@@ -55,7 +55,7 @@ returns-in-Ok-None-answer-clause-run g c =
     let words = texts c.args.words.now in
     let order = c.in-Ok-Some-Analysis in
     let rose = rw c.in-Ok-None-answer.field-0-is at c.in-Ok-None-answer.ensures.due in
-    run_unread words _ (once words order.field-0 order.ensures) (task_of order.query)
+    run_unread words _ c.texts_are_known.ensures (once words order.field-0 order.ensures) (task_of order.query)
     (served words order.field-0 order.ensures order.query (order.field-0-is ∙ ap Some order.field-0-0-is)) refl (rose, keeps_itself _)
 
 pub returns-in-Ok-None-answer-clause-unread : goal.returns-in-Ok-None-answer-clause-unread
@@ -64,7 +64,7 @@ returns-in-Ok-None-answer-clause-unread g c = λ none no_fit.
     absurd (none (task_of order.query) (served (texts c.args.words.now) order.field-0 order.ensures order.query (order.field-0-is ∙ ap Some order.field-0-0-is)))
 
 pub returns-in-Err-answer-clause-run : goal.returns-in-Err-answer-clause-run
-returns-in-Err-answer-clause-run g c = run_out (texts c.args.words.now) _ refl (c.in-Err-answer.ensures.stays, keeps_itself _)
+returns-in-Err-answer-clause-run g c = run_out (texts c.args.words.now) _ c.texts_are_known.ensures refl (c.in-Err-answer.ensures.stays, keeps_itself _)
 
 pub returns-in-Err-answer-clause-unread : goal.returns-in-Err-answer-clause-unread
 returns-in-Err-answer-clause-unread g c = λ none no_fit.
@@ -89,7 +89,7 @@ returns-in-Ok-clause-run g c =
     }) (rw c.in-Ok.ensures.status at settled)
 
 pub returns-in-Err-demo-clause-run : goal.returns-in-Err-demo-clause-run
-returns-in-Err-demo-clause-run g c = run_out (texts c.args.words.now) _ refl (refl, keeps_itself _)
+returns-in-Err-demo-clause-run g c = run_out (texts c.args.words.now) _ c.texts_are_known.ensures refl (refl, keeps_itself _)
 
 pub returns-in-Ok-None-clause-run : goal.returns-in-Ok-None-clause-run
 returns-in-Ok-None-clause-run g c =
@@ -101,7 +101,7 @@ pub returns-in-Ok-None-clause-asked : goal.returns-in-Ok-None-clause-asked
 returns-in-Ok-None-clause-asked g c = (0, omega (arith), unasked (λ a. (goal.Adviser-dyn g (a.vtable, a.value)).asked_of a.value) c.args.advisers.now.items)
 
 pub returns-in-Err-clause-run : goal.returns-in-Err-clause-run
-returns-in-Err-clause-run g c = run_out (texts c.args.words.now) _ refl (refl, keeps_itself _)
+returns-in-Err-clause-run g c = run_out (texts c.args.words.now) _ c.texts_are_known.ensures refl (refl, keeps_itself _)
 
 pub returns-in-Err-clause-asked : goal.returns-in-Err-clause-asked
 returns-in-Err-clause-asked g c = (0, omega (arith), unasked (λ a. (goal.Adviser-dyn g (a.vtable, a.value)).asked_of a.value) c.args.advisers.now.items)
@@ -130,11 +130,11 @@ returns-in-Ok-None-fit_answer-clause-run g c =
     let words = texts c.args.words.now in
     let order = c.in-Ok-Some-Fit in
     let rose = rw c.in-Ok-None-fit_answer.field-0-is at c.in-Ok-None-fit_answer.ensures.due in
-    run_fit_unread words _ (once words order.field-0 order.ensures) order.domain
+    run_fit_unread words _ c.texts_are_known.ensures (once words order.field-0 order.ensures) order.domain
     (fitted words order.field-0 order.ensures order.domain (order.field-0-is ∙ ap Some order.field-0-0-is)) refl (rose, keeps_itself _)
 
 pub returns-in-Err-fit_answer-clause-run : goal.returns-in-Err-fit_answer-clause-run
-returns-in-Err-fit_answer-clause-run g c = run_out (texts c.args.words.now) _ refl (c.in-Err-fit_answer.ensures.stays, keeps_itself _)
+returns-in-Err-fit_answer-clause-run g c = run_out (texts c.args.words.now) _ c.texts_are_known.ensures refl (c.in-Err-fit_answer.ensures.stays, keeps_itself _)
 
 pub returns-in-Ok-Some-fit_answer-clause-unread : goal.returns-in-Ok-Some-fit_answer-clause-unread
 returns-in-Ok-Some-fit_answer-clause-unread g c = λ none no_fit.
