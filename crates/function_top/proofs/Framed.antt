@@ -30,8 +30,8 @@ use Rattle.line_text.specs.declared.claim.Claim.{Claim}
 use Rattle.line_text.specs.declared.claim.Claim.TheVariants.{Exactly, Within, Holds, Ranked, Fits, Unknown}
 use Rattle.command_words.specs.Order.{Task}
 use Rattle.function_top.specs.Call.{Call}
-use Rattle.function_top.specs.Framed.{FramedAnswerHeadline, FramedHeadline, IsLongestIn, IsTrueIn, IsWithin}
-use Rattle.function_top.specs.Headline.{AnswerHeadline, Headline}
+use Rattle.function_top.specs.Framed.{FramedAnswerHeadline, FramedHeadline, IsLongestIn, IsTrueAnswerOfFrames, IsTrueIn, IsTrueTextOfFrames, IsWithin}
+use Rattle.function_top.specs.Headline.{AnswerHeadline, Headline, IsTrueAnswer, IsTrueText}
 use Rattle.function_top.specs.Known.{KnownTexts}
 use Rattle.function_top.specs.Subject.{IsFormulaAsked, IsSubject, Subject}
 use Rattle.function_top.specs.TrueLine.{IsLongest, IsTrueOf}
@@ -107,7 +107,7 @@ module _ (known : KnownTexts) (task : Task) (text : List ℕ) (subject : Subject
         numbers (start body input) begins
         (framing_starts table main unit.valid.routines unit.valid.tidy fresh stores.fresh_long input mine stores.input_long stores.mine_long own_same) there
 
-    pub true_too : (claim : Claim) → IsTrueOf subject claim input → IsTrueIn system subject.formula claim input begins
+    true_too : (claim : Claim) → IsTrueOf subject claim input → IsTrueIn system subject.formula claim input begins
     true_too (Exactly number) there = longest_too number (subst (λ (b : Statements). IsLongest number (start b input)) same_body there)
     true_too (Within bound) there =
         within_too (value_at bound input) (subst (λ (b : Statements). WithinBound (value_at bound input) (normal subject.formula) (start b input)) same_body there)
@@ -118,14 +118,17 @@ module _ (known : KnownTexts) (task : Task) (text : List ℕ) (subject : Subject
     true_too Fits there = tt
     true_too Unknown there = tt
 
+  pub text_too : (text : List ℕ) → IsTrueText subject text → IsTrueTextOfFrames unit subject text
+  text_too text truth line condition claim whole spells input is_input meets mine fresh stores =
+      true_too mine input fresh stores claim ((truth line condition claim whole spells).holds input is_input meets)
+
+  pub answer_too : (input : Store) (text : List ℕ) → IsTrueAnswer subject input text → IsTrueAnswerOfFrames unit subject input text
+  answer_too input text truth line claim whole tells mine fresh stores = true_too mine input fresh stores claim (truth line claim whole tells)
+
 pub framed_headline : KnownTexts → (words : List (List ℕ)) (call : Call) → Headline words call → FramedHeadline words call
-framed_headline known words call headline task text before written subject unit ask left h is taken taken_after line condition claim whole spells input is_input meets
-    mine fresh stores =
-    let truth = headline task text before written subject ask left h taken taken_after line condition claim whole spells in
-    true_too known task text subject h unit is mine input fresh stores claim (truth.holds input is_input meets)
+framed_headline known words call headline task text before written subject unit ask left h is taken taken_after =
+    text_too known task text subject h unit is written (headline task text before written subject ask left h taken taken_after)
 
 pub framed_answer_headline : KnownTexts → (words : List (List ℕ)) (call : Call) → AnswerHeadline words call → FramedAnswerHeadline words call
-framed_answer_headline known words call answer task text before written asked subject unit input ask left h is one given taken taken_after line claim whole tells
-    mine fresh stores =
-    true_too known task text subject h unit is mine input fresh stores claim
-    (answer task text before written asked subject input ask left h one given taken taken_after line claim whole tells)
+framed_answer_headline known words call answer task text before written asked subject unit input ask left h is one given taken taken_after =
+    answer_too known task text subject h unit is input written (answer task text before written asked subject input ask left h one given taken taken_after)

@@ -52,19 +52,27 @@ IsTrueOfFrames unit subject claim input =
     → IsTrueIn (framed (table_of unit.funcs unit.names unit.body) fresh) subject.formula claim input
     (start (table_of unit.funcs unit.names unit.body) (length unit.funcs) mine)
 
+-- whatever a whole line of the text says over the subject's names is true of the unit's framed runs from each input that meets the line's condition
+abbrev pub IsTrueTextOfFrames : Unit → Subject → List ℕ → Type 0
+IsTrueTextOfFrames unit subject text =
+    (line : List ℕ) (condition : List Affine) (claim : Claim) → IsWholeLine text line → Spells subject.names line condition claim
+    → (input : Store) → IsInput (length subject.names) input → MeetsCondition input condition → IsTrueOfFrames unit subject claim input
+
+-- whatever a whole line of the text tells that is a claim alone is true of the input's framed runs of the unit
+abbrev pub IsTrueAnswerOfFrames : Unit → Subject → Store → List ℕ → Type 0
+IsTrueAnswerOfFrames unit subject input text =
+    (line : List ℕ) (claim : Claim) → IsWholeLine text line → Tells subject.names line claim → IsTrueOfFrames unit subject claim input
+
 -- Where the source told a text that is a unit, with a subject by what the words ask for, whatever a whole line among the bytes that the sink took in the call says
--- is true of the framed runs of that unit from each input that meets the line's condition.
+-- is true of the framed runs of that unit.
 abbrev pub FramedHeadline : List (List ℕ) → Call → Type 0
 FramedHeadline words call =
     (task : Task) (text before written : List ℕ) (subject : Subject) (unit : Unit) → Ask words (analysis task) → call.left ≡ Some text → IsSubject task text subject
-    → IsUnitText text unit → call.taken ≡ Some before → call.taken_after ≡ Some (before ++ written)
-    → (line : List ℕ) (condition : List Affine) (claim : Claim) → IsWholeLine written line → Spells subject.names line condition claim
-    → (input : Store) → IsInput (length subject.names) input → MeetsCondition input condition → IsTrueOfFrames unit subject claim input
+    → IsUnitText text unit → call.taken ≡ Some before → call.taken_after ≡ Some (before ++ written) → IsTrueTextOfFrames unit subject written
 
 -- the same where one input is asked for: of its framed runs
 abbrev pub FramedAnswerHeadline : List (List ℕ) → Call → Type 0
 FramedAnswerHeadline words call =
     (task : Task) (text before written asked : List ℕ) (subject : Subject) (unit : Unit) (input : Store) → Ask words (analysis task) → call.left ≡ Some text
     → IsSubject task text subject → IsUnitText text unit → task.input ≡ Some asked → IsInputText (asked_names subject) asked input
-    → call.taken ≡ Some before → call.taken_after ≡ Some (before ++ written)
-    → (line : List ℕ) (claim : Claim) → IsWholeLine written line → Tells subject.names line claim → IsTrueOfFrames unit subject claim input
+    → call.taken ≡ Some before → call.taken_after ≡ Some (before ++ written) → IsTrueAnswerOfFrames unit subject input written

@@ -3,9 +3,11 @@
 ghost use Rattle.std.specs.Prelude.{◌≡◌, ◌≤◌, ◌<◌, ◌+◌, ◌^◌, ℕ, List, All, IfOk, Some, length};
 ghost use Rattle.step_meaning.specs.Outcome.{Store};
 ghost use Rattle.step_meaning.specs.Syntax.{size_of, statements};
+ghost use Rattle.call_meaning.specs.declared.unit.Unit.{Unit};
 ghost use Rattle.ctl_formula.specs.Mirror.{ctl};
 ghost use Rattle.normal_form.specs.Rows.{RowsAreOver};
 ghost use Rattle.ctl_rounds.specs.Asked.{AreAskedAlike};
+ghost use Rattle.source_parse.specs.Derives.{IsUnitText};
 ghost use Rattle.input_text.specs.Input.{IsInputText};
 ghost use Rattle.report_text.specs.declared.report.Report.{Report};
 ghost use Rattle.report_text.specs.Printed.{IsReportText};
@@ -14,6 +16,7 @@ ghost use Rattle.function_top.specs.Output.{IsDueOn, IsReport, IsVerdict, SaysRe
 ghost use Rattle.function_top.specs.Explained.{explained, explanation};
 ghost use Rattle.function_top.specs.Fitting.{IsFitDueOn};
 ghost use Rattle.function_top.specs.Form.{HasKnownLines};
+ghost use Rattle.function_top.specs.Framed.{IsTrueAnswerOfFrames, IsTrueTextOfFrames};
 ghost use Rattle.function_top.specs.Headline.{IsTrueAnswer, IsTrueText};
 ghost use Rattle.command_words.specs.Order.{Task, task_of};
 ghost use Rattle.function_top.specs.Printable.{IsFoundPrintable};
@@ -59,6 +62,11 @@ pub fn report_on(
     ensures form { IfOk result (λ due. HasKnownLines (Some text.now) due.bytes.items) }
     ensures answer { IfOk result (λ due. (subject : Subject) (asked : List ℕ) (input : Store) → IsSubject (task_of query.now) text.now subject
         → (task_of query.now).input ≡ Some asked → IsInputText (asked_names subject) asked input → IsTrueAnswer subject input due.bytes.items) }
+    ensures framed { IfOk result (λ due. (subject : Subject) (unit : Unit) → IsSubject (task_of query.now) text.now subject → IsUnitText text.now unit
+        → IsTrueTextOfFrames unit subject due.bytes.items) }
+    ensures framed_answer { IfOk result (λ due. (subject : Subject) (unit : Unit) (asked : List ℕ) (input : Store) → IsSubject (task_of query.now) text.now subject
+        → IsUnitText text.now unit → (task_of query.now).input ≡ Some asked → IsInputText (asked_names subject) asked input
+        → IsTrueAnswerOfFrames unit subject input due.bytes.items) }
     ensures says { IfOk result (λ due. IsReport due.status → (subject : Subject) → IsSubject (task_of query.now) text.now subject
         → Says (task_of query.now) subject due.status due.bytes.items) }
     ensures asked { AreAskedAlike (λ adviser. asked_of adviser) advisers.old.items advisers.new.items (λ times. IfOk result (λ due. due.turns ≡ times)) }
