@@ -40,8 +40,6 @@ QUESTIONS = {
 PORTS = ("clap",)
 # What stands behind the definitions that the list names, in a file that has more.
 LAST = "-- What follows has no part in the headline."
-# Definitions that stand on the wrong side of that line until their file is changed for another reason: their crates stand below nearly all others, which would be proved anew.
-WAITING = {"step_meaning/Syntax": {"of_list", "expression"}, "step_meaning/Run": {"EndsWithin"}, "source_lex/Spans": {"IsWithin", "InOrderFrom"}}
 
 HEAD = re.compile(r"^(\s*)(?:abbrev |unfoldable )?(?:pub )?(?:abbrev |unfoldable )?(data |record )?([\w'-]+)(?: [({][^=]*)? : ")
 IMPORT = re.compile(r"^\s*(?:pub )?use ([\w.]+?)(?:\.\{([^}]*)\})?(?: as (\w+))?$")
@@ -291,7 +289,7 @@ def misplaced(repository, items):
             continue
         module = repository.module(crate, file)
         for item in sorted(set(module.names.values()), key=lambda item: item.at):
-            if (item in needed) != (item.at < module.last) and item.name not in WAITING.get(f"{crate}/{file}", ()):
+            if (item in needed) != (item.at < module.last):
                 yield f"crates/{crate}/specs/{file}.antt: {item.name} stands on the wrong side of '{LAST}'"
 
 

@@ -19,7 +19,8 @@ Alike c d = (front c.todo ≡ front d.todo) × (c.store ≡ d.store)
 abbrev pub Respects : Property → Type 0
 Respects P = (c d : Configuration) → Alike c d → P c → P d
 
-in_step : IsBisimulation programs programs (λ a. ⊤) Alike
+-- programs are in step with themselves
+pub in_step : IsBisimulation programs programs (λ a. ⊤) Alike
 in_step = record {
   values = λ a asked c d alike. ap (value_at a) alike.1;
   ends = λ c d alike. same_end c d alike.0 alike.1;

@@ -12,6 +12,7 @@ use Rattle.decision_tree.specs.contracts.tree.Tree.{the_row as tree_row}
 -- what a clause has as R.Rank
 abbrev pub RankMembers : Type 0 → Type 1
 RankMembers R = record {
+  hash_input : R → List (List ℕ);
   eq : R → R → Bool;
   PARTS : ℕ;
   Value : Type 0;
@@ -52,5 +53,5 @@ LendsTrees R rank list trees = Lends
       greater_fits = rank.greater_fits;
       where_negative = rank.where_negative;
       negative_fits = rank.negative_fits;
-    }) (record { eq = rank.eq }))
+    }) (record { eq = rank.eq }) (record { hash_input = rank.hash_input }))
     (Array (tree_row R) 0) list trees (with_trees list.now)

@@ -12,7 +12,7 @@ use linear_cons::{Affine, Linear, Row, RowKind, Wide};
 
 /// An affine function as a rank: it exceeds another where its value is greater, and is a natural
 /// where its value is at least 0.
-#[derive(Clone, Copy, PartialEq, Eq, Debug)]
+#[derive(Clone, Copy, PartialEq, Eq, Hash, Debug)]
 pub struct AffineRank {
     pub value: Affine,
 }

@@ -7,6 +7,7 @@ ghost use Rattle.decision_tree.specs.Alternatives.{Alternatives, MeetsAny, part_
 ghost use Rattle.decision_tree.specs.Trend.{GreatestFits, RunsWith, Trend, greatest_of};
 
 use linear_cons::{Affine, Linear, RowKind, Wide};
+use std::hash::Hash;
 
 /// How one part of two ranks compares: the first rank is the greater where a store meets `more`, and the next part decides where it meets each of
 /// `same`. Where there is no `same` the next part decides beside it.
@@ -20,7 +21,7 @@ pub struct Comparison {
 ///
 /// `Wide` comes from a call exactly where the exact answer has a number outside `i128`, or forms one
 /// on the way; what each call answers is a function of its arguments.
-pub trait Rank: Copy + Eq {
+pub trait Rank: Copy + Eq + Hash {
     /// How many parts are compared, the highest first.
     const PARTS: u8;
 

@@ -2,7 +2,7 @@
 use linear_cons::{Affine, Wide};
 
 /// Which next states a leaf speaks of at a step.
-#[derive(Clone, Copy, PartialEq, Eq, Debug)]
+#[derive(Clone, Copy, PartialEq, Eq, Hash, Debug)]
 pub enum Pick {
     /// Every next state.
     All,
@@ -15,7 +15,7 @@ pub enum Pick {
 }
 
 /// The reason for which a leaf is defined.
-#[derive(Clone, Copy, PartialEq, Eq, Debug)]
+#[derive(Clone, Copy, PartialEq, Eq, Hash, Debug)]
 pub enum Why {
     /// The program has ended.
     End,
@@ -36,7 +36,7 @@ pub enum Why {
 }
 
 /// What a tree gave up for at an undefined leaf.
-#[derive(Clone, Copy, PartialEq, Eq, Debug)]
+#[derive(Clone, Copy, PartialEq, Eq, Hash, Debug)]
 pub enum Cause {
     /// A number lies outside `i128`.
     Wide(Wide),

@@ -13,7 +13,7 @@ use crate::exact::{Op, Wide};
 pub const PLACES: usize = 16;
 
 /// The function `coef[0] * x0 + .. + coef[15] * x15 + constant` of a store of sixteen whole numbers.
-#[derive(Clone, Copy, PartialEq, Eq, Debug)]
+#[derive(Clone, Copy, PartialEq, Eq, Hash, Debug)]
 pub struct Affine {
     pub coef: [i128; 16],
     pub constant: i128,

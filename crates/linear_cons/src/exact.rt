@@ -4,7 +4,7 @@ ghost use Rattle.linear_cons.specs.Numbers.{Fits128};
 ghost use Rattle.linear_cons.specs.Exact.{exact_result};
 
 /// An operation on two whole numbers.
-#[derive(Clone, Copy, PartialEq, Eq, Debug)]
+#[derive(Clone, Copy, PartialEq, Eq, Hash, Debug)]
 pub enum Op {
     Add,
     Sub,
@@ -12,7 +12,7 @@ pub enum Op {
 }
 
 /// Two numbers whose exact sum, difference (`left - right`) or product lies outside `i128`.
-#[derive(Clone, Copy, PartialEq, Eq, Debug)]
+#[derive(Clone, Copy, PartialEq, Eq, Hash, Debug)]
 pub struct Wide {
     pub left: i128,
     pub right: i128,

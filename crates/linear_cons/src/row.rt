@@ -7,7 +7,7 @@ use crate::divisor::divisor_of;
 use crate::exact::Wide;
 
 /// The constraint `affine >= 0`, normalised: the greatest common divisor of its coefficients is 1.
-#[derive(Clone, Copy, PartialEq, Eq, Debug)]
+#[derive(Clone, Copy, PartialEq, Eq, Hash, Debug)]
 pub struct Row {
     pub affine: Affine,
     ghost primitive: { IsPrimitive affine.coef },

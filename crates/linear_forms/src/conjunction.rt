@@ -202,9 +202,9 @@ fn add_kept(conjunction: Option<Rows>, list: &mut Vec<Rows>) -> Result<(), Alloc
     Ok(())
 }
 
-// The rows behind a constraint, if there is one: it comes first, or drops them all where it never holds.
+/// The rows behind a constraint, if there is one: it comes first, or drops them all where it never holds. The only error is want of memory.
 #[tactic(auto, using(linear_cons::proofs::KindLaws::row_kind_unique))]
-fn with_constraint(
+pub fn with_constraint(
     alloc: Global,
     constraint: Option<Affine>,
     rows: Option<Rows>,

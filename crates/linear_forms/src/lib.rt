@@ -11,6 +11,6 @@ pub mod laws;
 mod linear;
 mod product;
 
-pub use conjunction::spread;
+pub use conjunction::{spread, with_constraint};
 pub use count::conjunctions;
 pub use linear::{affine_of, linearise};

@@ -8,10 +8,10 @@ use Rattle.ordinal_rank.specs.Systems.{ComesBy, ComesTo, EndsAfter, EndsBy, Ends
 
 module _ (S T : System) (Asked : Affine → Type 0) (R : S.State → T.State → Type 0) (b : IsBisimulation S T Asked R) where
   -- where the one has the first property, the other has the second
-  abbrev Passes : (S.State → Type 0) → (T.State → Type 0) → Type 0
+  abbrev pub Passes : (S.State → Type 0) → (T.State → Type 0) → Type 0
   Passes X Y = (c : S.State) (d : T.State) → R c d → X c → Y d
 
-  comes_same : (n : ℕ) (X : S.State → Type 0) (Y : T.State → Type 0) → Passes X Y → Passes (ComesTo S n X) (ComesTo T n Y)
+  pub comes_same : (n : ℕ) (X : S.State → Type 0) (Y : T.State → Type 0) → Passes X Y → Passes (ComesTo S n X) (ComesTo T n Y)
   comes_same zero X Y same c d r (inl final) = inl (b.ends c d r final)
   comes_same zero X Y same c d r (inr there) = inr (same c d r there)
   comes_same (suc n) X Y same c d r (inl final) = inl (b.ends c d r final)
@@ -19,7 +19,7 @@ module _ (S T : System) (Asked : Affine → Type 0) (R : S.State → T.State →
   comes_same (suc n) X Y same c d r (inr (inr ahead)) =
       inr (inr (λ e step. let other = b.steps_back c d r e step in comes_same n X Y same other.0 e other.2 (ahead other.0 other.1)))
 
-  by_same : (order n : ℕ) (X : S.State → Type 0) (Y : T.State → Type 0) → Passes X Y → Passes (ComesBy S order n X) (ComesBy T order n Y)
+  pub by_same : (order n : ℕ) (X : S.State → Type 0) (Y : T.State → Type 0) → Passes X Y → Passes (ComesBy S order n X) (ComesBy T order n Y)
   by_same zero n X Y same c d r h = comes_same n X Y same c d r h
   by_same (suc order) zero X Y same c d r h = same c d r h
   by_same (suc order) (suc n) X Y same c d r h =

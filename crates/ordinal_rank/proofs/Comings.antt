@@ -1,12 +1,12 @@
 -- What is true of ends that are bounded one after the other.
-use Rattle.std.specs.Prelude.{ℕ, zero, suc, ◌+◌, ℤ, pos, negsuc, List, [], ◌∷◌, length}
-use Rattle.step_meaning.specs.Step.{Configuration}
+use Rattle.std.specs.Prelude.{ℕ, zero, suc, ℤ, pos, negsuc, List, ⊤}
+use Rattle.step_meaning.specs.Step.{Configuration, programs}
 use Rattle.std.proofs.Common.{inl, inr}
 use Rattle.step_meaning.specs.Run.{EndsWithin}
-use Rattle.step_meaning.proofs.Front.{back, same_bound, same_end}
-use Rattle.ctl_formula.proofs.Alike.{Respects}
+use Rattle.ctl_formula.proofs.Alike.{Alike, Respects, in_step}
 use Rattle.ctl_formula.proofs.Classical.{Implies, Property}
-use Rattle.ordinal_rank.specs.Ends.{ComesBy, ComesTo, EndsAfter, EndsBy, EndsByFirst, EndsUnder}
+use Rattle.ordinal_rank.specs.Ends.{ComesBy, ComesTo, EndsAfter, EndsUnder}
+use Rattle.ordinal_rank.proofs.Agreeing.{by_same, comes_same, under_same}
 
 -- where the property holds already
 pub comes_now : (n : ℕ) (X : Property) → Implies X (ComesTo n X)
@@ -21,11 +21,7 @@ comes_map (suc n) X Y more c (inr (inl there)) = inr (inl (more c there))
 comes_map (suc n) X Y more c (inr (inr ahead)) = inr (inr (λ d step. comes_map n X Y more d (ahead d step)))
 
 pub comes_respects : (n : ℕ) (X : Property) → Respects X → Respects (ComesTo n X)
-comes_respects zero X respects c d alike (inl final) = inl (same_end c d alike.0 alike.1 final)
-comes_respects zero X respects c d alike (inr there) = inr (respects c d alike there)
-comes_respects (suc n) X respects c d alike (inl final) = inl (same_end c d alike.0 alike.1 final)
-comes_respects (suc n) X respects c d alike (inr (inl there)) = inr (inl (respects c d alike there))
-comes_respects (suc n) X respects c d alike (inr (inr ahead)) = inr (inr (λ e step. ahead e (back c d alike.0 alike.1 e step)))
+comes_respects n X respects = comes_same programs programs (λ a. ⊤) Alike in_step n X X respects
 
 -- what comes to nothing but the end ends
 pub ends_of_none : (n : ℕ) → Implies (ComesTo n (λ c. ⊥)) (EndsWithin n)
@@ -51,10 +47,7 @@ by_map (suc order) (suc n) X Y more c h =
     (h.0, by_map order h.0 (ComesBy (suc order) n X) (ComesBy (suc order) n Y) (by_map (suc order) n X Y more) c h.1)
 
 pub by_respects : (order n : ℕ) (X : Property) → Respects X → Respects (ComesBy order n X)
-by_respects zero n X respects c d alike h = comes_respects n X respects c d alike h
-by_respects (suc order) zero X respects c d alike h = respects c d alike h
-by_respects (suc order) (suc n) X respects c d alike h =
-    (h.0, by_respects order h.0 (ComesBy (suc order) n X) (by_respects (suc order) n X respects) c d alike h.1)
+by_respects order n X respects = by_same programs programs (λ a. ⊤) Alike in_step order n X X respects
 
 -- what comes to nothing but the end ends, with one fewer left
 some_end : (order n : ℕ) (c : Configuration) → ((k : ℕ) (c : Configuration) → ComesBy (suc order) (suc k) None c → EndsAfter (suc order) k c)
@@ -68,24 +61,5 @@ ends_of_by (suc order) zero c h = some_end order h.0 c (ends_of_by order) h.1
 ends_of_by order (suc k) c h =
     (h.0, by_map order h.0 (ComesBy (suc order) (suc k) None) (EndsAfter (suc order) k) (ends_of_by order k) c h.1)
 
-after_respects : (order k : ℕ) → Respects (EndsAfter order k)
-after_respects zero k c d alike h = same_bound c d alike.0 alike.1 k h
-after_respects (suc order) zero c d alike h = (h.0, after_respects order h.0 c d alike h.1)
-after_respects (suc order) (suc k) c d alike h =
-    (h.0, by_respects order h.0 (EndsAfter (suc order) k) (after_respects (suc order) k) c d alike h.1)
-
-ends_respect : (order : ℕ) (z : ℤ) → Respects (EndsBy order z)
-ends_respect order (pos k) c d alike h = after_respects order k c d alike h
-ends_respect order (negsuc k) c d alike h = h
-
-first_respects : (order : ℕ) (z : ℤ) (Lower : Property) → Respects Lower → Respects (EndsByFirst order z Lower)
-first_respects order (pos zero) Lower lower c d alike h = lower c d alike h
-first_respects order (pos (suc k)) Lower lower c d alike h = after_respects order (suc k) c d alike h
-first_respects order (negsuc k) Lower lower c d alike h = h
-
 pub under_respects : (numbers : List ℤ) → Respects (EndsUnder numbers)
-under_respects [] c d alike h = h
-under_respects (n ∷ []) c d alike h = ends_respect 0 n c d alike h
-under_respects (n ∷ m ∷ []) c d alike h = ends_respect 1 n c d alike h
-under_respects (n ∷ m ∷ next ∷ rest) c d alike h =
-    first_respects (2 + length rest) n (EndsUnder (m ∷ next ∷ rest)) (under_respects (m ∷ next ∷ rest)) c d alike h
+under_respects numbers = under_same programs programs (λ a. ⊤) Alike in_step numbers

@@ -12,7 +12,7 @@ use linear_cons::{Affine, Linear, Row, RowKind, Wide};
 
 /// Five affine functions as a rank below ω^5: ω^4 times `fourth`, plus ω^3 times `third`, and so on to ω times `first`, plus `finite`. It exceeds
 /// another by the first function in this order in which they differ; it is a natural where all are at least 0. A rank of fewer parts has the function 0 in front.
-#[derive(Clone, Copy, PartialEq, Eq, Debug)]
+#[derive(Clone, Copy, PartialEq, Eq, Hash, Debug)]
 pub struct OrdinalRank {
     pub fourth: Affine,
     pub third: Affine,

@@ -10,9 +10,9 @@ use crate::case::{
     negative_quotient, of_form, plainly, sum,
 };
 use crate::ends::{product, raised, scaled};
-use crate::guards::{copied, guarded, with_constraint};
+use crate::guards::{copied, guarded};
 use linear_cons::{Affine, Bounds, Linear, Rows};
-use linear_forms::linearise;
+use linear_forms::{linearise, with_constraint};
 use std::alloc::{AllocError, Global};
 use step_meaning::{Expr, Op2};
 

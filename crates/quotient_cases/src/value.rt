@@ -7,9 +7,10 @@ ghost use Rattle.quotient_cases.specs.Cases as ways;
 
 use crate::case::Case;
 use crate::ends::{lessened, scaled};
-use crate::guards::{guarded, with_constraint};
+use crate::guards::guarded;
 use crate::making::cases_of;
 use linear_cons::{Affine, Bounds, Rows};
+use linear_forms::with_constraint;
 use std::alloc::{AllocError, Global};
 use step_meaning::Expr;
 

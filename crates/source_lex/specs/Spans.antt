@@ -2,6 +2,12 @@
 use Rattle.std.specs.Prelude.{ℕ, ◌<◌, ◌≤◌, List, [], ◌∷◌, length, map, slice_index_or}
 use Rattle.source_lex.specs.declared.token.Token.{Token}
 
+-- where the token of this number, counted from 0, starts; behind the last token it is the end that is given
+abbrev pub start_of : List Token → ℕ → ℕ → ℕ
+start_of tokens number end = slice_index_or (map (λ token. token.start) tokens) number end
+
+-- What follows has no part in the headline.
+
 -- the token has at least one byte, and all its bytes are within the text
 pub record IsWithin (text : List ℕ) (token : Token) : Type 0 where
   pub nonempty : token.start < token.end
@@ -11,7 +17,3 @@ pub record IsWithin (text : List ℕ) (token : Token) : Type 0 where
 abbrev pub InOrderFrom : ℕ → List Token → Type 0
 InOrderFrom i [] = Unit {0}
 InOrderFrom i (token ∷ tokens) = (i ≤ token.start) × InOrderFrom token.end tokens
-
--- where the token of this number, counted from 0, starts; behind the last token it is the end that is given
-abbrev pub start_of : List Token → ℕ → ℕ → ℕ
-start_of tokens number end = slice_index_or (map (λ token. token.start) tokens) number end

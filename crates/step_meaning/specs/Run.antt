@@ -15,10 +15,6 @@ pub record IsInput (vars : ℕ) (input : Store) : Type 0 where
 abbrev pub start : Statements → Store → Configuration
 start body input = record { todo = items_of body; store = input }
 
--- every run from `c` ends within `n` steps
-abbrev pub EndsWithin : ℕ → Configuration → Type 0
-EndsWithin n c = systems.EndsWithin programs n c
-
 -- the longest run from `c` has exactly `n` steps
 abbrev pub Longest : ℕ → Configuration → Type 0
 Longest n c = systems.Longest programs n c
@@ -29,6 +25,10 @@ pub data Reaches : Configuration → Configuration → Type 0 where
   by_step : {c d e : Configuration} → Step c d → Reaches d e → Reaches c e
 
 -- What follows has no part in the headline.
+
+-- every run from `c` ends within `n` steps
+abbrev pub EndsWithin : ℕ → Configuration → Type 0
+EndsWithin n c = systems.EndsWithin programs n c
 
 -- steps lead to `c` from some input of a program of `vars` variables with this body
 abbrev pub IsReachable : ℕ → Statements → Configuration → Type 0

@@ -44,13 +44,6 @@ mutual
     empty : Statements
     sequence : Statement → Statements → Statements
 
--- the `Statements` that a list is
-abbrev pub of_list : List Statement → Statements
-of_list [] = empty
-of_list (s ∷ more) = sequence s (of_list more)
-
--- What follows has no part in the headline.
-
 -- what an `Expr` is
 abbrev pub expression : Expr → Expression
 expression (Number z) = number z
@@ -64,6 +57,13 @@ expression (Rem' p e by) = divided remainder (expression e) by
 expression (Neg' p e) = negative (expression e)
 expression (Not' p c) = negation (expression c)
 expression (Pair' op p l q r) = pair op (expression l) (expression r)
+
+-- What follows has no part in the headline.
+
+-- the `Statements` that a list is
+abbrev pub of_list : List Statement → Statements
+of_list [] = empty
+of_list (s ∷ more) = sequence s (of_list more)
 
 -- the list that a `Statements` is
 abbrev pub list_of : Statements → List Statement
