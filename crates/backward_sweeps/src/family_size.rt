@@ -8,23 +8,28 @@ use control_flow::Transition;
 use decision_tree::{Cause, Rank, Tree};
 use std::alloc::{AllocError, Global};
 
-/// The most nodes of the trees of all labels together.
-const MOST_NODES: u64 = 1 << 20;
-
-/// The number of nodes of each label's tree.
+/// The number of nodes of each label's tree, and how many they may have together.
 #[derive(Drop)]
 pub struct FamilySize {
     nodes: Vec<u64>,
+    most: u64,
 }
 
 impl FamilySize {
-    /// That of these trees. The only error is want of memory.
-    pub fn of<R: Rank>(alloc: Global, trees: &[Tree<R>]) -> Result<FamilySize, AllocError> {
+    /// The most nodes that the trees of all labels may have together by default.
+    pub const MOST: u64 = 1 << 20;
+
+    /// That of these trees, which may have at most so many nodes together. The only error is want of memory.
+    pub fn of<R: Rank>(
+        alloc: Global,
+        trees: &[Tree<R>],
+        most: u64,
+    ) -> Result<FamilySize, AllocError> {
         let mut nodes = Vec::with_capacity(alloc, trees.len())?;
         for tree in trees {
             nodes.push(tree.size())?;
         }
-        Ok(FamilySize { nodes })
+        Ok(FamilySize { nodes, most })
     }
 
     /// Notes that the label has another tree.
@@ -34,7 +39,7 @@ impl FamilySize {
         }
     }
 
-    /// Where all trees have more than 2^20 nodes together, gives up the greatest one of a label at which something is done, and tells that label; it
+    /// Where all trees have more nodes together than they may, gives up the greatest one of a label at which something is done, and tells that label; it
     /// claims nothing then. `None` where they have no more, or where no such tree has two nodes.
     pub fn give_up_greatest<R: Rank>(
         &mut self,
@@ -62,7 +67,7 @@ impl FamilySize {
         requires { length transitions.now ≤ 1024 }
         ensures { IfSome result (λ label. (label < length transitions.now) × (is_idle (transition_in transitions.now label) ≡ false)) }
     {
-        if self.total() <= MOST_NODES {
+        if self.total() <= self.most {
             return None;
         }
         let mut greatest = None;

@@ -116,7 +116,7 @@ impl<'a, D: NumDomain> Sweeps<'a, D> {
         ensures ends { OnOk result (AreKept is_idle self.now.transitions.now (plans trees.old) (plans trees.new)) }
     {
         let mut changed = vec![in self.alloc; true; self.transitions.len()]?;
-        let mut size = FamilySize::of(self.alloc, trees)?;
+        let mut size = FamilySize::of(self.alloc, trees, FamilySize::MOST)?;
         for number in 1..=self.count {
             if !self.sweep(number, trees, &mut size, &mut changed)? {
                 break;

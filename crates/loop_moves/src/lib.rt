@@ -13,6 +13,7 @@ mod parting;
 mod paths;
 mod plan;
 mod planned;
+mod reach;
 mod search;
 mod stop;
 
@@ -22,5 +23,6 @@ pub use loops::{Head, Loops, Question};
 pub use moves::{Move, Target, add_through, through, unchanged};
 pub use parting::Parting;
 pub use plan::Plan;
+pub use reach::Arrows;
 pub use search::Search;
 pub use stop::{Stop, unless_given_up};

@@ -4,6 +4,7 @@ ghost use Rattle.std.specs.Prelude.{◌≡◌, ◌≤◌, length};
 use crate::cases::times_of;
 use crate::moves::{Move, Target, unchanged};
 use crate::plan::Plan;
+use crate::reach::Arrows;
 use crate::search::Search;
 use crate::stop::unless_given_up;
 use backward_sweeps::{Operands, tree_at};
@@ -48,6 +49,8 @@ pub struct Loops {
     pub heads: Vec<Head>,
     pub variables: u32,
     pub is_weak: bool,
+    /// For each head the indices of the heads of the loops around it.
+    around: Vec<Vec<usize>>,
     /// For each variable a number by which its coefficient in a rank is divided, so that the rank can be said behind the quotients that it gets.
     pub factors: Vec<i128>,
 }
@@ -78,8 +81,10 @@ impl Loops {
                 heads.push(head)?;
             }
         }
+        let around = around(search.alloc, &heads)?;
         Ok(Loops {
             heads,
+            around,
             variables: question.variables,
             is_weak: question.is_weak,
             factors: question.factors(search.alloc)?,
@@ -96,47 +101,15 @@ impl Loops {
         self.heads.iter().find(|head| head.label == label)
     }
 
-    /// Whether the second head stands in the body of the loop of the first: from it a path leads to the first through heads of greater labels.
-    pub(crate) fn encloses(
-        &self,
-        alloc: Global,
-        outer: u32,
-        inner: u32,
-    ) -> Result<bool, AllocError> {
-        if inner <= outer {
-            return Ok(false);
+    /// The heads of the loops in whose bodies the head at the label stands.
+    pub(crate) fn around(&self, label: u32) -> &[usize] {
+        match self.index(label) {
+            Some(index) => match self.around.get(index) {
+                Some(around) => around,
+                None => &[],
+            },
+            None => &[],
         }
-        let mut reached = Vec::new(alloc);
-        reached.push(inner)?;
-        for _ in 0..self.heads.len() {
-            let mut next = self.next_heads(alloc, &reached)?;
-            if next.contains(&outer) {
-                return Ok(true);
-            }
-            next.retain(|label| *label > outer);
-            if next.is_empty() {
-                return Ok(false);
-            }
-            reached.append(&mut next)?;
-        }
-        Ok(false)
-    }
-
-    /// The labels of the heads to which moves lead from these, without these.
-    fn next_heads(&self, alloc: Global, labels: &[u32]) -> Result<Vec<u32>, AllocError> {
-        let mut next = Vec::new(alloc);
-        for head in &self.heads {
-            if labels.contains(&head.label) {
-                for one in &head.moves {
-                    if let Target::Head(to) = one.to {
-                        if !labels.contains(&to) && !next.contains(&to) {
-                            next.push(to)?;
-                        }
-                    }
-                }
-            }
-        }
-        Ok(next)
     }
 }
 
@@ -216,6 +189,40 @@ impl<'a> Question<'a> {
         })?;
         Ok(moves)
     }
+}
+
+/// For each head the indices of those in whose loops' bodies it stands: moves lead from it to such a one through heads of greater labels. The heads stand by
+/// their labels.
+fn around(alloc: Global, heads: &[Head]) -> Result<Vec<Vec<usize>>, AllocError> {
+    let back = moves_back(alloc, heads)?;
+    let mut around = Vec::with_capacity(alloc, heads.len())?;
+    for _ in heads {
+        around.push(Vec::new(alloc))?;
+    }
+    for outer in 0..heads.len() {
+        let leads = back.reached(alloc, outer, outer)?;
+        for (inner, own) in around.iter_mut().enumerate() {
+            if inner != outer && leads.get(inner) == Some(&true) {
+                own.push(outer)?;
+            }
+        }
+    }
+    Ok(around)
+}
+
+/// Arrows from each head to those from which a move leads to it.
+fn moves_back(alloc: Global, heads: &[Head]) -> Result<Arrows, AllocError> {
+    let mut back = Arrows::none(alloc, heads.len())?;
+    for (from, head) in heads.iter().enumerate() {
+        for one in &head.moves {
+            if let Target::Head(label) = one.to {
+                if let Some(to) = heads.iter().position(|other| other.label == label) {
+                    back.add(to, from)?;
+                }
+            }
+        }
+    }
+    Ok(back)
 }
 
 /// The greatest factor of the coefficients of a variable.

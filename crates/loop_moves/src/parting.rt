@@ -174,7 +174,7 @@ impl Loops {
         let mut splits = Splits::new(alloc, self.variables);
         splits.put_all(&head.guards)?;
         match parting {
-            Parting::Guards => self.add_tests_around(alloc, &mut splits, head)?,
+            Parting::Guards => self.add_tests_around(&mut splits, head)?,
             Parting::Falls => add_falls_and_paths(&mut splits, head)?,
             Parting::Targets => {
                 add_falls_and_paths(&mut splits, head)?;
@@ -199,14 +199,9 @@ impl Loops {
     }
 
     /// Adds the tests of the loops around the head's.
-    fn add_tests_around(
-        &self,
-        alloc: Global,
-        splits: &mut Splits,
-        head: &Head,
-    ) -> Result<(), AllocError> {
-        for outer in &self.heads {
-            if self.encloses(alloc, outer.label, head.label)? {
+    fn add_tests_around(&self, splits: &mut Splits, head: &Head) -> Result<(), AllocError> {
+        for index in self.around(head.label) {
+            if let Some(outer) = self.heads.get(*index) {
                 splits.put_all(&outer.guards)?;
             }
         }
@@ -243,7 +238,7 @@ impl Loops {
                     let mut near = Splits::new(alloc, self.variables);
                     near.put_all(&next.guards)?;
                     if parting == Parting::Guards {
-                        self.add_tests_around(alloc, &mut near, next)?;
+                        self.add_tests_around(&mut near, next)?;
                     } else {
                         add_falls_and_paths(&mut near, next)?;
                     }

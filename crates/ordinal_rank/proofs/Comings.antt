@@ -1,5 +1,5 @@
 -- What is true of ends that are bounded one after the other.
-use Rattle.std.specs.Prelude.{ℕ, zero, suc, ℤ, pos, negsuc, List, ⊤}
+use Rattle.std.specs.Prelude.{ℕ, zero, suc, ℤ, List, ⊤}
 use Rattle.step_meaning.specs.Step.{Configuration, programs}
 use Rattle.std.proofs.Common.{inl, inr}
 use Rattle.step_meaning.specs.Run.{EndsWithin}

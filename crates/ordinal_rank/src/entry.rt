@@ -13,7 +13,7 @@ use crate::cells::followed;
 use crate::family::left_of;
 use crate::fitting::fit_or_given_up;
 use crate::jump::Power;
-use crate::lacking::lacks;
+use crate::lacking::{adds, lacks};
 use crate::ordinal::OrdinalRank;
 use crate::sweeps::swept;
 use backward_sweeps::{Operands, at_once};
@@ -48,17 +48,28 @@ pub fn ranked<D: NumDomain>(
 {
     let transitions = transitions_of(alloc, graph, inv)?;
     let proposed = swept(alloc, inv, &transitions, delay)?;
-    let swept = at_entry(alloc, graph, inv, &transitions, &proposed)?;
+    let swept = at_entry(
+        alloc,
+        graph,
+        inv,
+        &transitions,
+        cover,
+        &Tree::Bottom,
+        &proposed,
+    )?;
     let tree = with_synthesis(alloc, graph, inv, &transitions, cover, synthesises, swept)?;
     fit_or_given_up(alloc, &tree, &graph.program().names)
 }
 
-/// The tree at the entry of the family that the check leaves of the trees. The only error is want of memory.
+/// The tree at the entry of the family that the check leaves of the trees, or one without claims where what is proposed there claims nothing of an input
+/// of which neither the cover nor the tree says anything. The only error is want of memory.
 fn at_entry<D: NumDomain>(
     alloc: Global,
     graph: &Graph,
     inv: &Inv<D>,
     transitions: &[Transition],
+    cover: &Tree<AffineRank>,
+    ranked: &Tree<OrdinalRank>,
     proposed: &[Tree<OrdinalRank>],
 ) -> Result<Tree<OrdinalRank>, AllocError>
     requires invariants { AreInvariants D.has (length graph.now.names) (statements graph.now.body) inv.now }
@@ -67,6 +78,11 @@ fn at_entry<D: NumDomain>(
     requires trees { length proposed.now ≡ length (all_labels (statements graph.now.body)) }
     ensures { IfOk result (λ tree. BoundsEnds (length graph.now.names) (statements graph.now.body) (plan_of tree)) }
 {
+    if let Some(proposal) = proposed.get(graph.entry() as usize) {
+        if !adds(alloc, cover, ranked, proposal)? {
+            return Ok(Tree::Bottom);
+        }
+    }
     let family = left_of(alloc, graph, inv, transitions, proposed)?;
     tree_at_entry(graph, &family).copy(alloc)
 }
@@ -154,7 +170,16 @@ fn with_pairs<D: NumDomain>(
     for parting in Parting::ALL {
         if lacks(alloc, cover, &tree)? {
             if let Some(cells) = synthesis.paired(search, parting)? {
-                tree = with_cells(alloc, graph, inv, transitions, &cells, Power::First, tree)?;
+                tree = with_cells(
+                    alloc,
+                    graph,
+                    inv,
+                    transitions,
+                    cover,
+                    &cells,
+                    Power::First,
+                    tree,
+                )?;
             }
         }
     }
@@ -189,6 +214,7 @@ fn with_lists<D: NumDomain>(
                     graph,
                     inv,
                     transitions,
+                    cover,
                     &cells,
                     highest_of(parts),
                     tree,
@@ -229,6 +255,7 @@ fn with_cells<D: NumDomain>(
     graph: &Graph,
     inv: &Inv<D>,
     transitions: &[Transition],
+    cover: &Tree<AffineRank>,
     cells: &[RankedCell],
     highest: Power,
     tree: Tree<OrdinalRank>,
@@ -242,7 +269,7 @@ fn with_cells<D: NumDomain>(
     ensures { IfOk result (λ tree. BoundsEnds (length graph.now.names) (statements graph.now.body) (plan_of tree)) }
 {
     let proposed = followed(alloc, transitions, cells, highest)?;
-    let more = at_entry(alloc, graph, inv, transitions, &proposed)?;
+    let more = at_entry(alloc, graph, inv, transitions, cover, &tree, &proposed)?;
     joined(alloc, tree, &more)
 }
 

@@ -1,8 +1,7 @@
-//! Whether ranks are still wanted.
+//! Which inputs are left of which nothing is said.
 use crate::ordinal::OrdinalRank;
-use decision_tree::{AffineRank, PathFault, Trail, Tree};
+use decision_tree::{AffineRank, PathFault, Rank, Trail, Tree};
 use std::alloc::{AllocError, Global};
-use tree_unify::{TreeFault, trim};
 
 /// Whether some input may be left of which neither the cover nor the tree says anything. The only error is want of memory.
 pub(crate) fn lacks(
@@ -10,50 +9,103 @@ pub(crate) fn lacks(
     cover: &Tree<AffineRank>,
     ranked: &Tree<OrdinalRank>,
 ) -> Result<bool, AllocError> {
-    lacks_behind(alloc, &mut Trail::new(alloc), cover, ranked)
+    let open = Beyond {
+        tree: ranked,
+        asked: Undefined,
+    };
+    or_true(some_leaf(&mut Trail::new(alloc), cover, &open))
 }
 
-/// The same behind the rows of the trail.
-fn lacks_behind(
+/// Whether the proposal may claim something of an input of which neither the cover nor the tree says anything. The only error is want of memory.
+pub(crate) fn adds(
     alloc: Global,
-    trail: &mut Trail,
     cover: &Tree<AffineRank>,
     ranked: &Tree<OrdinalRank>,
+    proposal: &Tree<OrdinalRank>,
 ) -> Result<bool, AllocError> {
-    match cover {
-        Tree::Leaf { .. } => Ok(false),
-        Tree::Bottom | Tree::Top(_) => is_open(alloc, trail, ranked),
-        Tree::Node { row, yes, no } => {
-            trail.down(row)?;
-            if lacks_behind(alloc, trail, yes, ranked)? {
-                return Ok(true);
-            }
-            match trail.turn() {
-                Ok(()) => {}
-                Err(PathFault::Wide(_)) => return Ok(true),
-                Err(PathFault::Memory(error)) => return Err(error),
-            }
-            let lacks = lacks_behind(alloc, trail, no, ranked)?;
-            trail.up();
-            Ok(lacks)
+    let open = Beyond {
+        tree: ranked,
+        asked: Beyond {
+            tree: proposal,
+            asked: Defined,
+        },
+    };
+    or_true(some_leaf(&mut Trail::new(alloc), cover, &open))
+}
+
+/// What is asked at a leaf, behind the rows that lead there.
+trait AtLeaf: Drop {
+    /// Whether it is so at a leaf that is defined, or at one that isn't. The walk stands where it stood where it isn't so.
+    fn holds(&self, trail: &mut Trail, is_defined: bool) -> Result<bool, PathFault>;
+}
+
+/// That the leaf is undefined.
+#[derive(Drop)]
+struct Undefined;
+
+impl AtLeaf for Undefined {
+    fn holds(&self, _trail: &mut Trail, is_defined: bool) -> Result<bool, PathFault> {
+        Ok(!is_defined)
+    }
+}
+
+/// That the leaf is defined.
+#[derive(Drop)]
+struct Defined;
+
+impl AtLeaf for Defined {
+    fn holds(&self, _trail: &mut Trail, is_defined: bool) -> Result<bool, PathFault> {
+        Ok(is_defined)
+    }
+}
+
+/// That the leaf is undefined, and what is asked holds at some leaf of the tree there.
+#[derive(Drop)]
+struct Beyond<'t, A: AtLeaf> {
+    tree: &'t Tree<OrdinalRank>,
+    asked: A,
+}
+
+impl<'t, A: AtLeaf> AtLeaf for Beyond<'t, A> {
+    fn holds(&self, trail: &mut Trail, is_defined: bool) -> Result<bool, PathFault> {
+        if is_defined {
+            return Ok(false);
         }
+        some_leaf(trail, self.tree, &self.asked)
     }
 }
 
-/// Whether the tree may have an undefined leaf behind the rows of the trail.
-fn is_open(alloc: Global, trail: &Trail, ranked: &Tree<OrdinalRank>) -> Result<bool, AllocError> {
-    match trim(alloc, ranked, trail.rows()) {
-        Ok(rest) => Ok(!is_whole(&rest)),
-        Err(TreeFault::Full { .. } | TreeFault::Wide(_)) => Ok(true),
-        Err(TreeFault::Memory(error)) => Err(error),
-    }
-}
-
-/// Whether each leaf of the tree is defined.
-fn is_whole(tree: &Tree<OrdinalRank>) -> bool {
+/// Whether it is so at a leaf of the tree that may be met behind the rows of the trail. The walk stands where it stood where it isn't so.
+fn some_leaf<R: Rank, A: AtLeaf>(
+    trail: &mut Trail,
+    tree: &Tree<R>,
+    asked: &A,
+) -> Result<bool, PathFault> {
     match tree {
-        Tree::Bottom | Tree::Top(_) => false,
-        Tree::Leaf { .. } => true,
-        Tree::Node { row: _, yes, no } => is_whole(yes) && is_whole(no),
+        Tree::Bottom | Tree::Top(_) => asked.holds(trail, false),
+        Tree::Leaf { .. } => asked.holds(trail, true),
+        Tree::Node { row, yes, no } => match trail.settles(row) {
+            Some(true) => some_leaf(trail, yes, asked),
+            Some(false) => some_leaf(trail, no, asked),
+            None => {
+                trail.down(row)?;
+                if some_leaf(trail, yes, asked)? {
+                    return Ok(true);
+                }
+                trail.turn()?;
+                let found = some_leaf(trail, no, asked)?;
+                trail.up();
+                Ok(found)
+            }
+        },
+    }
+}
+
+/// The answer, or yes where a complement passes 128 bits. The only error is want of memory.
+fn or_true(answer: Result<bool, PathFault>) -> Result<bool, AllocError> {
+    match answer {
+        Ok(answer) => Ok(answer),
+        Err(PathFault::Wide(_)) => Ok(true),
+        Err(PathFault::Memory(error)) => Err(error),
     }
 }

@@ -17,6 +17,10 @@ use tree_widening::widen;
 /// The most sweeps.
 const SWEEPS: u32 = 32;
 
+/// The most nodes of the trees of all labels together where no run begins anew: there these sweeps find ranks of one function alone, where they widen
+/// otherwise than those of bounds do.
+const MOST_WITHOUT_JUMP: u64 = 1 << 12;
+
 /// Trees for the labels, at which this is done, proposed for `AF exit`: in each sweep, from the greatest label to the first, a label's tree is
 /// made from those of its successors, and from sweep `max(delay, 1) + 1` on that of a loop's head is widened, where something is claimed there,
 /// and pruned. The sweeps end where one changes nothing, and at the latest after 32. Nothing is promised of them: the check decides. The only
@@ -33,7 +37,7 @@ pub(crate) fn swept<D: NumDomain>(
     ensures labels { IfOk result (λ trees. length trees.items ≡ length transitions.now) }
 {
     let mut trees = begun(alloc, transitions)?;
-    let mut size = FamilySize::of(alloc, &trees)?;
+    let mut size = FamilySize::of(alloc, &trees, most_nodes(transitions))?;
     let first = delay.max(1).saturating_add(1);
     for number in 1..=SWEEPS {
         if !sweep(
@@ -98,7 +102,7 @@ fn sweep<D: NumDomain>(
     Ok(any)
 }
 
-/// Gives up the greatest trees until all have no more than 2^20 nodes together, or no more can be given up.
+/// Gives up the greatest trees until all have no more nodes together than they may, or no more can be given up.
 fn give_up_greatest(
     transitions: &[Transition],
     trees: &mut [Tree<OrdinalRank>],
@@ -189,6 +193,23 @@ pub(crate) fn before(
             holds,
             fails,
         ),
+    }
+}
+
+/// How many nodes the trees of all labels may have together.
+fn most_nodes(transitions: &[Transition]) -> u64 {
+    if transitions.iter().any(begins_anew) {
+        FamilySize::MOST
+    } else {
+        MOST_WITHOUT_JUMP
+    }
+}
+
+/// Whether a run may begin anew behind what is done: a number is chosen from a range without an end.
+fn begins_anew(transition: &Transition) -> bool {
+    match transition {
+        Transition::Choose { choice, .. } => !is_bounded(choice),
+        _ => false,
     }
 }
 

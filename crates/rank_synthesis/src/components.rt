@@ -1,15 +1,9 @@
 //! Cells that lead to one another.
 use crate::cells::{Cell, End};
+use loop_moves::Arrows;
 use std::alloc::{AllocError, Global};
 
-/// That a link leads from one cell to another.
-#[derive(Clone, Copy)]
-pub(crate) struct Edge {
-    pub(crate) from: usize,
-    pub(crate) to: usize,
-}
-
-/// For each cell the cells to which edges lead from it, itself among them, and how many.
+/// For each cell the cells to which arrows lead from it, itself among them, and how many.
 #[derive(Drop)]
 struct Reached {
     cells: Vec<Vec<bool>>,
@@ -18,24 +12,24 @@ struct Reached {
 
 /// The components of the cells, each behind those that it leads to, and in each the cells in their order.
 pub(crate) fn components(alloc: Global, cells: &[Cell]) -> Result<Vec<Vec<usize>>, AllocError> {
-    let mut edges = Vec::new(alloc);
+    let mut arrows = Arrows::none(alloc, cells.len())?;
     for (from, cell) in cells.iter().enumerate() {
         for link in &cell.links {
             if let End::Cell(to) = link.to {
-                edges.push(Edge { from, to })?;
+                arrows.add(from, to)?;
             }
         }
     }
-    components_of(alloc, cells.len(), &edges)
+    components_of(alloc, cells.len(), &arrows)
 }
 
-/// The components of so many cells between which the edges lead, each behind those that it leads to, and in each the cells in their order.
+/// The components of so many cells between which the arrows lead, each behind those that it leads to, and in each the cells in their order.
 pub(crate) fn components_of(
     alloc: Global,
     count: usize,
-    edges: &[Edge],
+    arrows: &Arrows,
 ) -> Result<Vec<Vec<usize>>, AllocError> {
-    let reached = Reached::of(alloc, count, edges)?;
+    let reached = Reached::of(alloc, count, arrows)?;
     let mut done = vec![in alloc; false; count]?;
     let mut found = Vec::new(alloc);
     // A cell reaches more cells than one that it leads to and that doesn't lead back.
@@ -56,13 +50,13 @@ pub(crate) fn components_of(
 }
 
 impl Reached {
-    fn of(alloc: Global, count: usize, edges: &[Edge]) -> Result<Reached, AllocError> {
+    fn of(alloc: Global, count: usize, arrows: &Arrows) -> Result<Reached, AllocError> {
         let mut reached = Reached {
             cells: Vec::with_capacity(alloc, count)?,
             counts: Vec::with_capacity(alloc, count)?,
         };
         for first in 0..count {
-            let own = from(alloc, count, edges, first)?;
+            let own = arrows.reached(alloc, first, 0)?;
             let count = own.iter().filter(|is_reached| **is_reached).count();
             reached.cells.push(own)?;
             reached.counts.push(count)?;
@@ -87,38 +81,4 @@ impl Reached {
             None => false,
         }
     }
-}
-
-/// Of so many cells those to which edges lead from the first, and that itself.
-fn from(
-    alloc: Global,
-    count: usize,
-    edges: &[Edge],
-    first: usize,
-) -> Result<Vec<bool>, AllocError> {
-    let mut reached = vec![in alloc; false; count]?;
-    let mut open = Vec::new(alloc);
-    note(first, &mut reached, &mut open)?;
-    for _ in 0..count {
-        let Some(cell) = open.pop() else {
-            return Ok(reached);
-        };
-        for edge in edges {
-            if edge.from == cell {
-                note(edge.to, &mut reached, &mut open)?;
-            }
-        }
-    }
-    Ok(reached)
-}
-
-/// Notes that the cell is reached, and opens it where that wasn't noted.
-fn note(cell: usize, reached: &mut [bool], open: &mut Vec<usize>) -> Result<(), AllocError> {
-    if let Some(is_reached) = reached.get_mut(cell) {
-        if !*is_reached {
-            *is_reached = true;
-            open.push(cell)?;
-        }
-    }
-    Ok(())
 }

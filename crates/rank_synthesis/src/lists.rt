@@ -1,12 +1,12 @@
 //! Ranks of up to five parts for cells: along each move the first part that changes falls. The highest part falls along as many moves as can be, and the cells
 //! that the others lead between are parted anew for the next parts.
 use crate::cells::{Cell, End, Link};
-use crate::components::{Edge, components, components_of};
+use crate::components::{components, components_of};
 use crate::farkas::{Along, Behind, Change, MANY_EXCHANGES, Solved};
 use crate::pairs::least_multiple;
 use crate::synthesis::Synthesis;
 use linear_cons::{Affine, Row};
-use loop_moves::{Move, Parting, Search, Stop, unless_given_up};
+use loop_moves::{Arrows, Move, Parting, Search, Stop, unless_given_up};
 use std::alloc::{AllocError, Global};
 
 /// The most parts.
@@ -284,14 +284,14 @@ impl Synthesis {
         ways: &[Way<'_>],
         parts: usize,
     ) -> Result<Option<Vec<Parts>>, Stop> {
-        let mut edges = Vec::new(search.alloc);
+        let mut arrows = Arrows::none(search.alloc, cells.len())?;
         for way in ways {
             if let To::Inner(to) = way.to {
-                edges.push(Edge { from: way.cell, to })?;
+                arrows.add(way.cell, to)?;
             }
         }
         let mut ranks: Ranks = vec![in search.alloc; None; cells.len()]?;
-        for component in components_of(search.alloc, cells.len(), &edges)? {
+        for component in components_of(search.alloc, cells.len(), &arrows)? {
             if component.iter().all(|index| among.contains(index)) {
                 let own = ways_of(search.alloc, ways, &component, &ranks)?;
                 match self.list(search, cells, &component, &own, parts)? {

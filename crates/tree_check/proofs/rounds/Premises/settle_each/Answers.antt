@@ -1,9 +1,19 @@
 use Rattle.std.proofs.Common.{◌-◌, arith, map}
 use Rattle.std.proofs.lemmas.Grind.{common_steps}
+use Rattle.std.proofs.lemmas.List.{length-map}
 use Rattle.decision_tree.specs.Plans.{plan_of}
 use Rattle.tree_check.specs.Rounds.{setting_on}
-use Rattle.tree_check.proofs.Settling.{advances_then, leaves_stay, supported_more}
+use Rattle.tree_check.proofs.Settling.{advances_none, advances_then, leaves_stay, past_supported, supported_more}
 use Rattle.tree_check.proofs.rounds.Premises.settle_each.Goals as goal
+
+pub loop-label-init : goal.loop-label-init
+loop-label-init g c = (
+  advances_none g.R.Rank (setting_on g.D.NumDomain c.args.self.now) (map plan_of c.args.trees.now) c.args.drops.now.items,
+  λ same label past. let count = length-map c.args.trees.now plan_of in
+      past_supported g.R.Rank (setting_on g.D.NumDomain c.args.self.now) (map plan_of c.args.trees.now) label
+      (omega (arith, count, past, c.requires.trees, c.labels-label.ensures.count)),
+  c.requires.told,
+)
 
 pub visit-requires-clause-leaves : goal.visit-requires-clause-leaves
 visit-requires-clause-leaves g c label =
