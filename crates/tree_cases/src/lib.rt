@@ -1,8 +1,9 @@
-//! Calls on decision trees and their ranks, as lines say them.
+//! Calls on decision trees, in boxes and in arenas, and their ranks, as lines say them.
 //!
 //! It is for programs that are told in lines what to do, and promises nothing but that each call returns. The front door: `answers`.
 #![tactic(auto)]
 
+mod arenas;
 mod joins;
 mod moves;
 mod ranks;
@@ -22,6 +23,9 @@ pub fn answers(
         return Ok(true);
     }
     if ranks::answers(name, words, answer) {
+        return Ok(true);
+    }
+    if arenas::answers(alloc, name, words, answer)? {
         return Ok(true);
     }
     if joins::answers(alloc, name, words, answer)? {
