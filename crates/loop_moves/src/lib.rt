@@ -5,6 +5,7 @@
 //! which rows are met. The front door: `Loops::of` a `Question`, `Loops::rows` of a `Parting`, and the `Search` that says what work is left.
 #![tactic(auto)]
 
+mod bounding;
 mod cases;
 mod comparing;
 mod loops;

@@ -2,6 +2,7 @@
 ghost use Rattle.std.specs.Prelude.{◌≡◌, ◌<◌, ◌≤◌, length};
 ghost use Rattle.control_flow.specs.Transitions.{AreOnward, LeadsWithin};
 
+use crate::bounding::back_bounded;
 use crate::cases::{back_cases, have_rows};
 use crate::loops::Question;
 use backward_sweeps::{given_up, moved_back, tree_at};
@@ -72,10 +73,10 @@ impl<'a> Question<'a> {
             },
             Transition::Choose {
                 place,
+                range,
                 choice,
                 cases,
                 to,
-                ..
             } => match self.picked_end(*choice) {
                 Some(end) => back_some(
                     alloc,
@@ -86,6 +87,9 @@ impl<'a> Question<'a> {
                 ),
                 None if have_rows(cases) => {
                     back_cases(alloc, &trees[*to as usize], place.number, cases)
+                }
+                None if self.operands.all => {
+                    back_bounded(alloc, &trees[*to as usize], place.number, range)
                 }
                 None => moved_back(alloc, self.operands.all, transition, trees),
             },
