@@ -1,7 +1,8 @@
 //! Which inputs are left of which nothing is said.
 use crate::ordinal::OrdinalRank;
-use decision_tree::{AffineRank, PathFault, Rank, Trail, Tree};
+use decision_tree::{AffineRank, Rank, Tree};
 use std::alloc::{AllocError, Global};
+use tree_unify::{Stopped, TreeFault, Walk};
 
 /// Whether some input may be left of which neither the cover nor the tree says anything. The only error is want of memory.
 pub(crate) fn lacks(
@@ -13,7 +14,7 @@ pub(crate) fn lacks(
         tree: ranked,
         asked: Undefined,
     };
-    or_true(some_leaf(&mut Trail::new(alloc), cover, &open))
+    leads_to_some(alloc, cover, &open)
 }
 
 /// Whether the proposal may claim something of an input of which neither the cover nor the tree says anything. The only error is want of memory.
@@ -30,13 +31,13 @@ pub(crate) fn adds(
             asked: Defined,
         },
     };
-    or_true(some_leaf(&mut Trail::new(alloc), cover, &open))
+    leads_to_some(alloc, cover, &open)
 }
 
 /// What is asked at a leaf, behind the rows that lead there.
 trait AtLeaf: Drop {
     /// Whether it is so at a leaf that is defined, or at one that isn't. The walk stands where it stood where it isn't so.
-    fn holds(&self, trail: &mut Trail, is_defined: bool) -> Result<bool, PathFault>;
+    fn holds(&self, walk: &mut Walk, is_defined: bool) -> Result<bool, Stopped>;
 }
 
 /// That the leaf is undefined.
@@ -44,7 +45,7 @@ trait AtLeaf: Drop {
 struct Undefined;
 
 impl AtLeaf for Undefined {
-    fn holds(&self, _trail: &mut Trail, is_defined: bool) -> Result<bool, PathFault> {
+    fn holds(&self, _walk: &mut Walk, is_defined: bool) -> Result<bool, Stopped> {
         Ok(!is_defined)
     }
 }
@@ -54,7 +55,7 @@ impl AtLeaf for Undefined {
 struct Defined;
 
 impl AtLeaf for Defined {
-    fn holds(&self, _trail: &mut Trail, is_defined: bool) -> Result<bool, PathFault> {
+    fn holds(&self, _walk: &mut Walk, is_defined: bool) -> Result<bool, Stopped> {
         Ok(is_defined)
     }
 }
@@ -67,45 +68,52 @@ struct Beyond<'t, A: AtLeaf> {
 }
 
 impl<'t, A: AtLeaf> AtLeaf for Beyond<'t, A> {
-    fn holds(&self, trail: &mut Trail, is_defined: bool) -> Result<bool, PathFault> {
+    fn holds(&self, walk: &mut Walk, is_defined: bool) -> Result<bool, Stopped> {
         if is_defined {
             return Ok(false);
         }
-        some_leaf(trail, self.tree, &self.asked)
+        some_leaf(walk, self.tree, &self.asked)
     }
 }
 
-/// Whether it is so at a leaf of the tree that may be met behind the rows of the trail. The walk stands where it stood where it isn't so.
+/// Whether it is so at a leaf of the tree that may be met behind the rows of the walk. The walk stands where it stood where it isn't so.
 fn some_leaf<R: Rank, A: AtLeaf>(
-    trail: &mut Trail,
+    walk: &mut Walk,
     tree: &Tree<R>,
     asked: &A,
-) -> Result<bool, PathFault> {
+) -> Result<bool, Stopped> {
     match tree {
-        Tree::Bottom | Tree::Top(_) => asked.holds(trail, false),
-        Tree::Leaf { .. } => asked.holds(trail, true),
-        Tree::Node { row, yes, no } => match trail.settles(row) {
-            Some(true) => some_leaf(trail, yes, asked),
-            Some(false) => some_leaf(trail, no, asked),
+        Tree::Bottom | Tree::Top(_) => asked.holds(walk, false),
+        Tree::Leaf { .. } => asked.holds(walk, true),
+        Tree::Node { row, yes, no } => match walk.trail.settles(row) {
+            Some(true) => some_leaf(walk, yes, asked),
+            Some(false) => some_leaf(walk, no, asked),
             None => {
-                trail.down(row)?;
-                if some_leaf(trail, yes, asked)? {
+                walk.down(row)?;
+                if some_leaf(walk, yes, asked)? {
                     return Ok(true);
                 }
-                trail.turn()?;
-                let found = some_leaf(trail, no, asked)?;
-                trail.up();
+                walk.turn()?;
+                let found = some_leaf(walk, no, asked)?;
+                walk.trail.up();
                 Ok(found)
             }
         },
     }
 }
 
-/// The answer, or yes where a complement passes 128 bits. The only error is want of memory.
-fn or_true(answer: Result<bool, PathFault>) -> Result<bool, AllocError> {
-    match answer {
+/// Whether it is so at a leaf of the cover, or may be, where a complement passes 128 bits. The only error is want of memory.
+fn leads_to_some<A: AtLeaf>(
+    alloc: Global,
+    cover: &Tree<AffineRank>,
+    asked: &A,
+) -> Result<bool, AllocError> {
+    let mut walk = Walk::new(alloc);
+    match some_leaf(&mut walk, cover, asked) {
         Ok(answer) => Ok(answer),
-        Err(PathFault::Wide(_)) => Ok(true),
-        Err(PathFault::Memory(error)) => Err(error),
+        Err(Stopped) => match walk.fault {
+            TreeFault::Memory(error) => Err(error),
+            TreeFault::Full { .. } | TreeFault::Wide(_) => Ok(true),
+        },
     }
 }
