@@ -4,7 +4,7 @@
 - docs/ARCHITECTURE.md has the layers of crates.txt, each with its crates in their order, and names at each crate exactly the crates of the repository that it
   stands on, but for those on which another of them stands.
 - Each word in backquotes that looks like a name of the code occurs in the code.
-- Each program under examples/ stands in docs/EXAMPLES.md with its report, as the files have them, and in the table on top of that page, and each one under
+- Each program under examples/ stands once in docs/EXAMPLES.md with its report, as the files have them, and in the table on top of that page, and each one under
   examples/formulas/ with its formula too; README.md shows programs as the files have them.
 - README.md, docs/TERMINATES.md and the other pages with runs show what the command and its companion write, where a built command is at hand; else the tests of the companion see to it. Their runs name
   files that are there. The recipes of docs/REPORT.md are read by bash, and do there what the page says.
@@ -148,6 +148,13 @@ def missing_formulas():
             yield f"docs/EXAMPLES.md has no row of formulas/{program.name}"
 
 
+def repeated_examples():
+    """Programs that have more than one part of the page of examples, one of which then is another program's."""
+    names = re.findall(r"(?m)^### (\w+\.c)$", (TOP / "docs/EXAMPLES.md").read_text())
+    for name in sorted({name for name in names if names.count(name) > 1}):
+        yield f"docs/EXAMPLES.md has more than one part on {name}"
+
+
 def stale_examples():
     """Programs and reports that README.md shows otherwise than the files have them."""
     page = (TOP / "README.md").read_text()
@@ -288,7 +295,7 @@ def wrong_promises():
 
 
 def main():
-    faults = [*wrong_layers(), *wrong_rows(), *unknown_names(), *missing_examples(), *missing_formulas(), *stale_examples(), *stale_runs(), *broken_recipes(), *differing_words(), *wrong_promises(), *missing_clauses()]
+    faults = [*wrong_layers(), *wrong_rows(), *unknown_names(), *missing_examples(), *missing_formulas(), *repeated_examples(), *stale_examples(), *stale_runs(), *broken_recipes(), *differing_words(), *wrong_promises(), *missing_clauses()]
     for fault in faults:
         print(fault)
     return 1 if faults else 0
