@@ -157,7 +157,7 @@ def bracket_hint(place):
         return "there are no arrays: write a variable for each element that matters"
     if word != "(" or not is_name:
         return None
-    return library_hint(last) or f"a call is a statement of its own, {last}(..); or y = {last}(..);: keep its value in a variable"
+    return library_hint(last) or f"a call is a statement of its own, {last}(..);, y = {last}(..); or int y = {last}(..);: keep its value in a variable"
 
 
 def library_hint(name):

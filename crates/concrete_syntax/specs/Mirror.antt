@@ -15,11 +15,13 @@ use Rattle.concrete_syntax.specs.declared.simple.Action.TheVariants.{Assigns, St
 use Rattle.concrete_syntax.specs.declared.simple.Simple.{Simple}
 use Rattle.concrete_syntax.specs.declared.simple.Simple.TheVariants.{Acts, StepsBefore}
 use Rattle.concrete_syntax.specs.declared.simple.Name.{Name as Named}
+use Rattle.concrete_syntax.specs.declared.simple.Call.{Call as Called}
+use Rattle.concrete_syntax.specs.declared.simple.Value.{Value}
+use Rattle.concrete_syntax.specs.declared.simple.Value.TheVariants as G
 use Rattle.concrete_syntax.specs.declared.simple.Part.{Part}
 use Rattle.concrete_syntax.specs.declared.simple.Declaration.{Declaration}
 use Rattle.concrete_syntax.specs.declared.simple.Start.{Start}
 use Rattle.concrete_syntax.specs.declared.simple.Start.TheVariants as S
-use Rattle.concrete_syntax.specs.declared.statement.Call.{Call as Called}
 use Rattle.concrete_syntax.specs.declared.statement.Statement.{Statement}
 use Rattle.concrete_syntax.specs.declared.statement.StatementKind.{StatementKind, Conditional', While', Do', For'}
 use Rattle.concrete_syntax.specs.declared.statement.StatementKind.TheVariants as V
@@ -94,8 +96,22 @@ abbrev pub optional_simple : Option Simple → Option tree.Simple
 optional_simple (Some s) = Some (simple s)
 optional_simple None = None
 
+abbrev pub expressions : List Expression → List tree.Expression
+expressions list = map expression list
+
+abbrev pub call : Called → tree.Call
+call c = record { function = name c.function; arguments = expressions c.arguments.items }
+
+abbrev pub value : Value → tree.Value
+value (G.Expression e) = tree.evaluates (expression e)
+value (G.Call c) = tree.answers (call c)
+
+abbrev pub optional_value : Option Value → Option tree.Value
+optional_value (Some v) = Some (value v)
+optional_value None = None
+
 abbrev pub part : Part → tree.Part
-part p = record { declared = name p.declared; initialiser = optional p.initialiser }
+part p = record { declared = name p.declared; initialiser = optional_value p.initialiser }
 
 abbrev pub parts : List Part → List tree.Part
 parts list = map part list
@@ -107,12 +123,6 @@ abbrev pub start : Start → tree.Start
 start S.Nothing = tree.starts_with_nothing
 start (S.Simple s) = tree.starts_with (simple s)
 start (S.Declaration d) = tree.declares (declaration d)
-
-abbrev pub expressions : List Expression → List tree.Expression
-expressions list = map expression list
-
-abbrev pub call : Called → tree.Call
-call c = record { function = name c.function; arguments = expressions c.arguments.items }
 
 -- statements and items
 abbrev mutual

@@ -6,7 +6,8 @@
 --     function    = ("int" | "void") NAME "(" ["void" | "int" NAME ("," "int" NAME)*] ")" "{" item* "}"
 --     item        = declaration ";" | statement
 --     declaration = "int" part ("," part)*
---     part        = NAME ["=" expression]
+--     part        = NAME ["=" value]
+--     value       = expression | call
 --     statement   = simple ";" | call ";" | NAME "=" call ";" | ";" | "{" item* "}"
 --                 | "if" "(" expression ")" statement ["else" statement]
 --                 | "while" "(" expression ")" statement
@@ -86,10 +87,20 @@ pub data Simple : Type 0 where
   acts : Name → Action → Simple
   steps_before : ℕ → Step → Name → Simple
 
+-- a call of a function of the program
+pub record Call : Type 0 where
+  pub function : Name
+  pub arguments : List Expression
+
+-- what gives a variable its value behind an `=`: an expression, or a call
+pub data Value : Type 0 where
+  evaluates : Expression → Value
+  answers : Call → Value
+
 -- a declared name, and its initialiser if it has one
 pub record Part : Type 0 where
   pub declared : Name
-  pub initialiser : Option Expression
+  pub initialiser : Option Value
 
 pub record Declaration : Type 0 where
   pub part : Part
@@ -100,11 +111,6 @@ pub data Start : Type 0 where
   starts_with_nothing : Start
   starts_with : Simple → Start
   declares : Declaration → Start
-
--- a call of a function of the program
-pub record Call : Type 0 where
-  pub function : Name
-  pub arguments : List Expression
 
 mutual
   pub data Statement : Type 0 where

@@ -12,5 +12,5 @@ mod statement;
 pub use expression::{Divisor, End, Expression, Link, Operand, OperandKind, Tail};
 pub use program::{Function, Parameters, Prelude, Program};
 pub use sign::{Assignment, Division, Operator, Prefix, Step};
-pub use simple::{Action, Declaration, Name, Part, Simple, Start};
-pub use statement::{Call, ForLoop, Item, Items, Otherwise, Statement, StatementKind};
+pub use simple::{Action, Call, Declaration, Name, Part, Simple, Start, Value};
+pub use statement::{ForLoop, Item, Items, Otherwise, Statement, StatementKind};

@@ -28,11 +28,25 @@ pub enum Simple {
     StepsBefore { at: usize, step: Step, name: Name },
 }
 
+/// A call of a function of the program.
+#[derive(Drop)]
+pub struct Call {
+    pub function: Name,
+    pub arguments: Vec<Expression>,
+}
+
+/// What gives a variable its value behind an `=`.
+#[derive(Drop)]
+pub enum Value {
+    Expression(Expression),
+    Call(Call),
+}
+
 /// A declared name, and its initialiser if it has one.
 #[derive(Drop)]
 pub struct Part {
     pub declared: Name,
-    pub initialiser: Option<Expression>,
+    pub initialiser: Option<Value>,
 }
 
 /// A declaration: its first part, and the parts behind that.

@@ -5,15 +5,8 @@ ghost use Rattle.concrete_syntax.specs.Mirror.{items, item};
 ghost use Rattle.concrete_syntax.specs.Chains.{items_of};
 
 use crate::expression::Expression;
-use crate::simple::{Declaration, Name, Simple, Start};
+use crate::simple::{Call, Declaration, Name, Simple, Start};
 use std::alloc::{AllocError, Global};
-
-/// A call of a function of the program.
-#[derive(Drop)]
-pub struct Call {
-    pub function: Name,
-    pub arguments: Vec<Expression>,
-}
 
 /// A statement, and the number of its first token.
 #[cycle(statements)]

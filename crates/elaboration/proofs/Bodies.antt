@@ -8,7 +8,7 @@ use Rattle.call_meaning.specs.Units as unit
 use Rattle.concrete_syntax.specs.declared.sign.Assignment.{Assignment}
 use Rattle.concrete_syntax.specs.declared.sign.Step.{Step}
 use Rattle.concrete_syntax.specs.declared.sign.Step.TheVariants.{Increment, Decrement}
-use Rattle.concrete_syntax.specs.Trees.{Expression, Name, Action, assigns, steps, Simple, acts, steps_before, Part, Start, starts_with_nothing, starts_with, declares, Call, Statement, statement_at, simple, calls, gives, skip, braces, conditional, while_loop, do_loop, for_loop, return, break, continue, Otherwise, without, otherwise, Items, none, declaration, statement}
+use Rattle.concrete_syntax.specs.Trees.{Expression, Name, Action, assigns, steps, Simple, acts, steps_before, Value, evaluates, answers, Part, Start, starts_with_nothing, starts_with, declares, Call, Statement, statement_at, simple, calls, gives, skip, braces, conditional, while_loop, do_loop, for_loop, return, break, continue, Otherwise, without, otherwise, Items, none, declaration, statement}
 use Rattle.elaboration.specs.declared.fault.Rule.TheVariants.{Twice, Variables}
 use Rattle.elaboration.specs.declared.context.Body.{Body}
 use Rattle.elaboration.specs.declared.context.Body.TheVariants.{Main, Valued, Valueless}
@@ -64,10 +64,26 @@ optional_simple_valid : (vars : ℕ) (scope : Scope) → IsSound scope → lengt
 optional_simple_valid vars scope sound room (Some s) clean = simple_valid vars scope sound room s clean
 optional_simple_valid vars scope sound room None clean = tt
 
+-- ── Calls ──
+
+arguments_valid : (vars : ℕ) (scope : Scope) → IsSound scope → length scope.declared ≤ vars → (arguments : List Expression)
+    → arguments_faults scope arguments ≡ [] → AllNumbers vars (arguments_meaning scope arguments)
+arguments_valid vars scope sound room [] clean = tt
+arguments_valid vars scope sound room (e ∷ more) clean =
+    let faultless = both_none (number_faults scope e) (arguments_faults scope more) clean in
+    (expression_is_number vars scope sound room e faultless.0, arguments_valid vars scope sound room more faultless.1)
+
+call_valid : (c : Context) (vars : ℕ) (scope : Scope) → IsSound scope → length scope.declared ≤ vars → (target : Option ℕ) (call : Call)
+    → (call_walked c scope target call).faults ≡ [] → AllSorted vars (call_walked c scope target call).body
+call_valid c vars scope sound room target call clean =
+    let own = signature_faults (signature_of c.functions call.function.bytes) call.function.at (length call.arguments) (is_wanted target) in
+    let faultless = both_none own (arguments_faults scope call.arguments) clean in
+    (arguments_valid vars scope sound room call.arguments faultless.1, tt)
+
 -- ── Declarations ──
 
 -- a name that is declared without a fault is a variable
-pub declared_known : (scope : Scope) (x : Name) (initialiser : Option Expression)
+pub declared_known : (scope : Scope) (x : Name) (initialiser : Option Value)
     → name_faults scope x initialiser ≡ [] → is_among (with_variable scope.others scope.declared x.bytes) x.bytes ≡ true
 declared_known scope x initialiser clean = by_visible (is_among scope.visible x.bytes) clean
   where
@@ -98,62 +114,51 @@ sound_behind scope x bare sound known y seen =
     by_case (inl before) = among_with y scope.others scope.declared x (sound y before)
     by_case (inr same) = subst (λ z. is_among (with_variable scope.others scope.declared x) z ≡ true) same known
 
-initialiser_valid : (vars : ℕ) (scope behind : Scope) → IsSound scope → length scope.declared ≤ vars → (x : Name) (e : Option Expression)
-    → place_of behind.declared x.bytes < vars → (initialiser_walked scope behind x e).faults ≡ [] → AllSorted vars (initialiser_walked scope behind x e).body
-initialiser_valid vars scope behind sound room x (Some e) below clean = ((below, expression_is_number vars scope sound room e clean), tt)
-initialiser_valid vars scope behind sound room x None below clean = tt
+initialiser_valid : (c : Context) (vars : ℕ) (scope behind : Scope) → IsSound scope → length scope.declared ≤ vars → (x : Name) (value : Option Value)
+    → place_of behind.declared x.bytes < vars → (initialiser_walked c scope behind x value).faults ≡ []
+    → AllSorted vars (initialiser_walked c scope behind x value).body
+initialiser_valid c vars scope behind sound room x (Some (evaluates e)) below clean = ((below, expression_is_number vars scope sound room e clean), tt)
+initialiser_valid c vars scope behind sound room x (Some (answers call)) below clean =
+    call_valid c vars scope sound room (Some (place_of behind.declared x.bytes)) call clean
+initialiser_valid c vars scope behind sound room x None below clean = tt
 
 -- a declared name, where the names behind it are at most so many
-part_valid : (vars : ℕ) (scope : Scope) → IsSound scope → (part : Part) → length (part_walked scope part).scope.declared ≤ vars
-    → (part_walked scope part).faults ≡ [] → AllSorted vars (part_walked scope part).body × IsSound (part_walked scope part).scope
-part_valid vars scope sound part later clean =
+part_valid : (c : Context) (vars : ℕ) (scope : Scope) → IsSound scope → (part : Part) → length (part_walked c scope part).scope.declared ≤ vars
+    → (part_walked c scope part).faults ≡ [] → AllSorted vars (part_walked c scope part).body × IsSound (part_walked c scope part).scope
+part_valid c vars scope sound part later clean =
     let x = part.declared in
     let behind = declare scope x.bytes (is_bare part.initialiser) in
-    let faultless = both_none (name_faults scope x part.initialiser) (initialiser_walked scope behind x part.initialiser).faults clean in
+    let faultless = both_none (name_faults scope x part.initialiser) (initialiser_walked c scope behind x part.initialiser).faults clean in
     let known = declared_known scope x part.initialiser faultless.0 in
     let grown = no_fewer (length scope.declared) scope.others scope.declared x.bytes (omega arith) in
     let below = place_below behind.declared x.bytes known in (
-      initialiser_valid vars scope behind sound (omega (arith, grown, later)) x part.initialiser (omega (arith, below, later)) faultless.1,
+      initialiser_valid c vars scope behind sound (omega (arith, grown, later)) x part.initialiser (omega (arith, below, later)) faultless.1,
       sound_behind scope x.bytes (is_bare part.initialiser) sound known,
     )
 
-parts_valid : (vars : ℕ) (scope : Scope) → IsSound scope → (parts : List Part) → length (parts_walked scope parts).scope.declared ≤ vars
-    → (parts_walked scope parts).faults ≡ [] → AllSorted vars (parts_walked scope parts).body × IsSound (parts_walked scope parts).scope
-parts_valid vars scope sound [] later clean = (tt, sound)
-parts_valid vars scope sound (part ∷ more) later clean =
-    let behind = (part_walked scope part).scope in
-    let faultless = both_none (part_walked scope part).faults (parts_walked behind more).faults clean in
-    let grown = parts_keep _ (count_kept (length behind.declared)) behind more (omega arith) in
-    let first = part_valid vars scope sound part (omega (arith, grown, later)) faultless.0 in
-    let rest = parts_valid vars behind first.1 more later faultless.1 in
-    (valid_append vars (part_walked scope part).body (parts_walked behind more).body first.0 rest.0, rest.1)
+parts_valid : (c : Context) (vars : ℕ) (scope : Scope) → IsSound scope → (parts : List Part) → length (parts_walked c scope parts).scope.declared ≤ vars
+    → (parts_walked c scope parts).faults ≡ [] → AllSorted vars (parts_walked c scope parts).body × IsSound (parts_walked c scope parts).scope
+parts_valid c vars scope sound [] later clean = (tt, sound)
+parts_valid c vars scope sound (part ∷ more) later clean =
+    let behind = (part_walked c scope part).scope in
+    let faultless = both_none (part_walked c scope part).faults (parts_walked c behind more).faults clean in
+    let grown = parts_keep c _ (count_kept (length behind.declared)) behind more (omega arith) in
+    let first = part_valid c vars scope sound part (omega (arith, grown, later)) faultless.0 in
+    let rest = parts_valid c vars behind first.1 more later faultless.1 in
+    (valid_append vars (part_walked c scope part).body (parts_walked c behind more).body first.0 rest.0, rest.1)
 
-start_valid : (vars : ℕ) (scope : Scope) → IsSound scope → (start : Start) → length (start_walked scope start).scope.declared ≤ vars
-    → (start_walked scope start).faults ≡ [] → AllSorted vars (start_walked scope start).body × IsSound (start_walked scope start).scope
-start_valid vars scope sound starts_with_nothing later clean = (tt, sound)
-start_valid vars scope sound (starts_with s) later clean = (simple_valid vars scope sound later s clean, sound)
-start_valid vars scope sound (declares d) later clean = parts_valid vars scope sound (d.part ∷ d.more) later clean
+start_valid : (c : Context) (vars : ℕ) (scope : Scope) → IsSound scope → (start : Start) → length (start_walked c scope start).scope.declared ≤ vars
+    → (start_walked c scope start).faults ≡ [] → AllSorted vars (start_walked c scope start).body × IsSound (start_walked c scope start).scope
+start_valid c vars scope sound starts_with_nothing later clean = (tt, sound)
+start_valid c vars scope sound (starts_with s) later clean = (simple_valid vars scope sound later s clean, sound)
+start_valid c vars scope sound (declares d) later clean = parts_valid c vars scope sound (d.part ∷ d.more) later clean
 
 optional_valid : (vars : ℕ) (scope : Scope) → IsSound scope → length scope.declared ≤ vars → (test : Option Expression)
     → optional_faults scope test ≡ [] → IsTest vars (optional_test scope test)
 optional_valid vars scope sound room (Some e) clean = expression_is_test vars scope sound room e clean
 optional_valid vars scope sound room None clean = tt
 
--- ── Calls and returns ──
-
-arguments_valid : (vars : ℕ) (scope : Scope) → IsSound scope → length scope.declared ≤ vars → (arguments : List Expression)
-    → arguments_faults scope arguments ≡ [] → AllNumbers vars (arguments_meaning scope arguments)
-arguments_valid vars scope sound room [] clean = tt
-arguments_valid vars scope sound room (e ∷ more) clean =
-    let faultless = both_none (number_faults scope e) (arguments_faults scope more) clean in
-    (expression_is_number vars scope sound room e faultless.0, arguments_valid vars scope sound room more faultless.1)
-
-call_valid : (c : Context) (vars : ℕ) (scope : Scope) → IsSound scope → length scope.declared ≤ vars → (target : Option ℕ) (call : Call)
-    → (call_walked c scope target call).faults ≡ [] → AllSorted vars (call_walked c scope target call).body
-call_valid c vars scope sound room target call clean =
-    let own = signature_faults (signature_of c.functions call.function.bytes) call.function.at (length call.arguments) (is_wanted target) in
-    let faultless = both_none own (arguments_faults scope call.arguments) clean in
-    (arguments_valid vars scope sound room call.arguments faultless.1, tt)
+-- ── Returns ──
 
 return_room : {vars : ℕ} (body : Body) (scope : Scope) (at : ℕ) (value : Option Expression)
     → length (return_walked body scope at value).scope.declared ≤ vars → length scope.declared ≤ vars
@@ -221,14 +226,15 @@ mutual
       )
   statement_valid c vars scope sound (statement_at at (for_loop start test step body)) later clean =
       let d = looping c in
-      let inside = (start_walked scope start).scope in
-      let outer = both_none (start_walked scope start).faults (optional_faults inside test ++ ((optional_simple_walked inside step).faults ++ (statement_walked d inside body).faults)) clean in
+      let before = start_walked (deeper c) scope start in
+      let inside = before.scope in
+      let outer = both_none before.faults (optional_faults inside test ++ ((optional_simple_walked inside step).faults ++ (statement_walked d inside body).faults)) clean in
       let inner = both_none (optional_faults inside test) ((optional_simple_walked inside step).faults ++ (statement_walked d inside body).faults) outer.1 in
       let last = both_none (optional_simple_walked inside step).faults (statement_walked d inside body).faults inner.1 in
       let grown = statement_grows d inside body in
       let room : length inside.declared ≤ vars = omega (arith, grown, later) in
-      let first = start_valid vars scope sound start room outer.0 in
-      valid_append vars (start_walked scope start).body (unit.while_loop _ _ _ ∷ []) first.0 (
+      let first = start_valid (deeper c) vars scope sound start room outer.0 in
+      valid_append vars before.body (unit.while_loop _ _ _ ∷ []) first.0 (
         (
           optional_valid vars inside first.1 room test inner.0,
           statement_valid d vars inside first.1 body later last.1,
@@ -249,11 +255,11 @@ mutual
       → (items_walked c scope all).faults ≡ [] → AllSorted vars (items_walked c scope all).body
   items_valid c vars scope sound none later faultless = tt
   items_valid c vars scope sound (declaration d more) later faultless =
-      let behind = (declaration_walked scope d).scope in
-      let parts = both_none (declaration_walked scope d).faults (items_walked c behind more).faults faultless in
+      let behind = (declaration_walked c scope d).scope in
+      let parts = both_none (declaration_walked c scope d).faults (items_walked c behind more).faults faultless in
       let grown = items_keep c _ (count_kept (length behind.declared)) behind more (omega arith) in
-      let first = parts_valid vars scope sound (d.part ∷ d.more) (omega (arith, grown, later)) parts.0 in
-      valid_append vars (declaration_walked scope d).body (items_walked c behind more).body first.0 (items_valid c vars behind first.1 more later parts.1)
+      let first = parts_valid c vars scope sound (d.part ∷ d.more) (omega (arith, grown, later)) parts.0 in
+      valid_append vars (declaration_walked c scope d).body (items_walked c behind more).body first.0 (items_valid c vars behind first.1 more later parts.1)
   items_valid c vars scope sound (statement s more) later faultless =
       let behind = (statement_walked c scope s).scope in
       let parts = both_none (statement_walked c scope s).faults (items_walked c behind more).faults faultless in

@@ -31,15 +31,15 @@ pub parameters_keep : (P : OnNames) → IsKept P → (scope : Scope) (xs : List 
 parameters_keep P kept scope [] h = h
 parameters_keep P kept scope (x ∷ more) h = parameters_keep P kept (declare scope x.bytes false) more (kept scope.others scope.declared scope.free x.bytes false h)
 
-pub parts_keep : (P : OnNames) → IsKept P → (scope : Scope) (parts : List Part) → Over P scope → Over P (parts_walked scope parts).scope
-parts_keep P kept scope [] h = h
-parts_keep P kept scope (part ∷ more) h =
-    parts_keep P kept (part_walked scope part).scope more (kept scope.others scope.declared scope.free part.declared.bytes _ h)
+pub parts_keep : (c : Context) (P : OnNames) → IsKept P → (scope : Scope) (parts : List Part) → Over P scope → Over P (parts_walked c scope parts).scope
+parts_keep c P kept scope [] h = h
+parts_keep c P kept scope (part ∷ more) h =
+    parts_keep c P kept (part_walked c scope part).scope more (kept scope.others scope.declared scope.free part.declared.bytes _ h)
 
-pub start_keeps : (P : OnNames) → IsKept P → (scope : Scope) (start : Start) → Over P scope → Over P (start_walked scope start).scope
-start_keeps P kept scope starts_with_nothing h = h
-start_keeps P kept scope (starts_with s) h = h
-start_keeps P kept scope (declares d) h = parts_keep P kept scope (d.part ∷ d.more) h
+pub start_keeps : (c : Context) (P : OnNames) → IsKept P → (scope : Scope) (start : Start) → Over P scope → Over P (start_walked c scope start).scope
+start_keeps c P kept scope starts_with_nothing h = h
+start_keeps c P kept scope (starts_with s) h = h
+start_keeps c P kept scope (declares d) h = parts_keep c P kept scope (d.part ∷ d.more) h
 
 return_keeps : (body : Body) (P : OnNames) (scope : Scope) (at : ℕ) (value : Option Expression) → Over P scope → Over P (return_walked body scope at value).scope
 return_keeps Main P scope at value h = h
@@ -58,7 +58,7 @@ mutual
   statement_keeps c P kept scope (statement_at at (while_loop test body)) h = statement_keeps (looping c) P kept scope body h
   statement_keeps c P kept scope (statement_at at (do_loop body end test)) h = statement_keeps (looping c) P kept scope body h
   statement_keeps c P kept scope (statement_at at (for_loop start test step body)) h =
-      statement_keeps (looping c) P kept (start_walked scope start).scope body (start_keeps P kept scope start h)
+      statement_keeps (looping c) P kept (start_walked (deeper c) scope start).scope body (start_keeps (deeper c) P kept scope start h)
   statement_keeps c P kept scope (statement_at at (return value)) h = return_keeps c.body P scope at value h
   statement_keeps c P kept scope (statement_at at break) h = h
   statement_keeps c P kept scope (statement_at at continue) h = h
@@ -70,7 +70,7 @@ mutual
   pub items_keep : (c : Context) (P : OnNames) → IsKept P → (scope : Scope) (all : Items) → Over P scope → Over P (items_walked c scope all).scope
   items_keep c P kept scope none h = h
   items_keep c P kept scope (declaration d more) h =
-      items_keep c P kept (declaration_walked scope d).scope more (parts_keep P kept scope (d.part ∷ d.more) h)
+      items_keep c P kept (declaration_walked c scope d).scope more (parts_keep c P kept scope (d.part ∷ d.more) h)
   items_keep c P kept scope (statement s more) h = items_keep c P kept (statement_walked c scope s).scope more (statement_keeps c P kept scope s h)
 
 -- a name stays a variable

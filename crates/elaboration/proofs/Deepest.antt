@@ -1,7 +1,7 @@
 -- The greatest level of a list is none below that around it.
 use Rattle.std.proofs.Common.{◌≡◌, ℕ, ◌≤◌, max, List, [], ◌∷◌, Option, None, Some, arith}
-use Rattle.concrete_syntax.specs.Trees.{Expression, Tail, ended, further, Part, Items, none, declaration, statement}
-use Rattle.elaboration.specs.Levels.{tail_levels, all_levels, optional_levels, parts_levels, items_levels}
+use Rattle.concrete_syntax.specs.Trees.{Expression, Tail, ended, further, Value, evaluates, answers, Part, Items, none, declaration, statement}
+use Rattle.elaboration.specs.Levels.{tail_levels, all_levels, initialiser_levels, parts_levels, items_levels}
 
 pub tail_above : (level : ℕ) (more : Tail) → level ≤ tail_levels level more
 tail_above level ended = omega arith
@@ -11,9 +11,10 @@ pub all_above : (level : ℕ) (arguments : List Expression) → level ≤ all_le
 all_above level [] = omega arith
 all_above level (e ∷ more) = let rest = all_above level more in omega (arith, rest)
 
-pub optional_above : (level : ℕ) (e : Option Expression) → level ≤ optional_levels level e
-optional_above level (Some e) = let rest = tail_above level e.tail in omega (arith, rest)
-optional_above level None = omega arith
+pub initialiser_above : (level : ℕ) (value : Option Value) → level ≤ initialiser_levels level value
+initialiser_above level (Some (evaluates e)) = let rest = tail_above level e.tail in omega (arith, rest)
+initialiser_above level (Some (answers c)) = all_above level c.arguments
+initialiser_above level None = omega arith
 
 pub parts_above : (level : ℕ) (parts : List Part) → level ≤ parts_levels level parts
 parts_above level [] = omega arith

@@ -4,7 +4,7 @@ use Rattle.std.proofs.lemmas.Bool.Decides.{Decides-eqb}
 use Rattle.call_meaning.specs.Units.{Command, of_list, Table}
 use Rattle.call_meaning.specs.Units as unit
 use Rattle.call_meaning.specs.Validity.{AllStand, MayAsk}
-use Rattle.concrete_syntax.specs.Trees.{Expression, Name as Named, Call, Simple, acts, steps_before, Part, Start, starts_with_nothing, starts_with, declares, Statement, statement_at, simple, calls, gives, skip, braces, conditional, while_loop, do_loop, for_loop, return, break, continue, Otherwise, without, otherwise, Items, none, declaration, statement}
+use Rattle.concrete_syntax.specs.Trees.{Name as Named, Call, Simple, acts, steps_before, Value, evaluates, answers, Part, Start, starts_with_nothing, starts_with, declares, Statement, statement_at, simple, calls, gives, skip, braces, conditional, while_loop, do_loop, for_loop, return, break, continue, Otherwise, without, otherwise, Items, none, declaration, statement}
 use Rattle.elaboration.specs.declared.fault.Rule.TheVariants.{Arguments}
 use Rattle.elaboration.specs.declared.functions.Signature.{Signature}
 use Rattle.elaboration.specs.Contexts.{Context, deeper, looping}
@@ -12,7 +12,7 @@ use Rattle.elaboration.specs.Faults.{fault}
 use Rattle.elaboration.specs.Functions.{Functions, signature_of}
 use Rattle.elaboration.specs.Scopes.{Scope, Name, place_of}
 use Rattle.elaboration.specs.Expressions.{unknown_name, expression_faults}
-use Rattle.elaboration.specs.Statements.{simple_meaning, optional_simple_walked, initialiser_walked, part_walked, parts_walked, declaration_walked, start_walked, optional_faults, outside_faults, arguments_faults, signature_faults, value_faults, is_wanted, call_walked, statement_walked, otherwise_walked, items_walked}
+use Rattle.elaboration.specs.Statements.{simple_meaning, optional_simple_walked, name_faults, initialiser_walked, part_walked, parts_walked, declaration_walked, start_walked, optional_faults, outside_faults, arguments_faults, signature_faults, value_faults, is_wanted, call_walked, statement_walked, otherwise_walked, items_walked}
 use Rattle.elaboration.proofs.Valid.{both_none, some_is_not_none}
 
 -- the table has the functions that are known, below this number
@@ -64,22 +64,6 @@ module _ (table : Table) (k : ℕ) where
   optional_simple_inside in_loop scope (Some s) = simple_inside in_loop scope s
   optional_simple_inside in_loop scope None = tt
 
-  initialiser_inside : (in_loop : Bool) (scope behind : Scope) (x : Named) (e : Option Expression) → AllInside in_loop (initialiser_walked scope behind x e).body
-  initialiser_inside in_loop scope behind x (Some e) = (tt, tt)
-  initialiser_inside in_loop scope behind x None = tt
-
-  parts_inside : (in_loop : Bool) (scope : Scope) (parts : List Part) → AllInside in_loop (parts_walked scope parts).body
-  parts_inside in_loop scope [] = tt
-  parts_inside in_loop scope (part ∷ more) =
-      inside_append in_loop (part_walked scope part).body (parts_walked (part_walked scope part).scope more).body
-      (initialiser_inside in_loop scope (part_walked scope part).scope part.declared part.initialiser)
-      (parts_inside in_loop (part_walked scope part).scope more)
-
-  start_inside : (in_loop : Bool) (scope : Scope) (start : Start) → AllInside in_loop (start_walked scope start).body
-  start_inside in_loop scope starts_with_nothing = tt
-  start_inside in_loop scope (starts_with s) = simple_inside in_loop scope s
-  start_inside in_loop scope (declares d) = parts_inside in_loop scope (d.part ∷ d.more)
-
   jump_inside : (in_loop : Bool) (at : ℕ) → outside_faults in_loop at ≡ [] → IsTrue in_loop
   jump_inside true at clean = refl
   jump_inside false at clean = absurd (some_is_not_none _ [] clean)
@@ -92,6 +76,28 @@ module _ (table : Table) (k : ℕ) where
       let known = call_known c.functions call.function (length call.arguments) target faultless.0 in
       let is = has call.function.bytes known.0 known.1 in
       ((is.below, subst (MayAsk target) (sym is.valued) known.2), tt)
+
+  initialiser_inside : (c : Context) → HasFunctions table k c.functions → (scope behind : Scope) (x : Named) (value : Option Value)
+      → (initialiser_walked c scope behind x value).faults ≡ [] → AllInside c.in_loop (initialiser_walked c scope behind x value).body
+  initialiser_inside c has scope behind x (Some (evaluates e)) clean = (tt, tt)
+  initialiser_inside c has scope behind x (Some (answers call)) clean = call_inside c has scope (Some (place_of behind.declared x.bytes)) call clean
+  initialiser_inside c has scope behind x None clean = tt
+
+  parts_inside : (c : Context) → HasFunctions table k c.functions → (scope : Scope) (parts : List Part) → (parts_walked c scope parts).faults ≡ []
+      → AllInside c.in_loop (parts_walked c scope parts).body
+  parts_inside c has scope [] clean = tt
+  parts_inside c has scope (part ∷ more) clean =
+      let w = part_walked c scope part in
+      let faultless = both_none w.faults (parts_walked c w.scope more).faults clean in
+      let own = both_none (name_faults scope part.declared part.initialiser) (initialiser_walked c scope w.scope part.declared part.initialiser).faults faultless.0 in
+      inside_append c.in_loop w.body (parts_walked c w.scope more).body
+      (initialiser_inside c has scope w.scope part.declared part.initialiser own.1) (parts_inside c has w.scope more faultless.1)
+
+  start_inside : (c : Context) → HasFunctions table k c.functions → (scope : Scope) (start : Start) → (start_walked c scope start).faults ≡ []
+      → AllInside c.in_loop (start_walked c scope start).body
+  start_inside c has scope starts_with_nothing clean = tt
+  start_inside c has scope (starts_with s) clean = simple_inside c.in_loop scope s
+  start_inside c has scope (declares d) clean = parts_inside c has scope (d.part ∷ d.more) clean
 
   mutual
     pub statement_inside : (c : Context) → HasFunctions table k c.functions → (scope : Scope) (s : Statement) → (statement_walked c scope s).faults ≡ []
@@ -118,12 +124,13 @@ module _ (table : Table) (k : ℕ) where
         let faultless = both_none (statement_walked (looping c) scope body).faults (expression_faults middle test) clean in
         (statement_inside (looping c) has scope body faultless.0, tt)
     statement_inside c has scope (statement_at at (for_loop start test step body)) clean =
-        let inside = (start_walked scope start).scope in
+        let before = start_walked (deeper c) scope start in
+        let inside = before.scope in
         let last = (optional_simple_walked inside step).faults ++ (statement_walked (looping c) inside body).faults in
-        let outer = both_none (start_walked scope start).faults (optional_faults inside test ++ last) clean in
+        let outer = both_none before.faults (optional_faults inside test ++ last) clean in
         let inner = both_none (optional_faults inside test) last outer.1 in
         let faultless = both_none (optional_simple_walked inside step).faults (statement_walked (looping c) inside body).faults inner.1 in
-        inside_append c.in_loop (start_walked scope start).body (unit.while_loop _ _ _ ∷ []) (start_inside c.in_loop scope start)
+        inside_append c.in_loop before.body (unit.while_loop _ _ _ ∷ []) (start_inside (deeper c) has scope start outer.0)
         ((statement_inside (looping c) has inside body faultless.1, optional_simple_inside c.in_loop inside step), tt)
     statement_inside c has scope (statement_at at (return value)) clean = (refl, tt)
     statement_inside c has scope (statement_at at break) clean = (jump_inside c.in_loop at clean, tt)
@@ -138,10 +145,10 @@ module _ (table : Table) (k : ℕ) where
         → AllInside c.in_loop (items_walked c scope all).body
     items_inside c has scope none clean = tt
     items_inside c has scope (declaration d more) clean =
-        let behind = (declaration_walked scope d).scope in
-        let parts = both_none (declaration_walked scope d).faults (items_walked c behind more).faults clean in
-        inside_append c.in_loop (declaration_walked scope d).body (items_walked c behind more).body
-        (parts_inside c.in_loop scope (d.part ∷ d.more)) (items_inside c has behind more parts.1)
+        let behind = (declaration_walked c scope d).scope in
+        let parts = both_none (declaration_walked c scope d).faults (items_walked c behind more).faults clean in
+        inside_append c.in_loop (declaration_walked c scope d).body (items_walked c behind more).body
+        (parts_inside c has scope (d.part ∷ d.more) parts.0) (items_inside c has behind more parts.1)
     items_inside c has scope (statement s more) clean =
         let behind = (statement_walked c scope s).scope in
         let parts = both_none (statement_walked c scope s).faults (items_walked c behind more).faults clean in

@@ -2,6 +2,7 @@ pub mod Firsts
 pub mod Weights
 pub mod Ladder
 pub mod Names
+pub mod Ahead
 pub mod Scoping
 pub mod Walks
 pub mod Listed

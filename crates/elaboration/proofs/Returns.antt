@@ -7,7 +7,7 @@ use Rattle.call_meaning.specs.Units.{Command, Commands, of_list, Table, empty, s
 use Rattle.call_meaning.specs.Units as unit
 use Rattle.call_meaning.specs.Tables.{gives_value}
 use Rattle.call_meaning.specs.Validity.{Stands, AllStand, Gives, Closes}
-use Rattle.concrete_syntax.specs.Trees.{Expression, Simple, acts, steps_before, Part, Start, starts_with_nothing, starts_with, declares, Statement, statement_at, simple, calls, gives, skip, braces, conditional, while_loop, do_loop, for_loop, return, break, continue, Otherwise, without, otherwise, Items, none, declaration, statement}
+use Rattle.concrete_syntax.specs.Trees.{Expression, Simple, acts, steps_before, Value, evaluates, answers, Part, Start, starts_with_nothing, starts_with, declares, Statement, statement_at, simple, calls, gives, skip, braces, conditional, while_loop, do_loop, for_loop, return, break, continue, Otherwise, without, otherwise, Items, none, declaration, statement}
 use Rattle.elaboration.specs.declared.fault.Rule.TheVariants.{Placed}
 use Rattle.elaboration.specs.Contexts.{Context, body_of, deeper, looping}
 use Rattle.elaboration.specs.Elaborates.{ends_with_return, all_but_last, returns_faults}
@@ -76,29 +76,32 @@ optional_counted : (scope : Scope) (s : Option Simple) → all_returns (optional
 optional_counted scope (Some s) = (simple_counted true scope s).0
 optional_counted scope None = refl
 
-part_counted : (valued : Bool) (scope : Scope) (part : Part) → Counted valued scope (part_walked scope part)
-part_counted valued scope part = record { count = by_count part.initialiser; give = by_give part.initialiser }
+part_counted : (valued : Bool) (c : Context) (scope : Scope) (part : Part) → Counted valued scope (part_walked c scope part)
+part_counted valued c scope part = record { count = by_count part.initialiser; give = by_give part.initialiser }
   where
-    by_count : (e : Option Expression) → length scope.returns ≡ length scope.returns + all_returns (initialiser_walked scope (part_walked scope part).scope part.declared e).body
-    by_count (Some e) = omega arith
+    by_count : (value : Option Value)
+        → length scope.returns ≡ length scope.returns + all_returns (initialiser_walked c scope (part_walked c scope part).scope part.declared value).body
+    by_count (Some (evaluates e)) = omega arith
+    by_count (Some (answers call)) = omega arith
     by_count None = omega arith
 
-    by_give : (e : Option Expression) → AllGive valued (initialiser_walked scope (part_walked scope part).scope part.declared e).body
-    by_give (Some e) = (tt, tt)
+    by_give : (value : Option Value) → AllGive valued (initialiser_walked c scope (part_walked c scope part).scope part.declared value).body
+    by_give (Some (evaluates e)) = (tt, tt)
+    by_give (Some (answers call)) = (tt, tt)
     by_give None = tt
 
-parts_counted : (valued : Bool) (scope : Scope) (parts : List Part) → Counted valued scope (parts_walked scope parts)
-parts_counted valued scope [] = record { count = omega arith; give = tt }
-parts_counted valued scope (part ∷ more) =
-    let w = part_walked scope part in
-    let both = both_counted valued scope w (parts_walked w.scope more) (part_counted valued scope part) (parts_counted valued w.scope more) in
+parts_counted : (valued : Bool) (c : Context) (scope : Scope) (parts : List Part) → Counted valued scope (parts_walked c scope parts)
+parts_counted valued c scope [] = record { count = omega arith; give = tt }
+parts_counted valued c scope (part ∷ more) =
+    let w = part_walked c scope part in
+    let both = both_counted valued scope w (parts_walked c w.scope more) (part_counted valued c scope part) (parts_counted valued c w.scope more) in
     record { count = both.0; give = both.1 }
 
-start_counted : (valued : Bool) (scope : Scope) (start : Start) → Counted valued scope (start_walked scope start)
-start_counted valued scope starts_with_nothing = record { count = omega arith; give = tt }
-start_counted valued scope (starts_with s) =
+start_counted : (valued : Bool) (c : Context) (scope : Scope) (start : Start) → Counted valued scope (start_walked c scope start)
+start_counted valued c scope starts_with_nothing = record { count = omega arith; give = tt }
+start_counted valued c scope (starts_with s) =
     let is = simple_counted valued scope s in record { count = omega (arith, is.0); give = is.1 }
-start_counted valued scope (declares d) = parts_counted valued scope (d.part ∷ d.more)
+start_counted valued c scope (declares d) = parts_counted valued c scope (d.part ∷ d.more)
 
 return_counted : (valued : Bool) (scope : Scope) (at : ℕ) (value : Option Expression) → return_faults (body_of valued) scope at value ≡ []
     → Counted valued scope (return_walked (body_of valued) scope at value)
@@ -140,13 +143,13 @@ module _ (valued : Bool) where
         record { count = omega (arith, is.count); give = (tt, tt) }
     statement_counted c own scope (statement_at at (for_loop start test step body)) clean =
         let d = looping c in
-        let before = start_walked scope start in
+        let before = start_walked (deeper c) scope start in
         let loop = statement_walked d before.scope body in
         let last = (optional_simple_walked before.scope step).faults ++ loop.faults in
         let outer = both_none before.faults (optional_faults before.scope test ++ last) clean in
         let inner = both_none (optional_faults before.scope test) last outer.1 in
         let parts = both_none (optional_simple_walked before.scope step).faults loop.faults inner.1 in
-        let one = start_counted valued scope start in
+        let one = start_counted valued (deeper c) scope start in
         let two = statement_counted d own before.scope body parts.1 in
         record {
           count =
@@ -174,10 +177,10 @@ module _ (valued : Bool) where
         → Counted valued scope (items_walked c scope all)
     items_counted c own scope none clean = record { count = omega arith; give = tt }
     items_counted c own scope (declaration d more) clean =
-        let w = declaration_walked scope d in
+        let w = declaration_walked c scope d in
         let rest = items_walked c w.scope more in
         let faultless = both_none w.faults rest.faults clean in
-        let both = both_counted valued scope w rest (parts_counted valued scope (d.part ∷ d.more)) (items_counted c own w.scope more faultless.1) in
+        let both = both_counted valued scope w rest (parts_counted valued c scope (d.part ∷ d.more)) (items_counted c own w.scope more faultless.1) in
         record { count = both.0; give = both.1 }
     items_counted c own scope (statement s more) clean =
         let w = statement_walked c scope s in

@@ -45,25 +45,25 @@ extends_same xs = ([], sym (append-nil xs))
 extends_on : (xs ys zs : List Name) → Extends xs ys → Extends ys zs → Extends xs zs
 extends_on xs ys zs (more, is) (further, then_is) = (more ++ further, then_is ∙ ap (λ t. t ++ further) is ∙ append_assoc xs more further)
 
-parts_extend : (scope : Scope) (parts : List Part) → Extends scope.visible (parts_walked scope parts).scope.visible
-parts_extend scope [] = extends_same scope.visible
-parts_extend scope (part ∷ more) =
-    extends_on scope.visible (part_walked scope part).scope.visible (parts_walked (part_walked scope part).scope more).scope.visible
-    (part.declared.bytes ∷ [], refl) (parts_extend (part_walked scope part).scope more)
+parts_extend : (c : Context) (scope : Scope) (parts : List Part) → Extends scope.visible (parts_walked c scope parts).scope.visible
+parts_extend c scope [] = extends_same scope.visible
+parts_extend c scope (part ∷ more) =
+    let behind = (part_walked c scope part).scope in
+    extends_on scope.visible behind.visible (parts_walked c behind more).scope.visible (part.declared.bytes ∷ [], refl) (parts_extend c behind more)
 
 items_extend : (c : Context) (scope : Scope) (all : Items) → Extends scope.visible (items_walked c scope all).scope.visible
 items_extend c scope none = extends_same scope.visible
 items_extend c scope (declaration d more) =
-    extends_on scope.visible (declaration_walked scope d).scope.visible (items_walked c (declaration_walked scope d).scope more).scope.visible
-    (parts_extend scope (d.part ∷ d.more)) (items_extend c (declaration_walked scope d).scope more)
+    extends_on scope.visible (declaration_walked c scope d).scope.visible (items_walked c (declaration_walked c scope d).scope more).scope.visible
+    (parts_extend c scope (d.part ∷ d.more)) (items_extend c (declaration_walked c scope d).scope more)
 items_extend c scope (statement s more) =
     extends_on scope.visible (statement_walked c scope s).scope.visible (items_walked c (statement_walked c scope s).scope more).scope.visible
     ([], statement_visible c scope s ∙ sym (append-nil scope.visible)) (items_extend c (statement_walked c scope s).scope more)
 
-start_extends : (scope : Scope) (start : Start) → Extends scope.visible (start_walked scope start).scope.visible
-start_extends scope starts_with_nothing = extends_same scope.visible
-start_extends scope (starts_with s) = extends_same scope.visible
-start_extends scope (declares d) = parts_extend scope (d.part ∷ d.more)
+start_extends : (c : Context) (scope : Scope) (start : Start) → Extends scope.visible (start_walked c scope start).scope.visible
+start_extends c scope starts_with_nothing = extends_same scope.visible
+start_extends c scope (starts_with s) = extends_same scope.visible
+start_extends c scope (declares d) = parts_extend c scope (d.part ∷ d.more)
 
 -- the first names are those that could be used before
 first_names : (outer inner : List Name) → Extends outer inner → take (length outer) inner ≡ outer
@@ -72,11 +72,11 @@ first_names outer inner (more, is) = ap (take (length outer)) is ∙ take-append
 pub items_kept : (c : Context) (scope : Scope) (all : Items) → take (length scope.visible) (items_walked c scope all).scope.visible ≡ scope.visible
 items_kept c scope all = first_names scope.visible (items_walked c scope all).scope.visible (items_extend c scope all)
 
-pub start_kept : (c : Context) (scope : Scope) (start : Start) (body : Statement)
-    → take (length scope.visible) (statement_walked c (start_walked scope start).scope body).scope.visible ≡ scope.visible
-start_kept c scope start body =
-    ap (take (length scope.visible)) (statement_visible c (start_walked scope start).scope body)
-    ∙ first_names scope.visible (start_walked scope start).scope.visible (start_extends scope start)
+pub start_kept : (around c : Context) (scope : Scope) (start : Start) (body : Statement)
+    → take (length scope.visible) (statement_walked c (start_walked around scope start).scope body).scope.visible ≡ scope.visible
+start_kept around c scope start body =
+    ap (take (length scope.visible)) (statement_visible c (start_walked around scope start).scope body)
+    ∙ first_names scope.visible (start_walked around scope start).scope.visible (start_extends around scope start)
 
 -- a scope with other names
 abbrev pub with_visible : Scope → List Name → Scope

@@ -11,13 +11,13 @@ use Rattle.call_meaning.specs.Reads.{Places, also, Reads, ValueReads, TargetIsIn
 use Rattle.concrete_syntax.specs.declared.sign.Assignment.{Assignment}
 use Rattle.concrete_syntax.specs.declared.sign.Step.{Step}
 use Rattle.concrete_syntax.specs.declared.sign.Step.TheVariants.{Increment, Decrement}
-use Rattle.concrete_syntax.specs.Trees.{Expression, Name as Named, Call, Action, assigns, steps, Simple, acts, steps_before, Part, Start, starts_with_nothing, starts_with, declares, Statement, statement_at, simple, calls, gives, skip, braces, conditional, while_loop, do_loop, for_loop, return, break, continue, Otherwise, without, otherwise, Items, none, declaration, statement}
+use Rattle.concrete_syntax.specs.Trees.{Expression, Name as Named, Call, Action, assigns, steps, Simple, acts, steps_before, Value, evaluates, answers, Part, Start, starts_with_nothing, starts_with, declares, Statement, statement_at, simple, calls, gives, skip, braces, conditional, while_loop, do_loop, for_loop, return, break, continue, Otherwise, without, otherwise, Items, none, declaration, statement}
 use Rattle.elaboration.specs.declared.context.Body.{Body}
 use Rattle.elaboration.specs.declared.context.Body.TheVariants.{Main, Valued, Valueless}
 use Rattle.elaboration.specs.Contexts.{Context, deeper, looping}
 use Rattle.elaboration.specs.Functions.{signature_of}
 use Rattle.elaboration.specs.Scopes.{Scope, Name, is_among, place_of, with_variable, most_variables, declare}
-use Rattle.elaboration.specs.Expressions.{unknown_name, expression_typed, expression_faults}
+use Rattle.elaboration.specs.Expressions.{unknown_name, expression_typed, expression_faults, number_faults}
 use Rattle.elaboration.specs.Statements.{Walked, assigned, stepped, action_meaning, action_faults, simple_meaning, simple_faults, optional_simple_walked, name_faults, is_bare, initialiser_walked, part_walked, parts_walked, declaration_walked, start_walked, optional_faults, optional_test, arguments_faults, arguments_meaning, signature_faults, is_wanted, call_walked, return_faults, returned_value, statement_walked, otherwise_walked, items_walked}
 use Rattle.elaboration.proofs.Bodies.{declared_known, sound_behind}
 use Rattle.elaboration.proofs.Declared.{OnNames, Over, IsKept, among_with, no_fewer, few_kept, parts_keep, start_keeps, statement_keeps, otherwise_keeps, items_keep}
@@ -182,7 +182,7 @@ ready_on shown later scope behind_it ready more grown same = record {
 }
 
 -- behind a declaration of a name that is set
-pub declared_ready : (shown later : Places) (scope : Scope) (x : Named) (initialiser : Option Expression) (bare : Bool) → Ready shown scope
+pub declared_ready : (shown later : Places) (scope : Scope) (x : Named) (initialiser : Option Value) (bare : Bool) → Ready shown scope
     → ((y : ℕ) → IsTrue (shown y) → IsTrue (later y)) → name_faults scope x initialiser ≡ []
     → IsTrue (later (place_of (with_variable scope.others scope.declared x.bytes) x.bytes)) → Ready later (declare scope x.bytes bare)
 declared_ready shown later scope x initialiser bare ready more clean own =
@@ -260,28 +260,51 @@ module _ (table : Table) (k vars : ℕ) (free : List Bool) where
   optional_simple_set shown scope ready inside (Some s) clean = simple_set shown scope ready inside s clean
   optional_simple_set shown scope ready inside None clean = tt
 
+  -- ── Calls ──
+
+  call_set : (c : Context) → HasFunctions table k c.functions → (shown : Places) (scope : Scope) → Ready shown scope → (target : Option ℕ)
+      → TargetIsIn vars target → (call : Call) → (call_walked c scope target call).faults ≡ [] → AllSet shown (call_walked c scope target call).body
+  call_set c has shown scope ready target below call clean =
+      let own = signature_faults (signature_of c.functions call.function.bytes) call.function.at (length call.arguments) (is_wanted target) in
+      let faultless = both_none own (arguments_faults scope call.arguments) clean in
+      let known = call_known c.functions call.function (length call.arguments) target faultless.0 in
+      let is = has call.function.bytes known.0 known.1 in
+      let count : length (arguments_meaning scope call.arguments) ≡ (table (place_of c.functions.names call.function.bytes)).params =
+      length-map call.arguments (λ e. (expression_typed scope e).meaning) ∙ known.3 ∙ sym is.params
+      in
+      ((below, arguments_read shown scope ready.sees call.arguments faultless.1, count), tt)
+
   -- ── Declarations ──
 
   abbrev Does : Places → Walked → Type 0
   Does shown w = AllSet shown w.body × Ready (behind_all shown w.body) w.scope
 
   -- behind a declaration of a name that is set
-  part_does : (shown : Places) (scope : Scope) → Ready shown scope → Frees shown → (part : Part) → IsWithin (part_walked scope part).scope
-      → (part_walked scope part).faults ≡ [] → Does shown (part_walked scope part)
-  part_does shown scope ready frees part inside clean = by_initialiser part.declared part.initialiser inside clean
+  part_does : (c : Context) → HasFunctions table k c.functions → (shown : Places) (scope : Scope) → Ready shown scope → Frees shown → (part : Part)
+      → IsWithin (part_walked c scope part).scope → (part_walked c scope part).faults ≡ [] → Does shown (part_walked c scope part)
+  part_does c has shown scope ready frees part inside clean = by_initialiser part.declared part.initialiser inside clean
     where
-      by_initialiser : (x : Named) (initialiser : Option Expression)
+      by_initialiser : (x : Named) (initialiser : Option Value)
           → IsWithin (declare scope x.bytes (is_bare initialiser))
-          → name_faults scope x initialiser ++ (initialiser_walked scope (declare scope x.bytes (is_bare initialiser)) x initialiser).faults ≡ []
-          → AllSet shown (initialiser_walked scope (declare scope x.bytes (is_bare initialiser)) x initialiser).body
-          × Ready (behind_all shown (initialiser_walked scope (declare scope x.bytes (is_bare initialiser)) x initialiser).body) (declare scope x.bytes (is_bare initialiser))
-      by_initialiser x (Some e) inside clean =
+          → name_faults scope x initialiser ++ (initialiser_walked c scope (declare scope x.bytes (is_bare initialiser)) x initialiser).faults ≡ []
+          → AllSet shown (initialiser_walked c scope (declare scope x.bytes (is_bare initialiser)) x initialiser).body
+          × Ready (behind_all shown (initialiser_walked c scope (declare scope x.bytes (is_bare initialiser)) x initialiser).body)
+          (declare scope x.bytes (is_bare initialiser))
+      by_initialiser x (Some (evaluates e)) inside clean =
           let place = place_of (with_variable scope.others scope.declared x.bytes) x.bytes in
-          let parts = both_none (name_faults scope x (Some e)) (initialiser_walked scope (declare scope x.bytes false) x (Some e)).faults clean in
-          let known = declared_known scope x (Some e) parts.0 in
+          let parts = both_none (name_faults scope x (Some (evaluates e))) (number_faults scope e) clean in
+          let known = declared_known scope x (Some (evaluates e)) parts.0 in
           let below = place_below (with_variable scope.others scope.declared x.bytes) x.bytes known in (
             ((omega (arith, below, inside.0), number_reads shown scope ready.sees e parts.1), tt),
-            declared_ready shown (also place shown) scope x (Some e) false ready (λ y h. also_keeps place shown y h) parts.0 (also_itself place shown),
+            declared_ready shown (also place shown) scope x (Some (evaluates e)) false ready (λ y h. also_keeps place shown y h) parts.0 (also_itself place shown),
+          )
+      by_initialiser x (Some (answers call)) inside clean =
+          let place = place_of (with_variable scope.others scope.declared x.bytes) x.bytes in
+          let parts = both_none (name_faults scope x (Some (answers call))) (call_walked c scope (Some place) call).faults clean in
+          let known = declared_known scope x (Some (answers call)) parts.0 in
+          let below = place_below (with_variable scope.others scope.declared x.bytes) x.bytes known in (
+            call_set c has shown scope ready (Some place) (omega (arith, below, inside.0)) call parts.1,
+            declared_ready shown (also place shown) scope x (Some (answers call)) false ready (λ y h. also_keeps place shown y h) parts.0 (also_itself place shown),
           )
       by_initialiser x None inside clean =
           let names = with_variable scope.others scope.declared x.bytes in
@@ -296,49 +319,37 @@ module _ (table : Table) (k vars : ℕ) (free : List Bool) where
           in
           (tt, declared_ready shown shown scope x None true ready (λ y h. h) parts.0 (frees place (inside.1 place is_free)))
 
-  parts_does : (shown : Places) (scope : Scope) → Ready shown scope → Frees shown → (parts : List Part) → IsWithin (parts_walked scope parts).scope
-      → (parts_walked scope parts).faults ≡ [] → Does shown (parts_walked scope parts)
-  parts_does shown scope ready frees [] inside clean = (tt, ready)
-  parts_does shown scope ready frees (part ∷ more) inside clean =
-      let w = part_walked scope part in
-      let rest = parts_walked w.scope more in
+  parts_does : (c : Context) → HasFunctions table k c.functions → (shown : Places) (scope : Scope) → Ready shown scope → Frees shown → (parts : List Part)
+      → IsWithin (parts_walked c scope parts).scope → (parts_walked c scope parts).faults ≡ [] → Does shown (parts_walked c scope parts)
+  parts_does c has shown scope ready frees [] inside clean = (tt, ready)
+  parts_does c has shown scope ready frees (part ∷ more) inside clean =
+      let w = part_walked c scope part in
+      let rest = parts_walked c w.scope more in
       let faultless = both_none w.faults rest.faults clean in
       let few = few_kept scope.others scope.declared scope.free part.declared.bytes (is_bare part.initialiser) ready.few in
-      let grown = parts_keep (Grows w.scope) (grows_kept w.scope) w.scope more (grown_first w.scope few) in
-      let one = part_does shown scope ready frees part (within_back w.scope rest.scope grown inside) faultless.0 in
-      let other = parts_does (behind_all shown w.body) w.scope one.1 (frees_on shown w.body frees) more inside faultless.1 in (
+      let grown = parts_keep c (Grows w.scope) (grows_kept w.scope) w.scope more (grown_first w.scope few) in
+      let one = part_does c has shown scope ready frees part (within_back w.scope rest.scope grown inside) faultless.0 in
+      let other = parts_does c has (behind_all shown w.body) w.scope one.1 (frees_on shown w.body frees) more inside faultless.1 in (
         set_append shown w.body rest.body one.0 other.0,
         subst (λ p. Ready p rest.scope) (sym (behind_append shown w.body rest.body)) other.1,
       )
 
-  start_does : (shown : Places) (scope : Scope) → Ready shown scope → Frees shown → (start : Start) → IsWithin (start_walked scope start).scope
-      → (start_walked scope start).faults ≡ [] → Does shown (start_walked scope start)
-  start_does shown scope ready frees starts_with_nothing inside clean = (tt, ready)
-  start_does shown scope ready frees (starts_with s) inside clean = (
+  start_does : (c : Context) → HasFunctions table k c.functions → (shown : Places) (scope : Scope) → Ready shown scope → Frees shown → (start : Start)
+      → IsWithin (start_walked c scope start).scope → (start_walked c scope start).faults ≡ [] → Does shown (start_walked c scope start)
+  start_does c has shown scope ready frees starts_with_nothing inside clean = (tt, ready)
+  start_does c has shown scope ready frees (starts_with s) inside clean = (
     simple_set shown scope ready inside s clean,
     ready_on shown (behind_all shown (simple_meaning scope s ∷ [])) scope scope ready (all_keep shown (simple_meaning scope s ∷ []))
         (grown_first scope ready.few) refl,
   )
-  start_does shown scope ready frees (declares d) inside clean = parts_does shown scope ready frees (d.part ∷ d.more) inside clean
+  start_does c has shown scope ready frees (declares d) inside clean = parts_does c has shown scope ready frees (d.part ∷ d.more) inside clean
 
   optional_reads : (shown : Places) (scope : Scope) → Ready shown scope → (test : Option Expression) → optional_faults scope test ≡ []
       → Reads shown (optional_test scope test)
   optional_reads shown scope ready (Some e) clean = test_reads shown (expression_typed scope e) (expression_reads shown scope ready.sees e clean)
   optional_reads shown scope ready None clean = tt
 
-  -- ── Calls and returns ──
-
-  call_set : (c : Context) → HasFunctions table k c.functions → (shown : Places) (scope : Scope) → Ready shown scope → (target : Option ℕ)
-      → TargetIsIn vars target → (call : Call) → (call_walked c scope target call).faults ≡ [] → AllSet shown (call_walked c scope target call).body
-  call_set c has shown scope ready target below call clean =
-      let own = signature_faults (signature_of c.functions call.function.bytes) call.function.at (length call.arguments) (is_wanted target) in
-      let faultless = both_none own (arguments_faults scope call.arguments) clean in
-      let known = call_known c.functions call.function (length call.arguments) target faultless.0 in
-      let is = has call.function.bytes known.0 known.1 in
-      let count : length (arguments_meaning scope call.arguments) ≡ (table (place_of c.functions.names call.function.bytes)).params =
-      length-map call.arguments (λ e. (expression_typed scope e).meaning) ∙ known.3 ∙ sym is.params
-      in
-      ((below, arguments_read shown scope ready.sees call.arguments faultless.1, count), tt)
+  -- ── Returns ──
 
   return_set : (body : Body) (shown : Places) (scope : Scope) → Ready shown scope → (at : ℕ) (value : Option Expression)
       → return_faults body scope at value ≡ [] → ValueReads shown (returned_value body scope value)
@@ -409,16 +420,16 @@ module _ (table : Table) (k vars : ℕ) (free : List Bool) where
         )
     statement_set c has shown scope ready frees (statement_at at (for_loop start test step body)) inside clean =
         let d = looping c in
-        let before = start_walked scope start in
+        let before = start_walked (deeper c) scope start in
         let loop = statement_walked d before.scope body in
         let last = (optional_simple_walked before.scope step).faults ++ loop.faults in
         let outer = both_none before.faults (optional_faults before.scope test ++ last) clean in
         let inner = both_none (optional_faults before.scope test) last outer.1 in
         let parts = both_none (optional_simple_walked before.scope step).faults loop.faults inner.1 in
-        let few = (start_keeps (Grows scope) (grows_kept scope) scope start (grown_first scope ready.few)).few in
+        let few = (start_keeps (deeper c) (Grows scope) (grows_kept scope) scope start (grown_first scope ready.few)).few in
         let grown = statement_keeps d (Grows before.scope) (grows_kept before.scope) before.scope body (grown_first before.scope few) in
         let room = within_back before.scope loop.scope grown inside in
-        let one = start_does shown scope ready frees start room outer.0 in
+        let one = start_does (deeper c) has shown scope ready frees start room outer.0 in
         let later = behind_all shown before.body in
         set_append shown before.body (unit.while_loop _ _ _ ∷ []) one.0 (
           (
@@ -441,12 +452,12 @@ module _ (table : Table) (k vars : ℕ) (free : List Bool) where
         → IsWithin (items_walked c scope all).scope → (items_walked c scope all).faults ≡ [] → AllSet shown (items_walked c scope all).body
     items_set c has shown scope ready frees none inside clean = tt
     items_set c has shown scope ready frees (declaration d more) inside clean =
-        let w = declaration_walked scope d in
+        let w = declaration_walked c scope d in
         let rest = items_walked c w.scope more in
         let faultless = both_none w.faults rest.faults clean in
-        let few = (parts_keep (Grows scope) (grows_kept scope) scope (d.part ∷ d.more) (grown_first scope ready.few)).few in
+        let few = (parts_keep c (Grows scope) (grows_kept scope) scope (d.part ∷ d.more) (grown_first scope ready.few)).few in
         let grown = items_keep c (Grows w.scope) (grows_kept w.scope) w.scope more (grown_first w.scope few) in
-        let one = parts_does shown scope ready frees (d.part ∷ d.more) (within_back w.scope rest.scope grown inside) faultless.0 in
+        let one = parts_does c has shown scope ready frees (d.part ∷ d.more) (within_back w.scope rest.scope grown inside) faultless.0 in
         set_append shown w.body rest.body one.0
         (items_set c has (behind_all shown w.body) w.scope one.1 (frees_on shown w.body frees) more inside faultless.1)
     items_set c has shown scope ready frees (statement s more) inside clean =

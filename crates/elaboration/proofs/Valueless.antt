@@ -3,7 +3,7 @@ use Rattle.std.proofs.Common.{◌≡◌, List, [], ◌∷◌, ◌++◌, Option, 
 use Rattle.call_meaning.specs.Sorts.{IsNoValue, HaveNoValue}
 use Rattle.call_meaning.specs.Units.{Command, of_list}
 use Rattle.call_meaning.specs.Units as unit
-use Rattle.concrete_syntax.specs.Trees.{Expression, Name as Named, Simple, acts, steps_before, Part, Start, starts_with_nothing, starts_with, declares, Statement, statement_at, simple, calls, gives, skip, braces, conditional, while_loop, do_loop, for_loop, return, break, continue, Otherwise, without, otherwise, Items, none, declaration, statement}
+use Rattle.concrete_syntax.specs.Trees.{Name as Named, Simple, acts, steps_before, Value, evaluates, answers, Part, Start, starts_with_nothing, starts_with, declares, Statement, statement_at, simple, calls, gives, skip, braces, conditional, while_loop, do_loop, for_loop, return, break, continue, Otherwise, without, otherwise, Items, none, declaration, statement}
 use Rattle.elaboration.specs.declared.context.Body.TheVariants.{Main}
 use Rattle.elaboration.specs.Contexts.{Context, deeper, looping}
 use Rattle.elaboration.specs.Scopes.{Scope}
@@ -24,20 +24,22 @@ optional_valueless : (scope : Scope) (s : Option Simple) → NoneValued (optiona
 optional_valueless scope (Some s) = simple_valueless scope s
 optional_valueless scope None = tt
 
-initialiser_valueless : (scope behind : Scope) (x : Named) (e : Option Expression) → NoneValued (initialiser_walked scope behind x e).body
-initialiser_valueless scope behind x (Some e) = (tt, tt)
-initialiser_valueless scope behind x None = tt
+initialiser_valueless : (c : Context) (scope behind : Scope) (x : Named) (value : Option Value) → NoneValued (initialiser_walked c scope behind x value).body
+initialiser_valueless c scope behind x (Some (evaluates e)) = (tt, tt)
+initialiser_valueless c scope behind x (Some (answers call)) = (tt, tt)
+initialiser_valueless c scope behind x None = tt
 
-parts_valueless : (scope : Scope) (parts : List Part) → NoneValued (parts_walked scope parts).body
-parts_valueless scope [] = tt
-parts_valueless scope (part ∷ more) =
-    let w = part_walked scope part in
-    valueless_append w.body (parts_walked w.scope more).body (initialiser_valueless scope w.scope part.declared part.initialiser) (parts_valueless w.scope more)
+parts_valueless : (c : Context) (scope : Scope) (parts : List Part) → NoneValued (parts_walked c scope parts).body
+parts_valueless c scope [] = tt
+parts_valueless c scope (part ∷ more) =
+    let w = part_walked c scope part in
+    valueless_append w.body (parts_walked c w.scope more).body (initialiser_valueless c scope w.scope part.declared part.initialiser)
+    (parts_valueless c w.scope more)
 
-start_valueless : (scope : Scope) (start : Start) → NoneValued (start_walked scope start).body
-start_valueless scope starts_with_nothing = tt
-start_valueless scope (starts_with s) = simple_valueless scope s
-start_valueless scope (declares d) = parts_valueless scope (d.part ∷ d.more)
+start_valueless : (c : Context) (scope : Scope) (start : Start) → NoneValued (start_walked c scope start).body
+start_valueless c scope starts_with_nothing = tt
+start_valueless c scope (starts_with s) = simple_valueless scope s
+start_valueless c scope (declares d) = parts_valueless c scope (d.part ∷ d.more)
 
 mutual
   statement_valueless : (c : Context) → c.body ≡ Main → (scope : Scope) (s : Statement) → NoneValued (statement_walked c scope s).body
@@ -52,8 +54,9 @@ mutual
   statement_valueless c own scope (statement_at at (while_loop test body)) = ((statement_valueless (looping c) own scope body, tt), tt)
   statement_valueless c own scope (statement_at at (do_loop body end test)) = (statement_valueless (looping c) own scope body, tt)
   statement_valueless c own scope (statement_at at (for_loop start test step body)) =
-      let inside = (start_walked scope start).scope in
-      valueless_append (start_walked scope start).body (unit.while_loop _ _ _ ∷ []) (start_valueless scope start)
+      let before = start_walked (deeper c) scope start in
+      let inside = before.scope in
+      valueless_append before.body (unit.while_loop _ _ _ ∷ []) (start_valueless (deeper c) scope start)
       ((statement_valueless (looping c) own inside body, optional_valueless inside step), tt)
   statement_valueless c own scope (statement_at at (return value)) = (subst (λ b. IsNoValue (returned_value b scope value)) (sym own) tt, tt)
   statement_valueless c own scope (statement_at at break) = (tt, tt)
@@ -66,8 +69,8 @@ mutual
   pub items_valueless : (c : Context) → c.body ≡ Main → (scope : Scope) (all : Items) → NoneValued (items_walked c scope all).body
   items_valueless c own scope none = tt
   items_valueless c own scope (declaration d more) =
-      let w = declaration_walked scope d in
-      valueless_append w.body (items_walked c w.scope more).body (parts_valueless scope (d.part ∷ d.more)) (items_valueless c own w.scope more)
+      let w = declaration_walked c scope d in
+      valueless_append w.body (items_walked c w.scope more).body (parts_valueless c scope (d.part ∷ d.more)) (items_valueless c own w.scope more)
   items_valueless c own scope (statement s more) =
       let w = statement_walked c scope s in
       valueless_append w.body (items_walked c w.scope more).body (statement_valueless c own scope s) (items_valueless c own w.scope more)

@@ -2,7 +2,7 @@
 -- `(` of `__VERIFIER_nondet_int()` each open one, and so does the `(` before a test; `{`, `if`, `else`, `while`, `do` and `for` open one for as long as
 -- their statement lasts.
 use Rattle.std.specs.Prelude.{ℕ, ◌+◌, max, List, [], ◌∷◌, Option, None, Some}
-use Rattle.concrete_syntax.specs.Trees.{Operand, operand_at, OperandKind, call, signed, parentheses, Link, operation, division, Tail, ended, further, Expression, assigns, steps, Simple, acts, steps_before, Part, Declaration, Start, starts_with_nothing, starts_with, declares, Statement, statement_at, StatementKind, simple, calls, gives, skip, braces, conditional, while_loop, do_loop, for_loop, return, break, continue, Otherwise, without, otherwise, Items, none, declaration, statement}
+use Rattle.concrete_syntax.specs.Trees.{Operand, operand_at, OperandKind, call, signed, parentheses, Link, operation, division, Tail, ended, further, Expression, assigns, steps, Simple, acts, steps_before, Value, evaluates, answers, Part, Declaration, Start, starts_with_nothing, starts_with, declares, Statement, statement_at, StatementKind, simple, calls, gives, skip, braces, conditional, while_loop, do_loop, for_loop, return, break, continue, Otherwise, without, otherwise, Items, none, declaration, statement}
 
 abbrev mutual
   pub operand_levels : ℕ → Operand → ℕ
@@ -42,9 +42,14 @@ abbrev pub optional_simple_levels : ℕ → Option Simple → ℕ
 optional_simple_levels level (Some s) = simple_levels level s
 optional_simple_levels level None = level
 
+abbrev pub initialiser_levels : ℕ → Option Value → ℕ
+initialiser_levels level (Some (evaluates e)) = expression_levels level e
+initialiser_levels level (Some (answers c)) = all_levels level c.arguments
+initialiser_levels level None = level
+
 abbrev pub parts_levels : ℕ → List Part → ℕ
 parts_levels level [] = level
-parts_levels level (part ∷ more) = max (optional_levels level part.initialiser) (parts_levels level more)
+parts_levels level (part ∷ more) = max (initialiser_levels level part.initialiser) (parts_levels level more)
 
 abbrev pub declaration_levels : ℕ → Declaration → ℕ
 declaration_levels level d = parts_levels level (d.part ∷ d.more)

@@ -7,7 +7,7 @@ use Rattle.call_meaning.specs.Units as unit
 use Rattle.concrete_syntax.specs.declared.sign.Assignment.{Assignment}
 use Rattle.concrete_syntax.specs.declared.sign.Step.{Step}
 use Rattle.concrete_syntax.specs.declared.sign.Step.TheVariants.{Increment, Decrement}
-use Rattle.concrete_syntax.specs.Trees.{Expression, Name, Action, assigns, steps, Simple, acts, steps_before, Part, Declaration, Start, starts_with_nothing, starts_with, declares, Call, Statement, statement_at, StatementKind, simple, calls, gives, skip, braces, conditional, while_loop, do_loop, for_loop, return, break, continue, Otherwise, without, otherwise, Items, none, declaration, statement}
+use Rattle.concrete_syntax.specs.Trees.{Expression, Name, Action, assigns, steps, Simple, acts, steps_before, Call, Value, evaluates, answers, Part, Declaration, Start, starts_with_nothing, starts_with, declares, Statement, statement_at, StatementKind, simple, calls, gives, skip, braces, conditional, while_loop, do_loop, for_loop, return, break, continue, Otherwise, without, otherwise, Items, none, declaration, statement}
 use Rattle.elaboration.specs.declared.fault.Fault.{Fault}
 use Rattle.elaboration.specs.declared.fault.Rule.TheVariants.{Unknown, Twice, Mixed, Variables, Outside, Placed, Arguments}
 use Rattle.elaboration.specs.declared.functions.Signature.{Signature}
@@ -90,60 +90,6 @@ abbrev pub optional_simple_walked : Scope → Option Simple → Walked
 optional_simple_walked scope (Some s) = simple_walked scope (simple_at s) s
 optional_simple_walked scope None = nothing scope
 
--- ── Declarations: a name may be used from behind its own initialiser on ──
-
--- a name that was declared before, again
-abbrev pub again_faults : ℕ → Option Expression → List Fault
-again_faults at (Some e) = []
-again_faults at None = fault Twice at ∷ []
-
--- A name is declared twice where it may be used already, or where it was declared before and has no initialiser now; a new name wants
--- room.
-abbrev pub name_faults : Scope → Name → Option Expression → List Fault
-name_faults scope x initialiser =
-    if is_among scope.visible x.bytes then fault Twice x.at ∷ []
-    else if is_among scope.declared x.bytes then again_faults x.at initialiser
-    else if nat_lt (scope.others + length scope.declared) most_variables then [] else fault Variables x.at ∷ []
-
--- an initialised name is assigned, and that stands at the name; one without an initialiser is no statement
-abbrev pub is_bare : Option Expression → Bool
-is_bare (Some e) = false
-is_bare None = true
-
-abbrev pub initialiser_walked : Scope → Scope → Name → Option Expression → Walked
-initialiser_walked scope behind x (Some e) =
-    single behind x.at (number_faults scope e) (unit.assign (place_of behind.declared x.bytes) (expression_typed scope e).meaning)
-initialiser_walked scope behind x None = nothing behind
-
-abbrev pub part_walked : Scope → Part → Walked
-part_walked scope part =
-    let behind = declare scope part.declared.bytes (is_bare part.initialiser) in
-    let w = initialiser_walked scope behind part.declared part.initialiser in
-    record w { scope = behind; faults = name_faults scope part.declared part.initialiser ++ w.faults }
-
-abbrev pub parts_walked : Scope → List Part → Walked
-parts_walked scope [] = nothing scope
-parts_walked scope (part ∷ more) = let w = part_walked scope part in joined w (parts_walked w.scope more)
-
-abbrev pub declaration_walked : Scope → Declaration → Walked
-declaration_walked scope d = parts_walked scope (d.part ∷ d.more)
-
--- ── The start and the test of a `for` ──
-
-abbrev pub start_walked : Scope → Start → Walked
-start_walked scope starts_with_nothing = nothing scope
-start_walked scope (starts_with s) = simple_walked scope (simple_at s) s
-start_walked scope (declares d) = declaration_walked scope d
-
-abbrev pub optional_faults : Scope → Option Expression → List Fault
-optional_faults scope (Some e) = expression_faults scope e
-optional_faults scope None = []
-
--- a missing test is `true`
-abbrev pub optional_test : Scope → Option Expression → syntax.Expression
-optional_test scope (Some e) = as_test (expression_typed scope e)
-optional_test scope None = syntax.truth true
-
 -- ── Calls: arguments are numbers ──
 
 abbrev pub arguments_faults : Scope → List Expression → List Fault
@@ -178,6 +124,62 @@ call_walked c scope target call = record {
   tokens = call.function.at ∷ [];
   levels = c.level ∷ [];
 }
+
+-- ── Declarations: a name may be used from behind its own initialiser on ──
+
+-- a name that was declared before, again
+abbrev pub again_faults : ℕ → Option Value → List Fault
+again_faults at (Some value) = []
+again_faults at None = fault Twice at ∷ []
+
+-- A name is declared twice where it may be used already, or where it was declared before and has no initialiser now; a new name wants
+-- room.
+abbrev pub name_faults : Scope → Name → Option Value → List Fault
+name_faults scope x initialiser =
+    if is_among scope.visible x.bytes then fault Twice x.at ∷ []
+    else if is_among scope.declared x.bytes then again_faults x.at initialiser
+    else if nat_lt (scope.others + length scope.declared) most_variables then [] else fault Variables x.at ∷ []
+
+-- An initialised name is assigned, and that stands at the name, or is given what a call answers, which stands at the name of its function; one without an
+-- initialiser is no statement.
+abbrev pub is_bare : Option Value → Bool
+is_bare (Some value) = false
+is_bare None = true
+
+abbrev pub initialiser_walked : Context → Scope → Scope → Name → Option Value → Walked
+initialiser_walked c scope behind x (Some (evaluates e)) =
+    single behind x.at (number_faults scope e) (unit.assign (place_of behind.declared x.bytes) (expression_typed scope e).meaning)
+initialiser_walked c scope behind x (Some (answers call)) = call_walked c scope (Some (place_of behind.declared x.bytes)) call
+initialiser_walked c scope behind x None = nothing behind
+
+abbrev pub part_walked : Context → Scope → Part → Walked
+part_walked c scope part =
+    let behind = declare scope part.declared.bytes (is_bare part.initialiser) in
+    let w = initialiser_walked c scope behind part.declared part.initialiser in
+    record w { scope = behind; faults = name_faults scope part.declared part.initialiser ++ w.faults }
+
+abbrev pub parts_walked : Context → Scope → List Part → Walked
+parts_walked c scope [] = nothing scope
+parts_walked c scope (part ∷ more) = let w = part_walked c scope part in joined w (parts_walked c w.scope more)
+
+abbrev pub declaration_walked : Context → Scope → Declaration → Walked
+declaration_walked c scope d = parts_walked c scope (d.part ∷ d.more)
+
+-- ── The start and the test of a `for` ──
+
+abbrev pub start_walked : Context → Scope → Start → Walked
+start_walked c scope starts_with_nothing = nothing scope
+start_walked c scope (starts_with s) = simple_walked scope (simple_at s) s
+start_walked c scope (declares d) = declaration_walked c scope d
+
+abbrev pub optional_faults : Scope → Option Expression → List Fault
+optional_faults scope (Some e) = expression_faults scope e
+optional_faults scope None = []
+
+-- a missing test is `true`
+abbrev pub optional_test : Scope → Option Expression → syntax.Expression
+optional_test scope (Some e) = as_test (expression_typed scope e)
+optional_test scope None = syntax.truth true
 
 -- ── Returns: one in `main` may have any expression, which isn't asked for; one of a function has a value where the function gives one ──
 
@@ -259,7 +261,7 @@ abbrev mutual
       let inner = statement_walked (looping c) scope body in
       done end inner (expression_faults inner.scope test) (as_test (expression_typed inner.scope test))
   kind_walked c scope at (for_loop start test step body) =
-      let before = start_walked scope start in
+      let before = start_walked (deeper c) scope start in
       let inside = before.scope in
       enclosed scope
       (joined before
@@ -275,5 +277,5 @@ abbrev mutual
 
   pub items_walked : Context → Scope → Items → Walked
   items_walked c scope none = nothing scope
-  items_walked c scope (declaration d more) = let w = declaration_walked scope d in joined w (items_walked c w.scope more)
+  items_walked c scope (declaration d more) = let w = declaration_walked c scope d in joined w (items_walked c w.scope more)
   items_walked c scope (statement s more) = let w = statement_walked c scope s in joined w (items_walked c w.scope more)

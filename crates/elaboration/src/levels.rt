@@ -1,13 +1,13 @@
 //! The greatest number of levels of nesting that are open in a body. The only error is that there are more levels than numbers of levels.
 
 ghost use Rattle.std.specs.Prelude.{◌≡◌, ◌+◌, max, IfOk};
-ghost use Rattle.concrete_syntax.specs.Mirror.{operand as operand_of, tail as tail_of, expression as expression_of, expressions, optional, simple as simple_of, optional_simple as optional_simple_of, declaration as declaration_of, start as start_of, statement as statement_of, otherwise as otherwise_of, items as items_of};
+ghost use Rattle.concrete_syntax.specs.Mirror.{operand as operand_of, tail as tail_of, expression as expression_of, expressions, optional, optional_value, simple as simple_of, optional_simple as optional_simple_of, declaration as declaration_of, start as start_of, statement as statement_of, otherwise as otherwise_of, items as items_of};
 ghost use Rattle.elaboration.specs.Levels as specs;
 
 use crate::context::one_more;
 use concrete_syntax::{
     Action, Declaration, Expression, ForLoop, Items, Link, Operand, OperandKind, Otherwise, Part,
-    Simple, Start, Statement, StatementKind, Tail,
+    Simple, Start, Statement, StatementKind, Tail, Value,
 };
 use std::alloc::AllocError;
 
@@ -104,11 +104,22 @@ fn start_levels(tree: &Start, level: u32) -> Result<u32, AllocError>
 fn declaration_levels(tree: &Declaration, level: u32) -> Result<u32, AllocError>
     ensures { IfOk result (λ most. most ≡ specs.declaration_levels level (declaration_of tree.now)) }
 {
-    let mut most = optional_levels(&tree.part.initialiser, level)?;
+    let mut most = initialiser_levels(&tree.part.initialiser, level)?;
     for part in tree.more.iter() {
-        most = most.max(optional_levels(&part.initialiser, level)?);
+        most = most.max(initialiser_levels(&part.initialiser, level)?);
     }
     Ok(most)
+}
+
+// In what gives a declared name its value, if anything does.
+fn initialiser_levels(tree: &Option<Value>, level: u32) -> Result<u32, AllocError>
+    ensures { IfOk result (λ most. most ≡ specs.initialiser_levels level (optional_value tree.now)) }
+{
+    match tree {
+        Some(Value::Expression(tree)) => expression_levels(tree, level),
+        Some(Value::Call(call)) => all_levels(&call.arguments, level),
+        None => Ok(level),
+    }
 }
 
 // In a simple statement.

@@ -7,12 +7,13 @@ ghost use Rattle.call_meaning.specs.Tables.{command, parts};
 ghost use Rattle.call_meaning.specs.Offsets.{all_levels, all_offsets, levels_in, offsets_at};
 ghost use Rattle.elaboration.specs.Offsets.{offset_in};
 ghost use Rattle.elaboration.specs.Statements.{action_meaning, action_faults, simple_walked, part_walked, declaration_walked, stepped, assigned, simple_at};
-ghost use Rattle.elaboration.specs.Walking.{HasFound, HasGone, HasAdded};
+ghost use Rattle.elaboration.specs.Walking.{HasFound, HasGone, HasAdded, context_of};
 
+use crate::context::Context;
 use crate::expression::operation;
 use crate::walk::Walk;
 use call_meaning::{UnitKind, UnitStmt};
-use concrete_syntax::{Action, Assignment, Declaration, Part, Simple, Step};
+use concrete_syntax::{Action, Assignment, Declaration, Part, Simple, Step, Value};
 use std::alloc::{AllocError, Global};
 use step_meaning::{Expr, Op2};
 
@@ -56,37 +57,49 @@ impl<'a> Walk<'a> {
         }
     }
 
-    /// A declaration: its names are declared, and for each with an initialiser a statement is added to `out`. Faults are reported.
+    /// A declaration: its names are declared, and for each with an initialiser a statement is added to `out`. Faults are reported. `context` says what is
+    /// around it.
     #[tactic(auto, using(crate::proofs::Firsts::earliest_more))]
     pub fn declaration(
         &mut self,
         tree: &Declaration,
+        context: Context,
         out: &mut Vec<UnitStmt>,
     ) -> Result<(), AllocError>
-        ensures gone { OnOk result (HasGone self.old self.new (declaration_walked self.old.scope (declaration_of tree.now))) }
-        ensures added { OnOk result (HasAdded self.old out.old.items out.new.items (declaration_walked self.old.scope (declaration_of tree.now))) }
+        ensures gone { OnOk result (HasGone self.old self.new (declaration_walked (context_of context.entry) self.old.scope (declaration_of tree.now))) }
+        ensures added { OnOk result (HasAdded self.old out.old.items out.new.items (declaration_walked (context_of context.entry) self.old.scope (declaration_of tree.now))) }
     {
-        self.part(&tree.part, out)?;
+        self.part(&tree.part, context, out)?;
         for more in tree.more.iter() {
-            self.part(more, out)?;
+            self.part(more, context, out)?;
         }
         Ok(())
     }
 
     // A declared name, and its initialiser.
     #[tactic(auto, using(crate::proofs::Firsts::earliest_more))]
-    fn part(&mut self, tree: &Part, out: &mut Vec<UnitStmt>) -> Result<(), AllocError>
-        ensures gone { OnOk result (HasGone self.old self.new (part_walked self.old.scope (part_of tree.now))) }
-        ensures added { OnOk result (HasAdded self.old out.old.items out.new.items (part_walked self.old.scope (part_of tree.now))) }
+    fn part(
+        &mut self,
+        tree: &Part,
+        context: Context,
+        out: &mut Vec<UnitStmt>,
+    ) -> Result<(), AllocError>
+        ensures gone { OnOk result (HasGone self.old self.new (part_walked (context_of context.entry) self.old.scope (part_of tree.now))) }
+        ensures added { OnOk result (HasAdded self.old out.old.items out.new.items (part_walked (context_of context.entry) self.old.scope (part_of tree.now))) }
     {
         let name = &tree.declared;
         self.need_new(name, &tree.initialiser);
         match &tree.initialiser {
-            Some(initialiser) => {
+            Some(Value::Expression(initialiser)) => {
                 let value = self.number(initialiser)?;
                 self.scope.declare(self.alloc, &name.bytes)?;
                 let var = self.scope.place(&name.bytes);
                 self.add(name.at, UnitKind::Assign { var, value }, out)
+            }
+            Some(Value::Call(call)) => {
+                let target = self.scope.place(&name.bytes);
+                self.call(Some(target), call, context, out)?;
+                self.scope.declare(self.alloc, &name.bytes)
             }
             None => self.scope.declare_bare(self.alloc, &name.bytes),
         }

@@ -139,7 +139,8 @@ impl<'a> Walk<'a> {
         ensures added { OnOk result (HasAdded self.old out.old.items out.new.items (kind_walked (context_of context.entry) self.old.scope at (for_tree tree.now))) }
     {
         let depth = self.scope.depth();
-        self.for_start(&tree.start, out)?;
+        let around = context.deeper()?;
+        self.for_start(&tree.start, around, out)?;
         let test = self.optional_test(&tree.test)?;
         let step = self.last_part(&tree.step)?;
         let inner = context.looping()?;
@@ -209,7 +210,7 @@ impl<'a> Walk<'a> {
             match left {
                 Items::Ended => return Ok(()),
                 Items::Declaration { first, rest } => {
-                    self.declaration(first, out)?;
+                    self.declaration(first, context, out)?;
                     left = rest;
                 }
                 Items::Statement { first, rest } => {
@@ -221,14 +222,19 @@ impl<'a> Walk<'a> {
     }
 
     // The start of a `for`.
-    fn for_start(&mut self, tree: &Start, out: &mut Vec<UnitStmt>) -> Result<(), AllocError>
-        ensures gone { OnOk result (HasGone self.old self.new (start_walked self.old.scope (start_of tree.now))) }
-        ensures added { OnOk result (HasAdded self.old out.old.items out.new.items (start_walked self.old.scope (start_of tree.now))) }
+    fn for_start(
+        &mut self,
+        tree: &Start,
+        context: Context,
+        out: &mut Vec<UnitStmt>,
+    ) -> Result<(), AllocError>
+        ensures gone { OnOk result (HasGone self.old self.new (start_walked (context_of context.entry) self.old.scope (start_of tree.now))) }
+        ensures added { OnOk result (HasAdded self.old out.old.items out.new.items (start_walked (context_of context.entry) self.old.scope (start_of tree.now))) }
     {
         match tree {
             Start::Nothing => Ok(()),
             Start::Simple(tree) => self.simple(simple_at(tree), tree, out),
-            Start::Declaration(tree) => self.declaration(tree, out),
+            Start::Declaration(tree) => self.declaration(tree, context, out),
         }
     }
 

@@ -6,7 +6,7 @@ ghost use Rattle.elaboration.specs.Faults.{fault};
 
 use crate::fault::{Fault, Rule, earlier};
 use crate::scope::Scope;
-use concrete_syntax::{Expression, Name};
+use concrete_syntax::{Name, Value};
 use source_lex::{Token, start_of};
 use std::alloc::Global;
 
@@ -21,7 +21,7 @@ pub struct Walk<'a> {
 
 impl<'a> Walk<'a> {
     ghost use Rattle.std.specs.Prelude.{◌≡◌, ◌≤◌, ◌∷◌, []};
-    ghost use Rattle.concrete_syntax.specs.Mirror.{name as name_of, optional};
+    ghost use Rattle.concrete_syntax.specs.Mirror.{name as name_of, optional_value};
     ghost use Rattle.elaboration.specs.Offsets.{offset_in};
     ghost use Rattle.elaboration.specs.Scopes.{no_names, place_of};
     ghost use Rattle.elaboration.specs.Statements.{name_faults, outside_faults};
@@ -59,8 +59,8 @@ impl<'a> Walk<'a> {
     }
 
     /// Reports a name that may not be declared here, with this initialiser or without one.
-    pub fn need_new(&mut self, name: &Name, initialiser: &Option<Expression>)
-        ensures { HasFound self.old self.new (name_faults self.old.scope (name_of name.now) (optional initialiser.now)) }
+    pub fn need_new(&mut self, name: &Name, initialiser: &Option<Value>)
+        ensures { HasFound self.old self.new (name_faults self.old.scope (name_of name.now) (optional_value initialiser.now)) }
     {
         if self.scope.is_visible(&name.bytes) {
             self.report(Rule::Twice, name.at);

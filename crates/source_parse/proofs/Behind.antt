@@ -4,8 +4,8 @@ use Rattle.derivation.specs.declared.symbol.Symbol.TheVariants as S
 use Rattle.derivation.specs.Word.{number as numbered}
 use Rattle.derivation.specs.Pieces.{token, look}
 use Rattle.source_syntax.specs.Language.{Piece, is_at}
-use Rattle.concrete_syntax.specs.Trees.{Divisor, End, Operand, operand_at, OperandKind, number, name, truth, unknown, call, signed, parentheses, range, Link, operation, division, Tail, ended, further, Expression, Action, assigns, steps, Name, Simple, acts, steps_before, Start, starts_with_nothing, starts_with, declares, Part, Call, Statement, statement_at, StatementKind, simple, calls, gives, skip, braces, conditional, while_loop, do_loop, for_loop, return, break, continue, Otherwise, without, otherwise, Items, none, declaration, statement, Parameters, nothing, named, Function, Prelude, extern_call, typedef_bool}
-use Rattle.source_syntax.specs.Spelling.{plain, sign, leading, opening, size_pieces, minus_pieces, end_pieces, divisor_pieces, link_pieces, operand_pieces, operand_kind_pieces, tail_pieces, expression_pieces, optional_pieces, action_pieces, simple_pieces, initialiser_pieces, finish_pieces, test_pieces, where_allowed, arguments_pieces, further_arguments_pieces, call_pieces, part_pieces, parts_pieces, start_pieces, statement_pieces, statement_kind_pieces, otherwise_pieces, items_pieces, parameters_pieces, further_parameters_pieces, functions_pieces, void_pieces, prelude_pieces, preludes_pieces}
+use Rattle.concrete_syntax.specs.Trees.{Divisor, End, Operand, operand_at, OperandKind, number, name, truth, unknown, call, signed, parentheses, range, Link, operation, division, Tail, ended, further, Expression, Action, assigns, steps, Name, Simple, acts, steps_before, Start, starts_with_nothing, starts_with, declares, Value, evaluates, answers, Part, Call, Statement, statement_at, StatementKind, simple, calls, gives, skip, braces, conditional, while_loop, do_loop, for_loop, return, break, continue, Otherwise, without, otherwise, Items, none, declaration, statement, Parameters, nothing, named, Function, Prelude, extern_call, typedef_bool}
+use Rattle.source_syntax.specs.Spelling.{plain, sign, leading, opening, size_pieces, minus_pieces, end_pieces, divisor_pieces, link_pieces, operand_pieces, operand_kind_pieces, tail_pieces, expression_pieces, optional_pieces, action_pieces, simple_pieces, value_pieces, initialiser_pieces, finish_pieces, test_pieces, where_allowed, arguments_pieces, further_arguments_pieces, call_pieces, part_pieces, parts_pieces, start_pieces, statement_pieces, statement_kind_pieces, otherwise_pieces, items_pieces, parameters_pieces, further_parameters_pieces, functions_pieces, void_pieces, prelude_pieces, preludes_pieces}
 
 -- the first pieces end with the others
 pub record EndsWith (pieces behind : List Piece) : Type 0 where
@@ -84,10 +84,6 @@ pub behind_finish : (levels : ℕ) (s : Option Simple) (behind : List Piece) →
 behind_finish levels (Some s) behind = through (behind_simple levels s (token (sign S.CloseParenthesis) ∷ behind)) (one_more itself)
 behind_finish levels None behind = one_more itself
 
-pub behind_initialiser : (levels : ℕ) (e : Option Expression) (behind : List Piece) → EndsWith (initialiser_pieces levels e behind) behind
-behind_initialiser levels (Some e) behind = one_more (behind_expression levels e behind)
-behind_initialiser levels None behind = itself
-
 pub behind_test : (levels : ℕ) (test : Expression) (behind : List Piece) → EndsWith (test_pieces levels test behind) behind
 behind_test levels test behind =
     one_more (through (behind_expression (levels + 1) test (token (sign S.CloseParenthesis) ∷ behind)) (one_more itself))
@@ -110,6 +106,15 @@ pub behind_call : (functions : Bool) (levels : ℕ) (c : Call) (behind : List Pi
 behind_call functions levels c behind =
     one_more (one_more (one_more (through (behind_allowed functions (arguments_pieces levels c.arguments behind)) (behind_arguments levels c.arguments behind))))
 
+behind_value : (functions : Bool) (levels : ℕ) (value : Value) (behind : List Piece) → EndsWith (value_pieces functions levels value behind) behind
+behind_value functions levels (evaluates e) behind = behind_expression levels e behind
+behind_value functions levels (answers c) behind = behind_call functions levels c behind
+
+pub behind_initialiser : (functions : Bool) (levels : ℕ) (value : Option Value) (behind : List Piece)
+    → EndsWith (initialiser_pieces functions levels value behind) behind
+behind_initialiser functions levels (Some value) behind = one_more (behind_value functions levels value behind)
+behind_initialiser functions levels None behind = itself
+
 pub behind_void : (void : Bool) (behind : List Piece) → EndsWith (void_pieces void behind) behind
 behind_void true behind = one_more (one_more itself)
 behind_void false behind = one_more itself
@@ -126,20 +131,22 @@ behind_preludes (prelude ∷ more) behind = through (behind_prelude prelude (pre
 
 -- ── Statements and functions ──
 
-behind_parts : (levels : ℕ) (parts : List Part) (behind : List Piece) → EndsWith (parts_pieces levels parts behind) behind
-behind_parts levels [] behind = one_more itself
-behind_parts levels (part ∷ more) behind =
-    one_more (one_more (one_more (through (behind_initialiser levels part.initialiser (parts_pieces levels more behind)) (behind_parts levels more behind))))
+behind_parts : (functions : Bool) (levels : ℕ) (parts : List Part) (behind : List Piece) → EndsWith (parts_pieces functions levels parts behind) behind
+behind_parts functions levels [] behind = one_more itself
+behind_parts functions levels (part ∷ more) behind =
+    one_more (one_more (one_more
+    (through (behind_initialiser functions levels part.initialiser (parts_pieces functions levels more behind)) (behind_parts functions levels more behind))))
 
-behind_declaration : (levels : ℕ) (part : Part) (more : List Part) (behind : List Piece)
-    → EndsWith (token (sign S.Int) ∷ part_pieces levels part (parts_pieces levels more behind)) behind
-behind_declaration levels part more behind =
-    one_more (one_more (one_more (through (behind_initialiser levels part.initialiser (parts_pieces levels more behind)) (behind_parts levels more behind))))
+behind_declaration : (functions : Bool) (levels : ℕ) (part : Part) (more : List Part) (behind : List Piece)
+    → EndsWith (token (sign S.Int) ∷ part_pieces functions levels part (parts_pieces functions levels more behind)) behind
+behind_declaration functions levels part more behind =
+    one_more (one_more (one_more
+    (through (behind_initialiser functions levels part.initialiser (parts_pieces functions levels more behind)) (behind_parts functions levels more behind))))
 
-behind_start : (levels : ℕ) (start : Start) (behind : List Piece) → EndsWith (start_pieces levels start behind) behind
-behind_start levels starts_with_nothing behind = one_more itself
-behind_start levels (starts_with s) behind = through (behind_simple levels s (token (leading S.Semicolon) ∷ behind)) (one_more itself)
-behind_start levels (declares d) behind = behind_declaration levels d.part d.more behind
+behind_start : (functions : Bool) (levels : ℕ) (start : Start) (behind : List Piece) → EndsWith (start_pieces functions levels start behind) behind
+behind_start functions levels starts_with_nothing behind = one_more itself
+behind_start functions levels (starts_with s) behind = through (behind_simple levels s (token (leading S.Semicolon) ∷ behind)) (one_more itself)
+behind_start functions levels (declares d) behind = behind_declaration functions levels d.part d.more behind
 
 mutual
   behind_statement : (functions : Bool) (levels : ℕ) (s : Statement) (behind : List Piece) → EndsWith (statement_pieces functions levels s behind) behind
@@ -171,7 +178,7 @@ mutual
       let inner = statement_pieces functions (levels + 1) body behind in
       let last = token (sign S.Semicolon) ∷ finish_pieces (levels + 1) step inner in
       one_more (one_more
-      (through (behind_start (levels + 1) start (optional_pieces (levels + 1) test last))
+      (through (behind_start functions (levels + 1) start (optional_pieces (levels + 1) test last))
       (through (behind_optional (levels + 1) test last)
       (one_more (through (behind_finish (levels + 1) step inner) (behind_statement functions (levels + 1) body behind))))))
   behind_statement_kind functions levels (return value) behind =
@@ -186,7 +193,7 @@ mutual
   behind_items : (functions : Bool) (levels : ℕ) (all : Items) (behind : List Piece) → EndsWith (items_pieces functions levels all behind) behind
   behind_items functions levels none behind = itself
   behind_items functions levels (declaration d more) behind =
-      through (behind_declaration levels d.part d.more (items_pieces functions levels more behind)) (behind_items functions levels more behind)
+      through (behind_declaration functions levels d.part d.more (items_pieces functions levels more behind)) (behind_items functions levels more behind)
   behind_items functions levels (statement s more) behind =
       through (behind_statement functions levels s (items_pieces functions levels more behind)) (behind_items functions levels more behind)
 

@@ -95,23 +95,24 @@ variable_named others names x h spelled = by_known (is_among names x)
     by_known true = h
     by_known false = by_room (nat_lt (others + length names) most_variables)
 
-part_named : (scope : Scope) (levels : ℕ) (part : Part) (behind : List Piece) → Declared scope → Spelled (part_pieces levels part behind)
-    → Declared (part_walked scope part).scope × Spelled behind
-part_named scope levels part behind names h =
-    (variable_named scope.others scope.declared part.declared.bytes names h.0, behind_named (behind_initialiser levels part.initialiser behind) h.1)
+part_named : (functions : Bool) (c : Context) (scope : Scope) (levels : ℕ) (part : Part) (behind : List Piece) → Declared scope
+    → Spelled (part_pieces functions levels part behind) → Declared (part_walked c scope part).scope × Spelled behind
+part_named functions c scope levels part behind names h =
+    (variable_named scope.others scope.declared part.declared.bytes names h.0, behind_named (behind_initialiser functions levels part.initialiser behind) h.1)
 
-parts_named : (scope : Scope) (levels : ℕ) (parts : List Part) (behind : List Piece) → Declared scope → Spelled (parts_pieces levels parts behind)
-    → Declared (parts_walked scope parts).scope × Spelled behind
-parts_named scope levels [] behind names h = (names, h.1)
-parts_named scope levels (part ∷ more) behind names h =
-    let this = part_named scope levels part (parts_pieces levels more behind) names h.1 in
-    parts_named (part_walked scope part).scope levels more behind this.0 this.1
+parts_named : (functions : Bool) (c : Context) (scope : Scope) (levels : ℕ) (parts : List Part) (behind : List Piece) → Declared scope
+    → Spelled (parts_pieces functions levels parts behind) → Declared (parts_walked c scope parts).scope × Spelled behind
+parts_named functions c scope levels [] behind names h = (names, h.1)
+parts_named functions c scope levels (part ∷ more) behind names h =
+    let this = part_named functions c scope levels part (parts_pieces functions levels more behind) names h.1 in
+    parts_named functions c (part_walked c scope part).scope levels more behind this.0 this.1
 
-start_named : (scope : Scope) (levels : ℕ) (start : Start) (behind : List Piece) → Declared scope → Spelled (start_pieces levels start behind)
-    → Declared (start_walked scope start).scope × Spelled behind
-start_named scope levels starts_with_nothing behind names h = (names, h.1)
-start_named scope levels (starts_with s) behind names h = (names, (behind_named (behind_simple levels s (token (leading S.Semicolon) ∷ behind)) h).1)
-start_named scope levels (declares d) behind names h = parts_named scope levels (d.part ∷ d.more) behind names (tt, h.1)
+start_named : (functions : Bool) (c : Context) (scope : Scope) (levels : ℕ) (start : Start) (behind : List Piece) → Declared scope
+    → Spelled (start_pieces functions levels start behind) → Declared (start_walked c scope start).scope × Spelled behind
+start_named functions c scope levels starts_with_nothing behind names h = (names, h.1)
+start_named functions c scope levels (starts_with s) behind names h =
+    (names, (behind_named (behind_simple levels s (token (leading S.Semicolon) ∷ behind)) h).1)
+start_named functions c scope levels (declares d) behind names h = parts_named functions c scope levels (d.part ∷ d.more) behind names (tt, h.1)
 
 return_named : (body : Body) (scope : Scope) (at : ℕ) → Declared scope → Declared (behind_return body scope at)
 return_named Main scope at names = names
@@ -148,9 +149,10 @@ mutual
   kind_named functions c scope levels at (for_loop start test step body) behind names h =
       let inner = statement_pieces functions (levels + 1) body behind in
       let last = token (sign S.Semicolon) ∷ finish_pieces (levels + 1) step inner in
-      let started = start_named scope (levels + 1) start (optional_pieces (levels + 1) test last) names h.1.1 in
+      let before = (start_walked (deeper c) scope start).scope in
+      let started = start_named functions (deeper c) scope (levels + 1) start (optional_pieces (levels + 1) test last) names h.1.1 in
       let tested = behind_named (behind_optional (levels + 1) test last) started.1 in
-      statement_named functions (looping c) (start_walked scope start).scope (levels + 1) body behind started.0 (behind_named (behind_finish (levels + 1) step inner) tested.1)
+      statement_named functions (looping c) before (levels + 1) body behind started.0 (behind_named (behind_finish (levels + 1) step inner) tested.1)
   kind_named functions c scope levels at (return value) behind names h =
       (return_named c.body scope at names, (behind_named (behind_optional levels value (token (sign S.Semicolon) ∷ behind)) h.1).1)
   kind_named functions c scope levels at break behind names h = (names, h.1.1)
@@ -165,8 +167,8 @@ mutual
       → Declared (items_walked c scope all).scope × Spelled behind
   items_named functions c scope levels none behind names h = (names, h)
   items_named functions c scope levels (declaration d more) behind names h =
-      let this = parts_named scope levels (d.part ∷ d.more) (items_pieces functions levels more behind) names (tt, h.1) in
-      items_named functions c (declaration_walked scope d).scope levels more behind this.0 this.1
+      let this = parts_named functions c scope levels (d.part ∷ d.more) (items_pieces functions levels more behind) names (tt, h.1) in
+      items_named functions c (declaration_walked c scope d).scope levels more behind this.0 this.1
   items_named functions c scope levels (statement s more) behind names h =
       let this = statement_named functions c scope levels s (items_pieces functions levels more behind) names h in
       items_named functions c (statement_walked c scope s).scope levels more behind this.0 this.1

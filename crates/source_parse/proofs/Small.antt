@@ -9,7 +9,7 @@ use Rattle.source_lex.specs.Spans.{IsWithin, InOrderFrom}
 use Rattle.source_lex.specs.declared.token.Token.{Token}
 use Rattle.step_meaning.specs.Syntax as syntax
 use Rattle.call_meaning.specs.Units.{Command, of_list, while_loop as while_command}
-use Rattle.concrete_syntax.specs.Trees.{Expression, Name, Simple, acts, steps_before, Part, Start, starts_with_nothing, starts_with, declares, Statement, statement_at, StatementKind, simple, calls, gives, skip, braces, conditional, while_loop, do_loop, for_loop, return, break, continue, Otherwise, without, otherwise, Items, none, declaration, statement, Program}
+use Rattle.concrete_syntax.specs.Trees.{Name, Simple, acts, steps_before, Value, evaluates, answers, Part, Start, starts_with_nothing, starts_with, declares, Statement, statement_at, StatementKind, simple, calls, gives, skip, braces, conditional, while_loop, do_loop, for_loop, return, break, continue, Otherwise, without, otherwise, Items, none, declaration, statement, Program}
 use Rattle.source_syntax.specs.Language.{Piece, is_at}
 use Rattle.source_syntax.specs.Spelling.{sign, leading, opening, optional_pieces, simple_pieces, initialiser_pieces, part_pieces, parts_pieces, start_pieces, finish_pieces, test_pieces, statement_pieces, statement_kind_pieces, otherwise_pieces, items_pieces, functions_pieces, main_end_pieces, program_pieces}
 use Rattle.elaboration.specs.declared.context.Body.TheVariants.{Main}
@@ -52,33 +52,37 @@ finish_size : (scope : Scope) (levels : ℕ) (s : Option Simple) (behind : List 
 finish_size scope levels (Some s) behind = omega (arith, simple_size scope levels s (token (sign S.CloseParenthesis) ∷ behind))
 finish_size scope levels None behind = omega arith
 
-initialiser_size : (scope inner : Scope) (levels : ℕ) (x : Name) (e : Option Expression) (behind : List Piece)
-    → size (initialiser_walked scope inner x e).body + count behind ≤ 1 + count (initialiser_pieces levels e behind)
-initialiser_size scope inner levels x (Some e) behind = omega (arith, fewer (behind_initialiser levels (Some e) behind))
-initialiser_size scope inner levels x None behind = omega arith
+initialiser_size : (functions : Bool) (c : Context) (scope inner : Scope) (levels : ℕ) (x : Name) (value : Option Value) (behind : List Piece)
+    → size (initialiser_walked c scope inner x value).body + count behind ≤ 1 + count (initialiser_pieces functions levels value behind)
+initialiser_size functions c scope inner levels x (Some (evaluates e)) behind =
+    omega (arith, fewer (behind_initialiser functions levels (Some (evaluates e)) behind))
+initialiser_size functions c scope inner levels x (Some (answers call)) behind =
+    omega (arith, fewer (behind_initialiser functions levels (Some (answers call)) behind))
+initialiser_size functions c scope inner levels x None behind = omega arith
 
-part_size : (scope : Scope) (levels : ℕ) (part : Part) (behind : List Piece)
-    → size (part_walked scope part).body + count behind ≤ count (part_pieces levels part behind)
-part_size scope levels part behind =
+part_size : (functions : Bool) (c : Context) (scope : Scope) (levels : ℕ) (part : Part) (behind : List Piece)
+    → size (part_walked c scope part).body + count behind ≤ count (part_pieces functions levels part behind)
+part_size functions c scope levels part behind =
     let inner = declare scope part.declared.bytes (is_bare part.initialiser) in
-    omega (arith, initialiser_size scope inner levels part.declared part.initialiser behind)
+    omega (arith, initialiser_size functions c scope inner levels part.declared part.initialiser behind)
 
-parts_size : (scope : Scope) (levels : ℕ) (parts : List Part) (behind : List Piece)
-    → size (parts_walked scope parts).body + count behind ≤ count (parts_pieces levels parts behind)
-parts_size scope levels [] behind = omega arith
-parts_size scope levels (part ∷ more) behind =
+parts_size : (functions : Bool) (c : Context) (scope : Scope) (levels : ℕ) (parts : List Part) (behind : List Piece)
+    → size (parts_walked c scope parts).body + count behind ≤ count (parts_pieces functions levels parts behind)
+parts_size functions c scope levels [] behind = omega arith
+parts_size functions c scope levels (part ∷ more) behind =
+    let w = part_walked c scope part in
     omega (
       arith,
-      size_append (part_walked scope part).body (parts_walked (part_walked scope part).scope more).body,
-      part_size scope levels part (parts_pieces levels more behind),
-      parts_size (part_walked scope part).scope levels more behind,
+      size_append w.body (parts_walked c w.scope more).body,
+      part_size functions c scope levels part (parts_pieces functions levels more behind),
+      parts_size functions c w.scope levels more behind,
     )
 
-start_size : (scope : Scope) (levels : ℕ) (start : Start) (behind : List Piece)
-    → size (start_walked scope start).body + count behind ≤ count (start_pieces levels start behind)
-start_size scope levels starts_with_nothing behind = omega arith
-start_size scope levels (starts_with s) behind = omega (arith, simple_size scope levels s (token (leading S.Semicolon) ∷ behind))
-start_size scope levels (declares d) behind = omega (arith, parts_size scope levels (d.part ∷ d.more) behind)
+start_size : (functions : Bool) (c : Context) (scope : Scope) (levels : ℕ) (start : Start) (behind : List Piece)
+    → size (start_walked c scope start).body + count behind ≤ count (start_pieces functions levels start behind)
+start_size functions c scope levels starts_with_nothing behind = omega arith
+start_size functions c scope levels (starts_with s) behind = omega (arith, simple_size scope levels s (token (leading S.Semicolon) ∷ behind))
+start_size functions c scope levels (declares d) behind = omega (arith, parts_size functions c scope levels (d.part ∷ d.more) behind)
 
 mutual
   statement_size : (functions : Bool) (c : Context) (scope : Scope) (levels : ℕ) (s : Statement) (behind : List Piece)
@@ -111,14 +115,15 @@ mutual
         fewer (behind_test (levels + 1) test last),
       )
   kind_size functions c scope levels at (for_loop start test step body) behind =
-      let inside = (start_walked scope start).scope in
+      let before = start_walked (deeper c) scope start in
+      let inside = before.scope in
       let inner = statement_pieces functions (levels + 1) body behind in
       let last = token (sign S.Semicolon) ∷ finish_pieces (levels + 1) step inner in
       omega (
         arith,
-        size_append (start_walked scope start).body (while_command (optional_test inside test) (of_list (statement_walked (looping c) inside body).body)
+        size_append before.body (while_command (optional_test inside test) (of_list (statement_walked (looping c) inside body).body)
             (of_list (optional_simple_walked inside step).body) ∷ []),
-        start_size scope (levels + 1) start (optional_pieces (levels + 1) test last),
+        start_size functions (deeper c) scope (levels + 1) start (optional_pieces (levels + 1) test last),
         fewer (behind_optional (levels + 1) test last),
         finish_size inside (levels + 1) step inner,
         statement_size functions (looping c) inside (levels + 1) body behind,
@@ -138,9 +143,9 @@ mutual
   items_size functions c scope levels (declaration d more) behind =
       omega (
         arith,
-        size_append (declaration_walked scope d).body (items_walked c (declaration_walked scope d).scope more).body,
-        parts_size scope levels (d.part ∷ d.more) (items_pieces functions levels more behind),
-        items_size functions c (declaration_walked scope d).scope levels more behind,
+        size_append (declaration_walked c scope d).body (items_walked c (declaration_walked c scope d).scope more).body,
+        parts_size functions c scope levels (d.part ∷ d.more) (items_pieces functions levels more behind),
+        items_size functions c (declaration_walked c scope d).scope levels more behind,
       )
   items_size functions c scope levels (statement s more) behind =
       omega (

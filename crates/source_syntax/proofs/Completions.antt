@@ -1,14 +1,14 @@
 -- Whatever is still to be read can be completed, by words that no end forbids.
-use Rattle.std.proofs.Common.{ℕ, ◌+◌, pos, List, [], ◌∷◌, Option, None, Some, false, refl}
+use Rattle.std.proofs.Common.{ℕ, ◌+◌, pos, List, [], ◌∷◌, Option, None, Some, true, false, refl}
 use Rattle.derivation.specs.Pieces.{first_before, number_behind, Fits}
 use Rattle.derivation.specs.Comes.{MayStandFor}
 use Rattle.derivation.specs.Word.{Word}
 use Rattle.derivation.proofs.Grammars.{Lawful}
 use Rattle.source_syntax.specs.Language.{language, Look, is_at, no_operator, no_else, forbidden, Meets, IsQuiet}
-use Rattle.source_syntax.specs.Ends.{evaluates, continues, does, is_main}
+use Rattle.source_syntax.specs.Ends.{continues, does, is_main}
 use Rattle.concrete_syntax.specs.declared.sign.Step.TheVariants as Step
-use Rattle.concrete_syntax.specs.Trees.{operand_at, number, ended, Expression, Name, steps, steps_before, starts_with_nothing, statement_at, skip, without, none, nothing}
-use Rattle.source_syntax.specs.Pending.{Pending, exactly, exactly_at, a_name, bytes_of_a_name, a_size, an_end, a_number, a_number_at, a_divisor, an_operand, an_operand_kind, a_tail, an_expression, an_optional, a_test, an_action, a_simple, a_part_end, parts, a_declaration, a_start, a_finish, a_value, a_value_end, arguments, further_arguments, a_statement_end, a_statement, a_statement_kind, an_otherwise, items, a_void, parameters, further_parameters, a_place, definitions_end, definitions, a_program, TreeOf, pieces_of, Trees, pieces, grammar}
+use Rattle.concrete_syntax.specs.Trees.{operand_at, number, ended, Expression, Name, steps, steps_before, evaluates, starts_with_nothing, statement_at, skip, without, none, nothing}
+use Rattle.source_syntax.specs.Pending.{Pending, exactly, exactly_at, a_name, bytes_of_a_name, a_size, an_end, a_number, a_number_at, a_divisor, an_operand, an_operand_kind, a_tail, an_expression, an_optional, a_test, an_action, a_simple, an_initialiser, a_part_end, parts, a_declaration, a_start, a_finish, a_value, a_value_end, a_closing, arguments, further_arguments, a_statement_end, a_statement, a_statement_kind, an_otherwise, items, a_void, parameters, further_parameters, a_place, definitions_end, definitions, a_program, TreeOf, pieces_of, Trees, pieces, grammar}
 
 abbrev zero_at : ℕ → Expression
 zero_at at = record { operand = operand_at at (number (pos 0)); tail = ended }
@@ -35,13 +35,18 @@ short at (an_optional n) = None
 short at (a_test n) = zero_at (at + 1)
 short at (an_action n) = steps Step.Increment
 short at (a_simple n) = steps_before at Step.Increment (empty_name (at + 1))
-short at (a_part_end n) = (None, [])
-short at (parts n) = []
-short at (a_declaration n) = record { part = record { declared = empty_name (at + 1); initialiser = None }; more = [] }
-short at (a_start n) = starts_with_nothing
+short at (an_initialiser functions n) = (evaluates (zero_at at), [])
+short at (a_part_end functions n) = (None, [])
+short at (parts functions n) = []
+short at (a_declaration functions n) = record { part = record { declared = empty_name (at + 1); initialiser = None }; more = [] }
+short at (a_start functions n) = starts_with_nothing
 short at (a_finish n) = None
-short at (a_value n) = evaluates (zero_at at)
-short at (a_value_end n) = continues ended
+short at (a_value true n) = (evaluates (zero_at at), [])
+short at (a_value false n) = (evaluates (zero_at at), tt)
+short at (a_value_end true n) = (continues ended, [])
+short at (a_value_end false n) = (continues ended, tt)
+short at (a_closing true n) = []
+short at (a_closing false n) = tt
 short at (arguments n) = []
 short at (further_arguments n) = []
 short at (a_statement_end functions n) = does (steps Step.Increment)
@@ -81,13 +86,18 @@ completes at (an_optional n ∷ more) = ((completes _ more).0, (refl, refl))
 completes at (a_test n ∷ more) = ((refl, (refl, (completes _ more).0)), (refl, refl))
 completes at (an_action n ∷ more) = ((completes _ more).0, (refl, refl))
 completes at (a_simple n ∷ more) = ((refl, (refl, (completes _ more).0)), (refl, refl))
-completes at (a_part_end n ∷ more) = ((completes _ more).0, (refl, refl))
-completes at (parts n ∷ more) = ((completes _ more).0, (refl, refl))
-completes at (a_declaration n ∷ more) = ((refl, (completes _ more).0), (refl, refl))
-completes at (a_start n ∷ more) = ((completes _ more).0, (refl, refl))
+completes at (an_initialiser functions n ∷ more) = ((refl, (refl, (completes _ more).0)), (refl, refl))
+completes at (a_part_end functions n ∷ more) = ((completes _ more).0, (refl, refl))
+completes at (parts functions n ∷ more) = ((completes _ more).0, (refl, refl))
+completes at (a_declaration functions n ∷ more) = ((refl, (completes _ more).0), (refl, refl))
+completes at (a_start functions n ∷ more) = ((completes _ more).0, (refl, refl))
 completes at (a_finish n ∷ more) = ((completes _ more).0, (refl, refl))
-completes at (a_value n ∷ more) = ((refl, (refl, (completes _ more).0)), (refl, refl))
-completes at (a_value_end n ∷ more) = ((refl, (completes _ more).0), (refl, refl))
+completes at (a_value true n ∷ more) = ((refl, (refl, (completes _ more).0)), (refl, refl))
+completes at (a_value false n ∷ more) = ((refl, (refl, (completes _ more).0)), (refl, refl))
+completes at (a_value_end true n ∷ more) = ((refl, (completes _ more).0), (refl, refl))
+completes at (a_value_end false n ∷ more) = ((refl, (completes _ more).0), (refl, refl))
+completes at (a_closing true n ∷ more) = ((completes _ more).0, (refl, refl))
+completes at (a_closing false n ∷ more) = ((completes _ more).0, (refl, refl))
 completes at (arguments n ∷ more) = ((completes _ more).0, (refl, refl))
 completes at (further_arguments n ∷ more) = ((completes _ more).0, (refl, refl))
 completes at (a_statement_end functions n ∷ more) = ((completes _ more).0, (refl, refl))

@@ -17,12 +17,12 @@ use Rattle.concrete_syntax.specs.declared.program.Prelude.{Prelude as RustPrelud
 use Rattle.concrete_syntax.specs.declared.program.Function.{Function as RustFunction}
 use Rattle.concrete_syntax.specs.declared.simple.Name.{Name as RustName}
 use Rattle.concrete_syntax.specs.declared.expression.Expression.{Expression as RustExpression}
-use Rattle.concrete_syntax.specs.Trees.{Expression, Name, Part, Declaration, Statement, StatementKind, Items, none, Prelude, named as named_parameters, Function}
+use Rattle.concrete_syntax.specs.Trees.{Expression, Name, Value, Part, Declaration, Statement, StatementKind, Items, none, Prelude, named as named_parameters, Function}
 use Rattle.concrete_syntax.specs.Chains.{Item, declared, stated, items_of}
 use Rattle.concrete_syntax.specs.Mirror.{item, part, prelude, function, functions, name, names, expression, expressions}
 use Rattle.concrete_syntax.proofs.Chains.{items_of-append}
-use Rattle.source_syntax.specs.Pending.{Pending, an_expression, a_declaration, a_statement_end, a_statement, items, arguments, further_arguments, parameters, further_parameters, definitions, a_program, TreeOf}
-use Rattle.source_syntax.specs.Reads.{ReadsCounting, Reads, ReadsAfresh, ReadsLeading, Refuses, Continues, behind_preludes, behind_functions, ReadsPart, RefusesPart, ComesToParts, ComesToArguments, ReadsEnd, AreNext, ReadsMain, ReadsFunction, ReadsParameter, ComesToParameters}
+use Rattle.source_syntax.specs.Pending.{Pending, an_expression, an_initialiser, a_declaration, a_statement_end, a_statement, items, arguments, further_arguments, parameters, further_parameters, definitions, a_program, TreeOf}
+use Rattle.source_syntax.specs.Reads.{ReadsCounting, Reads, ReadsAfresh, ReadsLeading, Refuses, RefusesCounting, Continues, behind_preludes, behind_functions, ReadsInitialiser, ReadsPart, RefusesPart, ComesToParts, ComesToArguments, ReadsEnd, AreNext, ReadsMain, ReadsFunction, ReadsParameter, ComesToParameters}
 use Rattle.derivation.proofs.Grammars.{over, fails, stay, refilled}
 use Rattle.derivation.proofs.Choices.{goes, not_next, taken, left_out}
 use Rattle.source_syntax.proofs.Statements.{all_items, declaration_goes, further_parts}
@@ -42,6 +42,12 @@ module _ {functions allowed : Bool} {from to : Rest} (e : functions ≡ allowed)
   pub end_refused : {n : ℕ} {rule : Rule} → Refuses (a_statement_end allowed n) from rule to → Refuses (a_statement_end functions n) from rule to
   end_refused {n} {rule} h = subst (λ b. Refuses (a_statement_end b n) from rule to) (sym e) h
 
+  pub initialiser_reads : {n : ℕ} {value : Value} → ReadsInitialiser allowed n value from to → ReadsInitialiser functions n value from to
+  initialiser_reads {n} {value} h = subst (λ b. ReadsInitialiser b n value from to) (sym e) h
+
+  pub initialiser_refused : {n : ℕ} {rule : Rule} → RefusesCounting 0 (an_initialiser allowed n) from rule to → RefusesCounting 0 (an_initialiser functions n) from rule to
+  initialiser_refused {n} {rule} h = subst (λ b. RefusesCounting 0 (an_initialiser b n) from rule to) (sym e) h
+
   pub definitions_read : {all : Definitions} → Reads (definitions allowed) all from to → Reads (definitions functions) all from to
   definitions_read {all} h = subst (λ b. Reads (definitions b) all from to) (sym e) h
 
@@ -56,7 +62,7 @@ items_from functions n start list empty =
 module _ (functions : Bool) (n : ℕ) (start here : Rest) where
   pub items_declaration : (to : Rest) (list more : List Item) (d : Declaration) → more ≡ list ++ declared d ∷ []
       → Continues (items functions n) (items_of list) start here → ItemOpening.Declaration ≡ opening_of_item (first here.words)
-      → ReadsLeading (a_declaration n) d here to → Continues (items functions n) (items_of more) start to
+      → ReadsLeading (a_declaration functions n) d here to → Continues (items functions n) (items_of more) start to
   items_declaration to list more d pushed h e r = record {
     comes = λ count behind. (
       _,
@@ -87,36 +93,36 @@ module _ (functions : Bool) (n : ℕ) (start here : Rest) where
   }
 
 -- the parts of a declaration
-module _ (n : ℕ) (start : Rest) where
-  pub parts_from : (inner to : Rest) (part : Part) (so_far : List Part) → so_far ≡ [] → IsNext (symbol Sym.Int) start inner → ReadsPart n part inner to
-      → ComesToParts n part so_far start to
-  parts_from inner to part so_far empty e r = subst (λ so_far. ComesToParts n part so_far start to) (sym empty) (record {
-    comes = λ count behind. (_, over (declaration_goes n count behind start) (over (sign_reads Sym.Int (refl, refl) e) (r.comes _ behind).1));
+module _ (functions : Bool) (n : ℕ) (start : Rest) where
+  pub parts_from : (inner to : Rest) (part : Part) (so_far : List Part) → so_far ≡ [] → IsNext (symbol Sym.Int) start inner → ReadsPart functions n part inner to
+      → ComesToParts functions n part so_far start to
+  parts_from inner to part so_far empty e r = subst (λ so_far. ComesToParts functions n part so_far start to) (sym empty) (record {
+    comes = λ count behind. (_, over (declaration_goes functions n count behind start) (over (sign_reads Sym.Int (refl, refl) e) (r.comes _ behind).1));
   })
 
-  pub part_missing : (inner to : Rest) → IsNext (symbol Sym.Int) start inner → (rule : Rule) → RefusesPart n inner rule to → Refuses (a_declaration n) start rule to
+  pub part_missing : (inner to : Rest) → IsNext (symbol Sym.Int) start inner → (rule : Rule) → RefusesPart functions n inner rule to → Refuses (a_declaration functions n) start rule to
   part_missing inner to e rule h count behind =
-      fails (declaration_goes n count behind start) (fails (sign_reads Sym.Int (refl, refl) e) (h _ behind))
+      fails (declaration_goes functions n count behind start) (fails (sign_reads Sym.Int (refl, refl) e) (h _ behind))
 
   pub parts_over : (here inner to : Rest) (part further : Part) (so_far more : List Part) → more ≡ so_far ++ further ∷ []
-      → ComesToParts n part so_far start here → IsNext (symbol Sym.Comma) here inner → ReadsPart n further inner to → ComesToParts n part more start to
+      → ComesToParts functions n part so_far start here → IsNext (symbol Sym.Comma) here inner → ReadsPart functions n further inner to → ComesToParts functions n part more start to
   parts_over here inner to part further so_far more pushed h c r = record {
     comes = λ count behind. (
       _,
       refilled (λ trees. ap (λ l. (record { part = part; more = l }, trees.1))
           (sym (ap (λ l. l ++ trees.0) pushed ∙ append_assoc so_far (further ∷ []) trees.0)))
-          (over (h.comes count behind).1 (over (taken (further_parts n behind) c (omega arith, tt)) (r.comes _ behind).1)),
+          (over (h.comes count behind).1 (over (taken (further_parts functions n behind) c (omega arith, tt)) (r.comes _ behind).1)),
     );
   }
 
-  pub parts_close : (here to : Rest) (part : Part) (so_far : List Part) → ComesToParts n part so_far start here
+  pub parts_close : (here to : Rest) (part : Part) (so_far : List Part) → ComesToParts functions n part so_far start here
       → ((to : List Word) → here.words ≢ symbol Sym.Comma ∷ to) → IsNext (symbol Sym.Semicolon) here to
-      → ReadsLeading (a_declaration n) (record { part = part; more = so_far }) start to
+      → ReadsLeading (a_declaration functions n) (record { part = part; more = so_far }) start to
   parts_close here to part so_far h missing c = record {
     comes = λ count behind.
         refilled (λ trees. ap (λ l. (record { part = part; more = l }, trees)) (append-nil so_far))
         (over (h.comes count behind).1
-        (over (left_out (further_parts n behind) (not_next (symbol Sym.Comma) here.words missing)) (leading_reads Sym.Semicolon (refl, refl) c)));
+        (over (left_out (further_parts functions n behind) (not_next (symbol Sym.Comma) here.words missing)) (leading_reads Sym.Semicolon (refl, refl) c)));
   }
 
 -- preludes

@@ -22,15 +22,15 @@ use Rattle.source_syntax.specs.declared.opening.StatementOpening.{StatementOpeni
 use Rattle.source_syntax.specs.declared.opening.ItemOpening.{ItemOpening}
 use Rattle.source_syntax.specs.declared.opening.StartOpening.{StartOpening}
 use Rattle.source_syntax.specs.Openings.{opening_of_simple, opening_of_action, opening_of_prelude, is_name}
-use Rattle.concrete_syntax.specs.Trees.{Divisor, End, Operand, operand_at, OperandKind, number, name, truth, unknown, call, signed, parentheses, range, Tail, ended, further, Expression, Name, Action, assigns, steps, Simple, acts, steps_before, Part, Declaration, Start, starts_with_nothing, starts_with, declares, Call, Statement, statement_at, StatementKind, simple, calls, gives, skip, braces, conditional, while_loop, do_loop, for_loop, return, break, continue, Otherwise, without, otherwise, Items, none, declaration, statement, Prelude, extern_call, typedef_bool, Parameters, nothing, named as named_parameters, Function, Program, operation, division}
+use Rattle.concrete_syntax.specs.Trees.{Divisor, End, Operand, operand_at, OperandKind, number, name, truth, unknown, call, signed, parentheses, range, Tail, ended, further, Expression, Name, Action, assigns, steps, Simple, acts, steps_before, Call, Value, evaluates, answers, Part, Declaration, Start, starts_with_nothing, starts_with, declares, Statement, statement_at, StatementKind, simple, calls, gives, skip, braces, conditional, while_loop, do_loop, for_loop, return, break, continue, Otherwise, without, otherwise, Items, none, declaration, statement, Prelude, extern_call, typedef_bool, Parameters, nothing, named as named_parameters, Function, Program, operation, division}
 use Rattle.source_syntax.specs.Spelling.{sign, leading, assignment_sign, step_sign, type_sign}
-use Rattle.source_syntax.specs.Pending.{Pending, exactly, exactly_at, a_name, bytes_of_a_name, a_size, an_end, a_number, a_number_at, a_divisor, an_operand, an_operand_kind, a_tail, an_expression, an_optional, a_test, an_action, a_simple, a_part_end, parts, a_declaration, a_start, a_finish, a_value, a_value_end, arguments, further_arguments, a_statement_end, a_statement, a_statement_kind, an_otherwise, items, a_void, parameters, further_parameters, definitions, a_program, Trees, pieces, grammar}
+use Rattle.source_syntax.specs.Pending.{Pending, exactly, exactly_at, a_name, bytes_of_a_name, a_size, an_end, a_number, a_number_at, a_divisor, an_operand, an_operand_kind, a_tail, an_expression, an_optional, a_test, an_action, a_simple, an_initialiser, a_part_end, parts, a_declaration, a_start, a_finish, a_value, a_value_end, a_closing, arguments, further_arguments, a_statement_end, a_statement, a_statement_kind, an_otherwise, items, a_void, parameters, further_parameters, definitions, a_program, Trees, pieces, grammar}
 use Rattle.source_syntax.proofs.Answering.{AreQuiet, in_turn, units}
 use Rattle.source_syntax.proofs.Expressions.{located_tokens, names, located_numbers, divisor_of, divisors, sizes, ends, operands, located_operands, tokens, name_bytes, numbers, prefixes, link_signs, tail_ends, expression_goes}
-use Rattle.source_syntax.proofs.Statements.{actions, simples, simple_begins, opens_simply, part_ends, further_parts, declaration_goes, test_goes, no_semicolon, optionals, starts, no_parenthesis, finishes, statements, located_statements, statement_among, all_items, voids, otherwise_ends, elses}
-use Rattle.source_syntax.specs.Ends.{Value, evaluates, answers, ValueEnd, continues, called, StatementEnd, does, applied, given, Definitions, is_main, is_function, function_of, after_function}
+use Rattle.source_syntax.proofs.Statements.{actions, simples, simple_begins, opens_simply, part_ends, further_parts, no_called_initialisers, declaration_goes, test_goes, no_semicolon, optionals, starts, no_parenthesis, finishes, statements, located_statements, statement_among, all_items, voids, otherwise_ends, elses}
+use Rattle.source_syntax.specs.Ends.{Closing, ValueEnd, continues, called, StatementEnd, does, applied, given, Definitions, is_main, is_function, function_of, after_function}
 use Rattle.source_syntax.specs.Reads.{main_end, function_end}
-use Rattle.source_syntax.proofs.Calling.{statement_ends, no_calls, values, tail_begins, value_ends, argument_begins, first_arguments, more_arguments}
+use Rattle.source_syntax.proofs.Calling.{statement_ends, no_calls, closes_statement, closes_part, initialiser_goes, values, tail_begins, value_ends, argument_begins, first_arguments, more_arguments}
 use Rattle.source_syntax.proofs.Programs.{all_parameters, more_parameters, places, all_definitions, definitions_ends, main_signs, main_quiet, no_functions, extern_signs, extern_quiet, typedef_signs, typedef_quiet, whole, beginnings}
 
 -- all trees that spell the words of these are these
@@ -150,35 +150,6 @@ simple_one n (acts x action) S rest d = chosen (simples n S) SimpleOpening.Name 
 simple_one n (steps_before at s x) S rest d =
     chosen (simples n S) (SimpleOpening.Steps s) (at, (x, rest)) (steps_so s).1 (exactly_at_one _ _ at _ _ (name_one x S rest d))
 
--- declarations
-part_end_step : (n : ℕ) (value : Option Expression) (more : List Part) (S : List Pending) (rest : Trees S) → IsOnly (parts n ∷ S) (more, rest)
-    → IsOnly (a_part_end n ∷ S) ((value, more), rest)
-part_end_step n (Some e) more S rest d = begun (part_ends n S) (e, (more, rest)) (expression_one n e _ _ d)
-part_end_step n None [] S rest d = not_begun (part_ends n S) ([], rest) (λ e. cc) d
-part_end_step n None (part ∷ more) S rest d = not_begun (part_ends n S) (part ∷ more, rest) (λ e. cc) d
-
-parts_one : (n : ℕ) (more : List Part) (S : List Pending) (rest : Trees S) → IsOnly S rest → IsOnly (parts n ∷ S) (more, rest)
-parts_one n [] S rest d = not_begun (further_parts n S) (tt, rest) (λ e. cc) (exactly_one _ _ S rest d)
-parts_one n (part ∷ more) S rest d =
-    begun (further_parts n S) (part.declared, ((part.initialiser, more), rest))
-    (name_one part.declared _ _ (part_end_step n part.initialiser more S rest (parts_one n more S rest d)))
-
-declaration_one : (n : ℕ) (d : Declaration) (S : List Pending) (rest : Trees S) → IsOnly S rest → IsOnly (a_declaration n ∷ S) (d, rest)
-declaration_one n d S rest h =
-    through (tt, (d.part.declared, ((d.part.initialiser, d.more), rest))) (λ m. declaration_goes n 0 S (own grammar m (a_declaration n ∷ S) (d, rest)))
-    (exactly_one _ _ _ _ (name_one d.part.declared _ _ (part_end_step n d.part.initialiser d.more S rest (parts_one n d.more S rest h))))
-
-start_one : (n : ℕ) (start : Start) (S : List Pending) (rest : Trees S) → IsOnly S rest → IsOnly (a_start n ∷ S) (start, rest)
-start_one n starts_with_nothing S rest d = chosen (starts n S) StartOpening.Nothing (tt, rest) refl (exactly_one _ _ S rest d)
-start_one n (declares declared) S rest d = chosen (starts n S) StartOpening.Declaration (declared, rest) refl (declaration_one n declared S rest d)
-start_one n (starts_with s) S rest d =
-    chosen (starts n S) StartOpening.Simple (s, (tt, rest)) (opens_simply _ (simple_begins n (exactly (leading Sym.Semicolon) (refl, refl) ∷ S) s (tt, rest)))
-    (simple_one n s _ _ (exactly_one _ _ S rest d))
-
-finish_one : (n : ℕ) (step : Option Simple) (S : List Pending) (rest : Trees S) → IsOnly S rest → IsOnly (a_finish n ∷ S) (step, rest)
-finish_one n None S rest d = begun (finishes n S) rest d
-finish_one n (Some s) S rest d = not_begun (finishes n S) (s, (tt, rest)) (no_parenthesis n S s rest) (simple_one n s _ _ (exactly_one _ _ S rest d))
-
 -- calls
 further_arguments_one : (n : ℕ) (all : List Expression) (S : List Pending) (rest : Trees S) → IsOnly S rest → IsOnly (further_arguments n ∷ S) (all, rest)
 further_arguments_one n [] S rest d = not_begun (more_arguments n S) (tt, rest) (λ e. cc) (exactly_one _ _ S rest d)
@@ -190,36 +161,83 @@ arguments_one n [] S rest d = begun (first_arguments n S) rest d
 arguments_one n (e ∷ more) S rest d =
     not_begun (first_arguments n S) (e, (more, rest)) (argument_begins n S e more rest) (expression_one n e _ _ (further_arguments_one n more S rest d))
 
-value_end_one : (n : ℕ) (end : ValueEnd) (S : List Pending) (rest : Trees S) → IsOnly S rest → IsOnly (a_value_end n ∷ S) (end, rest)
-value_end_one n (called all) S rest d = begun (value_ends n S) (all, (tt, rest)) (arguments_one n all _ _ (exactly_one _ _ S rest d))
-value_end_one n (continues t) S rest d =
-    not_begun (value_ends n S) (t, (tt, rest)) (tail_begins n S t rest) (tail_one n t _ _ (exactly_one _ _ S rest d))
+-- values, where what stands behind them is one
+value_end_one : (initialises : Bool) (n : ℕ) (named : ValueEnd) (end : Closing initialises) (S : List Pending) (rest : Trees S) → IsOnly (a_closing initialises n ∷ S) (end, rest)
+    → IsOnly (a_value_end initialises n ∷ S) ((named, end), rest)
+value_end_one initialises n (called all) end S rest d = begun (value_ends initialises n S) (all, (end, rest)) (arguments_one n all _ _ d)
+value_end_one initialises n (continues t) end S rest d =
+    not_begun (value_ends initialises n S) (t, (end, rest)) (tail_begins initialises n S t end rest) (tail_one n t _ _ d)
 
--- an expression that doesn't begin with a name
-plain_value : (n : ℕ) (e : Expression) (S : List Pending) (rest : Trees S) → is_name (begins grammar (a_value n ∷ S) (evaluates e, rest)) ≡ false → IsOnly S rest
-    → IsOnly (a_value n ∷ S) (evaluates e, rest)
-plain_value n e S rest plain d = chosen (values n S) false (e, (tt, rest)) plain (expression_one n e _ _ (exactly_one _ _ S rest d))
+module _ (initialises : Bool) (n : ℕ) (end : Closing initialises) (S : List Pending) (rest : Trees S) (d : IsOnly (a_closing initialises n ∷ S) (end, rest)) where
+  -- an expression that doesn't begin with a name
+  plain_value : (e : Expression) → is_name (begins grammar (a_value initialises n ∷ S) ((evaluates e, end), rest)) ≡ false
+      → IsOnly (a_value initialises n ∷ S) ((evaluates e, end), rest)
+  plain_value e plain = chosen (values initialises n S) false (e, (end, rest)) plain (expression_one n e _ _ d)
 
-expression_value : (n at : ℕ) (kind : OperandKind) (t : Tail) (S : List Pending) (rest : Trees S) → IsOnly S rest
-    → IsOnly (a_value n ∷ S) (evaluates (record { operand = operand_at at kind; tail = t }), rest)
-expression_value n at (name x) t S rest d =
-    chosen (values n S) true (record { at = at; bytes = x }, (continues t, rest)) refl (name_one _ _ _ (value_end_one n (continues t) S rest d))
-expression_value n at (number z) t S rest d = plain_value n _ S rest refl d
-expression_value n at (truth b) t S rest d = plain_value n _ S rest refl d
-expression_value n at unknown t S rest d = plain_value n _ S rest refl d
-expression_value n at call t S rest d = plain_value n _ S rest refl d
-expression_value n at (signed p e) t S rest d = plain_value n _ S rest refl d
-expression_value n at (parentheses e more) t S rest d = plain_value n _ S rest refl d
-expression_value n at (range lo hi) t S rest d = plain_value n _ S rest refl d
+  expression_value : (at : ℕ) (kind : OperandKind) (t : Tail) → IsOnly (a_value initialises n ∷ S) ((evaluates (record { operand = operand_at at kind; tail = t }), end), rest)
+  expression_value at (name x) t =
+      chosen (values initialises n S) true (record { at = at; bytes = x }, ((continues t, end), rest)) refl (name_one _ _ _ (value_end_one initialises n (continues t) end S rest d))
+  expression_value at (number z) t = plain_value _ refl
+  expression_value at (truth b) t = plain_value _ refl
+  expression_value at unknown t = plain_value _ refl
+  expression_value at call t = plain_value _ refl
+  expression_value at (signed p e) t = plain_value _ refl
+  expression_value at (parentheses e more) t = plain_value _ refl
+  expression_value at (range lo hi) t = plain_value _ refl
 
-by_operand : (n : ℕ) (e : Operand) (t : Tail) (S : List Pending) (rest : Trees S) → IsOnly S rest
-    → IsOnly (a_value n ∷ S) (evaluates (record { operand = e; tail = t }), rest)
-by_operand n (operand_at at kind) t S rest d = expression_value n at kind t S rest d
+  by_operand : (e : Operand) (t : Tail) → IsOnly (a_value initialises n ∷ S) ((evaluates (record { operand = e; tail = t }), end), rest)
+  by_operand (operand_at at kind) t = expression_value at kind t
 
-value_one : (n : ℕ) (value : Value) (S : List Pending) (rest : Trees S) → IsOnly S rest → IsOnly (a_value n ∷ S) (value, rest)
-value_one n (evaluates e) S rest d = by_operand n e.operand e.tail S rest d
-value_one n (answers c) S rest d =
-    chosen (values n S) true (c.function, (called c.arguments, rest)) refl (name_one c.function _ _ (value_end_one n (called c.arguments) S rest d))
+  value_one : (value : Value) → IsOnly (a_value initialises n ∷ S) ((value, end), rest)
+  value_one (evaluates e) = by_operand e.operand e.tail
+  value_one (answers c) =
+      chosen (values initialises n S) true (c.function, ((called c.arguments, end), rest)) refl (name_one c.function _ _ (value_end_one initialises n (called c.arguments) end S rest d))
+
+-- what a statement gives a variable, with its `;`
+given_one : (n : ℕ) (value : Value) (S : List Pending) (rest : Trees S) → IsOnly S rest → IsOnly (a_value false n ∷ S) ((value, tt), rest)
+given_one n value S rest d =
+    value_one false n tt S rest
+    (through (tt, rest) (λ m. closes_statement n 0 S (own grammar m (a_closing false n ∷ S) (tt, rest))) (exactly_one _ _ S rest d)) value
+
+-- declarations
+initialiser_one : (functions : Bool) (n : ℕ) (value : Value) (more : List Part) (S : List Pending) (rest : Trees S) → IsOnly (parts functions n ∷ S) (more, rest)
+    → IsOnly (an_initialiser functions n ∷ S) ((value, more), rest)
+initialiser_one true n value more S rest d =
+    through ((value, more), rest) (λ m. initialiser_goes n 0 S (own grammar m (an_initialiser true n ∷ S) ((value, more), rest)))
+    (value_one true n more S rest (through (more, rest) (λ m. closes_part n 0 S (own grammar m (a_closing true n ∷ S) (more, rest))) d) value)
+initialiser_one false n (evaluates e) more S rest d =
+    through (e, (more, rest)) (λ m. no_called_initialisers n 0 S (own grammar m (an_initialiser false n ∷ S) ((evaluates e, more), rest))) (expression_one n e _ _ d)
+initialiser_one false n (answers c) more S rest d = fitting (λ m fits. absurd fits.1.0)
+
+part_end_step : (functions : Bool) (n : ℕ) (value : Option Value) (more : List Part) (S : List Pending) (rest : Trees S) → IsOnly (parts functions n ∷ S) (more, rest)
+    → IsOnly (a_part_end functions n ∷ S) ((value, more), rest)
+part_end_step functions n (Some value) more S rest d = begun (part_ends functions n S) ((value, more), rest) (initialiser_one functions n value more S rest d)
+part_end_step functions n None [] S rest d = not_begun (part_ends functions n S) ([], rest) (λ e. cc) d
+part_end_step functions n None (part ∷ more) S rest d = not_begun (part_ends functions n S) (part ∷ more, rest) (λ e. cc) d
+
+parts_one : (functions : Bool) (n : ℕ) (more : List Part) (S : List Pending) (rest : Trees S) → IsOnly S rest → IsOnly (parts functions n ∷ S) (more, rest)
+parts_one functions n [] S rest d = not_begun (further_parts functions n S) (tt, rest) (λ e. cc) (exactly_one _ _ S rest d)
+parts_one functions n (part ∷ more) S rest d =
+    begun (further_parts functions n S) (part.declared, ((part.initialiser, more), rest))
+    (name_one part.declared _ _ (part_end_step functions n part.initialiser more S rest (parts_one functions n more S rest d)))
+
+declaration_one : (functions : Bool) (n : ℕ) (d : Declaration) (S : List Pending) (rest : Trees S) → IsOnly S rest → IsOnly (a_declaration functions n ∷ S) (d, rest)
+declaration_one functions n d S rest h =
+    through (tt, (d.part.declared, ((d.part.initialiser, d.more), rest)))
+    (λ m. declaration_goes functions n 0 S (own grammar m (a_declaration functions n ∷ S) (d, rest)))
+    (exactly_one _ _ _ _ (name_one d.part.declared _ _ (part_end_step functions n d.part.initialiser d.more S rest (parts_one functions n d.more S rest h))))
+
+start_one : (functions : Bool) (n : ℕ) (start : Start) (S : List Pending) (rest : Trees S) → IsOnly S rest → IsOnly (a_start functions n ∷ S) (start, rest)
+start_one functions n starts_with_nothing S rest d = chosen (starts functions n S) StartOpening.Nothing (tt, rest) refl (exactly_one _ _ S rest d)
+start_one functions n (declares declared) S rest d =
+    chosen (starts functions n S) StartOpening.Declaration (declared, rest) refl (declaration_one functions n declared S rest d)
+start_one functions n (starts_with s) S rest d =
+    chosen (starts functions n S) StartOpening.Simple (s, (tt, rest)) (opens_simply _ (simple_begins n (exactly (leading Sym.Semicolon) (refl, refl) ∷ S) s (tt, rest)))
+    (simple_one n s _ _ (exactly_one _ _ S rest d))
+
+finish_one : (n : ℕ) (step : Option Simple) (S : List Pending) (rest : Trees S) → IsOnly S rest → IsOnly (a_finish n ∷ S) (step, rest)
+finish_one n None S rest d = begun (finishes n S) rest d
+finish_one n (Some s) S rest d = not_begun (finishes n S) (s, (tt, rest)) (no_parenthesis n S s rest) (simple_one n s _ _ (exactly_one _ _ S rest d))
 
 statement_end_one : (functions : Bool) (n : ℕ) (end : StatementEnd) (S : List Pending) (rest : Trees S) → IsOnly S rest
     → IsOnly (a_statement_end functions n ∷ S) (end, rest)
@@ -228,7 +246,7 @@ statement_end_one false n (does action) S rest d =
 statement_end_one false n (applied all) S rest d = fitting (λ m fits. absurd fits.0)
 statement_end_one false n (given c) S rest d = fitting (λ m fits. absurd fits.1.0)
 statement_end_one true n (does (assigns Assignment.Assign e)) S rest d =
-    chosen (statement_ends n S) EndOpening.Value (tt, (evaluates e, rest)) refl (exactly_one _ _ _ _ (value_one n (evaluates e) S rest d))
+    chosen (statement_ends n S) EndOpening.Value (tt, ((evaluates e, tt), rest)) refl (exactly_one _ _ _ _ (given_one n (evaluates e) S rest d))
 statement_end_one true n (does (assigns Assignment.Add e)) S rest d =
     chosen (statement_ends n S) EndOpening.Action (assigns Assignment.Add e, (tt, rest)) refl (action_one n _ _ _ (exactly_one _ _ S rest d))
 statement_end_one true n (does (assigns Assignment.Subtract e)) S rest d =
@@ -242,7 +260,7 @@ statement_end_one true n (does (steps Step.Decrement)) S rest d =
 statement_end_one true n (applied all) S rest d =
     chosen (statement_ends n S) EndOpening.Call (tt, (all, (tt, rest))) refl (exactly_one _ _ _ _ (arguments_one n all _ _ (exactly_one _ _ S rest d)))
 statement_end_one true n (given c) S rest d =
-    chosen (statement_ends n S) EndOpening.Value (tt, (answers c, rest)) refl (exactly_one _ _ _ _ (value_one n (answers c) S rest d))
+    chosen (statement_ends n S) EndOpening.Value (tt, ((answers c, tt), rest)) refl (exactly_one _ _ _ _ (given_one n (answers c) S rest d))
 
 -- statements
 mutual
@@ -274,7 +292,7 @@ mutual
       (exactly_one _ _ _ _ (statement_one functions (n + 1) body _ _ (exactly_at_one _ _ end _ _ (test_one (n + 1) test _ _ (exactly_one _ _ S rest d)))))
   statement_kind_one functions n (for_loop start test step body) S rest d =
       chosen (statements functions n S) StatementOpening.For (tt, (tt, (start, (test, (step, (body, rest)))))) refl
-      (exactly_one _ _ _ _ (exactly_one _ _ _ _ (start_one (n + 1) start _ _ (optional_one (n + 1) test _ _
+      (exactly_one _ _ _ _ (exactly_one _ _ _ _ (start_one functions (n + 1) start _ _ (optional_one (n + 1) test _ _
       (finish_one (n + 1) step _ _ (statement_one functions (n + 1) body S rest d))))))
   statement_kind_one functions n (return value) S rest d =
       chosen (statements functions n S) StatementOpening.Return (tt, (value, rest)) refl (exactly_one _ _ _ _ (optional_one n value S rest d))
@@ -293,7 +311,7 @@ mutual
   items_one : (functions : Bool) (n : ℕ) (all : Items) (S : List Pending) (rest : Trees S) → IsOnly S rest → IsOnly (items functions n ∷ S) (all, rest)
   items_one functions n none S rest d = chosen (all_items functions n S) ItemOpening.Close (tt, rest) refl (exactly_one _ _ S rest d)
   items_one functions n (declaration first_one more) S rest d =
-      chosen (all_items functions n S) ItemOpening.Declaration (first_one, (more, rest)) refl (declaration_one n first_one _ _ (items_one functions n more S rest d))
+      chosen (all_items functions n S) ItemOpening.Declaration (first_one, (more, rest)) refl (declaration_one functions n first_one _ _ (items_one functions n more S rest d))
   items_one functions n (statement first_one more) S rest d =
       chosen (all_items functions n S) ItemOpening.Statement (first_one, (more, rest)) (statement_among functions n (items functions n ∷ S) first_one (more, rest))
       (statement_one functions n first_one _ _ (items_one functions n more S rest d))

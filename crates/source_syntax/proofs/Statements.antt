@@ -6,7 +6,7 @@ use Rattle.derivation.specs.declared.symbol.Symbol.TheVariants as Sym
 use Rattle.derivation.specs.Word.{Word, symbol, name as named, number as numbered, unknown as unreadable}
 use Rattle.derivation.specs.Pieces.{look, first, Fits}
 use Rattle.source_syntax.specs.Language.{Rest, is_else, no_else, IsQuiet}
-use Rattle.source_syntax.specs.Pending.{Leads, Pending, exactly, exactly_at, a_name, a_tail, an_expression, an_optional, a_test, an_action, a_simple, a_part_end, parts, a_declaration, a_start, a_finish, a_statement_end, a_statement, a_statement_kind, an_otherwise, items, a_void, Trees, pieces, grammar}
+use Rattle.source_syntax.specs.Pending.{Leads, Pending, exactly, exactly_at, a_name, a_tail, an_expression, an_optional, a_test, an_action, a_simple, an_initialiser, a_part_end, parts, a_declaration, a_start, a_finish, a_statement_end, a_statement, a_statement_kind, an_otherwise, items, a_void, Trees, pieces, grammar}
 use Rattle.derivation.proofs.Grammars.{opens, becomes, Headed}
 use Rattle.concrete_syntax.specs.declared.sign.Assignment.{Assignment}
 use Rattle.concrete_syntax.specs.declared.sign.Step.{Step}
@@ -16,7 +16,7 @@ use Rattle.source_syntax.specs.declared.opening.StatementOpening.{StatementOpeni
 use Rattle.source_syntax.specs.declared.opening.ItemOpening.{ItemOpening}
 use Rattle.source_syntax.specs.declared.opening.StartOpening.{StartOpening}
 use Rattle.source_syntax.specs.Openings.{opening_of_simple, opening_of_action, opening_of_statement, opening_of_item, opening_of_start, opening_of_operand}
-use Rattle.concrete_syntax.specs.Trees.{Expression, assigns, steps, Simple, acts, steps_before, Part, starts_with_nothing, starts_with, declares, Name, Statement, statement_at, simple, calls, gives, skip, braces, conditional, while_loop, do_loop, for_loop, return, break, continue, Otherwise, without, otherwise, none, declaration, statement}
+use Rattle.concrete_syntax.specs.Trees.{Expression, assigns, steps, Simple, acts, steps_before, Value, evaluates, answers, Part, starts_with_nothing, starts_with, declares, Name, Statement, statement_at, simple, calls, gives, skip, braces, conditional, while_loop, do_loop, for_loop, return, break, continue, Otherwise, without, otherwise, none, declaration, statement}
 use Rattle.source_syntax.specs.Ends.{StatementEnd, does, applied, given, kind_of}
 use Rattle.source_syntax.specs.Spelling.{sign, leading, opening, leading_opening, assignment_sign, step_sign}
 use Rattle.source_syntax.proofs.Completions.{lawful}
@@ -97,29 +97,43 @@ module _ (n : ℕ) where
       view (steps_before at Step.Increment x, rest) = (tt, (at, (x, rest)), refl)
       view (steps_before at Step.Decrement x, rest) = (tt, (at, (x, rest)), refl)
 
-module _ (n : ℕ) (S : List Pending) where
+-- the parts of a declaration
+module _ (functions : Bool) (n : ℕ) (S : List Pending) where
   -- what stands behind a declared name: an initialiser or none, and further parts
-  pub part_ends : Fork grammar (a_part_end n ∷ S) (leading Sym.Assign) (an_expression n ∷ parts n ∷ S) (λ g. ((Some g.0, g.1.0), g.1.1))
-      (parts n ∷ S) (λ g. ((None, g.0), g.1))
+  pub part_ends : Fork grammar (a_part_end functions n ∷ S) (leading Sym.Assign) (an_initialiser functions n ∷ S) (λ g. ((Some g.0.0, g.0.1), g.1))
+      (parts functions n ∷ S) (λ g. ((None, g.0), g.1))
   part_ends = record { spells = λ g. refl; spells_other = λ g. refl; view = λ f. view f.0.0 f.0.1 f.1 }
     where
-      view : (i : Option Expression) (more : List Part) (rest : Trees S)
-          → Sides grammar (a_part_end n ∷ S) (leading Sym.Assign) (an_expression n ∷ parts n ∷ S) (λ g. ((Some g.0, g.1.0), g.1.1))
-          (parts n ∷ S) (λ g. ((None, g.0), g.1)) ((i, more), rest)
-      view (Some x) more rest = inl ((x, (more, rest)), refl)
+      view : (i : Option Value) (more : List Part) (rest : Trees S)
+          → Sides grammar (a_part_end functions n ∷ S) (leading Sym.Assign) (an_initialiser functions n ∷ S) (λ g. ((Some g.0.0, g.0.1), g.1))
+          (parts functions n ∷ S) (λ g. ((None, g.0), g.1)) ((i, more), rest)
+      view (Some value) more rest = inl (((value, more), rest), refl)
       view None [] rest = inr (([], rest), refl, λ e. cc)
       view None (part ∷ more) rest = inr ((part ∷ more, rest), refl, λ e. cc)
 
   -- further parts of a declaration
-  pub further_parts : Fork grammar (parts n ∷ S) (sign Sym.Comma) (a_name ∷ a_part_end n ∷ S) (λ g. (record { declared = g.0; initialiser = g.1.0.0 } ∷ g.1.0.1, g.1.1))
-      (exactly (leading Sym.Semicolon) (refl, refl) ∷ S) (λ g. ([], g.1))
+  pub further_parts : Fork grammar (parts functions n ∷ S) (sign Sym.Comma) (a_name ∷ a_part_end functions n ∷ S)
+      (λ g. (record { declared = g.0; initialiser = g.1.0.0 } ∷ g.1.0.1, g.1.1)) (exactly (leading Sym.Semicolon) (refl, refl) ∷ S) (λ g. ([], g.1))
   further_parts = record { spells = λ g. refl; spells_other = λ g. refl; view = view }
     where
-      view : (f : Trees (parts n ∷ S)) → Sides grammar (parts n ∷ S) (sign Sym.Comma) (a_name ∷ a_part_end n ∷ S)
+      view : (f : Trees (parts functions n ∷ S)) → Sides grammar (parts functions n ∷ S) (sign Sym.Comma) (a_name ∷ a_part_end functions n ∷ S)
           (λ g. (record { declared = g.0; initialiser = g.1.0.0 } ∷ g.1.0.1, g.1.1)) (exactly (leading Sym.Semicolon) (refl, refl) ∷ S) (λ g. ([], g.1)) f
       view (part ∷ more, rest) = inl ((part.declared, ((part.initialiser, more), rest)), refl)
       view ([], rest) = inr ((tt, rest), refl, λ e. cc)
 
+-- an initialiser, where functions aren't allowed
+pub no_called_initialisers : (n c : ℕ) (S : List Pending) (from : Rest)
+    → Leads c (an_initialiser false n ∷ S) from c (an_expression n ∷ parts false n ∷ S) from (λ g. ((evaluates g.0, g.1.0), g.1.1))
+no_called_initialisers n c S from =
+    opens grammar (an_initialiser false n ∷ S) (an_expression n ∷ parts false n ∷ S) c from (λ next. Unit {0}) []
+    (λ g. ((evaluates g.0, g.1.0), g.1.1)) refl refl tt refl tt (λ g. refl) (λ f fits any. view f.0.0 f.0.1 f.1 fits) tt
+  where
+    view : (value : Value) (more : List Part) (rest : Trees S) → Fits from.number (pieces (an_initialiser false n ∷ S) ((value, more), rest))
+        → (g : Trees (an_expression n ∷ parts false n ∷ S)) × Same (an_initialiser false n ∷ S) ((value, more), rest) ((evaluates g.0, g.1.0), g.1.1)
+    view (evaluates e) more rest fits = ((e, (more, rest)), refl)
+    view (answers c) more rest fits = absurd fits.1.0
+
+module _ (n : ℕ) (S : List Pending) where
   -- an expression that may be missing, and the `;` behind it
   pub no_semicolon : (e : Expression) (rest : Trees S) → begins grammar (an_optional n ∷ S) (Some e, rest) ≢ Some (symbol Sym.Semicolon)
   no_semicolon e rest is =
@@ -160,15 +174,16 @@ voids S = record { spells = λ g. refl; spells_other = λ g. refl; view = view }
     view (false, rest) = inr ((tt, rest), refl, λ e. cc)
 
 -- a declaration
-module _ (n c : ℕ) (S : List Pending) (from : Rest) where
-  pub declaration_goes : Leads c ((a_declaration n ∷ S)) from c ((exactly (sign Sym.Int) (refl, refl) ∷ a_name ∷ a_part_end n ∷ S)) from
+module _ (functions : Bool) (n c : ℕ) (S : List Pending) (from : Rest) where
+  pub declaration_goes : Leads c ((a_declaration functions n ∷ S)) from c ((exactly (sign Sym.Int) (refl, refl) ∷ a_name ∷ a_part_end functions n ∷ S)) from
       (λ g. (record { part = record { declared = g.1.0; initialiser = g.1.1.0.0 }; more = g.1.1.0.1 }, g.1.1.1))
   declaration_goes =
-      becomes grammar (a_declaration n ∷ S) (exactly (sign Sym.Int) (refl, refl) ∷ a_name ∷ a_part_end n ∷ S) c from
+      becomes grammar (a_declaration functions n ∷ S) (exactly (sign Sym.Int) (refl, refl) ∷ a_name ∷ a_part_end functions n ∷ S) c from
       (λ g. (record { part = record { declared = g.1.0; initialiser = g.1.1.0.0 }; more = g.1.1.0.1 }, g.1.1.1)) (λ g. refl)
       (λ f. ((tt, (f.0.part.declared, ((f.0.part.initialiser, f.0.more), f.1))), refl))
 
-  -- the test of an `if` or a loop
+-- the test of an `if` or a loop
+module _ (n c : ℕ) (S : List Pending) (from : Rest) where
   pub test_goes : Leads c ((a_test n ∷ S)) from c
       ((exactly (leading_opening Sym.OpenParenthesis (n + 1)) (refl, refl) ∷ an_expression (n + 1) ∷ exactly (sign Sym.CloseParenthesis) (refl, refl) ∷ S)) from
       (λ g. (g.1.0, g.1.1.1))
@@ -191,31 +206,31 @@ pub simple_begins : (n : ℕ) (S : List Pending) (s : Simple) (rest : Trees S) �
 simple_begins n S s rest = ((simples n S).view (s, rest)).0
 
 -- what stands before the first `;` of a `for`
-module _ (n : ℕ) where
+module _ (functions : Bool) (n : ℕ) where
   abbrev pub start_rest : StartOpening → List Pending → List Pending
   start_rest StartOpening.Nothing S = exactly (leading Sym.Semicolon) (refl, refl) ∷ S
-  start_rest StartOpening.Declaration S = a_declaration n ∷ S
+  start_rest StartOpening.Declaration S = a_declaration functions n ∷ S
   start_rest StartOpening.Simple S = a_simple n ∷ exactly (leading Sym.Semicolon) (refl, refl) ∷ S
 
-  abbrev pub start_tree : (o : StartOpening) → (S : List Pending) → Trees (start_rest o S) → Trees (a_start n ∷ S)
+  abbrev pub start_tree : (o : StartOpening) → (S : List Pending) → Trees (start_rest o S) → Trees (a_start functions n ∷ S)
   start_tree StartOpening.Nothing S g = (starts_with_nothing, g.1)
   start_tree StartOpening.Declaration S g = (declares g.0, g.1)
   start_tree StartOpening.Simple S g = (starts_with g.0, g.1.1)
 
-  pub starts : (S : List Pending) → Choice grammar (a_start n ∷ S) opening_of_start (λ o. Unit {0}) (λ o. start_rest o S) (λ o. start_tree o S)
+  pub starts : (S : List Pending) → Choice grammar (a_start functions n ∷ S) opening_of_start (λ o. Unit {0}) (λ o. start_rest o S) (λ o. start_tree o S)
   starts S = record { spells = spells; view = view }
     where
-      spells : (o : StartOpening) → (g : Trees (start_rest o S)) → pieces (a_start n ∷ S) (start_tree o S g) ≡ pieces (start_rest o S) g
+      spells : (o : StartOpening) → (g : Trees (start_rest o S)) → pieces (a_start functions n ∷ S) (start_tree o S g) ≡ pieces (start_rest o S) g
       spells StartOpening.Nothing g = refl
       spells StartOpening.Declaration g = refl
       spells StartOpening.Simple g = refl
 
-      view : (f : Trees (a_start n ∷ S))
-          → Way grammar (a_start n ∷ S) (λ o. Unit {0}) (λ o. start_rest o S) (λ o. start_tree o S) (opening_of_start (begins grammar (a_start n ∷ S) f)) f
+      view : (f : Trees (a_start functions n ∷ S))
+          → Way grammar (a_start functions n ∷ S) (λ o. Unit {0}) (λ o. start_rest o S) (λ o. start_tree o S) (opening_of_start (begins grammar (a_start functions n ∷ S) f)) f
       view (starts_with_nothing, rest) = (tt, (tt, rest), refl)
       view (declares d, rest) = (tt, (d, rest), refl)
       view (starts_with s, rest) =
-          subst (λ o. Way grammar (a_start n ∷ S) (λ o. Unit {0}) (λ o. start_rest o S) (λ o. start_tree o S) o (starts_with s, rest))
+          subst (λ o. Way grammar (a_start functions n ∷ S) (λ o. Unit {0}) (λ o. start_rest o S) (λ o. start_tree o S) o (starts_with s, rest))
           (sym (opens_simply _ (simple_begins n (exactly (leading Sym.Semicolon) (refl, refl) ∷ S) s (tt, rest)))) (tt, (s, (tt, rest)), refl)
 
 -- a word that jumps, and the `;` behind it
@@ -245,7 +260,7 @@ module _ (functions : Bool) (n : ℕ) where
   statement_rest StatementOpening.If S = exactly (opening Sym.If (n + 1)) (refl, refl) ∷ a_test (n + 1) ∷ a_statement functions (n + 1) ∷ an_otherwise functions (n + 1) ∷ S
   statement_rest StatementOpening.While S = exactly (opening Sym.While (n + 1)) (refl, refl) ∷ a_test (n + 1) ∷ a_statement functions (n + 1) ∷ S
   statement_rest StatementOpening.Do S = exactly (opening Sym.Do (n + 1)) (refl, refl) ∷ a_statement functions (n + 1) ∷ exactly_at (sign Sym.While) (refl, refl) ∷ a_test (n + 1) ∷ exactly (sign Sym.Semicolon) (refl, refl) ∷ S
-  statement_rest StatementOpening.For S = exactly (opening Sym.For (n + 1)) (refl, refl) ∷ exactly (sign Sym.OpenParenthesis) (refl, refl) ∷ a_start (n + 1) ∷ an_optional (n + 1) ∷ a_finish (n + 1) ∷ a_statement functions (n + 1) ∷ S
+  statement_rest StatementOpening.For S = exactly (opening Sym.For (n + 1)) (refl, refl) ∷ exactly (sign Sym.OpenParenthesis) (refl, refl) ∷ a_start functions (n + 1) ∷ an_optional (n + 1) ∷ a_finish (n + 1) ∷ a_statement functions (n + 1) ∷ S
   statement_rest StatementOpening.Return S = exactly (leading Sym.Return) (refl, refl) ∷ an_optional n ∷ S
   statement_rest StatementOpening.Break S = in_turn break_signs break_quiet S
   statement_rest StatementOpening.Continue S = in_turn continue_signs continue_quiet S
@@ -327,7 +342,7 @@ is_statement (Some (symbol _)) h = refl
 module _ (functions : Bool) (n : ℕ) where
   abbrev pub items_rest : ItemOpening → List Pending → List Pending
   items_rest ItemOpening.Close S = exactly (sign Sym.CloseBrace) (refl, refl) ∷ S
-  items_rest ItemOpening.Declaration S = a_declaration n ∷ items functions n ∷ S
+  items_rest ItemOpening.Declaration S = a_declaration functions n ∷ items functions n ∷ S
   items_rest ItemOpening.Statement S = a_statement functions n ∷ items functions n ∷ S
 
   abbrev pub items_tree : (o : ItemOpening) → (S : List Pending) → Trees (items_rest o S) → Trees (items functions n ∷ S)

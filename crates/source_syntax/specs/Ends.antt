@@ -1,18 +1,13 @@
 -- What is left of trees behind words with which several things begin, and its pieces.
-use Rattle.std.specs.Prelude.{ℕ, Bool, true, List, ◌∷◌}
+use Rattle.std.specs.Prelude.{ℕ, Bool, true, false, List, ◌∷◌}
 use Rattle.derivation.specs.declared.symbol.Symbol.TheVariants as S
 use Rattle.derivation.specs.Pieces.{token}
 use Rattle.concrete_syntax.specs.declared.sign.Assignment.TheVariants as Assignment
-use Rattle.concrete_syntax.specs.Trees.{operand_at, name, Tail, Expression, Name, Action, assigns, acts, Call, StatementKind, simple, calls, gives, Parameters, Items, Function}
+use Rattle.concrete_syntax.specs.Trees.{operand_at, name, Tail, Expression, Name, Action, assigns, acts, Call, Value, evaluates, answers, Part, StatementKind, simple, calls, gives, Parameters, Items, Function}
 use Rattle.source_syntax.specs.Language.{Piece}
-use Rattle.source_syntax.specs.Spelling.{sign, leading, tail_pieces, expression_pieces, action_pieces, where_allowed, arguments_pieces, call_pieces, function_end_pieces, functions_pieces, main_end_pieces}
+use Rattle.source_syntax.specs.Spelling.{sign, leading, tail_pieces, action_pieces, where_allowed, arguments_pieces, call_pieces, parts_pieces, function_end_pieces, functions_pieces, main_end_pieces}
 
--- what a statement gives a variable by `=`: what an expression evaluates to, or what a call answers
-pub data Value : Type 0 where
-  evaluates : Expression → Value
-  answers : Call → Value
-
--- what stands behind the name that it begins with: the rest of an expression, or arguments
+-- what stands behind the name that a value begins with: the rest of an expression, or arguments
 pub data ValueEnd : Type 0 where
   continues : Tail → ValueEnd
   called : List Expression → ValueEnd
@@ -20,6 +15,11 @@ pub data ValueEnd : Type 0 where
 abbrev pub value_of : Name → ValueEnd → Value
 value_of x (continues tail) = evaluates (record { operand = operand_at x.at (name x.bytes); tail = tail })
 value_of x (called arguments) = answers (record { function = x; arguments = arguments })
+
+-- what stands behind a value: further parts, where it initialises a declared name, or else the `;` of a statement
+abbrev pub Closing : Bool → Type 0
+Closing true = List Part
+Closing false = Unit {0}
 
 -- what stands behind the name that a statement begins with: an action, arguments, or `=` and a call
 pub data StatementEnd : Type 0 where
@@ -57,14 +57,14 @@ function_of valued x parameters items behind =
 abbrev pub after_function : Function → Definitions → Definitions
 after_function f rest = record { functions = f ∷ rest.functions; void = rest.void; items = rest.items }
 
--- the pieces, of values and of what stands behind the name of a statement with the `;` behind them
-abbrev pub value_pieces : ℕ → Value → List Piece → List Piece
-value_pieces levels (evaluates e) behind = expression_pieces levels e (token (sign S.Semicolon) ∷ behind)
-value_pieces levels (answers c) behind = call_pieces true levels c (token (sign S.Semicolon) ∷ behind)
+-- the pieces, of values with what stands behind them, and of what stands behind the name of a statement with the `;` behind it
+abbrev pub closing_pieces : (initialises : Bool) → ℕ → Closing initialises → List Piece → List Piece
+closing_pieces true levels more behind = parts_pieces true levels more behind
+closing_pieces false levels end behind = token (sign S.Semicolon) ∷ behind
 
 abbrev pub value_end_pieces : ℕ → ValueEnd → List Piece → List Piece
-value_end_pieces levels (continues tail) behind = tail_pieces levels tail (token (sign S.Semicolon) ∷ behind)
-value_end_pieces levels (called arguments) behind = token (leading S.OpenParenthesis) ∷ arguments_pieces levels arguments (token (sign S.Semicolon) ∷ behind)
+value_end_pieces levels (continues tail) behind = tail_pieces levels tail behind
+value_end_pieces levels (called arguments) behind = token (leading S.OpenParenthesis) ∷ arguments_pieces levels arguments behind
 
 abbrev pub statement_end_pieces : Bool → ℕ → StatementEnd → List Piece → List Piece
 statement_end_pieces functions levels (does action) behind = action_pieces levels action (token (sign S.Semicolon) ∷ behind)

@@ -1,18 +1,18 @@
 -- What is still to be read: a list of things, each with its trees.
-use Rattle.std.specs.Prelude.{ℕ, ℤ, Bool, Option, Some, List, [], ◌∷◌}
+use Rattle.std.specs.Prelude.{ℕ, ℤ, Bool, true, Option, Some, List, [], ◌∷◌}
 use Rattle.derivation.specs.declared.symbol.Symbol.TheVariants as S
 use Rattle.derivation.specs.Word.{name as named, number as numbered}
 use Rattle.derivation.specs.declared.rule.Rule.{Rule}
 use Rattle.derivation.specs.Pieces.{token, look}
 use Rattle.derivation.specs.Grammars.{Grammar, Leads as LeadsIn, Stops as StopsIn}
 use Rattle.source_syntax.specs.Language.{language, Token, Piece, Phrase, Rest, is_at, IsQuiet}
-use Rattle.concrete_syntax.specs.Trees.{Divisor, End, Operand, OperandKind, Tail, Expression, Name, Action, Simple, Part, Declaration, Start, Statement, StatementKind, Otherwise, Items, Parameters, Program}
-use Rattle.source_syntax.specs.Spelling.{plain, sign, size_pieces, end_pieces, divisor_pieces, operand_pieces, operand_kind_pieces, tail_pieces, expression_pieces, optional_pieces, name_pieces, action_pieces, simple_pieces, initialiser_pieces, parts_pieces, declaration_pieces, start_pieces, finish_pieces, test_pieces, statement_pieces, statement_kind_pieces, otherwise_pieces, items_pieces, arguments_pieces, further_arguments_pieces, void_pieces, parameters_pieces, further_parameters_pieces, program_pieces}
-use Rattle.source_syntax.specs.Ends.{Value, ValueEnd, StatementEnd, Definitions, DefinitionsEnd, value_pieces, value_end_pieces, statement_end_pieces, definitions_pieces, definitions_end_pieces}
+use Rattle.concrete_syntax.specs.Trees.{Divisor, End, Operand, OperandKind, Tail, Expression, Name, Action, Simple, Value, Part, Declaration, Start, Statement, StatementKind, Otherwise, Items, Parameters, Program}
+use Rattle.source_syntax.specs.Spelling.{plain, sign, size_pieces, end_pieces, divisor_pieces, operand_pieces, operand_kind_pieces, tail_pieces, expression_pieces, optional_pieces, name_pieces, action_pieces, simple_pieces, value_pieces, initialiser_pieces, parts_pieces, declaration_pieces, start_pieces, finish_pieces, test_pieces, statement_pieces, statement_kind_pieces, otherwise_pieces, items_pieces, arguments_pieces, further_arguments_pieces, void_pieces, parameters_pieces, further_parameters_pieces, program_pieces}
+use Rattle.source_syntax.specs.Ends.{ValueEnd, Closing, StatementEnd, Definitions, DefinitionsEnd, closing_pieces, value_end_pieces, statement_end_pieces, definitions_pieces, definitions_end_pieces}
 
--- Something to be read, where so many levels are open; some where functions are allowed, or aren't. Some take the sign behind them along, by
+-- Something to be read, where so many levels are open; some where functions are allowed, or aren't, and values in a declaration, or not. Some take the sign behind them along, by
 -- which the next word tells their end: an optional expression its `;`, the parts of a declaration their `;`, the start of a `for` its `;`, its
--- last part the `)`, a value its `;`, arguments and parameters the `)`, and items the `}`.
+-- last part the `)`, a value what stands behind it, arguments and parameters the `)`, and items the `}`.
 pub data Pending : Type 0 where
   exactly : (t : Token) → IsQuiet (Some t.word) → Pending
   exactly_at : (t : Token) → IsQuiet (Some t.word) → Pending
@@ -31,13 +31,15 @@ pub data Pending : Type 0 where
   a_test : ℕ → Pending
   an_action : ℕ → Pending
   a_simple : ℕ → Pending
-  a_part_end : ℕ → Pending
-  parts : ℕ → Pending
-  a_declaration : ℕ → Pending
-  a_start : ℕ → Pending
+  an_initialiser : Bool → ℕ → Pending
+  a_part_end : Bool → ℕ → Pending
+  parts : Bool → ℕ → Pending
+  a_declaration : Bool → ℕ → Pending
+  a_start : Bool → ℕ → Pending
   a_finish : ℕ → Pending
-  a_value : ℕ → Pending
-  a_value_end : ℕ → Pending
+  a_value : Bool → ℕ → Pending
+  a_value_end : Bool → ℕ → Pending
+  a_closing : Bool → ℕ → Pending
   arguments : ℕ → Pending
   further_arguments : ℕ → Pending
   a_statement_end : Bool → ℕ → Pending
@@ -71,13 +73,15 @@ TreeOf (an_optional n) = Option Expression
 TreeOf (a_test n) = Expression
 TreeOf (an_action n) = Action
 TreeOf (a_simple n) = Simple
-TreeOf (a_part_end n) = Option Expression × List Part
-TreeOf (parts n) = List Part
-TreeOf (a_declaration n) = Declaration
-TreeOf (a_start n) = Start
+TreeOf (an_initialiser functions n) = Value × List Part
+TreeOf (a_part_end functions n) = Option Value × List Part
+TreeOf (parts functions n) = List Part
+TreeOf (a_declaration functions n) = Declaration
+TreeOf (a_start functions n) = Start
 TreeOf (a_finish n) = Option Simple
-TreeOf (a_value n) = Value
-TreeOf (a_value_end n) = ValueEnd
+TreeOf (a_value initialises n) = Value × Closing initialises
+TreeOf (a_value_end initialises n) = ValueEnd × Closing initialises
+TreeOf (a_closing initialises n) = Closing initialises
 TreeOf (arguments n) = List Expression
 TreeOf (further_arguments n) = List Expression
 TreeOf (a_statement_end functions n) = StatementEnd
@@ -111,13 +115,15 @@ pieces_of (an_optional n) e behind = optional_pieces n e (token (sign S.Semicolo
 pieces_of (a_test n) e behind = test_pieces n e behind
 pieces_of (an_action n) action behind = action_pieces n action behind
 pieces_of (a_simple n) s behind = simple_pieces n s behind
-pieces_of (a_part_end n) end behind = initialiser_pieces n end.0 (parts_pieces n end.1 behind)
-pieces_of (parts n) more behind = parts_pieces n more behind
-pieces_of (a_declaration n) d behind = declaration_pieces n d behind
-pieces_of (a_start n) start behind = start_pieces n start behind
+pieces_of (an_initialiser functions n) all behind = value_pieces functions n all.0 (parts_pieces functions n all.1 behind)
+pieces_of (a_part_end functions n) end behind = initialiser_pieces functions n end.0 (parts_pieces functions n end.1 behind)
+pieces_of (parts functions n) more behind = parts_pieces functions n more behind
+pieces_of (a_declaration functions n) d behind = declaration_pieces functions n d behind
+pieces_of (a_start functions n) start behind = start_pieces functions n start behind
 pieces_of (a_finish n) step behind = finish_pieces n step behind
-pieces_of (a_value n) value behind = value_pieces n value behind
-pieces_of (a_value_end n) end behind = value_end_pieces n end behind
+pieces_of (a_value initialises n) all behind = value_pieces true n all.0 (closing_pieces initialises n all.1 behind)
+pieces_of (a_value_end initialises n) end behind = value_end_pieces n end.0 (closing_pieces initialises n end.1 behind)
+pieces_of (a_closing initialises n) end behind = closing_pieces initialises n end behind
 pieces_of (arguments n) all behind = arguments_pieces n all behind
 pieces_of (further_arguments n) all behind = further_arguments_pieces n all behind
 pieces_of (a_statement_end functions n) end behind = statement_end_pieces functions n end behind

@@ -7,14 +7,14 @@ use Rattle.derivation.specs.declared.symbol.Symbol.TheVariants as S
 use Rattle.derivation.specs.Word.{Word, symbol, name as named, number as numbered}
 use Rattle.derivation.specs.Comes.{IsNext}
 use Rattle.source_syntax.specs.Language.{Rest}
-use Rattle.concrete_syntax.specs.Trees.{Link, operation, division, Expression, Name, Simple, Part, Start, StatementKind, Items, Prelude, named as named_parameters, Function, Program}
+use Rattle.concrete_syntax.specs.Trees.{Link, operation, division, Expression, Name, Simple, Value, Part, Start, StatementKind, Items, Prelude, named as named_parameters, Function, Program}
 use Rattle.concrete_syntax.specs.declared.program.Function.{Function as RustFunction}
 use Rattle.concrete_syntax.specs.declared.statement.Items.{Items as RustItems}
 use Rattle.concrete_syntax.specs.Mirror.{functions, items as items_tree}
 use Rattle.concrete_syntax.specs.Chains.{tail_of}
 use Rattle.source_syntax.specs.Spelling.{sign, opening}
-use Rattle.source_syntax.specs.Ends.{Value, ValueEnd, value_of, StatementEnd, kind_of, given_value, Definitions}
-use Rattle.source_syntax.specs.Pending.{Pending, exactly, exactly_at, an_operand, a_divisor, a_tail, an_optional, a_test, a_name, a_part_end, parts, a_declaration, a_start, a_finish, a_value, a_value_end, arguments, further_arguments, a_statement_end, items, a_void, parameters, further_parameters, a_place, TreeOf, Leads, Stops}
+use Rattle.source_syntax.specs.Ends.{ValueEnd, value_of, StatementEnd, kind_of, Definitions}
+use Rattle.source_syntax.specs.Pending.{Pending, exactly, exactly_at, an_operand, a_divisor, a_tail, an_optional, a_test, a_name, an_initialiser, a_part_end, parts, a_declaration, a_start, a_finish, a_value, a_value_end, a_closing, arguments, further_arguments, a_statement_end, items, a_void, parameters, further_parameters, a_place, TreeOf, Leads, Stops}
 use Rattle.source_syntax.specs.declared.opening.LinkOpening.{LinkOpening}
 use Rattle.source_syntax.specs.declared.opening.LinkOpening.TheVariants.{Operation, Division}
 
@@ -93,17 +93,23 @@ pub record ComesToTail (count levels : ℕ) (links : List Link) (start : Rest) (
   pub comes : (behind : List Pending)
       → Leads count (a_tail levels ∷ behind) start now (a_tail levels ∷ behind) here (λ trees. (tail_of links trees.0, trees.1))
 
--- the words up to `to` are the value that a statement gives this name by `=`: an expression or a call, with its `;`
-pub record ReadsValue (levels : ℕ) (target : Name) (kind : StatementKind) (from to : Rest) : Type 0 where
-  pub value : Value
-  pub made : kind ≡ kind_of target (given_value value)
-  pub reads : ReadsAfresh (a_value levels) value from to
+-- the words up to `to` are this value, before what stands behind it, in a declaration or not
+pub record ReadsValue (levels : ℕ) (value : Value) (from to : Rest) : Type 0 where
+  pub comes : (initialises : Bool) (behind : List Pending)
+      → (now : ℕ) × Leads 0 (a_value initialises levels ∷ behind) from now (a_closing initialises levels ∷ behind) to (λ trees. ((value, trees.0), trees.1))
 
--- the words up to `to` are what stands behind the name that such a value begins with
-pub record ReadsValueEnd (levels : ℕ) (target first : Name) (kind : StatementKind) (from to : Rest) : Type 0 where
+abbrev pub RefusesValue : ℕ → Rest → Rule → Rest → Type 0
+RefusesValue levels from rule to = (initialises : Bool) → RefusesCounting 0 (a_value initialises levels) from rule to
+
+-- the words up to `to` are what stands behind the name that this value begins with
+pub record ReadsValueEnd (levels : ℕ) (first : Name) (value : Value) (from to : Rest) : Type 0 where
   pub end : ValueEnd
-  pub made : kind ≡ kind_of target (given_value (value_of first end))
-  pub reads : ReadsAfresh (a_value_end levels) end from to
+  pub made : value ≡ value_of first end
+  pub comes : (initialises : Bool) (behind : List Pending)
+      → (now : ℕ) × Leads 0 (a_value_end initialises levels ∷ behind) from now (a_closing initialises levels ∷ behind) to (λ trees. ((end, trees.0), trees.1))
+
+abbrev pub RefusesValueEnd : ℕ → Rest → Rule → Rest → Type 0
+RefusesValueEnd levels from rule to = (initialises : Bool) → RefusesCounting 0 (a_value_end initialises levels) from rule to
 
 -- the words up to `to` are what stands behind the name of a statement of this kind, with its `;`
 pub record ReadsEnd (functions : Bool) (levels : ℕ) (name : Name) (kind : StatementKind) (from to : Rest) : Type 0 where
@@ -134,19 +140,24 @@ definitions_tree list void all = record { functions = functions list; void = voi
 abbrev pub behind_functions : List Function → Definitions → Definitions
 behind_functions front all = record { functions = front ++ all.functions; void = all.void; items = all.items }
 
+-- the words up to `to` are this initialiser, before further parts of its declaration
+pub record ReadsInitialiser (functions : Bool) (levels : ℕ) (value : Value) (from to : Rest) : Type 0 where
+  pub comes : (behind : List Pending)
+      → (now : ℕ) × Leads 0 (an_initialiser functions levels ∷ behind) from now (parts functions levels ∷ behind) to (λ trees. ((value, trees.0), trees.1))
+
 -- the words up to `to` are this part of a declaration, before further parts
-pub record ReadsPart (levels : ℕ) (part : Part) (from to : Rest) : Type 0 where
+pub record ReadsPart (functions : Bool) (levels : ℕ) (part : Part) (from to : Rest) : Type 0 where
   pub comes : (count : ℕ) (behind : List Pending)
-      → (now : ℕ) × Leads count (a_name ∷ a_part_end levels ∷ behind) from now (parts levels ∷ behind) to
+      → (now : ℕ) × Leads count (a_name ∷ a_part_end functions levels ∷ behind) from now (parts functions levels ∷ behind) to
       (λ trees. (part.declared, ((part.initialiser, trees.0), trees.1)))
 
-abbrev pub RefusesPart : ℕ → Rest → Rule → Rest → Type 0
-RefusesPart levels from rule to = (count : ℕ) (behind : List Pending) → Stops count (a_name ∷ a_part_end levels ∷ behind) from rule to
+abbrev pub RefusesPart : Bool → ℕ → Rest → Rule → Rest → Type 0
+RefusesPart functions levels from rule to = (count : ℕ) (behind : List Pending) → Stops count (a_name ∷ a_part_end functions levels ∷ behind) from rule to
 
 -- Reading a declaration from `from` has read this part and these behind it, and has come to reading its further parts from `to`.
-pub record ComesToParts (levels : ℕ) (part : Part) (so_far : List Part) (from to : Rest) : Type 0 where
+pub record ComesToParts (functions : Bool) (levels : ℕ) (part : Part) (so_far : List Part) (from to : Rest) : Type 0 where
   pub comes : (count : ℕ) (behind : List Pending)
-      → (now : ℕ) × Leads count (a_declaration levels ∷ behind) from now (parts levels ∷ behind) to
+      → (now : ℕ) × Leads count (a_declaration functions levels ∷ behind) from now (parts functions levels ∷ behind) to
       (λ trees. (record { part = part; more = so_far ++ trees.0 }, trees.1))
 
 -- what stands behind the body of a `do`
@@ -162,16 +173,16 @@ abbrev pub RefusesEndOfDo : ℕ → Rest → Rule → Rest → Type 0
 RefusesEndOfDo levels from rule to = (count : ℕ) (behind : List Pending) → Stops count (end_of_do levels behind) from rule to
 
 -- what stands between a `for` and its body
-abbrev pub head_of_for : ℕ → List Pending → List Pending
-head_of_for levels behind = exactly (sign S.OpenParenthesis) (refl, refl) ∷ a_start levels ∷ an_optional levels ∷ a_finish levels ∷ behind
+abbrev pub head_of_for : Bool → ℕ → List Pending → List Pending
+head_of_for functions levels behind = exactly (sign S.OpenParenthesis) (refl, refl) ∷ a_start functions levels ∷ an_optional levels ∷ a_finish levels ∷ behind
 
 -- the words up to `to` are these parts of a `for`, in its parentheses
-pub record ReadsHeadOfFor (levels : ℕ) (start : Start) (test : Option Expression) (step : Option Simple) (from to : Rest) : Type 0 where
+pub record ReadsHeadOfFor (functions : Bool) (levels : ℕ) (start : Start) (test : Option Expression) (step : Option Simple) (from to : Rest) : Type 0 where
   pub comes : (count : ℕ) (behind : List Pending)
-      → (now : ℕ) × Leads count (head_of_for levels behind) from now behind to (λ trees. (tt, (start, (test, (step, trees)))))
+      → (now : ℕ) × Leads count (head_of_for functions levels behind) from now behind to (λ trees. (tt, (start, (test, (step, trees)))))
 
-abbrev pub RefusesHeadOfFor : ℕ → Rest → Rule → Rest → Type 0
-RefusesHeadOfFor levels from rule to = (count : ℕ) (behind : List Pending) → Stops count (head_of_for levels behind) from rule to
+abbrev pub RefusesHeadOfFor : Bool → ℕ → Rest → Rule → Rest → Type 0
+RefusesHeadOfFor functions levels from rule to = (count : ℕ) (behind : List Pending) → Stops count (head_of_for functions levels behind) from rule to
 
 -- what stands behind the name of `main`
 abbrev pub main_end : Bool → List Pending → List Pending

@@ -10,7 +10,7 @@ use Rattle.source_syntax.specs.Language.{Token, Piece, is_at, no_operator, no_el
 use Rattle.concrete_syntax.specs.declared.sign.Prefix.{Prefix}
 use Rattle.concrete_syntax.specs.declared.sign.Assignment.{Assignment}
 use Rattle.concrete_syntax.specs.declared.sign.Step.{Step}
-use Rattle.concrete_syntax.specs.Trees.{Divisor, End, Operand, operand_at, OperandKind, number, name, truth, unknown, call, signed, parentheses, range, Link, operation, division, Tail, ended, further, Expression, Name, Action, assigns, steps, Simple, acts, steps_before, Part, Declaration, Start, starts_with_nothing, starts_with, declares, Call, Statement, statement_at, StatementKind, simple, calls, gives, skip, braces, conditional, while_loop, do_loop, for_loop, return, break, continue, Otherwise, without, otherwise, Items, none, declaration, statement, Prelude, extern_call, typedef_bool, Parameters, nothing, named as named_parameters, Function, Program}
+use Rattle.concrete_syntax.specs.Trees.{Divisor, End, Operand, operand_at, OperandKind, number, name, truth, unknown, call, signed, parentheses, range, Link, operation, division, Tail, ended, further, Expression, Name, Action, assigns, steps, Simple, acts, steps_before, Call, Value, evaluates, answers, Part, Declaration, Start, starts_with_nothing, starts_with, declares, Statement, statement_at, StatementKind, simple, calls, gives, skip, braces, conditional, while_loop, do_loop, for_loop, return, break, continue, Otherwise, without, otherwise, Items, none, declaration, statement, Prelude, extern_call, typedef_bool, Parameters, nothing, named as named_parameters, Function, Program}
 
 -- a token that opens no level
 abbrev pub plain : Word → Token
@@ -137,36 +137,6 @@ abbrev pub simple_pieces : ℕ → Simple → List Piece → List Piece
 simple_pieces levels (acts x action) behind = name_pieces x (action_pieces levels action behind)
 simple_pieces levels (steps_before at step x) behind = look (is_at at) ∷ token (sign (step_sign step)) ∷ name_pieces x behind
 
-abbrev pub initialiser_pieces : ℕ → Option Expression → List Piece → List Piece
-initialiser_pieces levels (Some e) behind = token (leading S.Assign) ∷ expression_pieces levels e behind
-initialiser_pieces levels None behind = behind
-
-abbrev pub part_pieces : ℕ → Part → List Piece → List Piece
-part_pieces levels part behind = name_pieces part.declared (initialiser_pieces levels part.initialiser behind)
-
--- further parts of a declaration, and its `;`, behind which a `for` has an expression
-abbrev pub parts_pieces : ℕ → List Part → List Piece → List Piece
-parts_pieces levels [] behind = token (leading S.Semicolon) ∷ behind
-parts_pieces levels (part ∷ more) behind = token (sign S.Comma) ∷ part_pieces levels part (parts_pieces levels more behind)
-
-abbrev pub declaration_pieces : ℕ → Declaration → List Piece → List Piece
-declaration_pieces levels d behind = token (sign S.Int) ∷ part_pieces levels d.part (parts_pieces levels d.more behind)
-
-abbrev pub start_pieces : ℕ → Start → List Piece → List Piece
-start_pieces levels starts_with_nothing behind = token (leading S.Semicolon) ∷ behind
-start_pieces levels (starts_with s) behind = simple_pieces levels s (token (leading S.Semicolon) ∷ behind)
-start_pieces levels (declares d) behind = declaration_pieces levels d behind
-
--- the last part of a `for` and the `)` behind it
-abbrev pub finish_pieces : ℕ → Option Simple → List Piece → List Piece
-finish_pieces levels (Some s) behind = simple_pieces levels s (token (sign S.CloseParenthesis) ∷ behind)
-finish_pieces levels None behind = token (sign S.CloseParenthesis) ∷ behind
-
--- the test of an `if` or a loop, in its parentheses
-abbrev pub test_pieces : ℕ → Expression → List Piece → List Piece
-test_pieces levels test behind =
-    token (leading_opening S.OpenParenthesis (levels + 1)) ∷ expression_pieces (levels + 1) test (token (sign S.CloseParenthesis) ∷ behind)
-
 -- what only stands where functions are allowed
 abbrev pub where_allowed : Bool → List Piece → List Piece
 where_allowed true behind = behind
@@ -185,6 +155,41 @@ arguments_pieces levels (e ∷ more) behind = expression_pieces levels e (furthe
 abbrev pub call_pieces : Bool → ℕ → Call → List Piece → List Piece
 call_pieces functions levels c behind =
     name_pieces c.function (token (leading S.OpenParenthesis) ∷ where_allowed functions (arguments_pieces levels c.arguments behind))
+
+-- what gives a variable its value behind an `=`
+abbrev pub value_pieces : Bool → ℕ → Value → List Piece → List Piece
+value_pieces functions levels (evaluates e) behind = expression_pieces levels e behind
+value_pieces functions levels (answers c) behind = call_pieces functions levels c behind
+
+abbrev pub initialiser_pieces : Bool → ℕ → Option Value → List Piece → List Piece
+initialiser_pieces functions levels (Some value) behind = token (leading S.Assign) ∷ value_pieces functions levels value behind
+initialiser_pieces functions levels None behind = behind
+
+abbrev pub part_pieces : Bool → ℕ → Part → List Piece → List Piece
+part_pieces functions levels part behind = name_pieces part.declared (initialiser_pieces functions levels part.initialiser behind)
+
+-- further parts of a declaration, and its `;`, behind which a `for` has an expression
+abbrev pub parts_pieces : Bool → ℕ → List Part → List Piece → List Piece
+parts_pieces functions levels [] behind = token (leading S.Semicolon) ∷ behind
+parts_pieces functions levels (part ∷ more) behind = token (sign S.Comma) ∷ part_pieces functions levels part (parts_pieces functions levels more behind)
+
+abbrev pub declaration_pieces : Bool → ℕ → Declaration → List Piece → List Piece
+declaration_pieces functions levels d behind = token (sign S.Int) ∷ part_pieces functions levels d.part (parts_pieces functions levels d.more behind)
+
+abbrev pub start_pieces : Bool → ℕ → Start → List Piece → List Piece
+start_pieces functions levels starts_with_nothing behind = token (leading S.Semicolon) ∷ behind
+start_pieces functions levels (starts_with s) behind = simple_pieces levels s (token (leading S.Semicolon) ∷ behind)
+start_pieces functions levels (declares d) behind = declaration_pieces functions levels d behind
+
+-- the last part of a `for` and the `)` behind it
+abbrev pub finish_pieces : ℕ → Option Simple → List Piece → List Piece
+finish_pieces levels (Some s) behind = simple_pieces levels s (token (sign S.CloseParenthesis) ∷ behind)
+finish_pieces levels None behind = token (sign S.CloseParenthesis) ∷ behind
+
+-- the test of an `if` or a loop, in its parentheses
+abbrev pub test_pieces : ℕ → Expression → List Piece → List Piece
+test_pieces levels test behind =
+    token (leading_opening S.OpenParenthesis (levels + 1)) ∷ expression_pieces (levels + 1) test (token (sign S.CloseParenthesis) ∷ behind)
 
 -- `{`, `if`, `else`, `while`, `do` and `for` open a level for as long as their statement lasts; so does the `(` before a test. The
 -- `while` that ends a `do` and the `(` of a `for` open none. An `else` belongs to the nearest `if`: where an `if` has none, none follows.
@@ -210,7 +215,7 @@ abbrev mutual
       (look (is_at end) ∷ token (sign S.While) ∷ test_pieces (levels + 1) test (token (sign S.Semicolon) ∷ behind))
   statement_kind_pieces functions levels (for_loop start test step body) behind =
       token (opening S.For (levels + 1)) ∷ token (sign S.OpenParenthesis)
-      ∷ start_pieces (levels + 1) start
+      ∷ start_pieces functions (levels + 1) start
       (optional_pieces (levels + 1) test
       (token (sign S.Semicolon) ∷ finish_pieces (levels + 1) step (statement_pieces functions (levels + 1) body behind)))
   statement_kind_pieces functions levels (return value) behind =
@@ -225,7 +230,7 @@ abbrev mutual
   -- items, without the `}` behind them
   pub items_pieces : Bool → ℕ → Items → List Piece → List Piece
   items_pieces functions levels none behind = behind
-  items_pieces functions levels (declaration d more) behind = declaration_pieces levels d (items_pieces functions levels more behind)
+  items_pieces functions levels (declaration d more) behind = declaration_pieces functions levels d (items_pieces functions levels more behind)
   items_pieces functions levels (statement s more) behind = statement_pieces functions levels s (items_pieces functions levels more behind)
 
 abbrev pub void_pieces : Bool → List Piece → List Piece

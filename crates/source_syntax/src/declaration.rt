@@ -4,37 +4,39 @@ ghost use Rattle.std.specs.Prelude.{◌≤◌, IfOk};
 ghost use Rattle.derivation.specs.Pieces.{first};
 ghost use Rattle.derivation.specs.Spelled.{IsBehind};
 ghost use Rattle.source_syntax.specs.Language.{rest_from};
-ghost use Rattle.concrete_syntax.specs.Mirror.{part as part_tree, declaration as declaration_tree, start as start_tree};
+ghost use Rattle.concrete_syntax.specs.Mirror.{value as value_tree, part as part_tree, declaration as declaration_tree, start as start_tree};
 ghost use Rattle.derivation.specs.Failures.{IfFault};
-ghost use Rattle.source_syntax.specs.Pending.{a_declaration, a_start};
-ghost use Rattle.source_syntax.specs.Reads.{ReadsLeading, Refuses, ReadsPart, RefusesPart};
+ghost use Rattle.source_syntax.specs.Pending.{an_initialiser, a_declaration, a_start};
+ghost use Rattle.source_syntax.specs.Reads.{ReadsLeading, Refuses, RefusesCounting, ReadsInitialiser, ReadsPart, RefusesPart};
 
+use crate::call::value;
 use crate::expression::expression;
 use crate::opening::{StartOpening, opening_of_start};
 use crate::reader::{owned_name, sign};
 use crate::simple::simple;
-use concrete_syntax::{Declaration, Name, Part, Start};
+use concrete_syntax::{Declaration, Name, Part, Start, Value};
 use derivation::{Failure, Lexeme, Symbol, after};
 use std::alloc::Global;
 
-/// Reads a declaration and the `;` behind it.
+/// Reads a declaration and the `;` behind it, where functions are allowed or aren't.
 pub fn declaration(
     alloc: Global,
     words: &[Lexeme<'_>],
     at: usize,
     levels: u32,
+    functions: bool,
 ) -> Result<(Declaration, usize), Failure>
     requires shallow { levels ≤ 64 }
-    ensures read { IfOk result (λ found. ReadsLeading (a_declaration levels) (declaration_tree found.0) (rest_from words.now at) (rest_from words.now found.1)) }
+    ensures read { IfOk result (λ found. ReadsLeading (a_declaration functions levels) (declaration_tree found.0) (rest_from words.now at) (rest_from words.now found.1)) }
     ensures forward { IfOk result (λ found. IsBehind words.now at found.1) }
-    ensures refused { IfFault result (λ fault. Refuses (a_declaration levels) (rest_from words.now at) fault.rule (rest_from words.now fault.at)) }
+    ensures refused { IfFault result (λ fault. Refuses (a_declaration functions levels) (rest_from words.now at) fault.rule (rest_from words.now fault.at)) }
 {
     let inner = sign(words, at, Symbol::Int)?;
-    let (first, mut here) = part(alloc, words, inner, levels)?;
+    let (first, mut here) = part(alloc, words, inner, levels, functions)?;
     let mut more = Vec::new(alloc);
     'parts: loop {
         if let Some(behind) = after(words, here, Symbol::Comma) {
-            let (further, next) = part(alloc, words, behind, levels)?;
+            let (further, next) = part(alloc, words, behind, levels, functions)?;
             more.push(further)?;
             here = next;
         } else {
@@ -50,16 +52,17 @@ fn part(
     words: &[Lexeme<'_>],
     at: usize,
     levels: u32,
+    functions: bool,
 ) -> Result<(Part, usize), Failure>
     requires shallow { levels ≤ 64 }
-    ensures read { IfOk result (λ found. ReadsPart levels (part_tree found.0) (rest_from words.now at) (rest_from words.now found.1)) }
+    ensures read { IfOk result (λ found. ReadsPart functions levels (part_tree found.0) (rest_from words.now at) (rest_from words.now found.1)) }
     ensures forward { IfOk result (λ found. IsBehind words.now at found.1) }
-    ensures refused { IfFault result (λ fault. RefusesPart levels (rest_from words.now at) fault.rule (rest_from words.now fault.at)) }
+    ensures refused { IfFault result (λ fault. RefusesPart functions levels (rest_from words.now at) fault.rule (rest_from words.now fault.at)) }
 {
     let (bytes, behind) = owned_name(alloc, words, at)?;
     let declared = Name { at, bytes };
     if let Some(inner) = after(words, behind, Symbol::Assign) {
-        let (value, next, _) = expression(alloc, words, inner, levels, 0)?;
+        let (value, next) = initialiser(alloc, words, inner, levels, functions)?;
         return Ok((
             Part {
                 declared,
@@ -77,17 +80,39 @@ fn part(
     ))
 }
 
+// Reads the initialiser of a declared name: an expression, or where functions are allowed a call.
+fn initialiser(
+    alloc: Global,
+    words: &[Lexeme<'_>],
+    at: usize,
+    levels: u32,
+    functions: bool,
+) -> Result<(Value, usize), Failure>
+    requires shallow { levels ≤ 64 }
+    ensures read { IfOk result (λ found. ReadsInitialiser functions levels (value_tree found.0) (rest_from words.now at) (rest_from words.now found.1)) }
+    ensures forward { IfOk result (λ found. IsBehind words.now at found.1) }
+    ensures refused { IfFault result (λ fault. RefusesCounting 0 (an_initialiser functions levels) (rest_from words.now at) fault.rule (rest_from words.now fault.at)) }
+{
+    if functions {
+        let (value, next) = value(alloc, words, at, levels)?;
+        return Ok((value, next));
+    }
+    let (plain, next, _) = expression(alloc, words, at, levels, 0)?;
+    Ok((Value::Expression(plain), next))
+}
+
 /// Reads what stands before the first `;` of a `for`, and this `;`.
 pub fn start(
     alloc: Global,
     words: &[Lexeme<'_>],
     at: usize,
     levels: u32,
+    functions: bool,
 ) -> Result<(Start, usize), Failure>
     requires shallow { levels ≤ 64 }
-    ensures read { IfOk result (λ found. ReadsLeading (a_start levels) (start_tree found.0) (rest_from words.now at) (rest_from words.now found.1)) }
+    ensures read { IfOk result (λ found. ReadsLeading (a_start functions levels) (start_tree found.0) (rest_from words.now at) (rest_from words.now found.1)) }
     ensures forward { IfOk result (λ found. IsBehind words.now at found.1) }
-    ensures refused { IfFault result (λ fault. Refuses (a_start levels) (rest_from words.now at) fault.rule (rest_from words.now fault.at)) }
+    ensures refused { IfFault result (λ fault. Refuses (a_start functions levels) (rest_from words.now at) fault.rule (rest_from words.now fault.at)) }
 {
     match opening_of_start(words, at) {
         StartOpening::Nothing => {
@@ -95,7 +120,7 @@ pub fn start(
             Ok((Start::Nothing, next))
         }
         StartOpening::Declaration => {
-            let (declared, next) = declaration(alloc, words, at, levels)?;
+            let (declared, next) = declaration(alloc, words, at, levels, functions)?;
             Ok((Start::Declaration(declared), next))
         }
         StartOpening::Simple => {

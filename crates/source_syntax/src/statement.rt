@@ -273,7 +273,7 @@ pub fn items(
                 return Ok((all, next));
             }
             ItemOpening::Declaration => {
-                let (further, next) = declaration(alloc, words, here, levels)?;
+                let (further, next) = declaration(alloc, words, here, levels, functions)?;
                 list.push(Item::Declaration(further))?;
                 here = next;
             }
@@ -425,7 +425,7 @@ fn for_loop(
 {
     let inner_levels = levels + 1;
     let open = opening(words, at, Symbol::For, inner_levels)?;
-    let (head, inner) = head_of_for(alloc, words, open, inner_levels)?;
+    let (head, inner) = head_of_for(alloc, words, open, inner_levels, functions)?;
     let (body, next) = statement(alloc, words, inner, inner_levels, functions)?;
     let made = ForLoop {
         start: head.start,
@@ -451,14 +451,15 @@ fn head_of_for(
     words: &[Lexeme<'_>],
     at: usize,
     levels: u32,
+    functions: bool,
 ) -> Result<(HeadOfFor, usize), Failure>
     requires shallow { levels ≤ 64 }
-    ensures read { IfOk result (λ found. ReadsHeadOfFor levels (start_tree found.0.start) (optional_tree found.0.test) (step_tree found.0.step) (rest_from words.now at) (rest_from words.now found.1)) }
+    ensures read { IfOk result (λ found. ReadsHeadOfFor functions levels (start_tree found.0.start) (optional_tree found.0.test) (step_tree found.0.step) (rest_from words.now at) (rest_from words.now found.1)) }
     ensures forward { IfOk result (λ found. IsBehind words.now at found.1) }
-    ensures refused { IfFault result (λ fault. RefusesHeadOfFor levels (rest_from words.now at) fault.rule (rest_from words.now fault.at)) }
+    ensures refused { IfFault result (λ fault. RefusesHeadOfFor functions levels (rest_from words.now at) fault.rule (rest_from words.now fault.at)) }
 {
     let first = sign(words, at, Symbol::OpenParenthesis)?;
-    let (start, second) = start(alloc, words, first, levels)?;
+    let (start, second) = start(alloc, words, first, levels, functions)?;
     let (test, third) = optional(alloc, words, second, levels)?;
     let (step, next) = finish(alloc, words, third, levels)?;
     Ok((HeadOfFor { start, test, step }, next))

@@ -4,9 +4,9 @@ use Rattle.std.specs.Bool.{IsFalse}
 use Rattle.derivation.specs.declared.symbol.Symbol.TheVariants as S
 use Rattle.derivation.specs.Word.{number as numbered}
 use Rattle.derivation.specs.Pieces.{token, look, first_before, Fits}
-use Rattle.concrete_syntax.specs.Trees.{Divisor, End, Operand, operand_at, OperandKind, number, name, truth, unknown, call, signed, parentheses, range, Link, operation, division, Tail, ended, further, Expression, Name, Action, assigns, steps, Simple, acts, steps_before, Part, Declaration, Start, starts_with_nothing, starts_with, declares, Call, Statement, statement_at, StatementKind, simple, calls, gives, skip, braces, conditional, while_loop, do_loop, for_loop, return, break, continue, Otherwise, without, otherwise, Items, none, declaration, statement, Prelude, extern_call, typedef_bool, Parameters, nothing, named, Function, Program}
+use Rattle.concrete_syntax.specs.Trees.{Divisor, End, Operand, operand_at, OperandKind, number, name, truth, unknown, call, signed, parentheses, range, Link, operation, division, Tail, ended, further, Expression, Name, Action, assigns, steps, Simple, acts, steps_before, Call, Value, evaluates, answers, Part, Declaration, Start, starts_with_nothing, starts_with, declares, Statement, statement_at, StatementKind, simple, calls, gives, skip, braces, conditional, while_loop, do_loop, for_loop, return, break, continue, Otherwise, without, otherwise, Items, none, declaration, statement, Prelude, extern_call, typedef_bool, Parameters, nothing, named, Function, Program}
 use Rattle.source_syntax.specs.Language.{Piece, is_at, no_operator, no_else, forbidden, link_opening, is_else}
-use Rattle.source_syntax.specs.Spelling.{plain, sign, leading, opening, leading_opening, counted, sign_of, division_sign, prefix_sign, assignment_sign, size_pieces, minus_pieces, end_pieces, divisor_pieces, link_pieces, operand_pieces, operand_kind_pieces, tail_pieces, expression_pieces, optional_pieces, action_pieces, name_pieces, simple_pieces, initialiser_pieces, part_pieces, parts_pieces, declaration_pieces, start_pieces, finish_pieces, test_pieces, statement_pieces, statement_kind_pieces, otherwise_pieces, items_pieces, void_pieces, prelude_pieces, preludes_pieces, where_allowed, arguments_pieces, further_arguments_pieces, call_pieces, parameters_pieces, further_parameters_pieces, type_sign, function_end_pieces, functions_pieces, main_end_pieces, program_pieces}
+use Rattle.source_syntax.specs.Spelling.{plain, sign, leading, opening, leading_opening, counted, sign_of, division_sign, prefix_sign, assignment_sign, size_pieces, minus_pieces, end_pieces, divisor_pieces, link_pieces, operand_pieces, operand_kind_pieces, tail_pieces, expression_pieces, optional_pieces, action_pieces, name_pieces, simple_pieces, value_pieces, initialiser_pieces, part_pieces, parts_pieces, declaration_pieces, start_pieces, finish_pieces, test_pieces, statement_pieces, statement_kind_pieces, otherwise_pieces, items_pieces, void_pieces, prelude_pieces, preludes_pieces, where_allowed, arguments_pieces, further_arguments_pieces, call_pieces, parameters_pieces, further_parameters_pieces, type_sign, function_end_pieces, functions_pieces, main_end_pieces, program_pieces}
 use Rattle.syntax_laws.specs.Numbering.{FitsButForNumbers, tokens_in, TreesCanBeNumbered}
 
 -- the same pieces, where each number that is asked for is the right one
@@ -156,7 +156,7 @@ test_numbered levels n e behind =
     let this = expression_numbered (levels + 1) (n + 1) e (token (sign S.CloseParenthesis) ∷ behind) in
     (this.0, this.1 + 1, ap (λ ps. token (leading_opening S.OpenParenthesis (levels + 1)) ∷ ps) this.2)
 
--- ── Simple statements and declarations ──
+-- ── Simple statements ──
 
 abbrev at_number : ℕ → Name → Name
 at_number n x = record { at = n; bytes = x.bytes }
@@ -172,36 +172,6 @@ simple_numbered levels n (acts x action) behind =
     let this = action_numbered levels (n + 1) action behind in
     (acts (at_number n x) this.0, this.1, ap (name_pieces (at_number n x)) this.2)
 simple_numbered levels n (steps_before at step x) behind = (steps_before n step (at_number (n + 1) x), n + 1 + 1, refl)
-
-initialiser_numbered : (levels n : ℕ) (e : Option Expression) (behind : List Piece) → IsNumbered (initialiser_pieces levels) n e behind
-initialiser_numbered levels n (Some e) behind =
-    let this = expression_numbered levels (n + 1) e behind in
-    (Some this.0, this.1, ap (λ ps. token (leading S.Assign) ∷ ps) this.2)
-initialiser_numbered levels n None behind = (None, n, refl)
-
-part_numbered : (levels n : ℕ) (part : Part) (behind : List Piece) → IsNumbered (part_pieces levels) n part behind
-part_numbered levels n part behind =
-    let this = initialiser_numbered levels (n + 1) part.initialiser behind in
-    (record { declared = at_number n part.declared; initialiser = this.0 }, this.1, ap (name_pieces (at_number n part.declared)) this.2)
-
-parts_numbered : (levels n : ℕ) (parts : List Part) (behind : List Piece) → IsNumbered (parts_pieces levels) n parts behind
-parts_numbered levels n [] behind = ([], n + 1, refl)
-parts_numbered levels n (part ∷ more) behind =
-    let this = part_numbered levels (n + 1) part (parts_pieces levels more behind) in
-    let rest = parts_numbered levels this.1 more behind in
-    (this.0 ∷ rest.0, rest.1, ap (λ ps. token (sign S.Comma) ∷ ps) (this.2 ∙ ap (part_pieces levels this.0) rest.2))
-
-declaration_numbered : (levels n : ℕ) (d : Declaration) (behind : List Piece) → IsNumbered (declaration_pieces levels) n d behind
-declaration_numbered levels n d behind =
-    let this = part_numbered levels (n + 1) d.part (parts_pieces levels d.more behind) in
-    let rest = parts_numbered levels this.1 d.more behind in
-    (record { part = this.0; more = rest.0 }, rest.1, ap (λ ps. token (sign S.Int) ∷ ps) (this.2 ∙ ap (part_pieces levels this.0) rest.2))
-
-start_numbered : (levels n : ℕ) (start : Start) (behind : List Piece) → IsNumbered (start_pieces levels) n start behind
-start_numbered levels n starts_with_nothing behind = (starts_with_nothing, n + 1, refl)
-start_numbered levels n (starts_with s) behind =
-    let this = simple_numbered levels n s (token (leading S.Semicolon) ∷ behind) in (starts_with this.0, this.1 + 1, this.2)
-start_numbered levels n (declares d) behind = let this = declaration_numbered levels n d behind in (declares this.0, this.1, this.2)
 
 finish_numbered : (levels n : ℕ) (s : Option Simple) (behind : List Piece) → IsNumbered (finish_pieces levels) n s behind
 finish_numbered levels n (Some s) behind =
@@ -232,6 +202,43 @@ call_numbered functions levels n c behind =
       inner.1,
       ap (λ ps. name_pieces (at_number n c.function) (token (leading S.OpenParenthesis) ∷ ps)) (allowed.1 ∙ ap (where_allowed functions) inner.2),
     )
+
+-- ── Declarations ──
+
+value_numbered : (functions : Bool) (levels n : ℕ) (value : Value) (behind : List Piece) → IsNumbered (value_pieces functions levels) n value behind
+value_numbered functions levels n (evaluates e) behind = let this = expression_numbered levels n e behind in (evaluates this.0, this.1, this.2)
+value_numbered functions levels n (answers c) behind = let this = call_numbered functions levels n c behind in (answers this.0, this.1, this.2)
+
+initialiser_numbered : (functions : Bool) (levels n : ℕ) (value : Option Value) (behind : List Piece)
+    → IsNumbered (initialiser_pieces functions levels) n value behind
+initialiser_numbered functions levels n (Some value) behind =
+    let this = value_numbered functions levels (n + 1) value behind in
+    (Some this.0, this.1, ap (λ ps. token (leading S.Assign) ∷ ps) this.2)
+initialiser_numbered functions levels n None behind = (None, n, refl)
+
+part_numbered : (functions : Bool) (levels n : ℕ) (part : Part) (behind : List Piece) → IsNumbered (part_pieces functions levels) n part behind
+part_numbered functions levels n part behind =
+    let this = initialiser_numbered functions levels (n + 1) part.initialiser behind in
+    (record { declared = at_number n part.declared; initialiser = this.0 }, this.1, ap (name_pieces (at_number n part.declared)) this.2)
+
+parts_numbered : (functions : Bool) (levels n : ℕ) (parts : List Part) (behind : List Piece) → IsNumbered (parts_pieces functions levels) n parts behind
+parts_numbered functions levels n [] behind = ([], n + 1, refl)
+parts_numbered functions levels n (part ∷ more) behind =
+    let this = part_numbered functions levels (n + 1) part (parts_pieces functions levels more behind) in
+    let rest = parts_numbered functions levels this.1 more behind in
+    (this.0 ∷ rest.0, rest.1, ap (λ ps. token (sign S.Comma) ∷ ps) (this.2 ∙ ap (part_pieces functions levels this.0) rest.2))
+
+declaration_numbered : (functions : Bool) (levels n : ℕ) (d : Declaration) (behind : List Piece) → IsNumbered (declaration_pieces functions levels) n d behind
+declaration_numbered functions levels n d behind =
+    let this = part_numbered functions levels (n + 1) d.part (parts_pieces functions levels d.more behind) in
+    let rest = parts_numbered functions levels this.1 d.more behind in
+    (record { part = this.0; more = rest.0 }, rest.1, ap (λ ps. token (sign S.Int) ∷ ps) (this.2 ∙ ap (part_pieces functions levels this.0) rest.2))
+
+start_numbered : (functions : Bool) (levels n : ℕ) (start : Start) (behind : List Piece) → IsNumbered (start_pieces functions levels) n start behind
+start_numbered functions levels n starts_with_nothing behind = (starts_with_nothing, n + 1, refl)
+start_numbered functions levels n (starts_with s) behind =
+    let this = simple_numbered levels n s (token (leading S.Semicolon) ∷ behind) in (starts_with this.0, this.1 + 1, this.2)
+start_numbered functions levels n (declares d) behind = let this = declaration_numbered functions levels n d behind in (declares this.0, this.1, this.2)
 
 -- ── Statements ──
 
@@ -282,7 +289,7 @@ mutual
   statement_kind_numbered functions levels n (for_loop start test step body) behind =
       let inner = statement_pieces functions (levels + 1) body behind in
       let last = token (sign S.Semicolon) ∷ finish_pieces (levels + 1) step inner in
-      let begun = start_numbered (levels + 1) (n + 1 + 1) start (optional_pieces (levels + 1) test last) in
+      let begun = start_numbered functions (levels + 1) (n + 1 + 1) start (optional_pieces (levels + 1) test last) in
       let tested = optional_numbered (levels + 1) begun.1 test last in
       let stepped = finish_numbered (levels + 1) (tested.1 + 1) step inner in
       let this = statement_numbered functions (levels + 1) stepped.1 body behind in (
@@ -290,7 +297,7 @@ mutual
         this.1,
         ap (λ ps. token (opening S.For (levels + 1)) ∷ token (sign S.OpenParenthesis) ∷ ps)
             (begun.2
-            ∙ ap (start_pieces (levels + 1) begun.0)
+            ∙ ap (start_pieces functions (levels + 1) begun.0)
             (tested.2
             ∙ ap (λ ps. optional_pieces (levels + 1) tested.0 (token (sign S.Semicolon) ∷ ps))
             (stepped.2 ∙ ap (finish_pieces (levels + 1) stepped.0) this.2))),
@@ -310,9 +317,9 @@ mutual
   items_numbered : (functions : Bool) (levels n : ℕ) (all : Items) (behind : List Piece) → IsNumbered (items_pieces functions levels) n all behind
   items_numbered functions levels n none behind = (none, n, refl)
   items_numbered functions levels n (declaration d more) behind =
-      let this = declaration_numbered levels n d (items_pieces functions levels more behind) in
+      let this = declaration_numbered functions levels n d (items_pieces functions levels more behind) in
       let rest = items_numbered functions levels this.1 more behind in
-      (declaration this.0 rest.0, rest.1, this.2 ∙ ap (declaration_pieces levels this.0) rest.2)
+      (declaration this.0 rest.0, rest.1, this.2 ∙ ap (declaration_pieces functions levels this.0) rest.2)
   items_numbered functions levels n (statement s more) behind =
       let this = statement_numbered functions levels n s (items_pieces functions levels more behind) in
       let rest = items_numbered functions levels this.1 more behind in

@@ -3,7 +3,7 @@ use case_text::Answer;
 use concrete_syntax::{
     Action, Assignment, Call, Declaration, Division, Divisor, End, Expression, ForLoop, Function,
     Items, Link, Name, Operand, OperandKind, Operator, Otherwise, Parameters, Part, Prefix,
-    Prelude, Program, Simple, Start, Statement, StatementKind, Step, Tail,
+    Prelude, Program, Simple, Start, Statement, StatementKind, Step, Tail, Value,
 };
 
 /// Adds the tree.
@@ -182,7 +182,13 @@ fn push_declaration(declaration: &Declaration, answer: &mut Answer) {
 
 fn push_declared(part: &Part, answer: &mut Answer) {
     push_name(&part.declared, answer);
-    push_optional(" = ", &part.initialiser, answer);
+    if let Some(value) = &part.initialiser {
+        answer.push(" = ");
+        match value {
+            Value::Expression(expression) => push_expression(expression, answer),
+            Value::Call(call) => push_call(call, answer),
+        }
+    }
 }
 
 fn push_name(name: &Name, answer: &mut Answer) {

@@ -4,7 +4,7 @@ use Rattle.source_syntax.specs.declared.opening.EndOpening.TheVariants as EndOpe
 use Rattle.source_syntax.specs.Ends.{does, applied, given_value}
 use Rattle.derivation.proofs.Grammars.{over, fails}
 use Rattle.derivation.proofs.Choices.{goes}
-use Rattle.source_syntax.proofs.Calling.{statement_ends}
+use Rattle.source_syntax.proofs.Calling.{statement_ends, closes_statement}
 use Rattle.derivation.proofs.Answering.{failed_on, passed_on}
 use Rattle.source_syntax.proofs.Answering.{sign_reads, sign_refused, leading_reads, leading_refused}
 use Rattle.source_syntax.proofs.call.statement_end.Goals as goal
@@ -48,25 +48,34 @@ returns-in_err-inner-in-Value-clause-refused c =
     (λ count behind. fails (goes (statement_ends _ behind) count _ EndOpening.Value (sym c.in-Value.is ∙ c.opening_of_end.ensures))
     (leading_refused _ _ c.in_err-inner-in-Value.field-0.0 Sym.Assign (refl, refl) c.in_err-inner-in-Value.ensures.missed))
 
-pub returns-in_err-kind-in-Value-clause-refused : goal.returns-in_err-kind-in-Value-clause-refused
-returns-in_err-kind-in-Value-clause-refused c =
-    passed_on _ _ _ _ c.from_residual-in_err-kind-in-Value.ensures c.in_err-kind-in-Value.ensures.refused
+pub returns-in_err-value-in-Value-clause-refused : goal.returns-in_err-value-in-Value-clause-refused
+returns-in_err-value-in-Value-clause-refused c =
+    passed_on _ _ _ _ c.from_residual-in_err-value-in-Value.ensures c.in_err-value-in-Value.ensures.refused
     (λ fault refused count behind. fails (goes (statement_ends _ behind) count _ EndOpening.Value (sym c.in-Value.is ∙ c.opening_of_end.ensures))
-    (fails (leading_reads Sym.Assign (refl, refl) c.in_ok-inner-in-Value.ensures.read) (refused _)))
+    (fails (leading_reads Sym.Assign (refl, refl) c.in_ok-inner-in-Value.ensures.read) (refused _ _)))
 
-pub returns-in_ok-kind-in-Value-clause-read : goal.returns-in_ok-kind-in-Value-clause-read
-returns-in_ok-kind-in-Value-clause-read c =
-    let r = c.in_ok-kind-in-Value.ensures.read in record {
-      end = given_value r.value;
-      made = r.made;
-      reads = record {
-        comes = λ count behind. (
-          _,
-          over (goes (statement_ends _ behind) count _ EndOpening.Value (sym c.in-Value.is ∙ c.opening_of_end.ensures))
-              (over (leading_reads Sym.Assign (refl, refl) c.in_ok-inner-in-Value.ensures.read) (r.reads.comes _).1),
-        );
-      };
-    }
+pub returns-in_err-next-in-Value-clause-refused : goal.returns-in_err-next-in-Value-clause-refused
+returns-in_err-next-in-Value-clause-refused c =
+    failed_on _ _ _ c.from_residual-in_err-next-in-Value.ensures
+    (λ count behind. fails (goes (statement_ends _ behind) count _ EndOpening.Value (sym c.in-Value.is ∙ c.opening_of_end.ensures))
+    (fails (leading_reads Sym.Assign (refl, refl) c.in_ok-inner-in-Value.ensures.read)
+    (fails (c.in_ok-value-in-Value.ensures.read.comes _ _).1 (fails (closes_statement _ _ _ _)
+    (sign_refused _ _ c.in_err-next-in-Value.field-0.0 Sym.Semicolon (refl, refl) c.in_err-next-in-Value.ensures.missed)))))
+
+pub returns-in_ok-next-in-Value-clause-read : goal.returns-in_ok-next-in-Value-clause-read
+returns-in_ok-next-in-Value-clause-read c = record {
+  end = given_value _;
+  made = c.given.ensures;
+  reads = record {
+    comes = λ count behind. (
+      _,
+      over (goes (statement_ends _ behind) count _ EndOpening.Value (sym c.in-Value.is ∙ c.opening_of_end.ensures))
+          (over (leading_reads Sym.Assign (refl, refl) c.in_ok-inner-in-Value.ensures.read)
+          (over (c.in_ok-value-in-Value.ensures.read.comes _ _).1
+          (over (closes_statement _ _ _ _) (sign_reads Sym.Semicolon (refl, refl) c.in_ok-next-in-Value.ensures.read)))),
+    );
+  };
+}
 
 pub returns-in_err-action-in-Action-clause-refused : goal.returns-in_err-action-in-Action-clause-refused
 returns-in_err-action-in-Action-clause-refused c =

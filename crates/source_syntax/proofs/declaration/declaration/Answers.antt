@@ -12,37 +12,37 @@ use Rattle.source_syntax.proofs.declaration.declaration.Goals as goal
 pub returns-in_err-inner-clause-refused : goal.returns-in_err-inner-clause-refused
 returns-in_err-inner-clause-refused c =
     failed_on _ _ _ c.from_residual.ensures
-    (λ count behind. fails (declaration_goes _ count behind _) (sign_refused _ _ c.in_err-inner.field-0.0 Sym.Int (refl, refl) c.in_err-inner.ensures.missed))
+    (λ count behind. fails (declaration_goes _ _ count behind _) (sign_refused _ _ c.in_err-inner.field-0.0 Sym.Int (refl, refl) c.in_err-inner.ensures.missed))
 
 pub returns-in_err-first-clause-refused : goal.returns-in_err-first-clause-refused
 returns-in_err-first-clause-refused c =
     passed_on _ _ _ _ c.from_residual-in_err-first.ensures c.in_err-first.ensures.refused
-    (λ fault refused. part_missing _ _ _ _ c.in_ok-inner.ensures.read _ refused)
+    (λ fault refused. part_missing _ _ _ _ _ c.in_ok-inner.ensures.read _ refused)
 
 pub parts-init : goal.parts-init
 parts-init c = record {
   forward = omega (arith, c.in_ok-inner.ensures.forward.forward, c.in_ok-first.ensures.forward.forward);
-  comes = parts_from _ _ _ _ _ _ (let none : c.new-more.result.items ≡ [] = search rules in ap (map part) none) c.in_ok-inner.ensures.read c.in_ok-first.ensures.read;
+  comes = parts_from _ _ _ _ _ _ _ (let none : c.new-more.result.items ≡ [] = search rules in ap (map part) none) c.in_ok-inner.ensures.read c.in_ok-first.ensures.read;
 }
 
 pub returns-in_err-further-clause-refused : goal.returns-in_err-further-clause-refused
 returns-in_err-further-clause-refused c =
     passed_on _ _ _ _ c.from_residual-in_err-further.ensures c.in_err-further.ensures.refused
     (λ fault refused count behind. fails (c.parts.invariant.comes.comes count behind).1
-    (fails (taken (further_parts _ behind) c.in-Some.ensures.read (omega arith, tt)) (refused _ behind)))
+    (fails (taken (further_parts _ _ behind) c.in-Some.ensures.read (omega arith, tt)) (refused _ behind)))
 
 pub parts-preserved : goal.parts-preserved
 parts-preserved c =
     let pushed : c.push.new.self.items ≡ c.parts.more.items ++ c.in_ok-further.further ∷ [] = search rules in record {
       forward = omega (arith, c.parts.invariant.forward, c.in-Some.ensures.forward.forward, c.in_ok-further.ensures.forward.forward);
-      comes = parts_over _ _ _ _ _ _ _ _ _ (one_part_more _ _ _ pushed) c.parts.invariant.comes c.in-Some.ensures.read c.in_ok-further.ensures.read;
+      comes = parts_over _ _ _ _ _ _ _ _ _ _ (one_part_more _ _ _ pushed) c.parts.invariant.comes c.in-Some.ensures.read c.in_ok-further.ensures.read;
     }
 
 pub returns-in_err-next-clause-refused : goal.returns-in_err-next-clause-refused
 returns-in_err-next-clause-refused c =
     failed_on _ _ _ c.from_residual-in_err-next.ensures
     (λ count behind. fails (c.parts.invariant.comes.comes count behind).1
-    (fails (left_out (further_parts _ behind) (not_next _ _ c.in_default.ensures.read)) (leading_refused _ _ c.in_err-next.field-0.0 Sym.Semicolon (refl, refl) c.in_err-next.ensures.missed)))
+    (fails (left_out (further_parts _ _ behind) (not_next _ _ c.in_default.ensures.read)) (leading_refused _ _ c.in_err-next.field-0.0 Sym.Semicolon (refl, refl) c.in_err-next.ensures.missed)))
 
 pub returns-in_default-clause-read : goal.returns-in_default-clause-read
-returns-in_default-clause-read c = parts_close _ _ _ _ _ _ c.parts.invariant.comes c.in_default.ensures.read c.in_ok-next.ensures.read
+returns-in_default-clause-read c = parts_close _ _ _ _ _ _ _ c.parts.invariant.comes c.in_default.ensures.read c.in_ok-next.ensures.read

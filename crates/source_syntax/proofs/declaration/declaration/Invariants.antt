@@ -8,7 +8,7 @@ use Rattle.source_syntax.proofs.declaration.declaration.Given as goal
 abbrev pub invariant-parts : goal.invariant-parts
 invariant-parts l = record {
   forward : l.at + 1 ≤ l.here;
-  comes : ComesToParts l.levels (part l.first) (map part l.more.items) (rest_from l.words l.at) (rest_from l.words l.here);
+  comes : ComesToParts l.functions l.levels (part l.first) (map part l.more.items) (rest_from l.words l.at) (rest_from l.words l.here);
 }
 
 abbrev pub decreases-parts : goal.decreases-parts

@@ -24,7 +24,7 @@ items-loop-left-preserved-in-Declaration t c =
     let weight = ap items_weight split in
     let lighter = c.loop-left.invariant.1 in (
       step_on now c.declaration.new.self _ c.loop-left.out.items c.declaration.new.out.items _
-          (declaration_walked now.scope (declaration_of c.in-Declaration.first)) (λ s. items_walked (context_of c.args.context) s rest)
+          (declaration_walked (context_of c.args.context) now.scope (declaration_of c.in-Declaration.first)) (λ s. items_walked (context_of c.args.context) s rest)
           (items_walked (context_of c.args.context) now.scope (items_of c.loop-left.left.now)) _
           made.gone made.added (ap (items_walked (context_of c.args.context) now.scope) split) c.loop-left.invariant.0,
       omega (arith, weight, lighter),
@@ -96,12 +96,13 @@ for_loop-returns-clause-gone t c =
     let step = optional_simple_of c.args.tree.now.step in
     let part = statement_of c.args.tree.now.body in
     let around = looping (context_of c.args.context) in
+    let outer = deeper (context_of c.args.context) in
     let went = rw c.in_ok-inner.ensures at c.in_ok-looped.ensures.gone in
-    let inside = start_walked old.scope start in
+    let inside = start_walked outer old.scope start in
     let gone =
     both_gone old begun last inside
     (λ s. joined (staying s (optional_faults s test)) (joined (staying s (optional_simple_walked s step).faults) (statement_walked around s part)))
-    c.in_ok-for_start.ensures.gone
+    (rw c.in_ok-around.ensures at c.in_ok-for_start.ensures.gone)
     (both_gone begun tested last (staying begun.scope (optional_faults begun.scope test))
     (λ s. joined (staying s (optional_simple_walked s step).faults) (statement_walked around s part))
     c.in_ok-test.ensures.found
@@ -111,7 +112,7 @@ for_loop-returns-clause-gone t c =
       gone.0,
       closed old.scope (statement_walked around inside.scope part).scope c.close.new.self c.depth-depth.result c.depth-depth.ensures
           (c.close.ensures ∙ ap (λ (s : Scope). record s { visible = take c.depth-depth.result s.visible }) gone.1)
-          (start_kept around old.scope start part),
+          (start_kept outer around old.scope start part),
       gone.2,
     )
 

@@ -1,11 +1,12 @@
 use Rattle.std.proofs.Common.{◌∷◌, drop}
 use Rattle.concrete_syntax.specs.Mirror.{part as part_of, parts as parts_of}
 use Rattle.elaboration.specs.Statements.{parts_walked}
+use Rattle.elaboration.specs.Walking.{context_of}
 use Rattle.elaboration.proofs.Walks.{IsLeft}
 use Rattle.elaboration.proofs.walk.Walk.declaration.Given as goal
 
 -- the parts that are left find, behind what was found, what the declaration finds
 abbrev pub invariant-loop-more : goal.invariant-loop-more
 invariant-loop-more l =
-    IsLeft l.self l.out.items (parts_walked l.self.scope (parts_of (drop l.more-index l.more-items)))
-    l.fn.self l.fn.out.items (parts_walked l.fn.self.scope (part_of l.tree.part ∷ parts_of l.tree.more.items))
+    IsLeft l.self l.out.items (parts_walked (context_of l.context) l.self.scope (parts_of (drop l.more-index l.more-items)))
+    l.fn.self l.fn.out.items (parts_walked (context_of l.fn.context) l.fn.self.scope (part_of l.tree.part ∷ parts_of l.tree.more.items))
