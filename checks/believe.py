@@ -31,7 +31,7 @@ SHOWN_ROOTS = 7
 QUESTIONS = {
     "What is claimed of a program": ("function_top", "ctl_formula", "ordinal_rank", "int_fit", "step_meaning"),
     "What a line of a report says": ("claim_line", "report_text", "line_text", "linear_cons"),
-    "Which text is which program": ("call_inline", "call_meaning", "source_parse", "elaboration", "source_syntax", "concrete_syntax", "derivation", "source_lex"),
+    "Which text is which program": ("call_inline", "call_meaning", "source_parse", "elaboration", "typed_expressions", "source_syntax", "concrete_syntax", "derivation", "source_lex"),
     "Which text is which formula": ("formula_parse", "normal_form", "formula_syntax", "linear_forms"),
     "Which text is which input": ("input_text", "number_parse"),
     "What the words of the command line ask": ("command_words", "clap"),

@@ -16,15 +16,13 @@ use Rattle.decision_tree.specs.declared.family.Family.{Family}
 use Rattle.decision_tree.specs.Plans.{Plan}
 use Rattle.num_domain.specs.declared.domain.NumDomain.{Ghosts as Domain}
 use Rattle.tree_check.specs.Checking.{families_of}
-use Rattle.tree_support.specs.Certificates.{IsShown, affine_ranks, operands_from}
-use Rattle.tree_support.specs.declared.dropped.Dropped.{Dropped}
-use Rattle.tree_support.specs.Elimination.{Eliminates}
-use Rattle.tree_support.specs.Setting.{Setting, Trees, trees_in}
+use Rattle.tree_support.specs.Certificates.{IsShown, operands_from}
+use Rattle.tree_support.specs.Setting.{Trees, trees_in}
 use Rattle.control_flow.specs.Told.{Told}
-use Rattle.ctl_rounds.specs.Families.{AreNumberedFrom, IsFamilyFor, trees_of}
-use Rattle.ctl_rounds.specs.Knowing.{told_on}
-use Rattle.ctl_rounds.specs.Showing.{AreAt, all_of}
-use Rattle.ctl_rounds.proofs.Placing.{own_places}
+use Rattle.part_families.specs.Families.{AreNumberedFrom, IsFamilyFor, trees_of}
+use Rattle.part_families.specs.Knowing.{told_on}
+use Rattle.part_families.specs.Showing.{AreAt, all_of}
+use Rattle.part_families.proofs.Placing.{own_places}
 use Rattle.ctl_rounds.specs.Certified.{Certifies}
 use Rattle.ctl_rounds.specs.Covers.{Extends}
 use Rattle.ctl_rounds.specs.Finding.{AreFoundSoFar, IsInquiry, IsTop}
@@ -45,11 +43,6 @@ grounded program operands labels whole own most = record {
   few_labels = short (statements program.body) labels own most;
   whole = λ label low. whole label (subst (λ n. label < n) (sym own) low);
 }
-
--- where nothing was dropped no tree has changed
-pub unchanged : (at : Setting AffineRank) (old new : List (Plan AffineRank)) (drops : List Dropped) → drops ≡ []
-    → Eliminates affine_ranks at (trees_in old) drops (trees_in new) → (label : ℕ) → trees_in new label ≡ trees_in old label
-unchanged at old new drops none legal = subst (λ d. Eliminates affine_ranks at (trees_in old) d (trees_in new)) none legal
 
 module _ {D : Type 0} (domain : Domain D) (inquiry : Inquiry D) where
   abbrev body : Statements

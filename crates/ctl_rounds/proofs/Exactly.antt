@@ -35,7 +35,7 @@ use Rattle.exact_families.proofs.Making.{rank_alike}
 use Rattle.exact_families.proofs.Narrow.{narrow_complements, narrow_rows}
 use Rattle.exact_families.proofs.Narrowing.{size_at}
 use Rattle.exact_families.proofs.StoreJudges.{judged_eval, store_says, stores_judge}
-use Rattle.ctl_rounds.specs.Families.{IsExact, IsFamilyFor, IsNarrowFor, IsWithin}
+use Rattle.part_families.specs.Families.{IsExact, IsFamilyFor, IsNarrowFor, IsWithin}
 use Rattle.ctl_rounds.specs.Bounds.{CoversInputs, FindsInputs}
 use Rattle.ctl_rounds.specs.Covers.{Covers, Extends, IsFitToBegin, at_entry, claims_of, either_of}
 use Rattle.ctl_rounds.specs.Finding.{FirstIs}

@@ -8,7 +8,7 @@ use Rattle.decision_tree.specs.declared.family.Family.{Family}
 use Rattle.tree_check.specs.Checking.{families_of}
 use Rattle.tree_support.specs.Certificates.{IsCertificate}
 use Rattle.control_flow.specs.Told.{Told}
-pub use Rattle.ctl_rounds.specs.Families.{AreNumberedFrom, IsFamilyFor, trees_of}
+pub use Rattle.part_families.specs.Families.{AreNumberedFrom, IsFamilyFor, trees_of}
 
 -- The families are a certificate of the formula: one family for each smaller part, in the order of their numbers, and at least one of the
 -- whole, each supported over those of its operands.

@@ -10,7 +10,7 @@ use Rattle.tree_unify.specs.Shapes.{JoinedFits, joined}
 use Rattle.tree_unify.specs.declared.join.Join.TheVariants.{Either}
 use Rattle.backward_transfer.specs.AffineShapes.{affine_ranks, same_rank}
 use Rattle.tree_support.specs.Setting.{trees_in}
-use Rattle.ctl_rounds.specs.Families.{IsUncut}
+use Rattle.part_families.specs.Families.{IsUncut}
 
 -- the claims of the first tree, and those of the second where it has none; and where the complements that this forms fit
 abbrev pub either_of : Plan AffineRank → Plan AffineRank → Plan AffineRank

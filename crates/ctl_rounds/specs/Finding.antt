@@ -7,13 +7,13 @@ use Rattle.decision_tree.specs.declared.affine_rank.AffineRank.{AffineRank}
 use Rattle.decision_tree.specs.declared.family.Family.{Family}
 use Rattle.decision_tree.specs.Plans.{Plan}
 use Rattle.num_domain.specs.declared.domain.NumDomain.{Ghosts as Domain}
-use Rattle.ctl_rounds.specs.Knowing.{ArePremises, told_on}
-use Rattle.ctl_rounds.specs.Showing.{AreSmaller, Shows, all_of}
+use Rattle.part_families.specs.Knowing.{ArePremises, told_on}
+use Rattle.part_families.specs.Showing.{AreSmaller, Shows, all_of}
 use Rattle.ctl_rounds.specs.Covers.{Covers, at_entry, IsFitToBegin, claims_of}
 use Rattle.normal_form.specs.Operators.{HasNoNegation}
 use Rattle.exact_families.specs.Completeness.{IsLoopless}
 use Rattle.formula_measures.specs.Measures.{ctl_growth}
-use Rattle.ctl_rounds.specs.Families.{IsExact, IsNarrowFor, IsUncut, IsWithin}
+use Rattle.part_families.specs.Families.{IsExact, IsNarrowFor, IsUncut, IsWithin}
 use Rattle.ctl_rounds.specs.Bounds.{CoversInputs, FindsInputs}
 use Rattle.ctl_rounds.specs.declared.inquiry.Inquiry.{Inquiry}
 

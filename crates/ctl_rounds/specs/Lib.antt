@@ -1,12 +1,6 @@
-pub mod Families
-pub mod Fitting
-pub mod Known
-pub mod Knowing
-pub mod Showing
 pub mod Covers
 pub mod Bounds
 pub mod Certified
 pub mod Finding
 pub mod Asked
 pub mod Growing
-pub mod Refined

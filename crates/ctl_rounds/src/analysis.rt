@@ -17,21 +17,20 @@ ghost use Rattle.tree_support.specs.Setting.{trees_in};
 ghost use Rattle.control_flow.specs.Told.{told_by};
 ghost use Rattle.fitting_ways.specs.Factors.{HasSmallFactors};
 ghost use Rattle.fitting_ways.specs.Ways.{SmallWaysFit};
-ghost use Rattle.ctl_rounds.specs.Knowing.{told_on};
-ghost use Rattle.ctl_rounds.specs.Showing.{all_of};
+ghost use Rattle.part_families.specs.Knowing.{told_on};
+ghost use Rattle.part_families.specs.Showing.{all_of};
 ghost use Rattle.ctl_rounds.specs.Asked.{AreAskedAlike, IsAdvised};
 ghost use Rattle.ctl_rounds.specs.Certified.{Certifies};
 ghost use Rattle.ctl_rounds.specs.Covers.{Covers, IsCover, IsFitToBegin, at_entry, claims_of};
 ghost use Rattle.ctl_rounds.specs.Finding.{AreFoundSoFar, CoversExactly, FirstIs, IsInquiry};
 ghost use Rattle.ctl_rounds.specs.Bounds.{CoversInputs, FindsInputs};
-ghost use Rattle.ctl_rounds.specs.Families.{HasRowsWithin, IsUncut, IsWithin};
+ghost use Rattle.part_families.specs.Families.{HasRowsWithin, IsUncut, IsWithin};
 ghost use Rattle.exact_families.specs.Completeness.{IsLoopless};
 ghost use Rattle.formula_measures.specs.Measures.{ctl_growth};
 ghost use Rattle.normal_form.specs.Operators.{HasNoNegation};
 
 use crate::certificate::Certificate;
 use crate::inquiry::Inquiry;
-use crate::premises::Premises;
 use crate::tops::Tops;
 use advice::Adviser;
 use control_flow::Graph;
@@ -46,6 +45,7 @@ use fitting_ways::laws::ways_through_small_candidates_fit;
 use forward_inv::{Inv, transitions_of};
 use loop_moves::Search;
 use num_domain::NumDomain;
+use part_families::Premises;
 use std::alloc::{AllocError, Global};
 
 /// A certificate of the formula: families of trees for its parts, each supported over those of its operands. The smaller parts have one family
@@ -221,7 +221,7 @@ impl<'a, D: NumDomain> Inquiry<'a, D> {
 }
 
 /// Whether the formula is `AF exit`.
-pub(crate) fn is_af_exit(formula: &Formula) -> bool
+pub fn is_af_exit(formula: &Formula) -> bool
     ensures { IsTrue result ↔ (ctl formula.now ≡ af_exit) }
 {
     match formula {

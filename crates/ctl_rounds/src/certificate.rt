@@ -18,11 +18,7 @@ pub struct Certificate {
 
 impl Certificate {
     /// Adds a family of the whole formula behind the others. The only error is want of memory; then none is added.
-    pub(crate) fn add(
-        &mut self,
-        alloc: Global,
-        family: Family<AffineRank>,
-    ) -> Result<(), AllocError>
+    pub fn add(&mut self, alloc: Global, family: Family<AffineRank>) -> Result<(), AllocError>
         ensures parts { self.new.parts ≡ self.old.parts }
         ensures turns { self.new.turns ≡ self.old.turns }
         ensures added { OnOk result (self.new.tops ≡ self.old.tops ++ family ∷ []) }

@@ -40,11 +40,7 @@ pub fn cover(
 }
 
 /// Whether the cover of the certificate's families has an undefined leaf. The only error is want of memory.
-pub(crate) fn is_open(
-    alloc: Global,
-    certificate: &Certificate,
-    graph: &Graph,
-) -> Result<bool, AllocError>
+pub fn is_open(alloc: Global, certificate: &Certificate, graph: &Graph) -> Result<bool, AllocError>
     requires labels { All (λ family. length family.trees ≡ length (all_labels (statements graph.now.body))) certificate.now.tops }
     ensures { IfOk result (λ leaves. IsTrue leaves → LeavesOpen (statements graph.now.body) certificate.now.tops) }
 {

@@ -1,9 +1,8 @@
 //! What is analysed.
 
-use crate::premises::Premises;
-use crate::smaller::SmallerParts;
 use ctl_formula::Formula;
 use num_domain::NumDomain;
+use part_families::{Premises, SmallerParts};
 
 /// A formula, what is known of the program that it is asked of, and families that show the formula's smaller parts.
 #[derive(Drop)]

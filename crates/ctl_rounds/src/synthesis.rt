@@ -8,10 +8,10 @@ ghost use Rattle.ctl_rounds.specs.Finding.{AreFoundSoFar, BeginsExactly, IsInqui
 use crate::covering::extended;
 use crate::inquiry::Inquiry;
 use crate::tops::Tops;
-use crate::until_kind::UntilKind;
 use decision_tree::{AffineRank, Family};
 use loop_moves::{Parting, Plan, Question, Search};
 use num_domain::NumDomain;
+use part_families::UntilKind;
 use part_trees::Claims;
 use rank_synthesis::Synthesis;
 use std::alloc::AllocError;

@@ -16,7 +16,7 @@ use Rattle.elaboration.specs.declared.context.Body.TheVariants.{Main}
 use Rattle.elaboration.specs.Contexts.{Context, at_top, deeper, looping}
 use Rattle.elaboration.specs.Elaborates.{StandsFor, plain}
 use Rattle.elaboration.specs.Functions.{no_functions}
-use Rattle.elaboration.specs.Scopes.{Scope}
+use Rattle.typed_expressions.specs.Scopes.{Scope}
 use Rattle.elaboration.specs.Statements.{items_walked}
 use Rattle.demo_program.specs.Demo.{demo_body, demo_names, turn_from}
 use Rattle.demo_program.proofs.Trees.{a_bytes, x_bytes, demo_tree, demo_words, turn_at, turn_words}

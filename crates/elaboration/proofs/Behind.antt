@@ -7,11 +7,11 @@ use Rattle.elaboration.specs.declared.functions.Signature.{Signature}
 use Rattle.elaboration.specs.Contexts.{Context, at_top, body_of}
 use Rattle.elaboration.specs.Elaborates.{entered, functions_behind, others_behind, variables_behind, parameters_of}
 use Rattle.elaboration.specs.Functions.{Functions}
-use Rattle.elaboration.specs.Scopes.{Scope, is_among, place_of, no_names}
+use Rattle.typed_expressions.specs.Scopes.{Scope, is_among, place_of, no_names}
 use Rattle.elaboration.specs.Statements.{items_walked}
 use Rattle.elaboration.proofs.Declared.{OnNames, IsKept, Over, few_kept, items_keep, parameters_keep}
 use Rattle.elaboration.proofs.Jumps.{HasFunction, HasFunctions}
-use Rattle.elaboration.proofs.Names.{place_below}
+use Rattle.typed_expressions.proofs.Names.{place_below}
 
 -- the others stay as many, and all are few
 abbrev FewBehind : ℕ → OnNames

@@ -9,19 +9,19 @@ use Rattle.concrete_syntax.specs.declared.sign.Assignment.{Assignment}
 use Rattle.concrete_syntax.specs.declared.sign.Step.{Step}
 use Rattle.concrete_syntax.specs.declared.sign.Step.TheVariants.{Increment, Decrement}
 use Rattle.concrete_syntax.specs.Trees.{Expression, Name, Action, assigns, steps, Simple, acts, steps_before, Value, evaluates, answers, Part, Start, starts_with_nothing, starts_with, declares, Call, Statement, statement_at, simple, calls, gives, skip, braces, conditional, while_loop, do_loop, for_loop, return, break, continue, Otherwise, without, otherwise, Items, none, declaration, statement}
-use Rattle.elaboration.specs.declared.fault.Rule.TheVariants.{Twice, Variables}
+use Rattle.typed_expressions.specs.declared.fault.Rule.TheVariants.{Twice, Variables}
 use Rattle.elaboration.specs.declared.context.Body.{Body}
 use Rattle.elaboration.specs.declared.context.Body.TheVariants.{Main, Valued, Valueless}
 use Rattle.elaboration.specs.Contexts.{Context, deeper, looping}
 use Rattle.elaboration.specs.Functions.{signature_of}
-use Rattle.elaboration.specs.Scopes.{Scope, is_among, place_of, with_variable, most_variables, declare}
-use Rattle.elaboration.specs.Faults.{fault}
-use Rattle.elaboration.specs.Expressions.{unknown_name, expression_typed, expression_faults, number_faults}
+use Rattle.typed_expressions.specs.Scopes.{Scope, is_among, place_of, with_variable, most_variables, declare}
+use Rattle.typed_expressions.specs.Faults.{fault}
+use Rattle.typed_expressions.specs.Expressions.{unknown_name, expression_typed, expression_faults, number_faults}
 use Rattle.elaboration.specs.Statements.{assigned, stepped, action_meaning, action_faults, simple_meaning, simple_faults, optional_simple_walked, name_faults, again_faults, is_bare, initialiser_walked, arguments_faults, arguments_meaning, signature_faults, is_wanted, call_walked, return_faults, returned_value, return_walked, part_walked, parts_walked, declaration_walked, start_walked, optional_faults, optional_test, statement_walked, otherwise_walked, items_walked}
-use Rattle.elaboration.proofs.Names.{among_last, among_cases, place_below}
+use Rattle.typed_expressions.proofs.Names.{among_last, among_cases, place_below}
 use Rattle.elaboration.proofs.Scoping.{statement_visible}
 use Rattle.elaboration.proofs.Declared.{among_with, no_fewer, count_kept, among_kept, parts_keep, statement_keeps, otherwise_keeps, items_keep}
-use Rattle.elaboration.proofs.Valid.{IsSound, both_none, some_is_not_none, name_typed, expression_is_number, expression_is_test}
+use Rattle.typed_expressions.proofs.Valid.{IsSound, both_none, some_is_not_none, name_typed, expression_is_number, expression_is_test}
 
 -- statements over that many variables
 abbrev pub AllSorted : ℕ → List Command → Type 0

@@ -8,9 +8,9 @@ use Rattle.elaboration.specs.declared.context.Body.{Body}
 use Rattle.elaboration.specs.declared.context.Body.TheVariants.{Main, Valued, Valueless}
 use Rattle.elaboration.specs.Contexts.{Context, deeper, looping}
 use Rattle.elaboration.specs.Elaborates.{behind_parameters}
-use Rattle.elaboration.specs.Scopes.{Scope, Name, is_among, place_of, with_variable, most_variables, declare}
+use Rattle.typed_expressions.specs.Scopes.{Scope, Name, is_among, place_of, with_variable, most_variables, declare}
 use Rattle.elaboration.specs.Statements.{part_walked, parts_walked, declaration_walked, return_walked, statement_walked, otherwise_walked, items_walked, start_walked}
-use Rattle.elaboration.proofs.Names.{among_front, differs}
+use Rattle.typed_expressions.proofs.Names.{among_front, differs}
 
 -- a predicate on how many variables others have, the names of variables, and which are declared without initialiser
 abbrev pub OnNames : Type 1

@@ -1,5 +1,5 @@
 -- The last statement of a body, and the faults of its returns.
-use Rattle.std.proofs.Common.{◌≡◌, ℕ, suc, ◌+◌, ◌-◌, Bool, true, false, List, [], ◌∷◌, ◌++◌, Option, Some, length, map, slice_index_or, refl, sym, ap, ◌∙◌, arith}
+use Rattle.std.proofs.Common.{◌≡◌, ℕ, suc, ◌-◌, Bool, true, false, List, [], ◌∷◌, ◌++◌, Option, Some, length, map, slice_index_or, refl, sym, ap, ◌∙◌, arith}
 use Rattle.std.proofs.lemmas.Option.{get_or_from_slice_get, slice_get_within}
 use Rattle.std.specs.List.{slice_get}
 use Rattle.step_meaning.specs.declared.expression.Expr.{Expr}
@@ -8,11 +8,11 @@ use Rattle.call_meaning.specs.declared.statement.UnitKind.TheVariants.{Assign, C
 use Rattle.call_meaning.specs.declared.statement.UnitStmt.{UnitStmt}
 use Rattle.call_meaning.specs.Tables.{command, parts}
 use Rattle.call_meaning.specs.Units.{Command, assign, call, skip, return, break, continue, if_else, while_loop, do_while}
-use Rattle.elaboration.specs.declared.fault.Fault.{Fault}
-use Rattle.elaboration.specs.declared.fault.Rule.TheVariants.{Placed}
+use Rattle.typed_expressions.specs.declared.fault.Fault.{Fault}
+use Rattle.typed_expressions.specs.declared.fault.Rule.TheVariants.{Placed}
 use Rattle.elaboration.specs.Elaborates.{ends_with_return, all_but_last}
-use Rattle.elaboration.specs.Faults.{earliest, fault}
-use Rattle.elaboration.proofs.Firsts.{earliest_more}
+use Rattle.typed_expressions.specs.Faults.{earliest, fault}
+use Rattle.typed_expressions.proofs.Firsts.{earliest_more}
 use Rattle.elaboration.proofs.Returns.{ends_later}
 
 abbrev pub is_return : Command → Bool

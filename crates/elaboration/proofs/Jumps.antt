@@ -5,15 +5,15 @@ use Rattle.call_meaning.specs.Units.{Command, of_list, Table}
 use Rattle.call_meaning.specs.Units as unit
 use Rattle.call_meaning.specs.Validity.{AllStand, MayAsk}
 use Rattle.concrete_syntax.specs.Trees.{Name as Named, Call, Simple, acts, steps_before, Value, evaluates, answers, Part, Start, starts_with_nothing, starts_with, declares, Statement, statement_at, simple, calls, gives, skip, braces, conditional, while_loop, do_loop, for_loop, return, break, continue, Otherwise, without, otherwise, Items, none, declaration, statement}
-use Rattle.elaboration.specs.declared.fault.Rule.TheVariants.{Arguments}
+use Rattle.typed_expressions.specs.declared.fault.Rule.TheVariants.{Arguments}
 use Rattle.elaboration.specs.declared.functions.Signature.{Signature}
 use Rattle.elaboration.specs.Contexts.{Context, deeper, looping}
-use Rattle.elaboration.specs.Faults.{fault}
+use Rattle.typed_expressions.specs.Faults.{fault}
 use Rattle.elaboration.specs.Functions.{Functions, signature_of}
-use Rattle.elaboration.specs.Scopes.{Scope, Name, place_of}
-use Rattle.elaboration.specs.Expressions.{unknown_name, expression_faults}
+use Rattle.typed_expressions.specs.Scopes.{Scope, Name, place_of}
+use Rattle.typed_expressions.specs.Expressions.{unknown_name, expression_faults}
 use Rattle.elaboration.specs.Statements.{simple_meaning, optional_simple_walked, name_faults, initialiser_walked, part_walked, parts_walked, declaration_walked, start_walked, optional_faults, outside_faults, arguments_faults, signature_faults, value_faults, is_wanted, call_walked, statement_walked, otherwise_walked, items_walked}
-use Rattle.elaboration.proofs.Valid.{both_none, some_is_not_none}
+use Rattle.typed_expressions.proofs.Valid.{both_none, some_is_not_none}
 
 -- the table has the functions that are known, below this number
 pub record HasFunction (table : Table) (k f : ℕ) (s : Signature) : Type 0 where

@@ -1,13 +1,9 @@
-pub mod Firsts
 pub mod Weights
-pub mod Ladder
-pub mod Names
-pub mod Ahead
+pub mod Signatures
 pub mod Scoping
 pub mod Walks
 pub mod Listed
 pub mod Declared
-pub mod Valid
 pub mod Bodies
 pub mod Jumps
 pub mod Reading

@@ -4,14 +4,15 @@ use Rattle.std.proofs.lemmas.List.{append-nil, append_assoc, map-append}
 use Rattle.step_meaning.specs.declared.expression.Expr.{Expr}
 use Rattle.step_meaning.specs.Syntax.{expression}
 use Rattle.concrete_syntax.specs.Trees.{Expression, Name}
-use Rattle.elaboration.specs.declared.walk.Walk.{Walk}
+use Rattle.typed_expressions.specs.declared.walk.Walk.{Walk}
 use Rattle.elaboration.specs.Elaborates.{behind_parameters, parameters_faults}
-use Rattle.elaboration.specs.Expressions.{expression_typed, number_faults}
-use Rattle.elaboration.specs.Faults.{earliest}
-use Rattle.elaboration.specs.Scopes.{declare}
+use Rattle.typed_expressions.specs.Expressions.{expression_typed, number_faults}
+use Rattle.typed_expressions.specs.Faults.{earliest}
+use Rattle.typed_expressions.specs.Scopes.{declare}
 use Rattle.elaboration.specs.Statements.{arguments_faults, arguments_meaning, name_faults}
-use Rattle.elaboration.specs.Walking.{HasDeclared, HaveBeenDeclared, HasFound}
-use Rattle.elaboration.proofs.Firsts.{earliest_more}
+use Rattle.typed_expressions.specs.Walking.{HasFound}
+use Rattle.elaboration.specs.Walking.{HasDeclared, HaveBeenDeclared}
+use Rattle.typed_expressions.proofs.Firsts.{earliest_more}
 
 -- ── Parameters ──
 

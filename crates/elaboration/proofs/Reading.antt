@@ -6,14 +6,14 @@ use Rattle.step_meaning.specs.Syntax as syntax
 use Rattle.call_meaning.specs.Reads.{Places, Reads, AllRead}
 use Rattle.concrete_syntax.specs.declared.sign.Prefix.{Prefix}
 use Rattle.concrete_syntax.specs.Trees.{Operand, operand_at, number, name, truth, unknown, call, signed, parentheses, range, Link, operation, division, Tail, ended, further, Expression}
-use Rattle.elaboration.specs.declared.fault.Rule.TheVariants.{Unknown}
-use Rattle.elaboration.specs.declared.typed.Sort.{Sort}
-use Rattle.elaboration.specs.Faults.{fault}
-use Rattle.elaboration.specs.Grouping.{Grouped, leaf, node, divided, Joint, operator, divisor, joined, attach, tightness, joint_tightness}
-use Rattle.elaboration.specs.Scopes.{Scope, Name, is_among, place_of}
-use Rattle.elaboration.specs.Expressions.{Typed, as_test, test_of_sort, mixed, pair_of, value, mixed_in, signed_typed, signed_faults, operand_typed, link_joint, tail_grouped, grouped, unknown_name, operand_faults, link_faults, tail_faults, expression_typed, expression_faults, number_faults}
+use Rattle.typed_expressions.specs.declared.fault.Rule.TheVariants.{Unknown}
+use Rattle.typed_expressions.specs.declared.typed.Sort.{Sort}
+use Rattle.typed_expressions.specs.Faults.{fault}
+use Rattle.typed_expressions.specs.Grouping.{Grouped, leaf, node, divided, Joint, operator, divisor, joined, attach, tightness, joint_tightness}
+use Rattle.typed_expressions.specs.Scopes.{Scope, Name, is_among, place_of}
+use Rattle.typed_expressions.specs.Expressions.{Typed, as_test, test_of_sort, mixed, pair_of, value, mixed_in, signed_typed, signed_faults, operand_typed, link_joint, tail_grouped, grouped, unknown_name, operand_faults, link_faults, tail_faults, expression_typed, expression_faults, number_faults}
 use Rattle.elaboration.specs.Statements.{arguments_faults, arguments_meaning}
-use Rattle.elaboration.proofs.Valid.{both_none, some_is_not_none}
+use Rattle.typed_expressions.proofs.Valid.{both_none, some_is_not_none}
 
 -- each name that may be used is a variable that is set
 abbrev pub IsShown : Places → Scope → Type 0

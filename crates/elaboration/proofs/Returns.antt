@@ -8,14 +8,14 @@ use Rattle.call_meaning.specs.Units as unit
 use Rattle.call_meaning.specs.Tables.{gives_value}
 use Rattle.call_meaning.specs.Validity.{Stands, AllStand, Gives, Closes}
 use Rattle.concrete_syntax.specs.Trees.{Expression, Simple, acts, steps_before, Value, evaluates, answers, Part, Start, starts_with_nothing, starts_with, declares, Statement, statement_at, simple, calls, gives, skip, braces, conditional, while_loop, do_loop, for_loop, return, break, continue, Otherwise, without, otherwise, Items, none, declaration, statement}
-use Rattle.elaboration.specs.declared.fault.Rule.TheVariants.{Placed}
+use Rattle.typed_expressions.specs.declared.fault.Rule.TheVariants.{Placed}
 use Rattle.elaboration.specs.Contexts.{Context, body_of, deeper, looping}
 use Rattle.elaboration.specs.Elaborates.{ends_with_return, all_but_last, returns_faults}
-use Rattle.elaboration.specs.Faults.{fault}
-use Rattle.elaboration.specs.Scopes.{Scope}
-use Rattle.elaboration.specs.Expressions.{expression_faults}
+use Rattle.typed_expressions.specs.Faults.{fault}
+use Rattle.typed_expressions.specs.Scopes.{Scope}
+use Rattle.typed_expressions.specs.Expressions.{expression_faults}
 use Rattle.elaboration.specs.Statements.{Walked, simple_meaning, optional_simple_walked, initialiser_walked, part_walked, parts_walked, declaration_walked, start_walked, optional_faults, optional_test, return_faults, return_walked, statement_walked, otherwise_walked, items_walked}
-use Rattle.elaboration.proofs.Valid.{both_none, some_is_not_none}
+use Rattle.typed_expressions.proofs.Valid.{both_none, some_is_not_none}
 
 -- how many returns there are, inner ones included
 abbrev mutual

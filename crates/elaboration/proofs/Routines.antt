@@ -13,23 +13,24 @@ use Rattle.call_meaning.specs.Tables.{commands, gives_value, places_from, routin
 use Rattle.call_meaning.specs.Units.{of_list, Routine, Table}
 use Rattle.call_meaning.specs.Validity.{Closes}
 use Rattle.concrete_syntax.specs.Trees.{Name as Named, Function}
-use Rattle.elaboration.specs.declared.fault.Rule.TheVariants.{Twice}
+use Rattle.typed_expressions.specs.declared.fault.Rule.TheVariants.{Twice}
 use Rattle.elaboration.specs.declared.functions.Signature.{Signature}
 use Rattle.elaboration.specs.Contexts.{at_top, body_of}
 use Rattle.elaboration.specs.Elaborates.{Made, made_of, parameters_of, behind_parameters, parameters_faults, entered, function_walked, ends_with_return, returns_faults, twice_faults, function_faults, functions_faults, signature, functions_behind, others_behind, function_made, functions_made, known_behind, variables_behind}
-use Rattle.elaboration.specs.Faults.{fault}
+use Rattle.typed_expressions.specs.Faults.{fault}
 use Rattle.elaboration.specs.Functions.{Functions, signature_of}
-use Rattle.elaboration.specs.Scopes.{Scope, Name, is_among, place_of, no_names, with_variable, declare}
+use Rattle.typed_expressions.specs.Scopes.{Scope, Name, is_among, place_of, no_names, with_variable, declare}
 use Rattle.elaboration.specs.Statements.{Walked, name_faults}
 use Rattle.elaboration.proofs.Behind.{others_few}
 use Rattle.elaboration.proofs.Bodies.{declared_known, items_valid}
 use Rattle.elaboration.proofs.Declared.{count_kept, parameters_keep, items_keep}
 use Rattle.elaboration.proofs.Jumps.{HasFunction, HasFunctions, items_inside}
-use Rattle.elaboration.proofs.Names.{among_cases, place_below, place_front, place_last, pushed, with_new}
+use Rattle.typed_expressions.proofs.Names.{among_cases, place_below, place_front, place_last}
+use Rattle.elaboration.proofs.Signatures.{pushed, with_new}
 use Rattle.elaboration.proofs.Returns.{all_returns, items_counted, closes, gives_as_said}
 use Rattle.elaboration.proofs.Setting.{Ready, declared_ready, FreeBelow, free_below_kept, items_set}
 use Rattle.elaboration.proofs.Tabled.{vars_of}
-use Rattle.elaboration.proofs.Valid.{both_none, some_is_not_none}
+use Rattle.typed_expressions.proofs.Valid.{both_none, some_is_not_none}
 
 -- ── What a function of the code is ──
 

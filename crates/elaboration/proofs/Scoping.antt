@@ -6,7 +6,7 @@ use Rattle.concrete_syntax.specs.Trees.{Expression, Part, Statement, statement_a
 use Rattle.elaboration.specs.declared.context.Body.{Body}
 use Rattle.elaboration.specs.declared.context.Body.TheVariants.{Main, Valued, Valueless}
 use Rattle.elaboration.specs.Contexts.{Context, deeper, looping}
-use Rattle.elaboration.specs.Scopes.{Scope, Name, close}
+use Rattle.typed_expressions.specs.Scopes.{Scope, Name, close}
 use Rattle.elaboration.specs.Statements.{part_walked, parts_walked, declaration_walked, return_walked, statement_walked, otherwise_walked, items_walked, start_walked}
 
 -- a statement leaves what may be used as it is
@@ -77,13 +77,6 @@ pub start_kept : (around c : Context) (scope : Scope) (start : Start) (body : St
 start_kept around c scope start body =
     ap (take (length scope.visible)) (statement_visible c (start_walked around scope start).scope body)
     ∙ first_names scope.visible (start_walked around scope start).scope.visible (start_extends around scope start)
-
--- a scope with other names
-abbrev pub with_visible : Scope → List Name → Scope
-with_visible scope names = record scope { visible = names }
-
-abbrev pub with_declared : Scope → List Name → Scope
-with_declared scope names = record scope { declared = names }
 
 -- a scope whose later names were taken off is closed, where the first names are those that could be used before
 pub closed : (outer inner new : Scope) (depth : ℕ) → depth ≡ length outer.visible → new ≡ record inner { visible = take depth inner.visible }

@@ -1,6 +1,6 @@
 -- Without faults, statements read only variables that are set: what may be used is a parameter, a variable declared without initialiser, or one that was
 -- assigned by the initialiser of its declaration.
-use Rattle.std.proofs.Common.{◌≡◌, ◌≢◌, ℕ, ◌+◌, ◌<◌, ◌≤◌, nat_lt, nat_eq, Bool, true, false, ◌||◌, ◌&&◌, IsTrue, List, [], ◌∷◌, ◌++◌, Option, None, Some, length, slice_index_or, slice_set, ◌⊎◌, inl, inr, refl, sym, ap, ◌∙◌, subst, arith, if◌then◌else◌}
+use Rattle.std.proofs.Common.{◌≡◌, ℕ, ◌+◌, ◌<◌, ◌≤◌, nat_lt, nat_eq, Bool, true, false, ◌||◌, ◌&&◌, IsTrue, List, [], ◌∷◌, ◌++◌, Option, None, Some, length, slice_index_or, slice_set, ◌⊎◌, inl, inr, refl, sym, ap, ◌∙◌, subst, arith, if◌then◌else◌}
 use Rattle.std.proofs.lemmas.Bool.{false≢true, ltb-true, lt-ltb}
 use Rattle.std.proofs.lemmas.Bool.Decides.{Decides-eqb}
 use Rattle.std.proofs.lemmas.List.{length-map, length-set, get_or_past, get_or-set_same, get_or-set_other}
@@ -16,16 +16,16 @@ use Rattle.elaboration.specs.declared.context.Body.{Body}
 use Rattle.elaboration.specs.declared.context.Body.TheVariants.{Main, Valued, Valueless}
 use Rattle.elaboration.specs.Contexts.{Context, deeper, looping}
 use Rattle.elaboration.specs.Functions.{signature_of}
-use Rattle.elaboration.specs.Scopes.{Scope, Name, is_among, place_of, with_variable, most_variables, declare}
-use Rattle.elaboration.specs.Expressions.{unknown_name, expression_typed, expression_faults, number_faults}
+use Rattle.typed_expressions.specs.Scopes.{Scope, Name, is_among, place_of, with_variable, most_variables, declare}
+use Rattle.typed_expressions.specs.Expressions.{unknown_name, expression_typed, expression_faults, number_faults}
 use Rattle.elaboration.specs.Statements.{Walked, assigned, stepped, action_meaning, action_faults, simple_meaning, simple_faults, optional_simple_walked, name_faults, is_bare, initialiser_walked, part_walked, parts_walked, declaration_walked, start_walked, optional_faults, optional_test, arguments_faults, arguments_meaning, signature_faults, is_wanted, call_walked, return_faults, returned_value, statement_walked, otherwise_walked, items_walked}
 use Rattle.elaboration.proofs.Bodies.{declared_known, sound_behind}
 use Rattle.elaboration.proofs.Declared.{OnNames, Over, IsKept, among_with, no_fewer, few_kept, parts_keep, start_keeps, statement_keeps, otherwise_keeps, items_keep}
 use Rattle.elaboration.proofs.Jumps.{HasFunctions, call_known}
-use Rattle.elaboration.proofs.Names.{among_cases, place_below, place_front}
+use Rattle.typed_expressions.proofs.Names.{among_cases, place_below, place_front}
 use Rattle.elaboration.proofs.Reading.{IsShown, name_reads, expression_reads, number_reads, test_reads, arguments_read}
 use Rattle.elaboration.proofs.Scoping.{statement_visible}
-use Rattle.elaboration.proofs.Valid.{IsSound, both_none, some_is_not_none, name_typed}
+use Rattle.typed_expressions.proofs.Valid.{IsSound, both_none, some_is_not_none, name_typed}
 
 -- ── What only grows ──
 

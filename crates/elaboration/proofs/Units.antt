@@ -18,17 +18,17 @@ use Rattle.elaboration.specs.declared.functions.Signature.{Signature}
 use Rattle.elaboration.specs.Contexts.{Context, at_top, body_of}
 use Rattle.elaboration.specs.Elaborates.{parameters_of, entered, functions_behind, others_behind, known_behind, variables_behind, signature, functions_faults, known, walked, names_of, StandsForUnit}
 use Rattle.elaboration.specs.Functions.{Functions, no_functions, with_function}
-use Rattle.elaboration.specs.Scopes.{Name, is_among, no_names}
+use Rattle.typed_expressions.specs.Scopes.{Name, is_among, no_names}
 use Rattle.elaboration.proofs.Apart.{Each, HasNoDot, whole_apart}
 use Rattle.elaboration.proofs.Behind.{variables_few}
 use Rattle.elaboration.proofs.Bodies.{items_valid}
 use Rattle.elaboration.proofs.Declared.{distinct_kept, items_keep, parameters_keep}
 use Rattle.elaboration.proofs.Jumps.{HasFunctions, items_inside}
-use Rattle.elaboration.proofs.Names.{differs}
+use Rattle.typed_expressions.proofs.Names.{differs}
 use Rattle.elaboration.proofs.Routines.{AreRows, AllSorted, AreGood, rows_of, all_good, first_ready, none_free}
 use Rattle.elaboration.proofs.Setting.{FreeBelow, free_below_kept, items_set}
 use Rattle.elaboration.proofs.Tabled.{vars_of, whole_counted, past, fits, from_base, in_order}
-use Rattle.elaboration.proofs.Valid.{both_none}
+use Rattle.typed_expressions.proofs.Valid.{both_none}
 use Rattle.elaboration.proofs.Valueless.{items_valueless}
 use Rattle.elaboration.proofs.Whole.{all_few, names_are_apart, nothing_sound}
 

@@ -6,7 +6,7 @@ use Rattle.call_meaning.specs.Units as unit
 use Rattle.concrete_syntax.specs.Trees.{Name as Named, Simple, acts, steps_before, Value, evaluates, answers, Part, Start, starts_with_nothing, starts_with, declares, Statement, statement_at, simple, calls, gives, skip, braces, conditional, while_loop, do_loop, for_loop, return, break, continue, Otherwise, without, otherwise, Items, none, declaration, statement}
 use Rattle.elaboration.specs.declared.context.Body.TheVariants.{Main}
 use Rattle.elaboration.specs.Contexts.{Context, deeper, looping}
-use Rattle.elaboration.specs.Scopes.{Scope}
+use Rattle.typed_expressions.specs.Scopes.{Scope}
 use Rattle.elaboration.specs.Statements.{simple_meaning, optional_simple_walked, initialiser_walked, part_walked, parts_walked, declaration_walked, start_walked, returned_value, statement_walked, otherwise_walked, items_walked}
 
 abbrev NoneValued : List Command → Type 0

@@ -5,14 +5,14 @@ use Rattle.std.proofs.lemmas.List.{append-nil, append_assoc, map-append}
 use Rattle.call_meaning.specs.declared.statement.UnitStmt.{UnitStmt}
 use Rattle.call_meaning.specs.Tables.{parts}
 use Rattle.call_meaning.specs.Offsets.{all_offsets, all_levels}
-use Rattle.elaboration.specs.declared.fault.Fault.{Fault}
-use Rattle.elaboration.specs.declared.walk.Walk.{Walk}
-use Rattle.elaboration.specs.Scopes.{Scope}
-use Rattle.elaboration.specs.Faults.{earliest}
+use Rattle.typed_expressions.specs.declared.fault.Fault.{Fault}
+use Rattle.typed_expressions.specs.declared.walk.Walk.{Walk}
+use Rattle.typed_expressions.specs.Scopes.{Scope}
+use Rattle.typed_expressions.specs.Faults.{earliest}
 use Rattle.elaboration.specs.Statements.{Walked, joined, nothing}
-use Rattle.elaboration.specs.Offsets.{offset_in, offsets_in}
-use Rattle.elaboration.specs.Walking.{HasFound, HasGone, HasAdded}
-use Rattle.elaboration.proofs.Firsts.{earliest_more}
+use Rattle.typed_expressions.specs.Offsets.{offset_in, offsets_in}
+use Rattle.elaboration.specs.Walking.{HasGone, HasAdded}
+use Rattle.typed_expressions.proofs.Firsts.{earliest_more}
 
 -- the names stay
 abbrev pub staying : Scope → List Fault → Walked
@@ -27,14 +27,6 @@ both_gone a b c first second one two =
       there.1,
       there.2 ∙ ap (λ least. earliest least (second first.scope).faults) one.2 ∙ sym (earliest_more a.least first.faults (second first.scope).faults),
     )
-
--- faults and then others, where the names stay
-pub both_found : (a b c : Walk) (first second : List Fault) → HasFound a b first → HasFound b c second → HasFound a c (first ++ second)
-both_found a b c first second one two = (
-  two.0 ∙ one.0,
-  two.1 ∙ one.1,
-  two.2 ∙ ap (λ least. earliest least second) one.2 ∙ sym (earliest_more a.least first second),
-)
 
 -- what is left finds from here on what the whole finds from the first on
 pub record IsLeft (now : Walk) (out : List UnitStmt) (left : Walked) (first : Walk) (before : List UnitStmt) (whole : Walked) : Type 0 where

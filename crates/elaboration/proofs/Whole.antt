@@ -9,21 +9,21 @@ use Rattle.step_meaning.specs.Valid.{IsBody, IsInside, IsValid}
 use Rattle.call_meaning.specs.Units.{of_list}
 use Rattle.concrete_syntax.specs.Trees.{Function, Program}
 use Rattle.elaboration.specs.declared.context.Body.TheVariants.{Main}
-use Rattle.elaboration.specs.declared.fault.Fault.{Fault}
+use Rattle.typed_expressions.specs.declared.fault.Fault.{Fault}
 use Rattle.elaboration.specs.declared.function.Whole.{Whole}
-use Rattle.elaboration.specs.declared.walk.Walk.{Walk}
+use Rattle.typed_expressions.specs.declared.walk.Walk.{Walk}
 use Rattle.elaboration.specs.Contexts.{Context, at_top, body_of}
 use Rattle.elaboration.specs.Functions.{Functions, no_functions}
-use Rattle.elaboration.specs.Scopes.{Scope, Name, no_names}
-use Rattle.elaboration.specs.Faults.{earliest}
+use Rattle.typed_expressions.specs.Scopes.{Scope, Name, no_names}
+use Rattle.typed_expressions.specs.Faults.{earliest}
 use Rattle.elaboration.specs.Statements.{Walked, items_walked}
 use Rattle.elaboration.specs.Elaborates.{made_of, parameters_of, parameters_faults, entered, function_walked, ends_with_return, returns_faults, twice_faults, function_made, functions_made, function_faults, functions_faults, functions_behind, others_behind, known_behind, variables_behind, known, walked, faults_of, names_of, plain_body, StandsFor}
 use Rattle.elaboration.specs.Walking.{HasGone}
-use Rattle.elaboration.proofs.Firsts.{earliest_more}
+use Rattle.typed_expressions.proofs.Firsts.{earliest_more}
 use Rattle.elaboration.proofs.Declared.{distinct_kept, items_keep}
 use Rattle.elaboration.proofs.Behind.{few_in, few_first, variables_few, known_table, has_known}
 use Rattle.elaboration.proofs.CallFree.{plain_sorted, plain_inside}
-use Rattle.elaboration.proofs.Valid.{IsSound, both_none}
+use Rattle.typed_expressions.proofs.Valid.{IsSound, both_none}
 use Rattle.elaboration.proofs.Bodies.{items_valid}
 use Rattle.elaboration.proofs.Jumps.{items_inside}
 

@@ -10,18 +10,18 @@ use Rattle.call_meaning.specs.Units.{Command, Commands, of_list}
 use Rattle.call_meaning.specs.Units as unit
 use Rattle.call_meaning.specs.Tables.{commands}
 use Rattle.call_meaning.specs.Offsets.{offsets, levels}
-use Rattle.elaboration.specs.declared.fault.Fault as faults
-use Rattle.elaboration.specs.declared.fault.Rule.TheVariants.{Twice, Placed}
+use Rattle.typed_expressions.specs.declared.fault.Fault as faults
+use Rattle.typed_expressions.specs.declared.fault.Rule.TheVariants.{Twice, Placed}
 use Rattle.elaboration.specs.declared.functions.Signature.{Signature}
 use Rattle.elaboration.specs.declared.context.Body.TheVariants.{Main}
 use Rattle.elaboration.specs.declared.front.Refusal.{Refusal}
 use Rattle.elaboration.specs.declared.front.Refusal.TheVariants.{Fault, Memory}
-use Rattle.elaboration.specs.Scopes.{Scope, Name, no_names, declare, is_among}
-use Rattle.elaboration.specs.Faults.{fault, IsFirstOf}
+use Rattle.typed_expressions.specs.Scopes.{Scope, Name, no_names, declare, is_among}
+use Rattle.typed_expressions.specs.Faults.{fault, IsFirstOf}
 use Rattle.elaboration.specs.Functions.{Functions, no_functions, with_function}
 use Rattle.elaboration.specs.Contexts.{at_top, body_of}
 use Rattle.elaboration.specs.Levels.{items_levels}
-use Rattle.elaboration.specs.Offsets.{offsets_in}
+use Rattle.typed_expressions.specs.Offsets.{offsets_in}
 use Rattle.elaboration.specs.Statements.{Walked, items_walked, name_faults}
 
 -- ── One function: its parameters are declared, each of them once, and may be used in its whole body ──

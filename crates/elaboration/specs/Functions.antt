@@ -1,7 +1,7 @@
 -- The functions that may be called.
 use Rattle.std.specs.Prelude.{if◌then◌else◌, List, [], ◌∷◌, ◌++◌, Option, None, slice_get}
 use Rattle.elaboration.specs.declared.functions.Signature.{Signature}
-use Rattle.elaboration.specs.Scopes.{Name, is_among, place_of}
+use Rattle.typed_expressions.specs.Scopes.{Name, is_among, place_of}
 
 -- their names, in the order of the text, and of each how many parameters it has and whether it gives a value
 pub record Functions : Type 0 where

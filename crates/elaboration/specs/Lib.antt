@@ -1,12 +1,6 @@
-pub mod Grouping
-pub mod Scopes
-pub mod Faults
-pub mod Expressions
-pub mod Typing
 pub mod Functions
 pub mod Contexts
 pub mod Statements
 pub mod Levels
-pub mod Offsets
 pub mod Walking
 pub mod Elaborates

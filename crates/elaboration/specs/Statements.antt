@@ -8,16 +8,16 @@ use Rattle.concrete_syntax.specs.declared.sign.Assignment.{Assignment}
 use Rattle.concrete_syntax.specs.declared.sign.Step.{Step}
 use Rattle.concrete_syntax.specs.declared.sign.Step.TheVariants.{Increment, Decrement}
 use Rattle.concrete_syntax.specs.Trees.{Expression, Name, Action, assigns, steps, Simple, acts, steps_before, Call, Value, evaluates, answers, Part, Declaration, Start, starts_with_nothing, starts_with, declares, Statement, statement_at, StatementKind, simple, calls, gives, skip, braces, conditional, while_loop, do_loop, for_loop, return, break, continue, Otherwise, without, otherwise, Items, none, declaration, statement}
-use Rattle.elaboration.specs.declared.fault.Fault.{Fault}
-use Rattle.elaboration.specs.declared.fault.Rule.TheVariants.{Unknown, Twice, Mixed, Variables, Outside, Placed, Arguments}
+use Rattle.typed_expressions.specs.declared.fault.Fault.{Fault}
+use Rattle.typed_expressions.specs.declared.fault.Rule.TheVariants.{Unknown, Twice, Mixed, Variables, Outside, Placed, Arguments}
 use Rattle.elaboration.specs.declared.functions.Signature.{Signature}
 use Rattle.elaboration.specs.declared.context.Body.{Body}
 use Rattle.elaboration.specs.declared.context.Body.TheVariants.{Main, Valued, Valueless}
-use Rattle.elaboration.specs.Scopes.{Scope, is_among, place_of, most_variables, declare, returned, close}
+use Rattle.typed_expressions.specs.Scopes.{Scope, is_among, place_of, most_variables, declare, returned, close}
 use Rattle.elaboration.specs.Functions.{signature_of}
 use Rattle.elaboration.specs.Contexts.{Context, deeper, looping}
-use Rattle.elaboration.specs.Faults.{fault}
-use Rattle.elaboration.specs.Expressions.{as_test, unknown_name, expression_typed, expression_faults, number_faults}
+use Rattle.typed_expressions.specs.Faults.{fault}
+use Rattle.typed_expressions.specs.Expressions.{as_test, unknown_name, expression_typed, expression_faults, number_faults}
 
 -- What a walk over a tree finds: the names behind it, its faults, the statements that it stands for, their tokens by their numbers, and how many levels
 -- are open at each of their calls. The token of a statement stands before those of its parts, but that of a `do` behind those of its body.

@@ -9,22 +9,17 @@ use Rattle.call_meaning.specs.Units.{of_list, while_loop}
 use Rattle.call_meaning.specs.Tables.{parts, commands}
 use Rattle.call_meaning.specs.Offsets.{offsets, all_offsets, levels, all_levels}
 use Rattle.elaboration.specs.declared.context.Context as code
-use Rattle.elaboration.specs.declared.fault.Fault.{Fault}
-use Rattle.elaboration.specs.declared.walk.Walk.{Walk}
+use Rattle.typed_expressions.specs.declared.walk.Walk.{Walk}
 use Rattle.elaboration.specs.Contexts.{Context}
-use Rattle.elaboration.specs.Faults.{earliest}
+use Rattle.typed_expressions.specs.Faults.{earliest}
 use Rattle.elaboration.specs.Elaborates.{behind_parameters, parameters_faults}
-use Rattle.elaboration.specs.Scopes.{declare}
+use Rattle.typed_expressions.specs.Scopes.{declare}
 use Rattle.elaboration.specs.Statements.{Walked, name_faults}
-use Rattle.elaboration.specs.Offsets.{offset_in, offsets_in}
+use Rattle.typed_expressions.specs.Offsets.{offset_in, offsets_in}
 
 -- what a `Context` of the code is
 abbrev pub context_of : code.Context → Context
 context_of c = record { functions = c.functions.now; body = c.body; in_loop = c.in_loop; level = c.level }
-
--- the names stay, and behind the faults so far come these
-abbrev pub HasFound : Walk → Walk → List Fault → Type 0
-HasFound old new faults = (new.tokens.now ≡ old.tokens.now) × (new.scope ≡ old.scope) × (new.least ≡ earliest old.least faults)
 
 -- the names are those behind a parameter, or behind parameters, and behind the faults so far come theirs
 abbrev pub HasDeclared : Walk → Walk → Name → Type 0

@@ -7,15 +7,15 @@ ghost use Rattle.step_meaning.specs.Offsets.{offsets};
 ghost use Rattle.elaboration.specs.Elaborates.{IsRefusalOf, StandsFor, StandsForUnit, program_offsets};
 
 use crate::context::{Body, Context};
-use crate::fault::Fault;
 use crate::function::Whole;
 use crate::plain::plain_block;
-use crate::walk::Walk;
+use crate::statement::items;
 use call_meaning::{FuncList, UnitBlock};
 use concrete_syntax::Program as Tree;
 use source_lex::Token;
 use std::alloc::{AllocError, Global};
 use step_meaning::{Names, Program};
+use typed_expressions::{Fault, Walk};
 
 /// Why a tree stands for no program.
 #[derive(Debug, Drop)]
@@ -64,7 +64,8 @@ pub fn elaborate_unit(alloc: Global, tree: &Tree, tokens: &[Token]) -> Result<Pa
     }
     let mut walk = Walk::new(alloc, tokens, whole.others, whole.least);
     let mut list = Vec::new(alloc);
-    walk.items(
+    items(
+        &mut walk,
         &tree.items,
         Context::top(&whole.functions, Body::Main),
         &mut list,

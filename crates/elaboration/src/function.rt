@@ -3,22 +3,23 @@
 ghost use Rattle.std.specs.Prelude.{◌≡◌, ◌≤◌, ◌++◌, ◌∷◌, [], None, OnOk, IfOk, map};
 ghost use Rattle.concrete_syntax.specs.Mirror.{name as name_of, parameters as parameters_tree, function as function_tree};
 ghost use Rattle.call_meaning.specs.Tables.{parts};
-ghost use Rattle.elaboration.specs.declared.fault.Rule.TheVariants.{Placed};
-ghost use Rattle.elaboration.specs.Faults.{earliest, fault};
+ghost use Rattle.typed_expressions.specs.declared.fault.Rule.TheVariants.{Placed};
+ghost use Rattle.typed_expressions.specs.Faults.{earliest, fault};
 ghost use Rattle.elaboration.specs.Functions.{no_functions};
 ghost use Rattle.elaboration.specs.Elaborates.{ends_with_return, function_faults, function_made, functions_behind, made_of, others_behind, parameters_of, returns_faults, twice_faults};
-ghost use Rattle.elaboration.specs.Walking.{HasDeclared, HasFound, HaveBeenDeclared};
+ghost use Rattle.typed_expressions.specs.Walking.{HasFound};
+ghost use Rattle.elaboration.specs.Walking.{HasDeclared, HaveBeenDeclared};
 
 use crate::context::{Body, Context};
-use crate::fault::{Fault, Rule, earlier};
 use crate::functions::{Functions, Signature};
 use crate::levels::items_levels;
-use crate::scope::Variables;
-use crate::walk::Walk;
+use crate::simple::need_new;
+use crate::statement::items;
 use call_meaning::{Func, UnitBlock, UnitKind, UnitStmt};
 use concrete_syntax::{Function, Name, Parameters};
 use source_lex::Token;
 use std::alloc::{AllocError, Global};
+use typed_expressions::{Fault, Rule, Variables, Walk, earlier};
 
 /// The functions of a program so far: what calls have to know of them, what they are, how many variables they have together, and the first fault so far.
 #[derive(Drop)]
@@ -63,12 +64,12 @@ impl<'a> Whole<'a> {
         ensures least { OnOk result (self.new.least ≡ earliest self.old.least (function_faults self.old.functions self.old.others (function_tree tree.now))) }
     {
         let mut walk = Walk::new(self.alloc, self.tokens, self.others, self.least);
-        walk.need_new_function(&tree.name, &self.functions);
-        walk.parameters(&tree.parameters)?;
+        need_new_function(&mut walk, &tree.name, &self.functions);
+        parameters(&mut walk, &tree.parameters)?;
         let params = walk.scope.count();
         let mut list = Vec::new(self.alloc);
         let context = Context::top(&self.functions, Body::of(tree.valued));
-        walk.items(&tree.items, context, &mut list)?;
+        items(&mut walk, &tree.items, context, &mut list)?;
         let ends = ends_with_return(&list);
         let Walk { scope, least, .. } = walk;
         let Variables {
@@ -92,38 +93,36 @@ impl<'a> Whole<'a> {
     }
 }
 
-impl<'a> Walk<'a> {
-    ghost use Rattle.std.specs.Prelude.{◌≡◌, OnOk};
+ghost use Rattle.std.specs.Prelude.{◌≡◌, OnOk};
 
-    /// Reports the name of a function that there is already.
-    fn need_new_function(&mut self, name: &Name, functions: &Functions)
-        ensures { HasFound self.old self.new (twice_faults functions.now (name_of name.now)) }
-    {
-        if functions.is_known(&name.bytes) {
-            self.report(Rule::Twice, name.at);
+/// Reports the name of a function that there is already.
+fn need_new_function(walk: &mut Walk, name: &Name, functions: &Functions)
+    ensures { HasFound walk.old walk.new (twice_faults functions.now (name_of name.now)) }
+{
+    if functions.is_known(&name.bytes) {
+        walk.report(Rule::Twice, name.at);
+    }
+}
+
+/// Declares the parameters of a function. Faults are reported.
+fn parameters(walk: &mut Walk, tree: &Parameters) -> Result<(), AllocError>
+    ensures { OnOk result (HaveBeenDeclared walk.old walk.new (parameters_of (parameters_tree tree.now))) }
+{
+    if let Parameters::Named { first, more } = tree {
+        parameter(walk, first)?;
+        for name in more.iter() {
+            parameter(walk, name)?;
         }
     }
+    Ok(())
+}
 
-    /// Declares the parameters of a function. Faults are reported.
-    fn parameters(&mut self, tree: &Parameters) -> Result<(), AllocError>
-        ensures { OnOk result (HaveBeenDeclared self.old self.new (parameters_of (parameters_tree tree.now))) }
-    {
-        if let Parameters::Named { first, more } = tree {
-            self.parameter(first)?;
-            for name in more.iter() {
-                self.parameter(name)?;
-            }
-        }
-        Ok(())
-    }
-
-    // Declares a parameter.
-    fn parameter(&mut self, name: &Name) -> Result<(), AllocError>
-        ensures { OnOk result (HasDeclared self.old self.new (name_of name.now)) }
-    {
-        self.need_new(name, &None);
-        self.scope.declare(self.alloc, &name.bytes)
-    }
+// Declares a parameter.
+fn parameter(walk: &mut Walk, name: &Name) -> Result<(), AllocError>
+    ensures { OnOk result (HasDeclared walk.old walk.new (name_of name.now)) }
+{
+    need_new(walk, name, &None);
+    walk.scope.declare(walk.alloc, &name.bytes)
 }
 
 // Whether the last statement is a `return`.

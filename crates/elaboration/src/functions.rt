@@ -33,7 +33,7 @@ impl Model for Functions {
 impl Functions {
     ghost use Rattle.std.specs.Prelude.{◌≡◌, OnOk, IfOk};
     ghost use Rattle.elaboration.specs.Functions.{no_functions, signature_of, with_function};
-    ghost use Rattle.elaboration.specs.Scopes.{is_among, place_of};
+    ghost use Rattle.typed_expressions.specs.Scopes.{is_among, place_of};
 
     /// Before the first function.
     pub fn new(alloc: Global) -> Functions

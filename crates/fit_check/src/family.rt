@@ -5,7 +5,7 @@ ghost use Rattle.ctl_formula.specs.Mirror.{ctl};
 ghost use Rattle.step_meaning.specs.Syntax.{statements};
 ghost use Rattle.control_flow.specs.Invariants.{AreInvariants};
 ghost use Rattle.control_flow.specs.Told.{told_by};
-ghost use Rattle.ctl_rounds.specs.Families.{IsFamilyFor, trees_of};
+ghost use Rattle.part_families.specs.Families.{IsFamilyFor, trees_of};
 ghost use Rattle.tree_support.specs.Setting.{trees_in};
 ghost use Rattle.fit_check.specs.Safety.{AreSafe, TellsFit};
 
@@ -13,10 +13,10 @@ use crate::laws::checked_families_tell_what_fits;
 use crate::ranging::safe_at;
 use control_flow::Graph;
 use ctl_formula::Formula;
-use ctl_rounds::{Premises, SmallerParts};
 use decision_tree::{AffineRank, Family, TreeList};
 use forward_inv::{Inv, transitions_of};
 use num_domain::NumDomain;
+use part_families::{Premises, SmallerParts};
 use std::alloc::{AllocError, Global};
 use tree_support::laws::invariants_tell_the_truth;
 

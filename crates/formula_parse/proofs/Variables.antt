@@ -22,13 +22,13 @@ use Rattle.formula_syntax.specs.declared.sign.Operator.TheVariants as O
 use Rattle.formula_syntax.specs.declared.sign.Prefix.{Prefix}
 use Rattle.formula_syntax.specs.declared.sign.Prefix.TheVariants as P
 use Rattle.formula_syntax.specs.Trees.{Factor, factor_at, FactorKind, number, name, signed, summed, Tail, ended, further, Sum, Part, prefixed, quantified, truth, exit, compared, grouped, Chain, done, joined}
-use Rattle.elaboration.specs.Scopes.{is_among}
+use Rattle.typed_expressions.specs.Scopes.{is_among}
 use Rattle.formula_parse.specs.Comparing.{comparing, less_1}
 use Rattle.formula_parse.specs.Meanings.{added, factor_meaning, kind_meaning, tail_meaning, sum_meaning, part_meaning, chain_meaning, prefixed_meaning, until_meaning, truth_meaning, either_of}
 use Rattle.formula_parse.specs.Faults.{or_else, unless, unknown_in_factor, unknown_in_kind, unknown_in_tail, unknown_in_sum, unknown_in_part, unknown_in_chain}
 use Rattle.normal_form.specs.Rows.{RowsAreOver}
 use Rattle.formula_parse.specs.Laws.{TextsNameTheirVariables}
-use Rattle.elaboration.proofs.Names.{place_below}
+use Rattle.typed_expressions.proofs.Names.{place_below}
 
 neither : (a b : Option ℕ) → or_else a b ≡ None → (a ≡ None) × (b ≡ None)
 neither None b e = (refl, e)

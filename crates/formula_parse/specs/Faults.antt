@@ -3,7 +3,7 @@ use Rattle.std.specs.Prelude.{◌≡◌, ◌⊎◌, ℕ, Bool, true, false, List
 use Rattle.step_meaning.specs.Syntax.{Expression}
 use Rattle.step_meaning.specs.AffineExpressions.{IsAffine, ExpressionFits}
 use Rattle.step_meaning.specs.Countdown.{form_of}
-use Rattle.elaboration.specs.Scopes.{is_among}
+use Rattle.typed_expressions.specs.Scopes.{is_among}
 use Rattle.formula_syntax.specs.declared.sign.Comparison.{Comparison}
 use Rattle.formula_syntax.specs.Trees.{Factor, factor_at, FactorKind, number, name, signed, summed, Tail, ended, further, Sum, Part, prefixed, quantified, truth, exit, compared, grouped, Chain, done, joined, Formula}
 use Rattle.formula_parse.specs.Comparing.{ComparisonFits}

@@ -3,7 +3,7 @@
 use Rattle.std.specs.Prelude.{ℕ, Bool, true, false, List, Option, None, Some}
 use Rattle.ctl_formula.specs.Formulas as ctl
 use Rattle.ctl_formula.specs.Formulas.{Ctl}
-use Rattle.elaboration.specs.Scopes.{place_of}
+use Rattle.typed_expressions.specs.Scopes.{place_of}
 use Rattle.formula_syntax.specs.declared.sign.Prefix.{Prefix}
 use Rattle.formula_syntax.specs.declared.sign.Prefix.TheVariants as P
 use Rattle.formula_syntax.specs.declared.sign.Connective.TheVariants as C

@@ -1,7 +1,7 @@
 //! Names of variables.
 
 ghost use Rattle.std.specs.Prelude.{◌≡◌, ◌≤◌, ◌<◌, IfSome, IfNone, length, map, vec_items, true, false};
-ghost use Rattle.elaboration.specs.Scopes.{is_among, place_of};
+ghost use Rattle.typed_expressions.specs.Scopes.{is_among, place_of};
 
 use step_meaning::Names;
 

@@ -9,11 +9,11 @@ use Rattle.derivation.specs.declared.fault.SyntaxFault.{SyntaxFault}
 use Rattle.derivation.specs.declared.fault.SyntaxFault.TheVariants as S
 use Rattle.source_syntax.specs.Laws.{IsMemory as IsSyntaxMemory, IsSameFault as IsSameSyntaxFault, ProgramsHaveNoFault as SyntaxHasNoFault, TreesAreUnique, FirstFaultsAgree}
 use Rattle.source_syntax.specs.Texts.{IsFaultOf as IsSyntaxFaultOf, offset_in}
-use Rattle.elaboration.specs.declared.fault.Fault.{Fault}
-use Rattle.elaboration.specs.declared.fault.Rule.{Rule}
-use Rattle.elaboration.specs.Faults.{fault as fault_at, IsFirstOf}
+use Rattle.typed_expressions.specs.declared.fault.Fault.{Fault}
+use Rattle.typed_expressions.specs.declared.fault.Rule.{Rule}
+use Rattle.typed_expressions.specs.Faults.{fault as fault_at, IsFirstOf}
 use Rattle.elaboration.specs.Elaborates.{faults_of}
-use Rattle.elaboration.proofs.Firsts.{one_first}
+use Rattle.typed_expressions.proofs.Firsts.{one_first}
 use Rattle.source_parse.specs.declared.fault.ParseFault.{ParseFault}
 use Rattle.source_parse.specs.declared.fault.ParseFault.TheVariants.{Lex, Expected, Unknown, Twice, Mixed, BadRange, Outside, ZeroDivisor, Placed, Arguments, Limit, Memory}
 use Rattle.source_parse.specs.declared.fault.Which.TheVariants as Which

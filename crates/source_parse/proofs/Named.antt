@@ -24,7 +24,7 @@ use Rattle.elaboration.specs.declared.context.Body.TheVariants.{Main, Valued, Va
 use Rattle.elaboration.specs.declared.functions.Signature.{Signature}
 use Rattle.elaboration.specs.Contexts.{Context, at_top, body_of, deeper, looping}
 use Rattle.elaboration.specs.Functions.{Functions, no_functions, with_function}
-use Rattle.elaboration.specs.Scopes.{Scope, Name as VariableName, declare, is_among, most_variables, no_names, with_variable}
+use Rattle.typed_expressions.specs.Scopes.{Scope, Name as VariableName, declare, is_among, most_variables, no_names, with_variable}
 use Rattle.elaboration.specs.Statements.{behind_return, part_walked, parts_walked, declaration_walked, start_walked, statement_walked, kind_walked, otherwise_walked, items_walked}
 use Rattle.elaboration.specs.Elaborates.{Made, behind_parameters, entered, function_made, functions_behind, functions_made, known, known_behind, made_of, names_of, others_behind, parameters_of, signature, variables_behind}
 use Rattle.elaboration.proofs.Apart.{HasNoDot}

@@ -6,8 +6,8 @@ use Rattle.derivation.specs.declared.rule.Rule.TheVariants as SyntaxRule
 use Rattle.concrete_syntax.specs.Trees.{Program}
 use Rattle.source_syntax.specs.Laws.{ProgramsHaveNoFault as SyntaxHasNoFault, TreesAreUnique}
 use Rattle.source_syntax.specs.Texts.{IsTreeText as IsSyntaxOf}
-use Rattle.elaboration.specs.declared.fault.Rule.{Rule}
-use Rattle.elaboration.specs.Faults.{fault as fault_at}
+use Rattle.typed_expressions.specs.declared.fault.Rule.{Rule}
+use Rattle.typed_expressions.specs.Faults.{fault as fault_at}
 use Rattle.elaboration.specs.Elaborates.{StandsFor, StandsForUnit, faults_of}
 use Rattle.source_parse.specs.declared.fault.ParseFault.{ParseFault}
 use Rattle.source_parse.specs.declared.fault.ParseFault.TheVariants.{Lex, Expected, Unknown, Twice, Mixed, BadRange, Outside, ZeroDivisor, Placed, Arguments, Limit, Memory}

@@ -15,7 +15,7 @@ use Rattle.source_syntax.specs.Spelling.{sign, leading, opening, optional_pieces
 use Rattle.elaboration.specs.declared.context.Body.TheVariants.{Main}
 use Rattle.elaboration.specs.Contexts.{Context, at_top, deeper, looping}
 use Rattle.elaboration.specs.Functions.{no_functions}
-use Rattle.elaboration.specs.Scopes.{Scope, declare, no_names}
+use Rattle.typed_expressions.specs.Scopes.{Scope, declare, no_names}
 use Rattle.elaboration.specs.Statements.{is_bare, simple_meaning, optional_simple_walked, initialiser_walked, part_walked, parts_walked, declaration_walked, start_walked, optional_test, statement_walked, kind_walked, otherwise_walked, items_walked}
 use Rattle.elaboration.specs.Elaborates.{known, plain, plain_body, variables_behind}
 use Rattle.source_parse.specs.Derives.{IsProgramText}

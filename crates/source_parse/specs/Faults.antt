@@ -7,9 +7,9 @@ use Rattle.source_lex.specs.declared.fault.LexFault.TheVariants.{BadByte, BigNum
 use Rattle.source_lex.specs.declared.token.Token.{Token}
 use Rattle.concrete_syntax.specs.Trees.{Program}
 use Rattle.source_syntax.specs.Texts.{HasFault as HasSyntaxFault, IsTreeText as IsSyntaxOf, offset_in}
-use Rattle.elaboration.specs.declared.fault.Rule.{Rule}
+use Rattle.typed_expressions.specs.declared.fault.Rule.{Rule}
 use Rattle.elaboration.specs.Elaborates.{HasFirstFault}
-use Rattle.elaboration.specs.Faults.{fault}
+use Rattle.typed_expressions.specs.Faults.{fault}
 use Rattle.source_parse.specs.declared.fault.ParseFault.{ParseFault}
 use Rattle.source_parse.specs.declared.fault.ParseFault.TheVariants.{Lex, Expected, Unknown, Twice, Mixed, BadRange, Outside, ZeroDivisor, Placed, Arguments, Limit, Memory}
 use Rattle.source_parse.specs.declared.fault.Which.{Which}

@@ -16,11 +16,12 @@ use crate::laws::a_program_is_no_larger_than_its_text;
 use call_meaning::Unit;
 use concrete_syntax::Program as Tree;
 use derivation::Rule as SyntaxRule;
-use elaboration::{Fault, Parts, Refusal, Rule, elaborate, elaborate_unit};
+use elaboration::{Parts, Refusal, elaborate, elaborate_unit};
 use source_lex::{Token, tokens_spell_their_kinds};
 use source_syntax::{SyntaxFault, offset_in, read_syntax};
 use std::alloc::Global;
 use step_meaning::Program;
+use typed_expressions::{Fault, Rule};
 
 /// The program that the text is, or its first fault. The text has at most 65,536 bytes. Time is linear in the text, but that a name is
 /// looked up among those in scope, which are at most 15 where there is no fault.

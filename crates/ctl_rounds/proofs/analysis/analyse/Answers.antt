@@ -8,9 +8,9 @@ use Rattle.fitting_ways.specs.Ways.{SmallWaysFit}
 use Rattle.ctl_rounds.specs.Bounds.{CoversInputs, FindsInputs}
 use Rattle.ctl_rounds.specs.Covers.{IsCover, IsFitToBegin, claims_of}
 use Rattle.formula_measures.specs.Measures.{ctl_growth}
-use Rattle.ctl_rounds.specs.Families.{HasRowsWithin, IsUncut}
+use Rattle.part_families.specs.Families.{HasRowsWithin, IsUncut}
 use Rattle.ctl_rounds.specs.Finding.{FirstIs}
-use Rattle.ctl_rounds.specs.Showing.{all_of}
+use Rattle.part_families.specs.Showing.{all_of}
 use Rattle.ctl_rounds.proofs.Asking.{unasked}
 use Rattle.ctl_rounds.proofs.CoverLaws.{is_the_cover}
 use Rattle.ctl_rounds.proofs.analysis.analyse.Goals as goal

@@ -5,10 +5,10 @@ use Rattle.call_meaning.specs.Offsets.{all_offsets, all_levels}
 use Rattle.call_meaning.specs.Tables.{parts}
 use Rattle.call_meaning.specs.Units.{of_list}
 use Rattle.elaboration.specs.Elaborates.{faults_of, made_of}
-use Rattle.elaboration.specs.Offsets.{offsets_in}
+use Rattle.typed_expressions.specs.Offsets.{offsets_in}
 use Rattle.elaboration.specs.Statements.{Walked, items_walked}
 use Rattle.elaboration.specs.Walking.{context_of}
-use Rattle.elaboration.proofs.Firsts.{first_is, none_is}
+use Rattle.typed_expressions.proofs.Firsts.{first_is, none_is}
 use Rattle.elaboration.proofs.Walks.{drop_next}
 use Rattle.elaboration.proofs.Whole.{AreLeft, left_first, taken_on, none_left, walk_is, all_found}
 use Rattle.elaboration.proofs.front.elaborate_unit.Goals as goal
@@ -43,7 +43,7 @@ returns-in-Some-clause-refusal c =
     let new = c.new-walk.ensures in
     let is = walk_is p (context_of c.top.result) c.new-walk.result.scope now.functions now.others c.top.ensures new.scope behind.knows behind.counts in
     first_is (faults_of p) c.in-Some.fault
-    (sym (all_found p now.least c.new-walk.result c.items.new.self (items_walked (context_of c.top.result) c.new-walk.result.scope p.items) c.in_ok-items.ensures.gone is new.least behind.finds) ∙ c.in-Some.is)
+    (sym (all_found p now.least c.new-walk.result c.items.new.walk (items_walked (context_of c.top.result) c.new-walk.result.scope p.items) c.in_ok-items.ensures.gone is new.least behind.finds) ∙ c.in-Some.is)
 
 pub returns-clause-unit : goal.returns-clause-unit
 returns-clause-unit c =
@@ -61,7 +61,7 @@ returns-clause-unit c =
     let fresh = c.new-list.ensures.items in
     let block = c.in_ok-of.ensures in
     record {
-      faultless = none_is (faults_of p) (sym (all_found p now.least c.new-walk.result c.items.new.self w gone is new.least behind.finds) ∙ c.in_default.is);
+      faultless = none_is (faults_of p) (sym (all_found p now.least c.new-walk.result c.items.new.walk w gone is new.least behind.finds) ∙ c.in_default.is);
       knows = c.in_ok-into_names.ensures ∙ ap (λ f. f.names) behind.knows;
       functions = ap (λ l. map made_of l) c.of.ensures ∙ behind.makes;
       declares = c.in_ok-variables.ensures.names ∙ ap (λ s. s.declared) gone.1 ∙ ap (λ (v : Walked). v.scope.declared) is;

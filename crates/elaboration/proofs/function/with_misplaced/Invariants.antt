@@ -1,6 +1,6 @@
 use Rattle.std.proofs.Common.{◌≡◌, drop, map}
-use Rattle.elaboration.specs.declared.fault.Rule.TheVariants.{Placed}
-use Rattle.elaboration.specs.Faults.{earliest, fault}
+use Rattle.typed_expressions.specs.declared.fault.Rule.TheVariants.{Placed}
+use Rattle.typed_expressions.specs.Faults.{earliest, fault}
 use Rattle.elaboration.proofs.function.with_misplaced.Given as goal
 
 -- the first so far and those that are left have the first of all

@@ -1,7 +1,7 @@
 use Rattle.std.proofs.Common.{◌≡◌, ◌≤◌, max}
 use Rattle.concrete_syntax.specs.Mirror.{operand as operand_of, tail as tail_of}
 use Rattle.elaboration.specs.Levels.{tail_levels}
-use Rattle.elaboration.proofs.Weights.{operand_weight, tail_weight}
+use Rattle.typed_expressions.proofs.Weights.{operand_weight, tail_weight}
 use Rattle.elaboration.proofs.levels.+expression_levels.Given as goal
 
 abbrev pub decreases-operand_levels : goal.decreases-operand_levels

@@ -1,7 +1,7 @@
 use Rattle.std.proofs.Common.{◌≡◌, length, ◌∙◌, sym, subst}
 use Rattle.step_meaning.specs.Syntax.{statements}
 use Rattle.control_flow.specs.Labels.{entry_of}
-use Rattle.ctl_rounds.specs.Families.{trees_of}
+use Rattle.part_families.specs.Families.{trees_of}
 use Rattle.decision_tree.specs.Extent.{ComplementsFit, IsTreeOver}
 use Rattle.decision_tree.specs.Plans.{plan_of}
 use Rattle.fit_check.proofs.AtEntry.{entry_fits}

@@ -2,7 +2,7 @@ use Rattle.std.proofs.Common.{length, refl}
 use Rattle.step_meaning.specs.Syntax.{statements}
 use Rattle.control_flow.specs.Told.{Told, told_by}
 use Rattle.ctl_formula.specs.Formulas.{falsity, truth}
-use Rattle.ctl_rounds.specs.Families.{trees_of}
+use Rattle.part_families.specs.Families.{trees_of}
 use Rattle.fit_check.proofs.family.fit_family.Goals as goal
 
 pub returns-clause-fits : goal.returns-clause-fits

@@ -1,5 +1,5 @@
 use Rattle.std.proofs.Common.{below_more, vec_items, arith}
-use Rattle.elaboration.proofs.Names.{found_at, another_at, nowhere}
+use Rattle.typed_expressions.proofs.Names.{found_at, another_at, nowhere}
 use Rattle.formula_parse.proofs.names.position.Goals as goal
 
 pub returns-then-eq-clause-found : goal.returns-then-eq-clause-found

@@ -1,12 +1,12 @@
 use Rattle.std.proofs.Common.{◌≡◌, List, [], ◌∷◌, ◌++◌, length, ap, subst, sym, ◌∙◌}
 use Rattle.step_meaning.specs.Syntax.{statements}
 use Rattle.ctl_formula.specs.Mirror.{ctl}
-use Rattle.ctl_rounds.specs.Families.{IsExact, IsNarrowFor}
+use Rattle.part_families.specs.Families.{IsExact, IsNarrowFor}
 use Rattle.ctl_rounds.specs.Finding.{FirstIs}
 use Rattle.decision_tree.specs.declared.affine_rank.AffineRank.{AffineRank}
 use Rattle.decision_tree.specs.declared.family.Family.{Family}
-use Rattle.ctl_rounds.specs.Knowing.{told_on}
-use Rattle.ctl_rounds.proofs.Combining.{operand_labels}
+use Rattle.part_families.specs.Knowing.{told_on}
+use Rattle.part_families.proofs.Combining.{operand_labels}
 use Rattle.ctl_rounds.proofs.inquiry.Inquiry.begun.Goals as goal
 
 pub returns-clause-exact : goal.returns-clause-exact

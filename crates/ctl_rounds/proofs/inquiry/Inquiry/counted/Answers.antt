@@ -13,13 +13,14 @@ use Rattle.tree_support.specs.declared.dropped.Dropped.{Dropped}
 use Rattle.tree_support.specs.Elimination.{Eliminates}
 use Rattle.tree_support.specs.Setting.{setting_of, trees_in}
 use Rattle.fitting_ways.specs.Ways.{SmallWaysFit}
-use Rattle.ctl_rounds.specs.Knowing.{told_on}
-use Rattle.ctl_rounds.proofs.Fit.{all_fit}
+use Rattle.part_families.specs.Knowing.{told_on}
+use Rattle.part_families.proofs.Fit.{all_fit}
 use Rattle.ctl_rounds.specs.Covers.{Covers, MayBegin, at_entry, claims_of}
-use Rattle.ctl_rounds.specs.Families.{HasRowsWithin}
-use Rattle.ctl_rounds.proofs.Certifying.{grounded, short, unchanged}
+use Rattle.part_families.specs.Families.{HasRowsWithin}
+use Rattle.ctl_rounds.proofs.Certifying.{grounded, short}
+use Rattle.part_families.proofs.Kept.{unchanged}
 use Rattle.ctl_rounds.proofs.CoverLaws.{begins, nodes_of}
-use Rattle.ctl_rounds.proofs.Numbers.{alone_rows}
+use Rattle.part_families.proofs.Numbers.{alone_rows}
 use Rattle.ctl_rounds.proofs.inquiry.Inquiry.counted.Given as given
 use Rattle.ctl_rounds.proofs.inquiry.Inquiry.counted.Goals as goal
 

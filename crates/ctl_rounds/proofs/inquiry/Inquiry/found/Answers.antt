@@ -1,17 +1,18 @@
 use Rattle.std.proofs.Common.{inl, length, option_map, refl, rules, arith}
 use Rattle.decision_tree.specs.Plans.{plan_of}
-use Rattle.ctl_rounds.specs.Showing.{all_of}
+use Rattle.part_families.specs.Showing.{all_of}
 use Rattle.ctl_rounds.proofs.Asking.{unasked}
 use Rattle.step_meaning.specs.Syntax.{statements}
 use Rattle.ctl_formula.specs.Mirror.{ctl}
 use Rattle.ctl_rounds.specs.Covers.{claims_of}
-use Rattle.ctl_rounds.specs.Families.{IsFamilyFor}
+use Rattle.part_families.specs.Families.{IsFamilyFor}
 use Rattle.ctl_rounds.specs.Finding.{IsTop}
 use Rattle.ctl_rounds.proofs.Exactly.{first_covers, first_covers_narrowly, first_finds_narrowly, first_of, whole_defined}
 use Rattle.count_down.proofs.Leads.{all_weaken}
 use Rattle.formula_measures.specs.Measures.{ctl_growth}
 use Rattle.ctl_rounds.proofs.Certifying.{certified}
-use Rattle.ctl_rounds.proofs.Numbers.{more_rows, only_rows}
+use Rattle.part_families.proofs.Numbers.{more_rows}
+use Rattle.ctl_rounds.proofs.Single.{only_rows}
 use Rattle.ctl_rounds.proofs.inquiry.Inquiry.found.Goals as goal
 
 pub returns-in_err-family-clause-asked : goal.returns-in_err-family-clause-asked

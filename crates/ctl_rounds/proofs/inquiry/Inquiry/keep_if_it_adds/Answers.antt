@@ -1,7 +1,7 @@
 use Rattle.std.proofs.Common.{[], ◌∷◌, length, subst, sym}
 use Rattle.step_meaning.specs.Syntax.{statements}
 use Rattle.ctl_formula.specs.Mirror.{ctl}
-use Rattle.ctl_rounds.specs.Families.{IsExact, IsNarrowFor}
+use Rattle.part_families.specs.Families.{IsExact, IsNarrowFor}
 use Rattle.ctl_rounds.specs.Finding.{FirstIs}
 use Rattle.ctl_rounds.proofs.Exactly.{first_more}
 use Rattle.ctl_rounds.proofs.inquiry.Inquiry.keep_if_it_adds.Goals as goal

@@ -1,7 +1,8 @@
 use Rattle.std.proofs.Common.{◌≡◌, false, [], ◌∷◌, ◌++◌, map, vec_items, sym, ap, ◌∙◌, rules}
 use Rattle.elaboration.specs.Functions.{Functions}
-use Rattle.elaboration.specs.Scopes.{is_among}
-use Rattle.elaboration.proofs.Names.{added, with_new, functions_of}
+use Rattle.typed_expressions.specs.Scopes.{is_among}
+use Rattle.typed_expressions.proofs.Names.{added}
+use Rattle.elaboration.proofs.Signatures.{functions_of, with_new}
 use Rattle.elaboration.proofs.functions.Functions.add.Goals as goal
 
 pub returns-in_ok-push : goal.returns-in_ok-push

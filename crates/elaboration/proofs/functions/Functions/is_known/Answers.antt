@@ -1,7 +1,7 @@
 use Rattle.std.proofs.Common.{ap, ◌∙◌}
 use Rattle.elaboration.specs.Functions.{Functions}
-use Rattle.elaboration.specs.Scopes.{is_among}
-use Rattle.elaboration.proofs.Names.{among_any}
+use Rattle.typed_expressions.specs.Scopes.{is_among}
+use Rattle.typed_expressions.proofs.Names.{among_any}
 use Rattle.elaboration.proofs.functions.Functions.is_known.Goals as goal
 
 pub returns : goal.returns

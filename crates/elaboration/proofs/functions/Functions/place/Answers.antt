@@ -1,7 +1,7 @@
 use Rattle.std.proofs.Common.{ap, sym, ◌∙◌, is_some}
 use Rattle.elaboration.specs.Functions.{Functions}
-use Rattle.elaboration.specs.Scopes.{place_of}
-use Rattle.elaboration.proofs.Names.{place_found, place_missing}
+use Rattle.typed_expressions.specs.Scopes.{place_of}
+use Rattle.typed_expressions.proofs.Names.{place_found, place_missing}
 use Rattle.elaboration.proofs.functions.Functions.place.Goals as goal
 
 pub returns-in-Some : goal.returns-in-Some

@@ -3,7 +3,7 @@ use Rattle.std.proofs.lemmas.Bool.{ltb-true}
 use Rattle.std.proofs.lemmas.Option.{slice_get-get_or}
 use Rattle.std.specs.List.{slice_get}
 use Rattle.elaboration.specs.Functions.{Functions}
-use Rattle.elaboration.specs.Scopes.{is_among, place_of}
+use Rattle.typed_expressions.specs.Scopes.{is_among, place_of}
 use Rattle.elaboration.proofs.functions.Functions.signature.Goals as goal
 
 pub returns-in_ok-found : goal.returns-in_ok-found

@@ -1,0 +1,5 @@
+pub mod Families
+pub mod Fitting
+pub mod Known
+pub mod Knowing
+pub mod Showing
