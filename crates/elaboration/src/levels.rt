@@ -166,8 +166,8 @@ fn optional_levels(tree: &Option<Expression>, level: u32) -> Result<u32, AllocEr
     }
 }
 
-// In an expression.
-fn expression_levels(tree: &Expression, level: u32) -> Result<u32, AllocError>
+/// In an expression, where `level` are open around it.
+pub fn expression_levels(tree: &Expression, level: u32) -> Result<u32, AllocError>
     ensures { IfOk result (λ most. most ≡ specs.expression_levels level (expression_of tree.now)) }
 {
     Ok(operand_levels(&tree.operand, level)?.max(tail_levels(&tree.tail, level)?))

@@ -18,3 +18,4 @@ mod statement;
 pub use context::{Body, Context};
 pub use front::{Parts, Refusal, elaborate, elaborate_unit};
 pub use functions::{Functions, Signature};
+pub use levels::expression_levels;

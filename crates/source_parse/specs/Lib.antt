@@ -1,3 +1,4 @@
 pub mod Derives
 pub mod Faults
 pub mod Laws
+pub mod Expressions

@@ -1,6 +1,7 @@
 //! The parser's front door.
 
-ghost use Rattle.std.specs.Prelude.{◌≡◌, ◌≤◌, ◌<◌, ℕ, Bool, true, false, List, length, IfOk, IfErr};
+ghost use Rattle.std.specs.Prelude.{◌≡◌, ◌≤◌, ◌<◌, ℕ, Bool, true, false, List, Some, length, IfOk, IfErr};
+ghost use Rattle.source_lex.specs.declared.token.Token.{Token as LexedToken};
 ghost use Rattle.source_lex.specs.Tokens.{TokensOf};
 ghost use Rattle.concrete_syntax.specs.Mirror.{program as program_tree};
 ghost use Rattle.step_meaning.specs.Offsets.{offsets};
@@ -9,7 +10,9 @@ ghost use Rattle.concrete_syntax.specs.Trees.{Program as Concrete};
 ghost use Rattle.elaboration.specs.Elaborates.{HasFirstFault, StandsFor, StandsForUnit, program_offsets};
 ghost use Rattle.source_syntax.specs.Texts.{IsTreeText as IsSyntaxOf, IsFaultOf as IsSyntaxFaultOf, offset_in};
 ghost use Rattle.source_parse.specs.Derives.{Derives, HasOffsets, IsUnitText};
-ghost use Rattle.source_parse.specs.Faults.{IsFaultIn, IsFaultOf, IsUnitFaultOf};
+ghost use Rattle.source_syntax.specs.Places.{IsNoExpressionAt};
+ghost use Rattle.source_parse.specs.Expressions.{IsNoExprAt};
+ghost use Rattle.source_parse.specs.Faults.{IsFaultIn, IsFaultOf, IsUnitFaultOf, number_of, numbered};
 
 use crate::fault::{ParseFault, Which};
 use crate::laws::a_program_is_no_larger_than_its_text;
@@ -108,9 +111,10 @@ fn of_parts(text: &[u8], tree: &Tree, tokens: &[Token], parts: Parts) -> Unit
     }
 }
 
-// The fault of a text that is no program by its syntax.
-fn of_syntax(fault: SyntaxFault) -> ParseFault
-    ensures { (functions : Bool) (text : List ℕ) → IsSyntaxFaultOf functions text fault → IsFaultIn functions text result }
+/// The fault of a text that is no program by its syntax, or of an expression of it.
+pub(crate) fn of_syntax(fault: SyntaxFault) -> ParseFault
+    ensures inside { (functions : Bool) (text : List ℕ) → IsSyntaxFaultOf functions text fault → IsFaultIn functions text result }
+    ensures expression { (text : List ℕ) (tokens : List LexedToken) (level at : ℕ) → IsNoExpressionAt text tokens level at fault → IsNoExprAt text tokens level at result }
 {
     match fault {
         SyntaxFault::Lex(fault) => ParseFault::Lex(fault),
@@ -131,11 +135,12 @@ fn of_syntax(fault: SyntaxFault) -> ParseFault
     }
 }
 
-// The fault of a text whose tree has one of names, sorts, jumps, divisors, returns and calls.
-fn of_names(text: &[u8], tokens: &[Token], fault: Fault) -> ParseFault
+/// The fault of a text whose tree has one of names, sorts, jumps, divisors, returns and calls.
+pub(crate) fn of_names(text: &[u8], tokens: &[Token], fault: Fault) -> ParseFault
     requires { length text.now ≤ 65536 }
-    ensures { (functions : Bool) (tree : Concrete) → TokensOf text.now tokens.now → IsSyntaxOf functions text.now tree → HasFirstFault tree fault
+    ensures inside { (functions : Bool) (tree : Concrete) → TokensOf text.now tokens.now → IsSyntaxOf functions text.now tree → HasFirstFault tree fault
         → IsFaultIn functions text.now result }
+    ensures numbered { numbered result ≡ Some (number_of fault.rule, offset_in text.now tokens.now fault.token) }
 {
     let at = offset_in(text, tokens, fault.token);
     match fault.rule {

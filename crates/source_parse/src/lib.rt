@@ -1,12 +1,14 @@
 //! The parser: the program that a text is, or its first fault; with functions, or without.
-//! Front door: `parse` for programs without functions, `parse_unit` for those of functions. Stands on the concrete trees that `source_syntax` reads and on `elaboration`, which makes programs of them. What
-//! a text derives, and which fault is its first, stands in `specs/` (Derives, Faults).
+//! Front door: `parse` for programs without functions, `parse_unit` for those of functions, `read_expr` for one expression of a text. Stands on the concrete trees that `source_syntax` reads and on `elaboration`, which makes programs of them. What
+//! a text derives, and which fault is its first, stands in `specs/` (Derives, Faults, Expressions).
 #![tactic(auto)]
 
+mod expression;
 mod fault;
 mod front;
 mod laws;
 
+pub use expression::{ReadExpr, read_expr};
 pub use fault::{ParseFault, Which};
 pub use front::{parse, parse_unit};
 pub use laws::{

@@ -9,3 +9,4 @@ pub mod Reading
 pub mod Loops
 pub mod Whole
 pub mod OneTree
+pub mod Standing

@@ -3,6 +3,7 @@ pub mod Openings
 pub mod Spelling
 pub mod Ends
 pub mod Pending
+pub mod Places
 pub mod Reads
 pub mod Texts
 pub mod Laws

@@ -5,12 +5,14 @@ ghost use Rattle.derivation.specs.Word.{words};
 ghost use Rattle.derivation.specs.Comes.{FirstFault, IsSpelledBy};
 ghost use Rattle.derivation.specs.Spelled.{all_spelled, words_from};
 ghost use Rattle.source_lex.specs.Tokens.{TokensOf};
-ghost use Rattle.concrete_syntax.specs.Mirror.{program as program_tree};
+ghost use Rattle.concrete_syntax.specs.Mirror.{expression as expression_tree, program as program_tree};
 ghost use Rattle.derivation.specs.Failures.{IfFault};
 ghost use Rattle.source_syntax.specs.Texts.{programs, offset_in, IsTreeText, IsFaultOf};
+ghost use Rattle.source_syntax.specs.Places.{IsExpressionAt, IsNoExpressionAt};
 
+use crate::expression::expression;
 use crate::program::program;
-use concrete_syntax::Program;
+use concrete_syntax::{Expression, Program};
 use derivation::{Failure, Fault, Lexeme, Rule, SyntaxFault, lexemes};
 use source_lex::{LexFault, Token, lex, start_of};
 use std::alloc::Global;
@@ -75,6 +77,38 @@ fn placed(text: &[u8], tokens: &[Token], fault: Fault, functions: bool) -> Synta
     SyntaxFault::Broken {
         rule: fault.rule,
         at: offset_in(text, tokens, fault.at),
+    }
+}
+
+/// The expression at the token of the number `at`, where `level` levels are open before it, and the number of the token behind it, which is no binary operator:
+/// the longest one that stands there. The tokens are those of the text, which has at most 65,536 bytes. Time is linear in the text.
+///
+/// The first token with which no expression goes on is answered where there is none, or the first that breaks a limit on the way. `Memory` where the tree
+/// finds no room. Never `Lex`.
+pub fn read_expression(
+    alloc: Global,
+    text: &[u8],
+    tokens: &[Token],
+    at: usize,
+    level: u32,
+) -> Result<(Expression, usize), SyntaxFault>
+    requires short { length text.now ≤ 65536 }
+    requires lexed { TokensOf text.now tokens.now }
+    requires shallow { level ≤ 64 }
+    ensures read { IfOk result (λ found. IsExpressionAt text.now tokens.now level at (expression_tree found.0) found.1) }
+    ensures fault { IfErr result (IsNoExpressionAt text.now tokens.now level at) }
+{
+    let words = match lexemes(alloc, text, tokens) {
+        Ok(words) => words,
+        Err(error) => return Err(SyntaxFault::Memory(error)),
+    };
+    match expression(alloc, &words, at, level, 0) {
+        Ok((tree, next, _)) => Ok((tree, next)),
+        Err(Failure::Fault(fault)) => Err(SyntaxFault::Broken {
+            rule: fault.rule,
+            at: offset_in(text, tokens, fault.at),
+        }),
+        Err(Failure::Memory(error)) => Err(SyntaxFault::Memory(error)),
     }
 }
 

@@ -69,7 +69,7 @@ pub fn push_syntax(
 }
 
 /// Adds the number of the fault and its offset, or the words for none.
-fn push_numbered(fault: Option<(u8, u32)>, none: &str, answer: &mut Answer) {
+pub fn push_numbered(fault: Option<(u8, u32)>, none: &str, answer: &mut Answer) {
     match fault {
         Some((number, at)) => {
             answer.push_number(i128::from(number));

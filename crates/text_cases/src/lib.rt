@@ -7,6 +7,8 @@
 //! - `fault` says whether it is a program or which fault is its first.
 //! - `program` has the program whose `main` has these items: operators have parentheses, the parts of a statement braces, and a missing end of a range is `*`.
 //!   Below it stand the offsets of the statements from behind the `{` of `main`, an outer one before those in it.
+//! - `expression number N L` and `expression test N L` have the expression that stands at the token of the number N, in the place of a number or of a test, where L
+//!   levels are open and `x` and `y` may be used, but not the variable `z`; or its first fault; and the number of the token behind it, and the levels in it.
 //! - `written F` is how the function is printed over the names `x`, `y` and `always`, which it reads as `x`, `y` and `z`.
 //! - `line R and R claims unknown` is the line of a claim under a condition; other claims are `holds`, `exactly N` and `within F`.
 //!
@@ -14,6 +16,7 @@
 //! and `written` for the others.
 #![tactic(auto)]
 
+mod expressions;
 mod faults;
 mod lines;
 mod programs;
@@ -50,6 +53,7 @@ pub fn answers(
         "function_tree" => faults::push_read(alloc, text, true, answer)?,
         "beginnings" => faults::push_beginnings(alloc, text, answer)?,
         "fault" => faults::push_fault(alloc, text, answer)?,
+        "expression" => expressions::push_expression_of(alloc, text, words, answer)?,
         "program" => programs::push_program(alloc, text, words, answer)?,
         _ => return Ok(false),
     }

@@ -86,8 +86,9 @@ fn push_name(place: u8, names: &Names, answer: &mut Answer) {
     }
 }
 
+/// Adds an expression.
 #[cycle(expressions)]
-fn push_expression(expr: &Expr, names: &Names, answer: &mut Answer) {
+pub fn push_expression(expr: &Expr, names: &Names, answer: &mut Answer) {
     match expr {
         Expr::Number(value) => answer.push_number(i128::from(*value)),
         Expr::Name(place) => push_name(*place, names, answer),

@@ -4,7 +4,7 @@ use Rattle.step_meaning.specs.Syntax.{statements}
 use Rattle.source_parse.proofs.front.parse.Goals as goal
 
 pub returns-in-Err-clause-fault : goal.returns-in-Err-clause-fault
-returns-in-Err-clause-fault c = c.of_syntax.ensures false c.args.text.now c.in-Err.ensures.fault
+returns-in-Err-clause-fault c = c.of_syntax.ensures.inside false c.args.text.now c.in-Err.ensures.fault
 
 pub returns-clause-size : goal.returns-clause-size
 returns-clause-size c =

@@ -3,7 +3,7 @@ use Rattle.concrete_syntax.specs.Mirror.{program as program_tree}
 use Rattle.source_parse.proofs.front.parse_unit.Goals as goal
 
 pub returns-in-Err-clause-fault : goal.returns-in-Err-clause-fault
-returns-in-Err-clause-fault c = c.of_syntax.ensures true c.args.text.now c.in-Err.ensures.fault
+returns-in-Err-clause-fault c = c.of_syntax.ensures.inside true c.args.text.now c.in-Err.ensures.fault
 
 pub returns-clause-unit : goal.returns-clause-unit
 returns-clause-unit c = record {

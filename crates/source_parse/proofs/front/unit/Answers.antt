@@ -4,5 +4,5 @@ use Rattle.source_parse.proofs.front.unit.Goals as goal
 
 pub returns-in-Err-Fault-clause-fault : goal.returns-in-Err-Fault-clause-fault
 returns-in-Err-Fault-clause-fault c =
-    c.of_names.ensures true (program_tree c.args.tree.now) c.requires.lexed c.requires.spelled
+    c.of_names.ensures.inside true (program_tree c.args.tree.now) c.requires.lexed c.requires.spelled
     (rw c.in-Err-Fault.field-0-is at c.in-Err-Fault.ensures.refusal)

@@ -26,4 +26,4 @@ returns-in_err-plain-clause-refused c =
 
 pub returns-clause-read : goal.returns-clause-read
 returns-clause-read c =
-    initialiser_reads c.if-functions.false (record { comes = λ behind. (_, over (no_called_initialisers _ 0 behind _) (c.in_ok-plain.ensures.read.comes _)); })
+    initialiser_reads c.if-functions.false (record { comes = λ behind. (_, over (no_called_initialisers _ 0 behind _) (c.in_ok-plain.ensures.read.comes _)) })
