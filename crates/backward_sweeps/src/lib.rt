@@ -13,6 +13,7 @@ mod moving;
 mod operands;
 mod pass;
 mod remaking;
+mod shared;
 mod starting;
 mod sweep;
 

@@ -1,13 +1,12 @@
 //! Sweeps over the labels.
-ghost use Rattle.std.specs.Prelude.{◌≡◌, ◌<◌, ◌≤◌, [], false, IfOk, OnOk, length};
+ghost use Rattle.std.specs.Prelude.{◌≡◌, ◌<◌, ◌≤◌, false, IfOk, OnOk, length};
 ghost use Rattle.backward_transfer.specs.AffineShapes.{plans};
-ghost use Rattle.control_flow.specs.Transitions.{AreOnward, HasNoHead, LeadsWithin, is_head, is_idle};
+ghost use Rattle.control_flow.specs.Transitions.{AreOnward, HasNoHead, is_head, is_idle};
 ghost use Rattle.backward_sweeps.specs.Remaking.{AreEndsGiven, AreEndsStarted, AreKept, AreRemadeFrom, parts_of};
 
-use crate::family_size::FamilySize;
 use crate::operands::Operands;
 use crate::pass::{begun, follow, is_idle};
-use crate::remaking::{given_up, remade};
+use crate::shared::SharedTrees;
 use crate::starting::started;
 use control_flow::Transition;
 use decision_tree::{AffineRank, Tree, TreeList};
@@ -106,88 +105,87 @@ struct Sweeps<'a, D: NumDomain> {
 }
 
 impl<'a, D: NumDomain> Sweeps<'a, D> {
-    /// Makes the trees anew, sweep after sweep, until one changes nothing or there were as many as may be.
+    /// Makes the trees anew, sweep after sweep, until one changes nothing or there were as many as may be. While sweeps go on the trees stand in one table of shared
+    /// nodes.
     fn run(&self, trees: &mut [Tree<AffineRank>]) -> Result<(), AllocError>
         requires states { length self.now.inv.now ≡ length self.now.transitions.now }
         requires few { length self.now.transitions.now ≤ 1024 }
-        requires onward { AreOnward self.now.transitions.now }
         requires trees { length trees.old ≡ length self.now.transitions.now }
         ensures trees { length trees.new ≡ length trees.old }
         ensures ends { OnOk result (AreKept is_idle self.now.transitions.now (plans trees.old) (plans trees.new)) }
     {
-        let mut changed = vec![in self.alloc; true; self.transitions.len()]?;
-        let mut size = FamilySize::of(self.alloc, trees, FamilySize::MOST)?;
+        let mut shared = SharedTrees::of(self.alloc, trees, self.operands)?;
         for number in 1..=self.count {
-            if !self.sweep(number, trees, &mut size, &mut changed)? {
+            if !self.sweep(number, &mut shared)? {
                 break;
             }
+        }
+        self.take_all(&shared, trees)
+    }
+
+    /// Takes the trees of the labels at which something is done out of the table.
+    fn take_all(
+        &self,
+        shared: &SharedTrees,
+        trees: &mut [Tree<AffineRank>],
+    ) -> Result<(), AllocError>
+        requires few { length self.now.transitions.now ≤ 1024 }
+        requires trees { length trees.old ≡ length self.now.transitions.now }
+        ensures trees { length trees.new ≡ length trees.old }
+        ensures ends { OnOk result (AreKept is_idle self.now.transitions.now (plans trees.old) (plans trees.new)) }
+    {
+        for label in 0..self.transitions.len() as u32 {
+            self.take(shared, label, trees)?;
         }
         Ok(())
     }
 
-    /// Makes the trees anew, the greatest label first; true where one differs from what it was. A flag of `changed` says whether the tree
-    /// at its place differed when it was made last, or was given up since then.
-    fn sweep(
+    /// Takes the tree of the label out of the table, where something is done there.
+    fn take(
         &self,
-        number: u32,
+        shared: &SharedTrees,
+        label: u32,
         trees: &mut [Tree<AffineRank>],
-        size: &mut FamilySize,
-        changed: &mut [bool],
-    ) -> Result<bool, AllocError>
+    ) -> Result<(), AllocError>
+        requires label { label < length self.now.transitions.now }
+        requires trees { length trees.old ≡ length self.now.transitions.now }
+        ensures labels { length trees.new ≡ length trees.old }
+        ensures ends { OnOk result (AreKept is_idle self.now.transitions.now (plans trees.old) (plans trees.new)) }
+    {
+        if is_idle(&self.transitions[label as usize]) {
+            return Ok(());
+        }
+        let made = shared.take(label)?;
+        trees[label as usize] = made;
+        Ok(())
+    }
+
+    /// Makes the trees anew, the greatest label first; true where one differs from what it was.
+    fn sweep(&self, number: u32, shared: &mut SharedTrees) -> Result<bool, AllocError>
         requires states { length self.now.inv.now ≡ length self.now.transitions.now }
         requires few { length self.now.transitions.now ≤ 1024 }
-        requires onward { AreOnward self.now.transitions.now }
-        requires trees { length trees.old ≡ length self.now.transitions.now }
-        requires flags { length changed.old ≡ length self.now.transitions.now }
-        ensures trees { length trees.new ≡ length trees.old }
-        ensures flags { length changed.new ≡ length changed.old }
-        ensures ends { OnOk result (AreKept is_idle self.now.transitions.now (plans trees.old) (plans trees.new)) }
     {
         let mut any = false;
         for label in (0..self.transitions.len() as u32).rev() {
-            let differs = self.is_due(number, label, changed) && self.remake(number, label, trees)?;
-            changed[label as usize] = differs;
+            let differs = self.is_due(number, label, shared) && self.remake(number, label, shared)?;
+            shared.note(label, differs);
             any = any || differs;
             if differs {
-                size.note(label, &trees[label as usize]);
-                self.give_up_greatest(trees, size, changed);
+                shared.give_up_greatest(self.transitions)?;
             }
         }
         Ok(any)
     }
 
-    /// Gives up the greatest trees until all have no more than 2^20 nodes together, or no more can be given up.
-    fn give_up_greatest(
-        &self,
-        trees: &mut [Tree<AffineRank>],
-        size: &mut FamilySize,
-        changed: &mut [bool],
-    )
-        requires few { length self.now.transitions.now ≤ 1024 }
-        requires trees { length trees.old ≡ length self.now.transitions.now }
-        requires flags { length changed.old ≡ length self.now.transitions.now }
-        ensures trees { length trees.new ≡ length trees.old }
-        ensures flags { length changed.new ≡ length changed.old }
-        ensures ends { AreKept is_idle self.now.transitions.now (plans trees.old) (plans trees.new) }
-    {
-        for _ in 0..self.transitions.len() {
-            let Some(label) = size.give_up_greatest(self.transitions, trees) else {
-                return;
-            };
-            changed[label as usize] = true;
-        }
-    }
-
     /// Whether the tree of the label may differ from what it was: that of a successor did, or it was or begins to be widened.
-    fn is_due(&self, number: u32, label: u32, changed: &[bool]) -> bool
-        requires within { label < length self.now.transitions.now }
-        requires flags { length changed.now ≡ length self.now.transitions.now }
+    fn is_due(&self, number: u32, label: u32, shared: &SharedTrees) -> bool
+        requires { label < length self.now.transitions.now }
     {
         match &self.transitions[label as usize] {
             Transition::End | Transition::Dead => false,
-            Transition::Pass { to } => number == 1 || is_set(changed, *to),
+            Transition::Pass { to } => number == 1 || shared.is_changed(*to),
             Transition::Assign { to, .. } | Transition::Choose { to, .. } => {
-                number == 1 || is_set(changed, *to)
+                number == 1 || shared.is_changed(*to)
             }
             Transition::Test {
                 is_head,
@@ -196,9 +194,9 @@ impl<'a, D: NumDomain> Sweeps<'a, D> {
                 ..
             } => {
                 number == 1
-                    || is_set(changed, *yes)
-                    || is_set(changed, *no)
-                    || *is_head && self.is_widening(number, changed[label as usize])
+                    || shared.is_changed(*yes)
+                    || shared.is_changed(*no)
+                    || *is_head && self.is_widening(number, shared.is_changed(label))
             }
         }
     }
@@ -212,58 +210,34 @@ impl<'a, D: NumDomain> Sweeps<'a, D> {
     }
 
     /// Makes the tree of the label anew, where something is done there; true where it differs from what it was.
-    fn remake(
-        &self,
-        number: u32,
-        label: u32,
-        trees: &mut [Tree<AffineRank>],
-    ) -> Result<bool, AllocError>
+    fn remake(&self, number: u32, label: u32, shared: &mut SharedTrees) -> Result<bool, AllocError>
         requires label { label < length self.now.transitions.now }
-        requires onward { AreOnward self.now.transitions.now }
         requires states { length self.now.inv.now ≡ length self.now.transitions.now }
-        requires trees { length trees.old ≡ length self.now.transitions.now }
-        ensures labels { length trees.new ≡ length trees.old }
-        ensures ends { OnOk result (AreKept is_idle self.now.transitions.now (plans trees.old) (plans trees.new)) }
     {
         let transition = &self.transitions[label as usize];
-        if is_idle(transition) {
-            return Ok(false);
-        }
-        let made = self.made(number, label, transition, trees)?;
-        let differs = made != trees[label as usize];
-        trees[label as usize] = made;
-        Ok(differs)
-    }
-
-    /// The new tree of the label, at which this is done.
-    fn made(
-        &self,
-        number: u32,
-        label: u32,
-        transition: &Transition,
-        trees: &[Tree<AffineRank>],
-    ) -> Result<Tree<AffineRank>, AllocError>
-        requires label { label < length self.now.transitions.now }
-        requires leads { LeadsWithin (length trees.now) transition.now }
-        requires states { length self.now.inv.now ≡ length self.now.transitions.now }
-        requires trees { length trees.now ≡ length self.now.transitions.now }
-    {
-        let made = or_given_up(remade(self.alloc, self.operands, label, transition, trees))?;
+        let made = shared.remade(label, transition)?;
         match self.widened_from {
             Some(first) if is_head(transition) && number >= first => {
-                let set = self.inv.at(label);
-                or_given_up(widened(self.alloc, &trees[label as usize], &made, set))
+                let widened = self.widened(label, shared, made)?;
+                Ok(shared.set(label, widened))
             }
-            _ => Ok(made),
+            _ => Ok(shared.set(label, made)),
         }
     }
-}
 
-/// The tree, or what the label has for one that can't be made. The only error is want of memory.
-fn or_given_up(made: Result<Tree<AffineRank>, TreeFault>) -> Result<Tree<AffineRank>, AllocError> {
-    match made {
-        Ok(tree) => Ok(tree),
-        Err(fault) => given_up(fault),
+    /// The number of the label's tree widened by the new one. It is widened in boxes.
+    fn widened(
+        &self,
+        label: u32,
+        shared: &mut SharedTrees,
+        made: usize,
+    ) -> Result<usize, AllocError>
+        requires label { label < length self.now.transitions.now }
+        requires states { length self.now.inv.now ≡ length self.now.transitions.now }
+    {
+        let old = shared.take(label)?;
+        let new = shared.taken(made)?;
+        shared.put(widened(self.alloc, &old, &new, self.inv.at(label)))
     }
 }
 
@@ -281,14 +255,6 @@ fn is_head(transition: &Transition) -> bool
     match transition {
         Transition::Test { is_head, .. } => *is_head,
         _ => false,
-    }
-}
-
-/// Whether there is a flag at the label that is set.
-fn is_set(flags: &[bool], label: u32) -> bool {
-    match flags.get(label as usize) {
-        Some(flag) => *flag,
-        None => false,
     }
 }
 

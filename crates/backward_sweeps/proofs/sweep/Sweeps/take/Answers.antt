@@ -5,7 +5,7 @@ use Rattle.backward_transfer.proofs.Putting.{plans_set}
 use Rattle.control_flow.specs.Transitions.{is_idle}
 use Rattle.backward_sweeps.specs.Remaking.{AreKept}
 use Rattle.backward_sweeps.proofs.Passing.{action_read, put_kept}
-use Rattle.backward_sweeps.proofs.sweep.Sweeps.remake.Goals as goal
+use Rattle.backward_sweeps.proofs.sweep.Sweeps.take.Goals as goal
 
 pub returns-clause-ends : goal.returns-clause-ends
 returns-clause-ends g c =

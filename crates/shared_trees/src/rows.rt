@@ -1,0 +1,142 @@
+//! Rows by their numbers.
+use indexmap::{IndexMap, IndexSet};
+use linear_cons::{Row, Wide};
+use std::alloc::{AllocError, Global};
+
+/// The coefficients of rows.
+#[derive(Clone, Copy, PartialEq, Eq, Hash)]
+struct Part {
+    coef: [i128; 16],
+}
+
+/// What a way has to know of a row: its constant, and the numbers of its linear part and of the opposite one, where that has one in 128 bits.
+#[derive(Clone, Copy)]
+pub(crate) struct RowFacts {
+    pub(crate) constant: i128,
+    pub(crate) part: usize,
+    pub(crate) opposed: Option<usize>,
+    complement: Option<usize>,
+}
+
+/// Rows, each once, and their linear parts, each once.
+#[derive(Drop)]
+pub(crate) struct RowTable {
+    rows: IndexMap<Row, RowFacts>,
+    parts: IndexSet<Part>,
+}
+
+/// Why a row has no complement.
+pub(crate) enum RowFault {
+    Wide(Wide),
+    Memory(AllocError),
+}
+
+impl RowTable {
+    /// No rows.
+    pub(crate) fn new(alloc: Global) -> RowTable {
+        RowTable {
+            rows: IndexMap::new(alloc),
+            parts: IndexSet::new(alloc),
+        }
+    }
+
+    /// The row with the number, where there is one.
+    pub(crate) fn row(&self, number: usize) -> Option<&Row> {
+        match self.rows.get_index(number) {
+            Some((row, _)) => Some(row),
+            None => None,
+        }
+    }
+
+    /// What is known of it.
+    #[inline(never)]
+    pub(crate) fn facts(&self, number: usize) -> Option<RowFacts> {
+        match self.rows.get_index(number) {
+            Some((_, facts)) => Some(*facts),
+            None => None,
+        }
+    }
+
+    /// The number of the row, which is noted where it wasn't.
+    #[inline(never)]
+    pub(crate) fn number(&mut self, row: &Row) -> Result<usize, AllocError> {
+        if let Some(number) = self.rows.get_index_of(row) {
+            return Ok(number);
+        }
+        let part = self.part(&row.affine.coef)?;
+        let opposed = self.opposed(&row.affine.coef)?;
+        let facts = RowFacts {
+            constant: row.affine.constant,
+            part,
+            opposed,
+            complement: None,
+        };
+        let (number, _) = self.rows.insert_full(*row, facts)?;
+        Ok(number)
+    }
+
+    /// The number of the linear part.
+    fn part(&mut self, coef: &[i128; 16]) -> Result<usize, AllocError> {
+        let part = Part { coef: *coef };
+        if let Some(number) = self.parts.get_index_of(&part) {
+            return Ok(number);
+        }
+        let (number, _) = self.parts.insert_full(part)?;
+        Ok(number)
+    }
+
+    /// The number of the opposite linear part, where its coefficients are numbers of 128 bits.
+    fn opposed(&mut self, coef: &[i128; 16]) -> Result<Option<usize>, AllocError> {
+        match negated(coef) {
+            Some(opposite) => {
+                let number = self.part(&opposite)?;
+                Ok(Some(number))
+            }
+            None => Ok(None),
+        }
+    }
+
+    /// The number of the row's complement, which is formed once.
+    #[inline(never)]
+    pub(crate) fn complement(&mut self, number: usize) -> Result<usize, RowFault> {
+        if let Some(known) = self.known_complement(number) {
+            return Ok(known);
+        }
+        let complement = match self.row(number) {
+            Some(row) => row.not(),
+            None => return Ok(number),
+        };
+        match complement {
+            Ok(row) => self.note_complement(number, &row),
+            Err(wide) => Err(RowFault::Wide(wide)),
+        }
+    }
+
+    /// The number of its complement, where that was formed already.
+    fn known_complement(&self, number: usize) -> Option<usize> {
+        let facts = self.facts(number)?;
+        facts.complement
+    }
+
+    /// Notes the row's complement.
+    fn note_complement(&mut self, number: usize, complement: &Row) -> Result<usize, RowFault> {
+        match self.number(complement) {
+            Ok(other) => {
+                if let Some(facts) = self.rows.get_index_mut(number) {
+                    facts.complement = Some(other);
+                }
+                Ok(other)
+            }
+            Err(error) => Err(RowFault::Memory(error)),
+        }
+    }
+}
+
+/// The coefficients with the opposite signs, where they have 128 bits.
+fn negated(coef: &[i128; 16]) -> Option<[i128; 16]> {
+    let mut opposite = *coef;
+    for place in 0..16 {
+        opposite[place] = opposite[place].checked_neg()?;
+    }
+    Some(opposite)
+}
