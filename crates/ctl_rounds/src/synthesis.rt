@@ -8,7 +8,7 @@ ghost use Rattle.ctl_rounds.specs.Finding.{AreFoundSoFar, BeginsExactly, IsInqui
 use crate::covering::extended;
 use crate::inquiry::Inquiry;
 use crate::tops::Tops;
-use decision_tree::{AffineRank, Family};
+use decision_tree::{AffineRank, Family, Tree};
 use loop_moves::{Parting, Plan, Question, Search};
 use num_domain::NumDomain;
 use part_families::UntilKind;
@@ -99,6 +99,9 @@ impl<'a, D: NumDomain> Inquiry<'a, D> {
         let Some(trees) = synthesis.proposed(search, question, parting)? else {
             return Ok(());
         };
+        if !self.may_add(trees.items(), found)? {
+            return Ok(());
+        }
         let family = self.premises.left_of(self.formula, self.smaller, trees)?;
         self.keep_if_it_adds(family, found)?;
         Ok(())
@@ -118,27 +121,29 @@ impl<'a, D: NumDomain> Inquiry<'a, D> {
         ensures exact { BeginsExactly self.now found.old.tops.items → OnOk result (BeginsExactly self.now found.new.tops.items) }
         ensures turns { found.new.turns ≡ found.old.turns }
     {
-        if self.adds(&family, found)? {
+        let entry = tree_at_entry(self.premises.graph, &family);
+        if self.changes(entry, found)? == Some(true) {
             self.keep(family, found)?;
         }
         Ok(())
     }
 
-    /// Whether the family says something of an input that has no claim yet.
-    fn adds(&self, family: &Family<AffineRank>, found: &Tops) -> Result<bool, AllocError>
-        requires inquiry { IsInquiry D.NumDomain.own self.now }
-        requires family { IsTop D.NumDomain.own self.now family.now }
-    {
-        let entry = tree_at_entry(self.premises.graph, family);
-        Ok(
-            match (
-                &found.cover,
-                extended(self.premises.alloc, &found.cover, entry)?,
-            ) {
-                (Some(cover), Some(next)) => next != *cover,
-                (None, Some(_)) => true,
-                (_, None) => false,
-            },
-        )
+    /// Whether what the check leaves of the trees may say something of an input that has no claim yet, by what is proposed at the entry.
+    fn may_add(&self, trees: &[Tree<AffineRank>], found: &Tops) -> Result<bool, AllocError> {
+        match trees.get(self.premises.graph.entry() as usize) {
+            Some(entry) => Ok(self.changes(entry, found)? != Some(false)),
+            None => Ok(true),
+        }
+    }
+
+    /// Whether the cover changes with the tree at the entry; none where that can't be joined to it.
+    fn changes(&self, entry: &Tree<AffineRank>, found: &Tops) -> Result<Option<bool>, AllocError> {
+        let Some(next) = extended(self.premises.alloc, &found.cover, entry)? else {
+            return Ok(None);
+        };
+        Ok(Some(match &found.cover {
+            Some(cover) => next != *cover,
+            None => true,
+        }))
     }
 }

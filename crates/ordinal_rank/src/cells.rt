@@ -8,33 +8,60 @@ use crate::sweeps::{before, begun_at, or_given_up};
 use control_flow::Transition;
 use decision_tree::{Pick, Tree, Why};
 use linear_cons::Wide;
-use loop_moves::{Rescaled, back_cases, function_of_multiple, have_rows};
+use loop_moves::{Arrows, Rescaled, back_cases, function_of_multiple, have_rows};
 use rank_synthesis::RankedCell;
 use std::alloc::{AllocError, Global};
 use tree_unify::{TreeFault, either, trim};
 
-/// Trees for the labels, at which this is done, that follow from ranks of cells at the heads of loops: each label's tree is made from those of its
-/// successors, the greatest label first; behind a jump no power above the highest rises. One that can't be made claims nothing. Nothing is promised of them: the check decides. The only error is
-/// want of memory.
-pub(crate) fn followed(
+/// Makes the trees of the labels in front, at which this is done, or those of the others, but not of heads and where nothing is done: each from those of its
+/// successors, the greatest label first; behind a jump no power above the highest rises. One that can't be made claims nothing. Nothing is promised of them: the
+/// check decides. The only error is want of memory.
+pub(crate) fn follow(
     alloc: Global,
     transitions: &[Transition],
-    cells: &[RankedCell],
     highest: Power,
-) -> Result<Vec<Tree<OrdinalRank>>, AllocError>
+    front: &[bool],
+    is_in_front: bool,
+    trees: &mut [Tree<OrdinalRank>],
+) -> Result<(), AllocError>
     requires few { length transitions.now ≤ 1024 }
     requires onward { AreOnward transitions.now }
-    ensures labels { IfOk result (λ trees. length trees.items ≡ length transitions.now) }
+    requires labels { length trees.old ≡ length transitions.now }
+    ensures { length trees.new ≡ length trees.old }
 {
-    let mut trees = given(alloc, transitions, cells)?;
     for label in (0..transitions.len() as u32).rev() {
         let transition = &transitions[label as usize];
-        if !is_given(transition) {
-            let made = or_given_up(before_cases(alloc, transition, &trees, highest))?;
+        if !is_given(transition) && front.get(label as usize) == Some(&is_in_front) {
+            let made = or_given_up(before_cases(alloc, transition, trees, highest))?;
             trees[label as usize] = made;
         }
     }
-    Ok(trees)
+    Ok(())
+}
+
+/// For each label whether it is in front: the tree at the entry is made of its tree, since a path leads from there to it through no head. The only error is
+/// want of memory.
+pub(crate) fn front(
+    alloc: Global,
+    transitions: &[Transition],
+    entry: u32,
+) -> Result<Vec<bool>, AllocError> {
+    let mut arrows = Arrows::none(alloc, transitions.len())?;
+    for (from, transition) in transitions.iter().enumerate() {
+        if !is_given(transition) {
+            match transition {
+                Transition::Pass { to }
+                | Transition::Assign { to, .. }
+                | Transition::Choose { to, .. } => arrows.add(from, *to as usize)?,
+                Transition::Test { yes, no, .. } => {
+                    arrows.add(from, *yes as usize)?;
+                    arrows.add(from, *no as usize)?;
+                }
+                Transition::End | Transition::Dead => {}
+            }
+        }
+    }
+    arrows.reached(alloc, entry as usize, 0)
 }
 
 /// The tree before what is done, where a value that has cases goes by these.
@@ -74,8 +101,8 @@ impl Rescaled for OrdinalRank {
     }
 }
 
-/// The trees before the pass: at the heads of loops what the cells claim, and elsewhere what is known without a step.
-fn given(
+/// The trees before the pass: at the heads of loops what the cells claim, and elsewhere what is known without a step. The only error is want of memory.
+pub(crate) fn given(
     alloc: Global,
     transitions: &[Transition],
     cells: &[RankedCell],

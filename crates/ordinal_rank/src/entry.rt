@@ -9,7 +9,7 @@ ghost use Rattle.decision_tree.specs.Evaluation.{eval};
 ghost use Rattle.decision_tree.specs.Plans.{plan_of};
 ghost use Rattle.ordinal_rank.specs.Families.{BoundsEnds, IsFit};
 
-use crate::cells::followed;
+use crate::cells::{follow, front, given};
 use crate::family::left_of;
 use crate::fitting::fit_or_given_up;
 use crate::jump::Power;
@@ -48,28 +48,21 @@ pub fn ranked<D: NumDomain>(
 {
     let transitions = transitions_of(alloc, graph, inv)?;
     let proposed = swept(alloc, inv, &transitions, delay)?;
-    let swept = at_entry(
-        alloc,
-        graph,
-        inv,
-        &transitions,
-        cover,
-        &Tree::Bottom,
-        &proposed,
-    )?;
+    let swept = if may_add(alloc, graph, cover, &Tree::Bottom, &proposed)? {
+        at_entry(alloc, graph, inv, &transitions, &proposed)?
+    } else {
+        Tree::Bottom
+    };
     let tree = with_synthesis(alloc, graph, inv, &transitions, cover, synthesises, swept)?;
     fit_or_given_up(alloc, &tree, &graph.program().names)
 }
 
-/// The tree at the entry of the family that the check leaves of the trees, or one without claims where what is proposed there claims nothing of an input
-/// of which neither the cover nor the tree says anything. The only error is want of memory.
+/// The tree at the entry of the family that the check leaves of the trees. The only error is want of memory.
 fn at_entry<D: NumDomain>(
     alloc: Global,
     graph: &Graph,
     inv: &Inv<D>,
     transitions: &[Transition],
-    cover: &Tree<AffineRank>,
-    ranked: &Tree<OrdinalRank>,
     proposed: &[Tree<OrdinalRank>],
 ) -> Result<Tree<OrdinalRank>, AllocError>
     requires invariants { AreInvariants D.has (length graph.now.names) (statements graph.now.body) inv.now }
@@ -78,13 +71,23 @@ fn at_entry<D: NumDomain>(
     requires trees { length proposed.now ≡ length (all_labels (statements graph.now.body)) }
     ensures { IfOk result (λ tree. BoundsEnds (length graph.now.names) (statements graph.now.body) (plan_of tree)) }
 {
-    if let Some(proposal) = proposed.get(graph.entry() as usize) {
-        if !adds(alloc, cover, ranked, proposal)? {
-            return Ok(Tree::Bottom);
-        }
-    }
     let family = left_of(alloc, graph, inv, transitions, proposed)?;
     tree_at_entry(graph, &family).copy(alloc)
+}
+
+/// Whether the proposed tree at the entry may claim something of an input of which neither the cover nor the ranks so far say anything. The only error is
+/// want of memory.
+fn may_add(
+    alloc: Global,
+    graph: &Graph,
+    cover: &Tree<AffineRank>,
+    ranked: &Tree<OrdinalRank>,
+    proposed: &[Tree<OrdinalRank>],
+) -> Result<bool, AllocError> {
+    match proposed.get(graph.entry() as usize) {
+        Some(proposal) => adds(alloc, cover, ranked, proposal),
+        None => Ok(true),
+    }
 }
 
 /// The tree with what the check leaves of ranks by linear programs, where these may propose some and as long as some input has no claim. The only
@@ -268,8 +271,14 @@ fn with_cells<D: NumDomain>(
     requires tree { BoundsEnds (length graph.now.names) (statements graph.now.body) (plan_of tree) }
     ensures { IfOk result (λ tree. BoundsEnds (length graph.now.names) (statements graph.now.body) (plan_of tree)) }
 {
-    let proposed = followed(alloc, transitions, cells, highest)?;
-    let more = at_entry(alloc, graph, inv, transitions, cover, &tree, &proposed)?;
+    let mut trees = given(alloc, transitions, cells)?;
+    let front = front(alloc, transitions, graph.entry())?;
+    follow(alloc, transitions, highest, &front, true, &mut trees)?;
+    if !may_add(alloc, graph, cover, &tree, &trees)? {
+        return Ok(tree);
+    }
+    follow(alloc, transitions, highest, &front, false, &mut trees)?;
+    let more = at_entry(alloc, graph, inv, transitions, &trees)?;
     joined(alloc, tree, &more)
 }
 

@@ -23,8 +23,8 @@ const MOST_WITHOUT_JUMP: u64 = 1 << 12;
 
 /// Trees for the labels, at which this is done, proposed for `AF exit`: in each sweep, from the greatest label to the first, a label's tree is
 /// made from those of its successors, and from sweep `max(delay, 1) + 1` on that of a loop's head is widened, where something is claimed there,
-/// and pruned. The sweeps end where one changes nothing, and at the latest after 32. Nothing is promised of them: the check decides. The only
-/// error is want of memory.
+/// and pruned. The sweeps end where one changes nothing, and at the latest after 32. All trees may have 2^20 nodes together, or 2^12 where no run begins anew; past that
+/// the greatest are given up. Nothing is promised of them: the check decides. The only error is want of memory.
 pub(crate) fn swept<D: NumDomain>(
     alloc: Global,
     inv: &Inv<D>,
