@@ -38,6 +38,7 @@ pub(crate) fn swept<D: NumDomain>(
 {
     let mut trees = begun(alloc, transitions)?;
     let mut size = FamilySize::of(alloc, &trees, most_nodes(transitions))?;
+    let mut due = vec![in alloc; true; transitions.len()]?;
     let first = delay.max(1).saturating_add(1);
     for number in 1..=SWEEPS {
         if !sweep(
@@ -47,6 +48,7 @@ pub(crate) fn swept<D: NumDomain>(
             number >= first,
             &mut trees,
             &mut size,
+            &mut due,
         )? {
             break;
         }
@@ -76,7 +78,8 @@ pub(crate) fn begun_at(transition: &Transition) -> Tree<OrdinalRank> {
     }
 }
 
-/// Makes the trees anew, the greatest label first; true where one differs from what it was.
+/// Makes the trees anew that may differ from what they were, the greatest label first; true where one does. The flags say which labels are due: where a successor's tree
+/// differs from what it was, or the own tree was given up. The head of a loop always is.
 fn sweep<D: NumDomain>(
     alloc: Global,
     inv: &Inv<D>,
@@ -84,19 +87,26 @@ fn sweep<D: NumDomain>(
     widening: bool,
     trees: &mut [Tree<OrdinalRank>],
     size: &mut FamilySize,
+    due: &mut [bool],
 ) -> Result<bool, AllocError>
     requires states { length inv.now ≡ length transitions.now }
     requires few { length transitions.now ≤ 1024 }
     requires onward { AreOnward transitions.now }
     requires trees { length trees.old ≡ length transitions.now }
+    requires flags { length due.old ≡ length transitions.now }
     ensures trees { length trees.new ≡ length trees.old }
+    ensures flags { length due.new ≡ length due.old }
 {
     let mut any = false;
     for label in (0..transitions.len() as u32).rev() {
-        if remake(alloc, inv, transitions, widening, label, trees)? {
-            any = true;
-            size.note(label, &trees[label as usize]);
-            give_up_greatest(transitions, trees, size);
+        if is_head(&transitions[label as usize]) || due[label as usize] {
+            due[label as usize] = false;
+            if remake(alloc, inv, transitions, widening, label, trees)? {
+                any = true;
+                note_before(transitions, label, due);
+                size.note(label, &trees[label as usize]);
+                give_up_greatest(transitions, trees, size, due);
+            }
         }
     }
     Ok(any)
@@ -107,15 +117,42 @@ fn give_up_greatest(
     transitions: &[Transition],
     trees: &mut [Tree<OrdinalRank>],
     size: &mut FamilySize,
+    due: &mut [bool],
 )
     requires few { length transitions.now ≤ 1024 }
     requires trees { length trees.old ≡ length transitions.now }
+    requires flags { length due.old ≡ length transitions.now }
     ensures trees { length trees.new ≡ length trees.old }
+    ensures flags { length due.new ≡ length due.old }
 {
     for _ in 0..transitions.len() {
-        if size.give_up_greatest(transitions, trees).is_none() {
+        let Some(label) = size.give_up_greatest(transitions, trees) else {
             return;
+        };
+        due[label as usize] = true;
+        note_before(transitions, label, due);
+    }
+}
+
+/// Notes that each label is due from which a step leads to this one.
+fn note_before(transitions: &[Transition], label: u32, due: &mut [bool])
+    requires { length due.old ≡ length transitions.now }
+    ensures { length due.new ≡ length due.old }
+{
+    for before in 0..transitions.len() {
+        if leads_to(&transitions[before], label) {
+            due[before] = true;
         }
+    }
+}
+
+/// Whether a step leads to the label.
+fn leads_to(transition: &Transition, label: u32) -> bool {
+    match transition {
+        Transition::End | Transition::Dead => false,
+        Transition::Pass { to } | Transition::Assign { to, .. } | Transition::Choose { to, .. } =>
+            *to == label,
+        Transition::Test { yes, no, .. } => *yes == label || *no == label,
     }
 }
 
