@@ -11,6 +11,7 @@ import os
 import subprocess
 import sys
 
+from loops import line_behind
 from timing import built
 
 
@@ -35,6 +36,7 @@ KINDS = [
     ("5 tests in a loop of so many statements", [(str(count), [], tests_in_loop(5, count)) for count in (100, 200, 400, 800)]),
     ("so many tests in a loop of 100 statements", [(str(count), [], tests_in_loop(count, 100)) for count in (4, 5, 6, 7)]),
     ("so many tests behind a loop, and 100 statements", [(str(count), [], tests_behind(count, 100)) for count in (6, 7, 8, 9)]),
+    ("so many tests of one variable behind a loop", [(str(count), [], line_behind(count)) for count in (50, 100, 200)]),
     ("formulas about 5 tests in a loop of 100", [(formula, ["--ctl", formula], MANY) for formula in ("AF exit", "AF AF exit", "A[x != 7 U AF exit]", "AG AF x <= 0")]),
 ]
 
