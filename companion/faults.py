@@ -24,7 +24,7 @@ OF_PROGRAMS = {
     14: "the text goes on past 65,536 bytes",
     17: "this stands in no body of a loop",
     18: "this divisor is 0",
-    19: "a function returns at its end alone, and with a value exactly where it gives one",
+    19: "a return stands where nothing follows, with a value exactly where one is given",
     20: "this function has another number of parameters",
 }
 OF_FORMULAS = {
@@ -284,7 +284,11 @@ def return_hint(place):
     """Of a `return` of a function, or of its `}` where one is missing."""
     if place.word() == "}":
         return "write return e; in front of this, or void in front of the function"
-    return "keep the value in a variable, and return it at the end; a function void f(..) returns none"
+    behind = [token.text for token in place.behind]
+    end = behind.index(";") + 1 if ";" in behind else len(behind)
+    if behind[end:end + 1] == ["else"] or behind[end:end + 2] == ["}", "else"]:
+        return "take the else behind this out: what follows an if that returns needs none"
+    return "something follows this: keep the value in a variable, and return it behind that; a function void f(..) returns none"
 
 
 def arguments_hint(place):

@@ -72,7 +72,8 @@ class OfPrograms(InFolder):
     def test_what_stands_outside_main(self):
         for text, place, hint in [("int main(int argc, char **argv) { }", "f.c:1:10", "main has no parameters"), ("int x;\nint main() { }", "f.c:1:6", "variables are declared inside"),
                                   ("int f(int x);\nint main() { }", "f.c:1:13", "there are no prototypes"), ("int main() { }\nvoid f() { }", "f.c:2:1", "the others stand above it"), ("void main() { }", "f.c:1:6", "int main() { .. }"),
-                                  ("int f() { }\nint main() { }", "f.c:1:11", "return e; in front of this"), ("int f(int a) { if (a) return 1; return a; }\nint main() { }", "f.c:1:23", "return it at the end"),
+                                  ("int f() { }\nint main() { }", "f.c:1:11", "return e; in front of this"), ("int f(int a) { while (a) return 1; return a; }\nint main() { }", "f.c:1:26", "return it behind that"),
+                                  ("int f(int a) { if (a > 0) { return 1; } else if (a < 0) return 2; return 3; }\nint main() { }", "f.c:1:29", "take the else behind this out"),
                                   ("int f(int a) { return a; }\nint main() { f(); }", "f.c:2:14", "as many arguments"),
                                   ("#include <stdio.h>\nint main() { }", "f.c:1:1", "take this line out"), ("#define N 3\nint main() { }", "f.c:1:1", "write what the name stands for"),
                                   ("\xef\xbb\xbfint main() { }".encode("latin-1"), "f.c:1:1", "byte order mark"), ("int main() { } }", "f.c:1:16", "a } too much")]:

@@ -1,5 +1,5 @@
 -- What a valid unit gives for its bodies to be put in place.
-use Rattle.std.proofs.Common.{◌≡◌, ℕ, ◌+◌, ◌<◌, ◌≤◌, nat_lt, Bool, true, false, Option, None, Some, List, [], ◌∷◌, length, inl, inr, refl, sym, subst, arith}
+use Rattle.std.proofs.Common.{◌≡◌, ℕ, ◌+◌, ◌<◌, ◌≤◌, nat_lt, Bool, true, false, Option, None, Some, List, [], ◌∷◌, length, refl, sym, subst, arith}
 use Rattle.std.proofs.lemmas.Bool.{ltb-true, ltb-false}
 use Rattle.step_meaning.specs.declared.expression.Op2.TheVariants.{Add, Sub, Mul, Less, LessEqual, Greater, GreaterEqual, Equal, NotEqual, And, Or}
 use Rattle.step_meaning.specs.Naming.{NamesBelow}
@@ -36,22 +36,23 @@ module _ (table : Table) (k : ℕ) (may : Bool) where
     all_go_below within empty h = tt
     all_go_below within (sequence first more) h = (goes_below within first h.0, all_go_below within more h.1)
 
-closing_below : (k : ℕ) (valued : Bool) (first : Command) (more : Commands) → IsClosing valued first more → AllGoBelow k (sequence first more)
-closing_below k valued (return value) empty h = (tt, tt)
-closing_below k valued (return value) (sequence s more) h = absurd h
-closing_below k valued (assign x e) more h = absurd h
-closing_below k valued (call t f a) more h = absurd h
-closing_below k valued skip more h = absurd h
-closing_below k valued break more h = absurd h
-closing_below k valued continue more h = absurd h
-closing_below k valued (if_else c a b) more h = absurd h
-closing_below k valued (while_loop c a b) more h = absurd h
-closing_below k valued (do_while b c) more h = absurd h
+module _ (table : Table) (k : ℕ) (valued : Bool) where
+  mutual
+    closing_below : (s : Command) → IsClosing table k valued s → GoesBelow k s
+    closing_below (return value) h = tt
+    closing_below (if_else c first second) h = (closes_below first h.0, closes_below second h.1)
+    closing_below (assign x e) h = goes_below table k false false (assign x e) h.0
+    closing_below (call t f a) h = goes_below table k false false (call t f a) h.0
+    closing_below skip h = goes_below table k false false skip h.0
+    closing_below break h = goes_below table k false false break h.0
+    closing_below continue h = goes_below table k false false continue h.0
+    closing_below (while_loop c a b) h = goes_below table k false false (while_loop c a b) h.0
+    closing_below (do_while b c) h = goes_below table k false false (do_while b c) h.0
 
-pub closes_below : (table : Table) (k : ℕ) (valued : Bool) (body : Commands) → Closes table k valued body → AllGoBelow k body
-closes_below table k valued empty h = tt
-closes_below table k valued (sequence first more) (inl closing) = closing_below k valued first more closing
-closes_below table k valued (sequence first more) (inr h) = (goes_below table k false false first h.0, closes_below table k valued more h.1)
+    pub closes_below : (body : Commands) → Closes table k valued body → AllGoBelow k body
+    closes_below empty h = tt
+    closes_below (sequence first empty) h = (closing_below first h, tt)
+    closes_below (sequence first (sequence next more)) h = (goes_below table k false false first h.0, closes_below (sequence next more) h.1)
 
 -- ── Names stand below ──
 

@@ -1,5 +1,5 @@
 -- The definitions on small programs.
-use Rattle.std.proofs.Common.{◌≡◌, ◌≢◌, ℕ, zero, suc, ◌+◌, ◌<◌, ◌≤◌, pos, true, false, IsTrue, None, Some, [], ◌∷◌, inr, refl, lit<, lit≤, arith}
+use Rattle.std.proofs.Common.{◌≡◌, ◌≢◌, ℕ, zero, suc, ◌+◌, ◌<◌, ◌≤◌, pos, true, false, IsTrue, None, Some, [], ◌∷◌, refl, lit<, lit≤, arith}
 use Rattle.step_meaning.specs.declared.expression.Op2.TheVariants.{Greater, Sub}
 use Rattle.step_meaning.specs.Syntax.{number, variable, pair}
 use Rattle.step_meaning.specs.Syntax as syntax
@@ -26,7 +26,7 @@ down_inlined : inlined_body down 1 ≡ syntax.sequence (syntax.assign 1 (variabl
 down_inlined = refl
 
 down_functions : (k : ℕ) → k < 1 → Closes down k (down k).valued (down k).body
-down_functions zero low = inr (((tt, tt), tt), refl)
+down_functions zero low = (((tt, tt), tt), refl)
 down_functions (suc k) low = absurd (omega arith)
 
 down_routines : AreRoutines down 1

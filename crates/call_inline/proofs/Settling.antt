@@ -43,14 +43,14 @@ module _ (table : Table) where
           let inner = body_settles body main true (mark c body empty ∷ rest) below h marked in
           (inner.0, replacing refl inner.1)
 
-    last_settles : (ending : Ending) (first : Command) (rest : List Task) (below : List Sharing) → IsLast ending first rest
+    last_settles : (ending : Ending) (first : Command) (rest : List Task) (below : List Sharing) → IsLast table k ending first rest
         → Settling (sharing k (command first ∷ rest) ∷ below)
     last_settles ending (return value) rest below h = (sharing k (command (return value) ∷ rest) ∷ below, settled refl)
     last_settles ending (assign x e) rest below h = absurd h
     last_settles ending skip rest below h = absurd h
     last_settles ending break rest below h = absurd h
     last_settles ending continue rest below h = absurd h
-    last_settles ending (if_else c first second) rest below h = absurd h
+    last_settles ending (if_else c first second) rest below h = (sharing k (command (if_else c first second) ∷ rest) ∷ below, settled refl)
     last_settles ending (while_loop c body step) rest below h = absurd h
     last_settles ending (call target f arguments) rest below h = absurd h
     last_settles ending (do_while body c) rest below h = absurd h

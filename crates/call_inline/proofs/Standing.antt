@@ -1,5 +1,5 @@
 -- What frames keep along their runs.
-use Rattle.std.proofs.Common.{◌≡◌, ℕ, ◌+◌, ◌<◌, ◌≤◌, Bool, true, false, IsTrue, Option, None, Some, List, [], ◌∷◌, ◌++◌, ◌⊎◌, inl, inr, refl, sym, subst}
+use Rattle.std.proofs.Common.{◌≡◌, ℕ, ◌+◌, ◌<◌, ◌≤◌, Bool, true, false, IsTrue, Option, None, Some, List, [], ◌∷◌, ◌++◌, ◌⊎◌, inl, inr, refl, sym, subst, append-nil}
 use Rattle.std.specs.Bool.{⊤, IsFalse}
 use Rattle.step_meaning.specs.Syntax.{Expression}
 use Rattle.call_meaning.specs.Units.{Command, Commands, assign, call, skip, return, break, continue, if_else, while_loop, do_while, empty, sequence, Table}
@@ -30,9 +30,11 @@ Fits (gives x) (Some e) = ⊤
 Fits (gives x) None = ⊥
 Fits drops value = ⊤
 
-abbrev pub IsLast : Ending → Command → List Task → Type 0
-IsLast ending (return value) [] = Fits ending value
-IsLast ending s rest = ⊥
+-- what a function's ending asks of it
+abbrev pub Asks : Ending → Bool → Type 0
+Asks ends valued = ⊥
+Asks (gives x) valued = IsTrue valued
+Asks drops valued = ⊤
 
 -- a frame whose value is awaited doesn't end without one
 abbrev pub MayEnd : Ending → Type 0
@@ -41,9 +43,15 @@ MayEnd (gives x) = ⊥
 MayEnd drops = ⊤
 
 module _ (table : Table) where
+  -- the last statement of a frame, which may return
+  abbrev pub IsLast : ℕ → Ending → Command → List Task → Type 0
+  IsLast k ending (return value) [] = Fits ending value
+  IsLast k ending (if_else c first second) [] = (valued : Bool) × Asks ending valued × Closes table k valued first × Closes table k valued second
+  IsLast k ending s rest = ⊥
+
   abbrev pub TasksStand : ℕ → Ending → List Task → Type 0
   TasksStand k ending [] = MayEnd ending
-  TasksStand k ending (command s ∷ rest) = IsLast ending s rest ⊎ (Stands table k (is_main ending) (has_mark rest) s × TasksStand k ending rest)
+  TasksStand k ending (command s ∷ rest) = IsLast k ending s rest ⊎ (Stands table k (is_main ending) (has_mark rest) s × TasksStand k ending rest)
   TasksStand k ending (mark c body step ∷ rest) =
       AllStand table k (is_main ending) true body × AllStand table k (is_main ending) (has_mark rest) step × TasksStand k ending rest
   TasksStand k ending (pass x a ∷ rest) = IsFalse (is_main ending) × TasksStand k ending rest
@@ -79,21 +87,22 @@ module _ (table : Table) where
     before_tasks k ending more rest h.1 j,
   )
 
-  last_unmarked : (ending : Ending) (s : Command) (rest : List Task) → IsLast ending s rest → has_mark rest ≡ false
-  last_unmarked ending (return value) [] last = refl
-  last_unmarked ending (return value) (t ∷ more) last = absurd last
-  last_unmarked ending (assign x e) rest last = absurd last
-  last_unmarked ending (call t f a) rest last = absurd last
-  last_unmarked ending skip rest last = absurd last
-  last_unmarked ending break rest last = absurd last
-  last_unmarked ending continue rest last = absurd last
-  last_unmarked ending (if_else c a b) rest last = absurd last
-  last_unmarked ending (while_loop c a b) rest last = absurd last
-  last_unmarked ending (do_while b c) rest last = absurd last
+  last_unmarked : (k : ℕ) (ending : Ending) (s : Command) (rest : List Task) → IsLast k ending s rest → has_mark rest ≡ false
+  last_unmarked k ending (return value) [] last = refl
+  last_unmarked k ending (return value) (t ∷ more) last = absurd last
+  last_unmarked k ending (if_else c a b) [] last = refl
+  last_unmarked k ending (if_else c a b) (t ∷ more) last = absurd last
+  last_unmarked k ending (assign x e) rest last = absurd last
+  last_unmarked k ending (call t f a) rest last = absurd last
+  last_unmarked k ending skip rest last = absurd last
+  last_unmarked k ending break rest last = absurd last
+  last_unmarked k ending continue rest last = absurd last
+  last_unmarked k ending (while_loop c a b) rest last = absurd last
+  last_unmarked k ending (do_while b c) rest last = absurd last
 
   pub behind_stands : (k : ℕ) (ending : Ending) (rest : List Task) → IsTrue (has_mark rest) → TasksStand k ending rest → TasksStand k ending (behind_mark rest)
   behind_stands k ending [] marked h = absurd (cc)
-  behind_stands k ending (command s ∷ rest) marked (inl last) = absurd (let unmarked = last_unmarked ending s rest last in cc)
+  behind_stands k ending (command s ∷ rest) marked (inl last) = absurd (let unmarked = last_unmarked k ending s rest last in cc)
   behind_stands k ending (command s ∷ rest) marked (inr h) = behind_stands k ending rest marked h.1
   behind_stands k ending (mark c body step ∷ rest) marked h = h.2
   behind_stands k ending (pass x a ∷ rest) marked h = behind_stands k ending rest marked h.1
@@ -103,19 +112,13 @@ module _ (table : Table) where
 
   pub from_stands : (k : ℕ) (ending : Ending) (rest : List Task) → IsTrue (has_mark rest) → TasksStand k ending rest → TasksStand k ending (from_mark rest)
   from_stands k ending [] marked h = absurd (cc)
-  from_stands k ending (command s ∷ rest) marked (inl last) = absurd (let unmarked = last_unmarked ending s rest last in cc)
+  from_stands k ending (command s ∷ rest) marked (inl last) = absurd (let unmarked = last_unmarked k ending s rest last in cc)
   from_stands k ending (command s ∷ rest) marked (inr h) = from_stands k ending rest marked h.1
   from_stands k ending (mark c body step ∷ rest) marked h = h
   from_stands k ending (pass x a ∷ rest) marked h = from_stands k ending rest marked h.1
   from_stands k ending (choose l ∷ rest) marked h = from_stands k ending rest marked h.1
   from_stands k ending (take x ∷ rest) marked h = absurd h
   from_stands k ending (forget ∷ rest) marked h = absurd h
-
-  -- what a function's ending asks of it
-  abbrev pub Asks : Ending → Bool → Type 0
-  Asks ends valued = ⊥
-  Asks (gives x) valued = IsTrue valued
-  Asks drops valued = ⊤
 
   fits_of : (ending : Ending) (valued : Bool) (value : Option Expression) → Asks ending valued → Gives valued value → Fits ending value
   fits_of ends valued value asks h = absurd asks
@@ -133,33 +136,47 @@ module _ (table : Table) where
   no_mark empty = refl
   no_mark (sequence first more) = no_mark more
 
-  closing_last : (ending : Ending) (valued : Bool) (s : Command) (more : Commands) → Asks ending valued → IsClosing valued s more → IsLast ending s (tasks_of more)
-  closing_last ending valued (return value) empty asks h = fits_of ending valued value asks h
-  closing_last ending valued (return value) (sequence s more) asks h = absurd h
-  closing_last ending valued (assign x e) more asks h = absurd h
-  closing_last ending valued (call t f a) more asks h = absurd h
-  closing_last ending valued skip more asks h = absurd h
-  closing_last ending valued break more asks h = absurd h
-  closing_last ending valued continue more asks h = absurd h
-  closing_last ending valued (if_else c a b) more asks h = absurd h
-  closing_last ending valued (while_loop c a b) more asks h = absurd h
-  closing_last ending valued (do_while b c) more asks h = absurd h
-
   may_end : (ending : Ending) (valued : Bool) → Asks ending valued → IsFalse valued → MayEnd ending
   may_end ends valued asks h = absurd asks
   may_end (gives x) valued asks h = absurd (cc)
   may_end drops valued asks h = tt
 
+  -- a statement of a function that isn't its last one, before tasks without a mark; and one that is the last and doesn't return
+  before_stands : (k : ℕ) (ending : Ending) (valued : Bool) (s : Command) (rest : List Task) → Asks ending valued → has_mark rest ≡ false
+      → Stands table k false false s → Stands table k (is_main ending) (has_mark rest) s
+  before_stands k ending valued s rest asks unmarked h =
+      subst (λ main. Stands table k main (has_mark rest) s) (sym (not_main ending valued asks))
+      (subst (λ within. Stands table k false within s) (sym unmarked) h)
+
+  plain_last : (k : ℕ) (ending : Ending) (valued : Bool) (s : Command) → Asks ending valued → Stands table k false false s × IsFalse valued
+      → TasksStand k ending (command s ∷ [])
+  plain_last k ending valued s asks h = inr (before_stands k ending valued s [] asks refl h.0, may_end ending valued asks h.1)
+
+  last_stands : (k : ℕ) (ending : Ending) (valued : Bool) (s : Command) → Asks ending valued → IsClosing table k valued s → TasksStand k ending (command s ∷ [])
+  last_stands k ending valued (return value) asks h = inl (fits_of ending valued value asks h)
+  last_stands k ending valued (if_else c a b) asks h = inl (valued, asks, h.0, h.1)
+  last_stands k ending valued (assign x e) asks h = plain_last k ending valued (assign x e) asks h
+  last_stands k ending valued (call t f a) asks h = plain_last k ending valued (call t f a) asks h
+  last_stands k ending valued skip asks h = plain_last k ending valued skip asks h
+  last_stands k ending valued break asks h = plain_last k ending valued break asks h
+  last_stands k ending valued continue asks h = plain_last k ending valued continue asks h
+  last_stands k ending valued (while_loop c a b) asks h = plain_last k ending valued (while_loop c a b) asks h
+  last_stands k ending valued (do_while b c) asks h = plain_last k ending valued (do_while b c) asks h
+
   -- a function's body stands in its frame
   pub body_stands : (k : ℕ) (ending : Ending) (valued : Bool) (body : Commands) → Asks ending valued → Closes table k valued body
       → TasksStand k ending (tasks_of body)
   body_stands k ending valued empty asks h = may_end ending valued asks h
-  body_stands k ending valued (sequence first more) asks (inl last) = inl (closing_last ending valued first more asks last)
-  body_stands k ending valued (sequence first more) asks (inr h) = inr (
-    subst (λ main. Stands table k main (has_mark (tasks_of more)) first) (sym (not_main ending valued asks))
-        (subst (λ within. Stands table k false within first) (sym (no_mark more)) h.0),
-    body_stands k ending valued more asks h.1,
+  body_stands k ending valued (sequence first empty) asks h = last_stands k ending valued first asks h
+  body_stands k ending valued (sequence first (sequence next more)) asks h = inr (
+    before_stands k ending valued first (tasks_of (sequence next more)) asks (no_mark (sequence next more)) h.0,
+    body_stands k ending valued (sequence next more) asks h.1,
   )
+
+  -- and so does what an `if` that is its last statement chooses
+  pub chosen_stands : (k : ℕ) (ending : Ending) (valued : Bool) (body : Commands) → Asks ending valued → Closes table k valued body
+      → TasksStand k ending (tasks_of body ++ [])
+  chosen_stands k ending valued body asks h = subst (TasksStand k ending) (sym (append-nil (tasks_of body))) (body_stands k ending valued body asks h)
 
   pub choices_stand : (k : ℕ) (ending : Ending) (valued : Bool) (free : List ℕ) (rest : List Task) → Asks ending valued → TasksStand k ending rest
       → TasksStand k ending (choices free ++ rest)

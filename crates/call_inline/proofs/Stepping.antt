@@ -11,7 +11,7 @@ use Rattle.call_meaning.specs.Frames.{Task, command, mark, pass, choose, take, f
 use Rattle.call_inline.proofs.OneStore.{Sharing, sharing, Shared, set, replaced, CommandSteps, TasksStep, FramesStep, Returns, AreDone}
 use Rattle.call_inline.proofs.Reading.{own_number, whole_number, own_test, whole_test}
 use Rattle.call_inline.proofs.Image.{ending_in, caller_base, image_tasks, image_body, image}
-use Rattle.call_inline.proofs.Standing.{has_mark, FramesStand, before_tasks, behind_stands, from_stands}
+use Rattle.call_inline.proofs.Standing.{has_mark, FramesStand, before_tasks, chosen_stands, behind_stands, from_stands}
 
 behind_more : (s : Statements) (left : Todo) → plain.behind_mark (items_of s ++ left) ≡ plain.behind_mark left
 behind_more syntax.empty left = refl
@@ -146,7 +146,21 @@ module _ (table : Table) (main : ℕ) where
         arrive c d (sharing k (from_mark rest) ∷ below) step.0 (sym step.1) (from_image k below rest (image table below) h.0)
             (inside, from_stands table k (ending_in table below) rest h.0 h.1, callers),
       )
-  command_on k (if_else e first second) rest below t c (inside, inl last, callers) step = absurd last
+  command_on k (if_else e first second) (other ∷ rest) below t c (inside, inl last, callers) step = absurd last
+  command_on k (if_else e first second) [] below t c (inside, inl last, callers) (inl step) =
+      let d : Configuration = record { todo = items_of (body_of k below first) ++ image table below; store = t } in (
+        d,
+        (inl (whole_test (table k).base t e true step.0, refl), refl),
+        arrive c d (sharing k (tasks_of first ++ []) ∷ below) step.1.0 (sym step.1.1) (before_image k below first [])
+            (inside, chosen_stands table k (ending_in table below) last.0 first last.1 last.2, callers),
+      )
+  command_on k (if_else e first second) [] below t c (inside, inl last, callers) (inr step) =
+      let d : Configuration = record { todo = items_of (body_of k below second) ++ image table below; store = t } in (
+        d,
+        (inr (whole_test (table k).base t e false step.0, refl), refl),
+        arrive c d (sharing k (tasks_of second ++ []) ∷ below) step.1.0 (sym step.1.1) (before_image k below second [])
+            (inside, chosen_stands table k (ending_in table below) last.0 second last.1 last.3, callers),
+      )
   command_on k (if_else e first second) rest below t c (inside, inr h, callers) (inl step) =
       let d : Configuration = record { todo = items_of (body_of k below first) ++ (tasks k below rest ++ image table below); store = t } in (
         d,
@@ -280,7 +294,21 @@ module _ (table : Table) (main : ℕ) where
         arrive c d (sharing k (from_mark rest) ∷ below) refl step.1 (step.0 ∙ from_image k below rest (image table below) h.0)
             (inside, from_stands table k (ending_in table below) rest h.0 h.1, callers),
       )
-  command_back k (if_else e first second) rest below t d (inside, inl last, callers) none step = absurd last
+  command_back k (if_else e first second) (other ∷ rest) below t d (inside, inl last, callers) none step = absurd last
+  command_back k (if_else e first second) [] below t d (inside, inl last, callers) none (inl step, same) =
+      let c : Shared = at (sharing k (tasks_of first ++ []) ∷ below) t in (
+        c,
+        inl (own_test (table k).base t e true step.0, (refl, refl)),
+        arrive c d (sharing k (tasks_of first ++ []) ∷ below) refl same (step.1 ∙ before_image k below first [])
+            (inside, chosen_stands table k (ending_in table below) last.0 first last.1 last.2, callers),
+      )
+  command_back k (if_else e first second) [] below t d (inside, inl last, callers) none (inr step, same) =
+      let c : Shared = at (sharing k (tasks_of second ++ []) ∷ below) t in (
+        c,
+        inr (own_test (table k).base t e false step.0, (refl, refl)),
+        arrive c d (sharing k (tasks_of second ++ []) ∷ below) refl same (step.1 ∙ before_image k below second [])
+            (inside, chosen_stands table k (ending_in table below) last.0 second last.1 last.3, callers),
+      )
   command_back k (if_else e first second) rest below t d (inside, inr h, callers) none (inl step, same) =
       let c : Shared = at (sharing k (tasks_of first ++ rest) ∷ below) t in (
         c,

@@ -225,25 +225,24 @@ freed_inside base (l ∷ more) = (tt, freed_inside base more)
 
 module _ (table : Table) (k : ℕ) (callee : ℕ → Callee) (base : ℕ) (ending : Ending)
     (calls_inside : (f : ℕ) (target : Option ℕ) (arguments : List Expression) → IsInside false (callee f target arguments)) where
-  closing_inside : (valued : Bool) (first : Command) (more : Commands) → IsClosing valued first more
-      → IsInside false (followed (inlined callee base ending first) (all_inlined callee base ending more))
-  closing_inside valued (return value) empty h = (ended_inside false ending base value, tt)
-  closing_inside valued (return value) (sequence s more) h = absurd h
-  closing_inside valued (assign x e) more h = absurd h
-  closing_inside valued (call t f a) more h = absurd h
-  closing_inside valued skip more h = absurd h
-  closing_inside valued break more h = absurd h
-  closing_inside valued continue more h = absurd h
-  closing_inside valued (if_else c a b) more h = absurd h
-  closing_inside valued (while_loop c a b) more h = absurd h
-  closing_inside valued (do_while b c) more h = absurd h
+  mutual
+    closing_inside : (valued : Bool) (s : Command) → IsClosing table k valued s → IsInside false (inlined callee base ending s)
+    closing_inside valued (return value) h = (ended_inside false ending base value, tt)
+    closing_inside valued (if_else c first second) h = ((closes_inside valued first h.0, closes_inside valued second h.1), tt)
+    closing_inside valued (assign x e) h = statement_inside table k false callee base ending calls_inside false (assign x e) h.0
+    closing_inside valued (call t f a) h = statement_inside table k false callee base ending calls_inside false (call t f a) h.0
+    closing_inside valued skip h = statement_inside table k false callee base ending calls_inside false skip h.0
+    closing_inside valued break h = statement_inside table k false callee base ending calls_inside false break h.0
+    closing_inside valued continue h = statement_inside table k false callee base ending calls_inside false continue h.0
+    closing_inside valued (while_loop c a b) h = statement_inside table k false callee base ending calls_inside false (while_loop c a b) h.0
+    closing_inside valued (do_while b c) h = statement_inside table k false callee base ending calls_inside false (do_while b c) h.0
 
-  pub closes_inside : (valued : Bool) (body : Commands) → Closes table k valued body → IsInside false (all_inlined callee base ending body)
-  closes_inside valued empty h = tt
-  closes_inside valued (sequence first more) (inl closing) = closing_inside valued first more closing
-  closes_inside valued (sequence first more) (inr h) =
-      inside_followed false (inlined callee base ending first) (all_inlined callee base ending more)
-      (statement_inside table k false callee base ending calls_inside false first h.0) (closes_inside valued more h.1)
+    pub closes_inside : (valued : Bool) (body : Commands) → Closes table k valued body → IsInside false (all_inlined callee base ending body)
+    closes_inside valued empty h = tt
+    closes_inside valued (sequence first empty) h = inside_followed false (inlined callee base ending first) syntax.empty (closing_inside valued first h) tt
+    closes_inside valued (sequence first (sequence next more)) h =
+        inside_followed false (inlined callee base ending first) (all_inlined callee base ending (sequence next more))
+        (statement_inside table k false callee base ending calls_inside false first h.0) (closes_inside valued (sequence next more) h.1)
 
 -- what calls become of the functions of a table jumps only inside its own loops; so `main` with them does
 module _ (table : Table) (main : ℕ) (routines : AreRoutines table main) where

@@ -31,10 +31,11 @@ abbrev mutual
   command (While c b s) = while_loop (expression c) (commands b) (commands s)
   command (Do b c) = do_while (commands b) (expression c)
 
--- a function gives a value where the last statement of its body is a `return` with one
+-- a function gives a value where the last statement of its body is a `return` with one, or an `if` whose first part gives one
 abbrev pub gives_value : Commands → Bool
 gives_value empty = false
 gives_value (sequence (return (Some e)) empty) = true
+gives_value (sequence (if_else c first second) empty) = gives_value first
 gives_value (sequence first more) = gives_value more
 
 -- the places at which the list says true, where its first is this place

@@ -1,6 +1,5 @@
 -- That a unit is valid has one proof at most, so that the type `Unit` may keep the fact. Nothing else is said here.
-use Rattle.std.specs.Prelude.{ℕ, Bool, true, false, ◌⊎◌, Option, None, Some, List, [], ◌∷◌, length, All}
-use Rattle.std.proofs.Common.{inl, inr, ap}
+use Rattle.std.specs.Prelude.{ℕ, Bool, true, false, Option, None, Some, List, [], ◌∷◌, length, All}
 use denote.Struct.Props as logic
 use Rattle.step_meaning.specs.Syntax.{Expression, negative, negation, pair, divided}
 use Rattle.step_meaning.specs.ValidOnce.{IsNumber-prop, IsTest-prop}
@@ -89,43 +88,24 @@ Gives-prop : (valued : Bool) (value : Option Expression) → IsProp (Gives value
 Gives-prop valued (Some e) = Prim.hlevel logic.props
 Gives-prop valued None = Prim.hlevel logic.props
 
-IsClosing-prop : (valued : Bool) (first : Command) (more : Commands) → IsProp (IsClosing valued first more)
-IsClosing-prop valued (return value) empty = Gives-prop valued value
-IsClosing-prop valued (return value) (sequence s more) = Prim.hlevel logic.props
-IsClosing-prop valued (assign x e) more = Prim.hlevel logic.props
-IsClosing-prop valued (call target f arguments) more = Prim.hlevel logic.props
-IsClosing-prop valued skip more = Prim.hlevel logic.props
-IsClosing-prop valued break more = Prim.hlevel logic.props
-IsClosing-prop valued continue more = Prim.hlevel logic.props
-IsClosing-prop valued (if_else c one other) more = Prim.hlevel logic.props
-IsClosing-prop valued (while_loop c body step) more = Prim.hlevel logic.props
-IsClosing-prop valued (do_while body c) more = Prim.hlevel logic.props
+module _ (table : Table) (k : ℕ) (valued : Bool) where
+  mutual
+    IsClosing-prop : (first : Command) → IsProp (IsClosing table k valued first)
+    IsClosing-prop (return value) = Gives-prop valued value
+    IsClosing-prop (if_else c one other) = Prim.hlevel (Closes-prop one, Closes-prop other, logic.props)
+    IsClosing-prop (assign x e) = Prim.hlevel (Stands-prop table k false false (assign x e), logic.props)
+    IsClosing-prop (call target f arguments) = Prim.hlevel (Stands-prop table k false false (call target f arguments), logic.props)
+    IsClosing-prop skip = Prim.hlevel (Stands-prop table k false false skip, logic.props)
+    IsClosing-prop break = Prim.hlevel (Stands-prop table k false false break, logic.props)
+    IsClosing-prop continue = Prim.hlevel (Stands-prop table k false false continue, logic.props)
+    IsClosing-prop (while_loop c body step) = Prim.hlevel (Stands-prop table k false false (while_loop c body step), logic.props)
+    IsClosing-prop (do_while body c) = Prim.hlevel (Stands-prop table k false false (do_while body c), logic.props)
 
--- a `return` that closes a function isn't one that may stand there
-apart : (table : Table) (k : ℕ) (valued : Bool) (first : Command) (more : Commands) → IsClosing valued first more → Stands table k false false first → ⊥
-apart table k valued (return value) more closing stands = absurd (cc)
-apart table k valued (assign x e) more closing stands = closing
-apart table k valued (call target f arguments) more closing stands = closing
-apart table k valued skip more closing stands = closing
-apart table k valued break more closing stands = closing
-apart table k valued continue more closing stands = closing
-apart table k valued (if_else c one other) more closing stands = closing
-apart table k valued (while_loop c body step) more closing stands = closing
-apart table k valued (do_while body c) more closing stands = closing
-
--- of two facts that exclude each other
-either-prop : {A B : Type 0} → IsProp A → IsProp B → (A → B → ⊥) → IsProp (A ⊎ B)
-either-prop one other excluded (inl a) (inl b) = ap inl (one a b)
-either-prop one other excluded (inl a) (inr b) = absurd (excluded a b)
-either-prop one other excluded (inr a) (inl b) = absurd (excluded b a)
-either-prop one other excluded (inr a) (inr b) = ap inr (other a b)
-
-Closes-prop : (table : Table) (k : ℕ) (valued : Bool) (body : Commands) → IsProp (Closes table k valued body)
-Closes-prop table k valued empty = Prim.hlevel logic.props
-Closes-prop table k valued (sequence first more) =
-    let rest : IsProp (Stands table k false false first × Closes table k valued more) =
-    Prim.hlevel (Stands-prop table k false false first, Closes-prop table k valued more, logic.props) in
-    either-prop (IsClosing-prop valued first more) rest (λ closing h. apart table k valued first more closing h.0)
+    Closes-prop : (body : Commands) → IsProp (Closes table k valued body)
+    Closes-prop empty = Prim.hlevel logic.props
+    Closes-prop (sequence first empty) = IsClosing-prop first
+    Closes-prop (sequence first (sequence next more)) =
+        Prim.hlevel (Stands-prop table k false false first, Closes-prop (sequence next more), logic.props)
 
 AreRoutines-prop : (table : Table) (main : ℕ) → IsProp (AreRoutines table main)
 AreRoutines-prop table main =

@@ -1,6 +1,6 @@
 -- What the bodies of functions and of `main` keep to: calls go to functions before their own, of which a value is asked only where it is one that
--- gives a value; each `break` and `continue` stands inside the body of a loop; and a function returns only at its end.
-use Rattle.std.specs.Prelude.{ℕ, ◌<◌, Bool, true, false, IsTrue, ◌⊎◌, Option, None, Some, ⊤}
+-- gives a value; each `break` and `continue` stands inside the body of a loop; and a function returns only where nothing of it follows.
+use Rattle.std.specs.Prelude.{ℕ, ◌<◌, Bool, true, false, IsTrue, Option, None, Some, ⊤}
 use Rattle.step_meaning.specs.Syntax.{Expression}
 use Rattle.std.specs.Bool.{IsFalse}
 use Rattle.call_meaning.specs.Units.{Command, Commands, assign, call, skip, return, break, continue, if_else, while_loop, do_while, empty, sequence, Table}
@@ -33,14 +33,18 @@ abbrev pub Gives : Bool → Option Expression → Type 0
 Gives valued (Some e) = IsTrue valued
 Gives valued None = IsFalse valued
 
-abbrev pub IsClosing : Bool → Command → Commands → Type 0
-IsClosing valued (return value) empty = Gives valued value
-IsClosing valued s more = ⊥
+-- A function's body: a function that gives a value ends with its `return`, whichever way its run goes. A `return` is the last statement of the body, or of a
+-- part of an `if` that is the last.
+abbrev mutual
+  pub IsClosing : Table → ℕ → Bool → Command → Type 0
+  IsClosing table k valued (return value) = Gives valued value
+  IsClosing table k valued (if_else c first second) = Closes table k valued first × Closes table k valued second
+  IsClosing table k valued s = Stands table k false false s × IsFalse valued
 
--- a function's body: a function that gives a value ends with its `return`
-abbrev pub Closes : Table → ℕ → Bool → Commands → Type 0
-Closes table k valued empty = IsFalse valued
-Closes table k valued (sequence first more) = IsClosing valued first more ⊎ (Stands table k false false first × Closes table k valued more)
+  pub Closes : Table → ℕ → Bool → Commands → Type 0
+  Closes table k valued empty = IsFalse valued
+  Closes table k valued (sequence first empty) = IsClosing table k valued first
+  Closes table k valued (sequence first (sequence next more)) = Stands table k false false first × Closes table k valued (sequence next more)
 
 -- a table of functions and of `main`, which has this number
 pub record AreRoutines (table : Table) (main : ℕ) : Type 0 where

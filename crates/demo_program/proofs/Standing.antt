@@ -57,7 +57,7 @@ within count at (suc left) first = ((omega arith, tt), ((omega arith, tt), ((ome
 
 -- the names in the loop, and what is around its statements
 abbrev scope : Scope
-scope = record { others = 0; declared = demo_names; visible = demo_names; free = slice_set (slice_set (replicate 16 false) 0 true) 1 true; returns = [] }
+scope = record { others = 0; declared = demo_names; visible = demo_names; free = slice_set (slice_set (replicate 16 false) 0 true) 1 true }
 
 abbrev around : Context
 around = deeper (looping (at_top no_functions Main))

@@ -13,13 +13,15 @@ use Rattle.typed_expressions.specs.declared.fault.Rule.TheVariants.{Twice, Varia
 use Rattle.elaboration.specs.declared.context.Body.{Body}
 use Rattle.elaboration.specs.declared.context.Body.TheVariants.{Main, Valued, Valueless}
 use Rattle.elaboration.specs.Contexts.{Context, deeper, looping}
+use Rattle.elaboration.specs.Guards.{guards, around_statement, around_rest}
 use Rattle.elaboration.specs.Functions.{signature_of}
 use Rattle.typed_expressions.specs.Scopes.{Scope, is_among, place_of, with_variable, most_variables, declare}
 use Rattle.typed_expressions.specs.Faults.{fault}
 use Rattle.typed_expressions.specs.Expressions.{unknown_name, expression_typed, expression_faults, number_faults}
-use Rattle.elaboration.specs.Statements.{assigned, stepped, action_meaning, action_faults, simple_meaning, simple_faults, optional_simple_walked, name_faults, again_faults, is_bare, initialiser_walked, arguments_faults, arguments_meaning, signature_faults, is_wanted, call_walked, return_faults, returned_value, return_walked, part_walked, parts_walked, declaration_walked, start_walked, optional_faults, optional_test, statement_walked, otherwise_walked, items_walked}
+use Rattle.elaboration.specs.Statements.{assigned, stepped, action_meaning, action_faults, simple_meaning, simple_faults, optional_simple_walked, name_faults, again_faults, is_bare, initialiser_walked, arguments_faults, arguments_meaning, signature_faults, is_wanted, call_walked, misplaced, return_faults, returned_value, followed, part_walked, parts_walked, declaration_walked, start_walked, optional_faults, optional_test, statement_walked, otherwise_walked, items_walked}
 use Rattle.typed_expressions.proofs.Names.{among_last, among_cases, place_below}
 use Rattle.elaboration.proofs.Scoping.{statement_visible}
+use Rattle.elaboration.proofs.Following.{follow}
 use Rattle.elaboration.proofs.Declared.{among_with, no_fewer, count_kept, among_kept, parts_keep, statement_keeps, otherwise_keeps, items_keep}
 use Rattle.typed_expressions.proofs.Valid.{IsSound, both_none, some_is_not_none, name_typed, expression_is_number, expression_is_test}
 
@@ -30,6 +32,11 @@ AllSorted vars xs = AreSorted vars (of_list xs)
 valid_append : (vars : ℕ) (xs ys : List Command) → AllSorted vars xs → AllSorted vars ys → AllSorted vars (xs ++ ys)
 valid_append vars [] ys first second = second
 valid_append vars (x ∷ xs) ys first second = (first.0, valid_append vars xs ys first.1 second)
+
+valid_followed : (vars : ℕ) (guarded : Bool) (xs ys : List Command) → AllSorted vars xs → AllSorted vars ys → AllSorted vars (followed guarded xs ys)
+valid_followed vars guarded xs ys first second =
+    follow (AllSorted vars) guarded xs ys (valid_append vars xs ys first second)
+    (λ test one other is. let sorted = subst (AllSorted vars) is first in ((sorted.0.0, sorted.0.1, second), tt))
 
 -- ── Simple statements ──
 
@@ -160,19 +167,14 @@ optional_valid vars scope sound room None clean = tt
 
 -- ── Returns ──
 
-return_room : {vars : ℕ} (body : Body) (scope : Scope) (at : ℕ) (value : Option Expression)
-    → length (return_walked body scope at value).scope.declared ≤ vars → length scope.declared ≤ vars
-return_room Main scope at value later = later
-return_room Valued scope at value later = later
-return_room Valueless scope at value later = later
-
-return_valid : (body : Body) (vars : ℕ) (scope : Scope) → IsSound scope → length scope.declared ≤ vars → (at : ℕ) (value : Option Expression)
-    → return_faults body scope at value ≡ [] → ValueIsNumber vars (returned_value body scope value)
-return_valid Main vars scope sound room at value clean = tt
-return_valid Valued vars scope sound room at (Some e) clean = expression_is_number vars scope sound room e clean
-return_valid Valued vars scope sound room at None clean = tt
-return_valid Valueless vars scope sound room at (Some e) clean = absurd (some_is_not_none _ _ clean)
-return_valid Valueless vars scope sound room at None clean = tt
+return_valid : (body : Body) (last : Bool) (vars : ℕ) (scope : Scope) → IsSound scope → length scope.declared ≤ vars → (at : ℕ) (value : Option Expression)
+    → return_faults body last scope at value ≡ [] → ValueIsNumber vars (returned_value body scope value)
+return_valid Main last vars scope sound room at value clean = tt
+return_valid Valued last vars scope sound room at (Some e) clean =
+    expression_is_number vars scope sound room e (both_none (misplaced last at) (number_faults scope e) clean).1
+return_valid Valued last vars scope sound room at None clean = tt
+return_valid Valueless last vars scope sound room at (Some e) clean = absurd (some_is_not_none _ _ clean)
+return_valid Valueless last vars scope sound room at None clean = tt
 
 -- ── Statements ──
 
@@ -242,7 +244,7 @@ mutual
         ),
         tt,
       )
-  statement_valid c vars scope sound (statement_at at (return value)) later clean = (return_valid c.body vars scope sound (return_room c.body scope at value later) at value clean, tt)
+  statement_valid c vars scope sound (statement_at at (return value)) later clean = (return_valid c.body c.last vars scope sound later at value clean, tt)
   statement_valid c vars scope sound (statement_at at break) later clean = (tt, tt)
   statement_valid c vars scope sound (statement_at at continue) later clean = (tt, tt)
 
@@ -261,9 +263,10 @@ mutual
       let first = parts_valid c vars scope sound (d.part ∷ d.more) (omega (arith, grown, later)) parts.0 in
       valid_append vars (declaration_walked c scope d).body (items_walked c behind more).body first.0 (items_valid c vars behind first.1 more later parts.1)
   items_valid c vars scope sound (statement s more) later faultless =
-      let behind = (statement_walked c scope s).scope in
-      let parts = both_none (statement_walked c scope s).faults (items_walked c behind more).faults faultless in
-      let grown = items_keep c _ (count_kept (length behind.declared)) behind more (omega arith) in
-      valid_append vars (statement_walked c scope s).body (items_walked c behind more).body
-      (statement_valid c vars scope sound s (omega (arith, grown, later)) parts.0)
-      (items_valid c vars behind (statement_sound c scope s sound) more later parts.1)
+      let inner = around_statement c s more in
+      let w = statement_walked inner scope s in
+      let rest = items_walked (around_rest c s) w.scope more in
+      let parts = both_none w.faults rest.faults faultless in
+      let grown = items_keep (around_rest c s) _ (count_kept (length w.scope.declared)) w.scope more (omega arith) in
+      valid_followed vars (guards c s) w.body rest.body (statement_valid inner vars scope sound s (omega (arith, grown, later)) parts.0)
+      (items_valid (around_rest c s) vars w.scope (statement_sound inner scope s sound) more later parts.1)

@@ -1,15 +1,14 @@
 -- What is true of the declared names whatever is declared.
-use Rattle.std.proofs.Common.{◌≡◌, ◌≢◌, ℕ, ◌+◌, ◌≤◌, Bool, true, false, ◌&&◌, nat_lt, List, [], ◌∷◌, ◌++◌, length, Option, slice_set, refl, arith, if◌then◌else◌, AllPairs}
+use Rattle.std.proofs.Common.{◌≡◌, ◌≢◌, ℕ, ◌+◌, ◌≤◌, Bool, true, false, ◌&&◌, nat_lt, List, [], ◌∷◌, ◌++◌, length, slice_set, refl, arith, if◌then◌else◌, AllPairs}
 use Rattle.std.proofs.lemmas.Bool.{ltb-true}
 use Rattle.std.proofs.lemmas.List.{length-append}
 use Rattle.std.proofs.lemmas.List.Quantifiers.{all_pairs_push}
-use Rattle.concrete_syntax.specs.Trees.{Expression, Name as Named, Part, Statement, statement_at, simple, calls, gives, skip, braces, conditional, while_loop, do_loop, for_loop, return, break, continue, Otherwise, without, otherwise, Items, none, declaration, statement, Start, starts_with_nothing, starts_with, declares}
-use Rattle.elaboration.specs.declared.context.Body.{Body}
-use Rattle.elaboration.specs.declared.context.Body.TheVariants.{Main, Valued, Valueless}
+use Rattle.concrete_syntax.specs.Trees.{Name as Named, Part, Statement, statement_at, simple, calls, gives, skip, braces, conditional, while_loop, do_loop, for_loop, return, break, continue, Otherwise, without, otherwise, Items, none, declaration, statement, Start, starts_with_nothing, starts_with, declares}
 use Rattle.elaboration.specs.Contexts.{Context, deeper, looping}
+use Rattle.elaboration.specs.Guards.{around_statement, around_rest}
 use Rattle.elaboration.specs.Elaborates.{behind_parameters}
 use Rattle.typed_expressions.specs.Scopes.{Scope, Name, is_among, place_of, with_variable, most_variables, declare}
-use Rattle.elaboration.specs.Statements.{part_walked, parts_walked, declaration_walked, return_walked, statement_walked, otherwise_walked, items_walked, start_walked}
+use Rattle.elaboration.specs.Statements.{part_walked, parts_walked, declaration_walked, statement_walked, otherwise_walked, items_walked, start_walked}
 use Rattle.typed_expressions.proofs.Names.{among_front, differs}
 
 -- a predicate on how many variables others have, the names of variables, and which are declared without initialiser
@@ -41,11 +40,6 @@ start_keeps c P kept scope starts_with_nothing h = h
 start_keeps c P kept scope (starts_with s) h = h
 start_keeps c P kept scope (declares d) h = parts_keep c P kept scope (d.part ∷ d.more) h
 
-return_keeps : (body : Body) (P : OnNames) (scope : Scope) (at : ℕ) (value : Option Expression) → Over P scope → Over P (return_walked body scope at value).scope
-return_keeps Main P scope at value h = h
-return_keeps Valued P scope at value h = h
-return_keeps Valueless P scope at value h = h
-
 mutual
   pub statement_keeps : (c : Context) (P : OnNames) → IsKept P → (scope : Scope) (s : Statement) → Over P scope → Over P (statement_walked c scope s).scope
   statement_keeps c P kept scope (statement_at at (simple s)) h = h
@@ -59,7 +53,7 @@ mutual
   statement_keeps c P kept scope (statement_at at (do_loop body end test)) h = statement_keeps (looping c) P kept scope body h
   statement_keeps c P kept scope (statement_at at (for_loop start test step body)) h =
       statement_keeps (looping c) P kept (start_walked (deeper c) scope start).scope body (start_keeps (deeper c) P kept scope start h)
-  statement_keeps c P kept scope (statement_at at (return value)) h = return_keeps c.body P scope at value h
+  statement_keeps c P kept scope (statement_at at (return value)) h = h
   statement_keeps c P kept scope (statement_at at break) h = h
   statement_keeps c P kept scope (statement_at at continue) h = h
 
@@ -71,7 +65,8 @@ mutual
   items_keep c P kept scope none h = h
   items_keep c P kept scope (declaration d more) h =
       items_keep c P kept (declaration_walked c scope d).scope more (parts_keep c P kept scope (d.part ∷ d.more) h)
-  items_keep c P kept scope (statement s more) h = items_keep c P kept (statement_walked c scope s).scope more (statement_keeps c P kept scope s h)
+  items_keep c P kept scope (statement s more) h =
+      let inner = around_statement c s more in items_keep (around_rest c s) P kept (statement_walked inner scope s).scope more (statement_keeps inner P kept scope s h)
 
 -- a name stays a variable
 pub among_with : (y : Name) (others : ℕ) (names : List Name) (x : Name) → is_among names y ≡ true → is_among (with_variable others names x) y ≡ true

@@ -1,3 +1,5 @@
+pub mod Following
+pub mod Guarding
 pub mod Weights
 pub mod Signatures
 pub mod Scoping
@@ -9,7 +11,6 @@ pub mod Jumps
 pub mod Reading
 pub mod Setting
 pub mod Returns
-pub mod Ending
 pub mod Deepest
 pub mod Behind
 pub mod Tabled

@@ -16,7 +16,8 @@ use Rattle.concrete_syntax.specs.Trees.{Name as Named, Function}
 use Rattle.typed_expressions.specs.declared.fault.Rule.TheVariants.{Twice}
 use Rattle.elaboration.specs.declared.functions.Signature.{Signature}
 use Rattle.elaboration.specs.Contexts.{at_top, body_of}
-use Rattle.elaboration.specs.Elaborates.{Made, made_of, parameters_of, behind_parameters, parameters_faults, entered, function_walked, ends_with_return, returns_faults, twice_faults, function_faults, functions_faults, signature, functions_behind, others_behind, function_made, functions_made, known_behind, variables_behind}
+use Rattle.elaboration.specs.Guards.{items_return}
+use Rattle.elaboration.specs.Elaborates.{Made, made_of, parameters_of, behind_parameters, parameters_faults, entered, function_walked, missing_faults, twice_faults, function_faults, functions_faults, signature, functions_behind, others_behind, function_made, functions_made, known_behind, variables_behind}
 use Rattle.typed_expressions.specs.Faults.{fault}
 use Rattle.elaboration.specs.Functions.{Functions, signature_of}
 use Rattle.typed_expressions.specs.Scopes.{Scope, Name, is_among, place_of, no_names, with_variable, declare}
@@ -24,10 +25,10 @@ use Rattle.elaboration.specs.Statements.{Walked, name_faults}
 use Rattle.elaboration.proofs.Behind.{others_few}
 use Rattle.elaboration.proofs.Bodies.{declared_known, items_valid}
 use Rattle.elaboration.proofs.Declared.{count_kept, parameters_keep, items_keep}
-use Rattle.elaboration.proofs.Jumps.{HasFunction, HasFunctions, items_inside}
+use Rattle.elaboration.proofs.Jumps.{HasFunction, HasFunctions}
 use Rattle.typed_expressions.proofs.Names.{among_cases, place_below, place_front, place_last}
 use Rattle.elaboration.proofs.Signatures.{pushed, with_new}
-use Rattle.elaboration.proofs.Returns.{all_returns, items_counted, closes, gives_as_said}
+use Rattle.elaboration.proofs.Returns.{items_closes, closes_gives, none_missing}
 use Rattle.elaboration.proofs.Setting.{Ready, declared_ready, FreeBelow, free_below_kept, items_set}
 use Rattle.elaboration.proofs.Tabled.{vars_of}
 use Rattle.typed_expressions.proofs.Valid.{both_none, some_is_not_none}
@@ -198,11 +199,7 @@ pub record IsGood (table : Table) (k : ℕ) : Type 0 where
   pub params : (table k).params ≤ (table k).vars
   pub free : (y : ℕ) → IsTrue (among (table k).free y) → y < (table k).vars
 
--- parameters are no returns, and no variables without initialiser
-returns_kept : (scope : Scope) (xs : List Named) → (behind_parameters scope xs).returns ≡ scope.returns
-returns_kept scope [] = refl
-returns_kept scope (x ∷ more) = returns_kept (declare scope x.bytes false) more
-
+-- no parameter is a variable without initialiser
 pub none_free : (y : ℕ) → IsTrue (slice_index_or (replicate 16 false) y false) → y < 0
 none_free y h = absurd (false≢true (sym (by_low (nat_lt y 16) refl) ∙ h))
   where
@@ -221,21 +218,18 @@ module _ (table : Table) (k base : ℕ) (functions : Functions) (others : ℕ) (
       let own = parameters_of tree.parameters in
       let c = at_top functions (body_of tree.valued) in
       let start = entered others tree in
-      let misplaced = returns_faults (ends_with_return found.body) tree.valued found.scope.returns tree.behind in
-      let behind_name = both_none (twice_faults functions tree.name) (parameters_faults (no_names others) own ++ (found.faults ++ misplaced)) clean in
-      let behind_all = both_none (parameters_faults (no_names others) own) (found.faults ++ misplaced) behind_name.1 in
-      let last = both_none found.faults misplaced behind_all.1 in
+      let missing = missing_faults tree.valued (items_return tree.items) tree.behind in
+      let behind_name = both_none (twice_faults functions tree.name) (parameters_faults (no_names others) own ++ (found.faults ++ missing)) clean in
+      let behind_all = both_none (parameters_faults (no_names others) own) (found.faults ++ missing) behind_name.1 in
+      let last = both_none found.faults missing behind_all.1 in
       let vars : (table k).vars ≡ length found.scope.declared = ap (λ (r : Routine). r.vars) is ∙ ap length row.names in
       let params : (table k).params ≡ length start.declared = ap (λ (r : Routine). r.params) is ∙ row.params in
       let free : (table k).free ≡ places_from 0 found.scope.free = ap (λ (r : Routine). r.free) is ∙ ap (places_from 0) row.free in
       let body : (table k).body ≡ of_list found.body = ap (λ (r : Routine). r.body) is ∙ row.body in
-      let counted = items_counted tree.valued c refl start tree.items last.0 in
-      let count : length found.scope.returns ≡ all_returns found.body = counted.count ∙ omega (arith, ap length (returns_kept (no_names others) own)) in
+      let closed = items_closes table k tree.valued c has (refl, refl, refl) start tree.items last.0 (none_missing tree.valued (items_return tree.items) tree.behind last.1) in
       let gives : (table k).valued ≡ tree.valued =
-      ap (λ (r : Routine). r.valued) is ∙ ap gives_value row.body
-      ∙ gives_as_said tree.valued found.body found.scope.returns tree.behind counted.give last.1
+      ap (λ (r : Routine). r.valued) is ∙ ap gives_value row.body ∙ closes_gives table k tree.valued (of_list found.body) closed
       in
-      let inside = items_inside table k c has start tree.items last.0 in
       let shown = given (table k) in
       let grown = items_keep c _ (count_kept (length start.declared)) start tree.items (omega arith) in
       let sees = λ (y : ℕ) (low : y < length start.declared).
@@ -252,8 +246,7 @@ module _ (table : Table) (k base : ℕ) (functions : Functions) (others : ℕ) (
         record {
           closes =
               subst (λ v. Closes table k v (table k).body) (sym gives)
-              (subst (λ b. Closes table k tree.valued b) (sym body)
-              (closes table k tree.valued found.body found.scope.returns tree.behind inside counted.give count last.1));
+              (subst (λ b. Closes table k tree.valued b) (sym body) closed);
           set = subst (λ b. AreSet table (table k).vars shown b) (sym body) set;
           params = omega (arith, params, vars, grown);
           free = λ y h.

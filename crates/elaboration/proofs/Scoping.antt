@@ -1,20 +1,14 @@
 -- Behind items all that could be used before them can be used still.
-use Rattle.std.proofs.Common.{◌≡◌, ℕ, Option, List, [], ◌∷◌, ◌++◌, length, take, refl, ap, sym, ◌∙◌}
+use Rattle.std.proofs.Common.{◌≡◌, ℕ, List, [], ◌∷◌, ◌++◌, length, take, refl, ap, sym, ◌∙◌}
 use Rattle.std.proofs.lemmas.List.{append-nil, append_assoc}
 use Rattle.std.proofs.Math.Seq.{take-append_seam}
-use Rattle.concrete_syntax.specs.Trees.{Expression, Part, Statement, statement_at, simple, calls, gives, skip, braces, conditional, while_loop, do_loop, for_loop, return, break, continue, Otherwise, without, otherwise, Items, none, declaration, statement, Start, starts_with_nothing, starts_with, declares}
-use Rattle.elaboration.specs.declared.context.Body.{Body}
-use Rattle.elaboration.specs.declared.context.Body.TheVariants.{Main, Valued, Valueless}
+use Rattle.concrete_syntax.specs.Trees.{Part, Statement, statement_at, simple, calls, gives, skip, braces, conditional, while_loop, do_loop, for_loop, return, break, continue, Otherwise, without, otherwise, Items, none, declaration, statement, Start, starts_with_nothing, starts_with, declares}
 use Rattle.elaboration.specs.Contexts.{Context, deeper, looping}
+use Rattle.elaboration.specs.Guards.{around_statement, around_rest}
 use Rattle.typed_expressions.specs.Scopes.{Scope, Name, close}
-use Rattle.elaboration.specs.Statements.{part_walked, parts_walked, declaration_walked, return_walked, statement_walked, otherwise_walked, items_walked, start_walked}
+use Rattle.elaboration.specs.Statements.{part_walked, parts_walked, declaration_walked, statement_walked, otherwise_walked, items_walked, start_walked}
 
 -- a statement leaves what may be used as it is
-return_visible : (body : Body) (scope : Scope) (at : ℕ) (value : Option Expression) → (return_walked body scope at value).scope.visible ≡ scope.visible
-return_visible Main scope at value = refl
-return_visible Valued scope at value = refl
-return_visible Valueless scope at value = refl
-
 mutual
   pub statement_visible : (c : Context) (scope : Scope) (s : Statement) → (statement_walked c scope s).scope.visible ≡ scope.visible
   statement_visible c scope (statement_at at (simple s)) = refl
@@ -27,7 +21,7 @@ mutual
   statement_visible c scope (statement_at at (while_loop test body)) = statement_visible (looping c) scope body
   statement_visible c scope (statement_at at (do_loop body end test)) = statement_visible (looping c) scope body
   statement_visible c scope (statement_at at (for_loop start test step body)) = refl
-  statement_visible c scope (statement_at at (return value)) = return_visible c.body scope at value
+  statement_visible c scope (statement_at at (return value)) = refl
   statement_visible c scope (statement_at at break) = refl
   statement_visible c scope (statement_at at continue) = refl
 
@@ -57,8 +51,10 @@ items_extend c scope (declaration d more) =
     extends_on scope.visible (declaration_walked c scope d).scope.visible (items_walked c (declaration_walked c scope d).scope more).scope.visible
     (parts_extend c scope (d.part ∷ d.more)) (items_extend c (declaration_walked c scope d).scope more)
 items_extend c scope (statement s more) =
-    extends_on scope.visible (statement_walked c scope s).scope.visible (items_walked c (statement_walked c scope s).scope more).scope.visible
-    ([], statement_visible c scope s ∙ sym (append-nil scope.visible)) (items_extend c (statement_walked c scope s).scope more)
+    let inner = around_statement c s more in
+    let middle = (statement_walked inner scope s).scope in
+    extends_on scope.visible middle.visible (items_walked (around_rest c s) middle more).scope.visible
+    ([], statement_visible inner scope s ∙ sym (append-nil scope.visible)) (items_extend (around_rest c s) middle more)
 
 start_extends : (c : Context) (scope : Scope) (start : Start) → Extends scope.visible (start_walked c scope start).scope.visible
 start_extends c scope starts_with_nothing = extends_same scope.visible

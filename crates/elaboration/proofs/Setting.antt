@@ -15,11 +15,13 @@ use Rattle.concrete_syntax.specs.Trees.{Expression, Name as Named, Call, Action,
 use Rattle.elaboration.specs.declared.context.Body.{Body}
 use Rattle.elaboration.specs.declared.context.Body.TheVariants.{Main, Valued, Valueless}
 use Rattle.elaboration.specs.Contexts.{Context, deeper, looping}
+use Rattle.elaboration.specs.Guards.{guards, around_statement, around_rest}
 use Rattle.elaboration.specs.Functions.{signature_of}
 use Rattle.typed_expressions.specs.Scopes.{Scope, Name, is_among, place_of, with_variable, most_variables, declare}
 use Rattle.typed_expressions.specs.Expressions.{unknown_name, expression_typed, expression_faults, number_faults}
-use Rattle.elaboration.specs.Statements.{Walked, assigned, stepped, action_meaning, action_faults, simple_meaning, simple_faults, optional_simple_walked, name_faults, is_bare, initialiser_walked, part_walked, parts_walked, declaration_walked, start_walked, optional_faults, optional_test, arguments_faults, arguments_meaning, signature_faults, is_wanted, call_walked, return_faults, returned_value, statement_walked, otherwise_walked, items_walked}
+use Rattle.elaboration.specs.Statements.{Walked, assigned, stepped, action_meaning, action_faults, simple_meaning, simple_faults, optional_simple_walked, name_faults, is_bare, initialiser_walked, part_walked, parts_walked, declaration_walked, start_walked, followed, optional_faults, optional_test, arguments_faults, arguments_meaning, signature_faults, is_wanted, call_walked, misplaced, return_faults, returned_value, statement_walked, otherwise_walked, items_walked}
 use Rattle.elaboration.proofs.Bodies.{declared_known, sound_behind}
+use Rattle.elaboration.proofs.Following.{follow}
 use Rattle.elaboration.proofs.Declared.{OnNames, Over, IsKept, among_with, no_fewer, few_kept, parts_keep, start_keeps, statement_keeps, otherwise_keeps, items_keep}
 use Rattle.elaboration.proofs.Jumps.{HasFunctions, call_known}
 use Rattle.typed_expressions.proofs.Names.{among_cases, place_below, place_front}
@@ -225,6 +227,14 @@ module _ (table : Table) (k vars : ℕ) (free : List Bool) where
   set_append shown [] ys first second = second
   set_append shown (x ∷ xs) ys first second = (first.0, set_append (behind shown x) xs ys first.1 second)
 
+  set_followed : (shown : Places) (guarded : Bool) (xs ys : List Command) → AllSet shown xs → AllSet (behind_all shown xs) ys
+      → AllSet shown (followed guarded xs ys)
+  set_followed shown guarded xs ys first second =
+      follow (AllSet shown) guarded xs ys (set_append shown xs ys first second)
+      (λ test one other is.
+      let set = subst (AllSet shown) is first in
+      ((set.0.0, set.0.1, subst (λ zs. AllSet (behind_all shown zs) ys) is second), tt))
+
   -- ── Simple statements ──
 
   assigned_reads : (shown : Places) (x : ℕ) (assignment : Assignment) (e : syntax.Expression) → IsTrue (shown x) → Reads shown e → Reads shown (assigned x assignment e)
@@ -351,13 +361,14 @@ module _ (table : Table) (k vars : ℕ) (free : List Bool) where
 
   -- ── Returns ──
 
-  return_set : (body : Body) (shown : Places) (scope : Scope) → Ready shown scope → (at : ℕ) (value : Option Expression)
-      → return_faults body scope at value ≡ [] → ValueReads shown (returned_value body scope value)
-  return_set Main shown scope ready at value clean = tt
-  return_set Valued shown scope ready at (Some e) clean = number_reads shown scope ready.sees e clean
-  return_set Valued shown scope ready at None clean = tt
-  return_set Valueless shown scope ready at (Some e) clean = absurd (some_is_not_none _ _ clean)
-  return_set Valueless shown scope ready at None clean = tt
+  return_set : (body : Body) (last : Bool) (shown : Places) (scope : Scope) → Ready shown scope → (at : ℕ) (value : Option Expression)
+      → return_faults body last scope at value ≡ [] → ValueReads shown (returned_value body scope value)
+  return_set Main last shown scope ready at value clean = tt
+  return_set Valued last shown scope ready at (Some e) clean =
+      number_reads shown scope ready.sees e (both_none (misplaced last at) (number_faults scope e) clean).1
+  return_set Valued last shown scope ready at None clean = tt
+  return_set Valueless last shown scope ready at (Some e) clean = absurd (some_is_not_none _ _ clean)
+  return_set Valueless last shown scope ready at None clean = tt
 
   -- ── Statements ──
 
@@ -439,7 +450,7 @@ module _ (table : Table) (k vars : ℕ) (free : List Bool) where
           ),
           tt,
         )
-    statement_set c has shown scope ready frees (statement_at at (return value)) inside clean = (return_set c.body shown scope ready at value clean, tt)
+    statement_set c has shown scope ready frees (statement_at at (return value)) inside clean = (return_set c.body c.last shown scope ready at value clean, tt)
     statement_set c has shown scope ready frees (statement_at at break) inside clean = (tt, tt)
     statement_set c has shown scope ready frees (statement_at at continue) inside clean = (tt, tt)
 
@@ -461,10 +472,12 @@ module _ (table : Table) (k vars : ℕ) (free : List Bool) where
         set_append shown w.body rest.body one.0
         (items_set c has (behind_all shown w.body) w.scope one.1 (frees_on shown w.body frees) more inside faultless.1)
     items_set c has shown scope ready frees (statement s more) inside clean =
-        let w = statement_walked c scope s in
-        let rest = items_walked c w.scope more in
+        let around = around_statement c s more in
+        let d = around_rest c s in
+        let w = statement_walked around scope s in
+        let rest = items_walked d w.scope more in
         let faultless = both_none w.faults rest.faults clean in
-        let next = statement_ready c shown (behind_all shown w.body) scope ready (all_keep shown w.body) s in
-        let grown = items_keep c (Grows w.scope) (grows_kept w.scope) w.scope more (grown_first w.scope next.few) in
-        set_append shown w.body rest.body (statement_set c has shown scope ready frees s (within_back w.scope rest.scope grown inside) faultless.0)
-        (items_set c has (behind_all shown w.body) w.scope next (frees_on shown w.body frees) more inside faultless.1)
+        let next = statement_ready around shown (behind_all shown w.body) scope ready (all_keep shown w.body) s in
+        let grown = items_keep d (Grows w.scope) (grows_kept w.scope) w.scope more (grown_first w.scope next.few) in
+        set_followed shown (guards c s) w.body rest.body (statement_set around has shown scope ready frees s (within_back w.scope rest.scope grown inside) faultless.0)
+        (items_set d has (behind_all shown w.body) w.scope next (frees_on shown w.body frees) more inside faultless.1)

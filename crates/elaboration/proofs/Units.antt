@@ -1,6 +1,6 @@
 -- What a tree without faults stands for is a unit, where no name has a dot in it.
 use Rattle.std.proofs.Common.{◌≡◌, ◌≢◌, ℕ, zero, suc, ◌+◌, ◌<◌, ◌≤◌, Bool, true, false, nat_lt, IsTrue, List, [], ◌∷◌, ◌++◌, length, slice_index_or, All, AllPairs, refl, sym, ap, ◌∙◌, subst, arith, if◌then◌else◌}
-use Rattle.std.proofs.lemmas.Bool.{false≢true, ltb-true, lt-ltb}
+use Rattle.std.proofs.lemmas.Bool.{false≢true, true≢false, ltb-true, lt-ltb}
 use Rattle.std.proofs.lemmas.List.Quantifiers.{all_pairs_push}
 use Rattle.std.proofs.lemmas.Option.{none-some}
 use Rattle.source_lex.specs.declared.token.Token.{Token}
@@ -117,7 +117,7 @@ module _ (tokens : List Token) (p : Program) (func_names : List Name) (funcs : L
   few_before = variables_few no_functions 0 (omega arith) p.functions
 
   stand : AllStand table n true false (table n).body
-  stand = subst (AllStand table n true false) (sym main_body) (items_inside table n around has (no_names before) p.items clean.1)
+  stand = subst (AllStand table n true false) (sym main_body) (items_inside table n true around (λ e. absurd (true≢false e)) has (no_names before) p.items clean.1)
 
   frees : (y : ℕ) → IsTrue (slice_index_or (walked p).scope.free y false) → IsTrue (all_of (table n) y)
   frees y h =

@@ -1,13 +1,15 @@
 -- No `return` in `main` has a value.
-use Rattle.std.proofs.Common.{◌≡◌, List, [], ◌∷◌, ◌++◌, Option, None, Some, sym, subst}
+use Rattle.std.proofs.Common.{◌≡◌, Bool, List, [], ◌∷◌, ◌++◌, Option, None, Some, sym, subst}
 use Rattle.call_meaning.specs.Sorts.{IsNoValue, HaveNoValue}
 use Rattle.call_meaning.specs.Units.{Command, of_list}
 use Rattle.call_meaning.specs.Units as unit
 use Rattle.concrete_syntax.specs.Trees.{Name as Named, Simple, acts, steps_before, Value, evaluates, answers, Part, Start, starts_with_nothing, starts_with, declares, Statement, statement_at, simple, calls, gives, skip, braces, conditional, while_loop, do_loop, for_loop, return, break, continue, Otherwise, without, otherwise, Items, none, declaration, statement}
 use Rattle.elaboration.specs.declared.context.Body.TheVariants.{Main}
 use Rattle.elaboration.specs.Contexts.{Context, deeper, looping}
+use Rattle.elaboration.specs.Guards.{guards, around_statement, around_rest}
 use Rattle.typed_expressions.specs.Scopes.{Scope}
-use Rattle.elaboration.specs.Statements.{simple_meaning, optional_simple_walked, initialiser_walked, part_walked, parts_walked, declaration_walked, start_walked, returned_value, statement_walked, otherwise_walked, items_walked}
+use Rattle.elaboration.specs.Statements.{simple_meaning, optional_simple_walked, initialiser_walked, part_walked, parts_walked, declaration_walked, start_walked, returned_value, followed, statement_walked, otherwise_walked, items_walked}
+use Rattle.elaboration.proofs.Following.{follow}
 
 abbrev NoneValued : List Command → Type 0
 NoneValued xs = HaveNoValue (of_list xs)
@@ -15,6 +17,10 @@ NoneValued xs = HaveNoValue (of_list xs)
 valueless_append : (xs ys : List Command) → NoneValued xs → NoneValued ys → NoneValued (xs ++ ys)
 valueless_append [] ys first second = second
 valueless_append (x ∷ xs) ys first second = (first.0, valueless_append xs ys first.1 second)
+
+valueless_followed : (guarded : Bool) (xs ys : List Command) → NoneValued xs → NoneValued ys → NoneValued (followed guarded xs ys)
+valueless_followed guarded xs ys first second =
+    follow NoneValued guarded xs ys (valueless_append xs ys first second) (λ test one other is. (((subst NoneValued is first).0.0, second), tt))
 
 simple_valueless : (scope : Scope) (s : Simple) → NoneValued (simple_meaning scope s ∷ [])
 simple_valueless scope (acts x action) = (tt, tt)
@@ -72,5 +78,7 @@ mutual
       let w = declaration_walked c scope d in
       valueless_append w.body (items_walked c w.scope more).body (parts_valueless c scope (d.part ∷ d.more)) (items_valueless c own w.scope more)
   items_valueless c own scope (statement s more) =
-      let w = statement_walked c scope s in
-      valueless_append w.body (items_walked c w.scope more).body (statement_valueless c own scope s) (items_valueless c own w.scope more)
+      let inner = around_statement c s more in
+      let w = statement_walked inner scope s in
+      let rest = items_walked (around_rest c s) w.scope more in
+      valueless_followed (guards c s) w.body rest.body (statement_valueless inner own scope s) (items_valueless (around_rest c s) own w.scope more)

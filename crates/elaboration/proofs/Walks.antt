@@ -73,6 +73,19 @@ all_added now first out before whole left = (
   sym (append-nil (all_levels out)) ∙ left.levels,
 )
 
+-- where all that is left was found, the whole was
+pub rest_gone : (now last first : Walk) (out before : List UnitStmt) (left whole : Walked) → IsLeft now out left first before whole → HasGone now last left
+    → HasGone first last whole
+rest_gone now last first out before left whole all gone = (gone.0 ∙ all.reads, gone.1 ∙ all.goes, gone.2 ∙ all.finds)
+
+pub rest_added : (now first : Walk) (out out' before : List UnitStmt) (left whole : Walked) → IsLeft now out left first before whole → HasAdded now out out' left
+    → HasAdded first before out' whole
+rest_added now first out out' before left whole all added = (
+  added.0 ∙ all.makes,
+  added.1 ∙ ap (λ t. all_offsets out ++ offsets_in t left.tokens) all.reads ∙ all.stands,
+  added.2 ∙ all.levels,
+)
+
 -- what is left of a list from a place on
 pub drop_next : {A : Type 0} (xs : List A) (i : ℕ) (item : A) → i < length xs → item ≡ slice_index_or xs i item → drop i xs ≡ item ∷ drop (i + 1) xs
 drop_next xs i item within is =

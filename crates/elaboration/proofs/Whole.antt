@@ -1,6 +1,6 @@
 -- From the functions and the items of a program to the program.
 use Rattle.std.proofs.Common.{◌≡◌, ◌≢◌, ℕ, ◌+◌, ◌≤◌, Bool, false, true, List, [], ◌∷◌, ◌++◌, None, Option, length, map, AllPairs, refl, ap, sym, ◌∙◌, subst, arith}
-use Rattle.std.proofs.lemmas.Bool.{false≢true}
+use Rattle.std.proofs.lemmas.Bool.{false≢true, true≢false}
 use Rattle.std.proofs.lemmas.List.{append-nil, append_assoc}
 use Rattle.source_lex.specs.declared.token.Token.{Token}
 use Rattle.step_meaning.specs.declared.statement.Block.{Block}
@@ -17,7 +17,8 @@ use Rattle.elaboration.specs.Functions.{Functions, no_functions}
 use Rattle.typed_expressions.specs.Scopes.{Scope, Name, no_names}
 use Rattle.typed_expressions.specs.Faults.{earliest}
 use Rattle.elaboration.specs.Statements.{Walked, items_walked}
-use Rattle.elaboration.specs.Elaborates.{made_of, parameters_of, parameters_faults, entered, function_walked, ends_with_return, returns_faults, twice_faults, function_made, functions_made, function_faults, functions_faults, functions_behind, others_behind, known_behind, variables_behind, known, walked, faults_of, names_of, plain_body, StandsFor}
+use Rattle.elaboration.specs.Guards.{items_return}
+use Rattle.elaboration.specs.Elaborates.{made_of, parameters_of, parameters_faults, entered, function_walked, missing_faults, twice_faults, function_made, functions_made, function_faults, functions_faults, functions_behind, others_behind, known_behind, variables_behind, known, walked, faults_of, names_of, plain_body, StandsFor}
 use Rattle.elaboration.specs.Walking.{HasGone}
 use Rattle.typed_expressions.proofs.Firsts.{earliest_more}
 use Rattle.elaboration.proofs.Declared.{distinct_kept, items_keep}
@@ -81,27 +82,24 @@ left_first tokens first fs p reads none fresh zero_is clean are =
     }
 
 -- what the faults of one function are made of
-pub function_found : (functions : Functions) (others : ℕ) (tree : Function) (before named entering gone last : Option Fault) (ends : Bool) (returns : List ℕ) (w : Walked)
+pub function_found : (functions : Functions) (others : ℕ) (tree : Function) (before named entering gone last : Option Fault) (ended : Bool) (w : Walked)
     → w ≡ function_walked functions others tree → named ≡ earliest before (twice_faults functions tree.name)
     → entering ≡ earliest named (parameters_faults (no_names others) (parameters_of tree.parameters)) → gone ≡ earliest entering w.faults
-    → last ≡ earliest gone (returns_faults ends tree.valued returns tree.behind) → ends ≡ ends_with_return w.body → returns ≡ w.scope.returns
+    → last ≡ earliest gone (missing_faults tree.valued ended tree.behind) → ended ≡ items_return tree.items
     → last ≡ earliest before (function_faults functions others tree)
-function_found functions others tree before named entering gone last ends returns w is name parameters body end ends_is returns_are =
+function_found functions others tree before named entering gone last ended w is name parameters body end ended_is =
     let own = function_walked functions others tree in
     let twice = twice_faults functions tree.name in
     let entered_faults = parameters_faults (no_names others) (parameters_of tree.parameters) in
-    let misplaced = returns_faults (ends_with_return own.body) tree.valued own.scope.returns tree.behind in
-    let e : ends ≡ ends_with_return own.body = ends_is ∙ ap (λ (v : Walked). ends_with_return v.body) is in
-    let r : returns ≡ own.scope.returns = returns_are ∙ ap (λ (v : Walked). v.scope.returns) is in
+    let missing = missing_faults tree.valued (items_return tree.items) tree.behind in
     end
-    ∙ ap (λ b. earliest gone (returns_faults b tree.valued returns tree.behind)) e
-    ∙ ap (λ l. earliest gone (returns_faults (ends_with_return own.body) tree.valued l tree.behind)) r
-    ∙ ap (λ l. earliest l misplaced) (body ∙ ap (λ (v : Walked). earliest entering v.faults) is)
-    ∙ sym (earliest_more entering own.faults misplaced)
-    ∙ ap (λ l. earliest l (own.faults ++ misplaced)) parameters
-    ∙ sym (earliest_more named entered_faults (own.faults ++ misplaced))
-    ∙ ap (λ l. earliest l (entered_faults ++ (own.faults ++ misplaced))) name
-    ∙ sym (earliest_more before twice (entered_faults ++ (own.faults ++ misplaced)))
+    ∙ ap (λ b. earliest gone (missing_faults tree.valued b tree.behind)) ended_is
+    ∙ ap (λ l. earliest l missing) (body ∙ ap (λ (v : Walked). earliest entering v.faults) is)
+    ∙ sym (earliest_more entering own.faults missing)
+    ∙ ap (λ l. earliest l (own.faults ++ missing)) parameters
+    ∙ sym (earliest_more named entered_faults (own.faults ++ missing))
+    ∙ ap (λ l. earliest l (entered_faults ++ (own.faults ++ missing))) name
+    ∙ sym (earliest_more before twice (entered_faults ++ (own.faults ++ missing)))
 
 -- a walk over a function
 pub function_is : (functions : Functions) (others : ℕ) (tree : Function) (c : Context) (scope : Scope) → c ≡ at_top functions (body_of tree.valued)
@@ -170,7 +168,7 @@ jumps_are_inside p names body is =
     let others = variables_behind no_functions 0 p.functions in
     let table = known_table functions in
     let k = length functions.names in
-    let inside = items_inside table k (at_top functions Main) (has_known functions) (no_names others) p.items (no_faults p is.faultless) in
+    let inside = items_inside table k true (at_top functions Main) (λ e. absurd (true≢false e)) (has_known functions) (no_names others) p.items (no_faults p is.faultless) in
     subst (IsInside false) (sym is.means) (plain_inside table k true false (of_list (walked p).body) inside)
 
 -- no two of its names are equal

@@ -20,6 +20,7 @@ use Rattle.typed_expressions.specs.Scopes.{Scope, Name, no_names, declare, is_am
 use Rattle.typed_expressions.specs.Faults.{fault, IsFirstOf}
 use Rattle.elaboration.specs.Functions.{Functions, no_functions, with_function}
 use Rattle.elaboration.specs.Contexts.{at_top, body_of}
+use Rattle.elaboration.specs.Guards.{items_return}
 use Rattle.elaboration.specs.Levels.{items_levels}
 use Rattle.typed_expressions.specs.Offsets.{offsets_in}
 use Rattle.elaboration.specs.Statements.{Walked, items_walked, name_faults}
@@ -45,22 +46,10 @@ entered others f = behind_parameters (no_names others) (parameters_of f.paramete
 abbrev pub function_walked : Functions → ℕ → Function → Walked
 function_walked functions others f = items_walked (at_top functions (body_of f.valued)) (entered others f) f.items
 
--- A `return` is the last statement of its body, and a function that gives a value ends with one. These are the faults of returns at these tokens, where
--- `ends` says whether the last of them ends the body, and of a missing one at the `}`, which is the token before the one behind the function.
-abbrev pub ends_with_return : List Command → Bool
-ends_with_return [] = false
-ends_with_return (unit.return value ∷ []) = true
-ends_with_return (first ∷ more) = ends_with_return more
-
-abbrev pub all_but_last : List ℕ → List ℕ
-all_but_last [] = []
-all_but_last (at ∷ []) = []
-all_but_last (at ∷ other ∷ more) = at ∷ all_but_last (other ∷ more)
-
-abbrev pub returns_faults : Bool → Bool → List ℕ → ℕ → List faults.Fault
-returns_faults true valued returns behind = map (fault Placed) (all_but_last returns)
-returns_faults false true returns behind = map (fault Placed) (returns ++ (behind - 1) ∷ [])
-returns_faults false false returns behind = map (fault Placed) returns
+-- a function that gives a value always returns: the fault where it doesn't is at its `}`, which is the token before the one behind it
+abbrev pub missing_faults : Bool → Bool → ℕ → List faults.Fault
+missing_faults true false behind = fault Placed (behind - 1) ∷ []
+missing_faults valued ends behind = []
 
 -- the faults of a function
 abbrev pub twice_faults : Functions → Named → List faults.Fault
@@ -71,7 +60,7 @@ function_faults functions others f =
     let w = function_walked functions others f in
     twice_faults functions f.name
     ++ (parameters_faults (no_names others) (parameters_of f.parameters)
-    ++ (w.faults ++ returns_faults (ends_with_return w.body) f.valued w.scope.returns f.behind))
+    ++ (w.faults ++ missing_faults f.valued (items_return f.items) f.behind))
 
 -- ── All functions: each is known from its end on, and the variables of all of them together are few enough ──
 

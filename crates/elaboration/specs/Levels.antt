@@ -1,8 +1,9 @@
 -- The greatest number of levels of nesting that are open in a piece of a body, where so many are open around it. A sign before an operand, a `(` and the
 -- `(` of `__VERIFIER_nondet_int()` each open one, and so does the `(` before a test; `{`, `if`, `else`, `while`, `do` and `for` open one for as long as
--- their statement lasts.
-use Rattle.std.specs.Prelude.{ℕ, ◌+◌, max, List, [], ◌∷◌, Option, None, Some}
+-- their statement lasts; and what follows a statement that guards it stands a level deeper.
+use Rattle.std.specs.Prelude.{ℕ, ◌+◌, nat_lt, max, ◌&&◌, if◌then◌else◌, List, [], ◌∷◌, Option, None, Some}
 use Rattle.concrete_syntax.specs.Trees.{Operand, operand_at, OperandKind, call, signed, parentheses, Link, operation, division, Tail, ended, further, Expression, assigns, steps, Simple, acts, steps_before, Value, evaluates, answers, Part, Declaration, Start, starts_with_nothing, starts_with, declares, Statement, statement_at, StatementKind, simple, calls, gives, skip, braces, conditional, while_loop, do_loop, for_loop, return, break, continue, Otherwise, without, otherwise, Items, none, declaration, statement}
+use Rattle.elaboration.specs.Guards.{may_guard}
 
 abbrev mutual
   pub operand_levels : ℕ → Operand → ℕ
@@ -59,6 +60,10 @@ start_levels level starts_with_nothing = level
 start_levels level (starts_with s) = simple_levels level s
 start_levels level (declares d) = declaration_levels level d
 
+-- around what follows a statement
+abbrev pub rest_level : ℕ → Statement → ℕ
+rest_level level s = if may_guard s && nat_lt level 64 then level + 1 else level
+
 abbrev mutual
   pub statement_levels : ℕ → Statement → ℕ
   statement_levels level (statement_at at kind) = kind_levels level kind
@@ -87,4 +92,4 @@ abbrev mutual
   pub items_levels : ℕ → Items → ℕ
   items_levels level none = level
   items_levels level (declaration d more) = max (declaration_levels level d) (items_levels level more)
-  items_levels level (statement s more) = max (statement_levels level s) (items_levels level more)
+  items_levels level (statement s more) = max (statement_levels level s) (items_levels (rest_level level s) more)

@@ -13,9 +13,10 @@ use Rattle.typed_expressions.specs.declared.fault.Rule.TheVariants.{Unknown, Twi
 use Rattle.elaboration.specs.declared.functions.Signature.{Signature}
 use Rattle.elaboration.specs.declared.context.Body.{Body}
 use Rattle.elaboration.specs.declared.context.Body.TheVariants.{Main, Valued, Valueless}
-use Rattle.typed_expressions.specs.Scopes.{Scope, is_among, place_of, most_variables, declare, returned, close}
+use Rattle.typed_expressions.specs.Scopes.{Scope, is_among, place_of, most_variables, declare, close}
 use Rattle.elaboration.specs.Functions.{signature_of}
 use Rattle.elaboration.specs.Contexts.{Context, deeper, looping}
+use Rattle.elaboration.specs.Guards.{guards, around_statement, around_rest}
 use Rattle.typed_expressions.specs.Faults.{fault}
 use Rattle.typed_expressions.specs.Expressions.{as_test, unknown_name, expression_typed, expression_faults, number_faults}
 
@@ -181,27 +182,26 @@ abbrev pub optional_test : Scope → Option Expression → syntax.Expression
 optional_test scope (Some e) = as_test (expression_typed scope e)
 optional_test scope None = syntax.truth true
 
--- ── Returns: one in `main` may have any expression, which isn't asked for; one of a function has a value where the function gives one ──
+-- ── Returns: one in `main` may have any expression, which isn't asked for; one of a function has a value where the function gives one, and nothing follows it ──
 
-abbrev pub return_faults : Body → Scope → ℕ → Option Expression → List Fault
-return_faults Main scope at value = optional_faults scope value
-return_faults Valued scope at (Some e) = number_faults scope e
-return_faults Valued scope at None = fault Placed at ∷ []
-return_faults Valueless scope at (Some e) = fault Placed at ∷ number_faults scope e
-return_faults Valueless scope at None = []
+abbrev pub misplaced : Bool → ℕ → List Fault
+misplaced true at = []
+misplaced false at = fault Placed at ∷ []
+
+abbrev pub return_faults : Body → Bool → Scope → ℕ → Option Expression → List Fault
+return_faults Main last scope at value = optional_faults scope value
+return_faults Valued last scope at (Some e) = misplaced last at ++ number_faults scope e
+return_faults Valued last scope at None = fault Placed at ∷ []
+return_faults Valueless last scope at (Some e) = fault Placed at ∷ number_faults scope e
+return_faults Valueless last scope at None = misplaced last at
 
 abbrev pub returned_value : Body → Scope → Option Expression → Option syntax.Expression
 returned_value Main scope value = None
 returned_value body scope (Some e) = Some (expression_typed scope e).meaning
 returned_value body scope None = None
 
-abbrev pub behind_return : Body → Scope → ℕ → Scope
-behind_return Main scope at = scope
-behind_return body scope at = returned scope at
-
-abbrev pub return_walked : Body → Scope → ℕ → Option Expression → Walked
-return_walked body scope at value =
-    single (behind_return body scope at) at (return_faults body scope at value) (unit.return (returned_value body scope value))
+abbrev pub return_walked : Context → Scope → ℕ → Option Expression → Walked
+return_walked c scope at value = single scope at (return_faults c.body c.last scope at value) (unit.return (returned_value c.body scope value))
 
 -- ── Statements: braces leave no trace; a `for` is its start, and then a loop with its step, which a `while` has none of ──
 
@@ -240,6 +240,11 @@ done end body faults test = record {
   levels = body.levels;
 }
 
+-- what follows a statement: in the place of its `else`, where it guards that
+abbrev pub followed : Bool → List Command → List Command → List Command
+followed true (unit.if_else test first second ∷ []) rest = unit.if_else test first (of_list rest) ∷ []
+followed guarded first rest = first ++ rest
+
 abbrev mutual
   pub statement_walked : Context → Scope → Statement → Walked
   statement_walked c scope (statement_at at kind) = kind_walked c scope at kind
@@ -267,7 +272,7 @@ abbrev mutual
       (joined before
       (looped at (optional_faults inside test) (optional_test inside test) (optional_simple_walked inside step)
       (statement_walked (looping c) inside body)))
-  kind_walked c scope at (return value) = return_walked c.body scope at value
+  kind_walked c scope at (return value) = return_walked c scope at value
   kind_walked c scope at break = single scope at (outside_faults c.in_loop at) unit.break
   kind_walked c scope at continue = single scope at (outside_faults c.in_loop at) unit.continue
 
@@ -278,4 +283,7 @@ abbrev mutual
   pub items_walked : Context → Scope → Items → Walked
   items_walked c scope none = nothing scope
   items_walked c scope (declaration d more) = let w = declaration_walked c scope d in joined w (items_walked c w.scope more)
-  items_walked c scope (statement s more) = let w = statement_walked c scope s in joined w (items_walked c w.scope more)
+  items_walked c scope (statement s more) =
+      let w = statement_walked (around_statement c s more) scope s in
+      let rest = items_walked (around_rest c s) w.scope more in
+      record (joined w rest) { body = followed (guards c s) w.body rest.body }

@@ -1,6 +1,6 @@
 -- What the walk of the elaborator does: it knows the names so far and the first fault so far, and adds statements behind those so far.
 use Rattle.std.specs.Prelude.{◌≡◌, ℕ, false, List, [], ◌∷◌, ◌++◌, None}
-use Rattle.concrete_syntax.specs.Trees.{Name}
+use Rattle.concrete_syntax.specs.Trees.{Expression, Name, Statement, Items}
 use Rattle.step_meaning.specs.declared.expression.Expr.{Expr}
 use Rattle.step_meaning.specs.Syntax.{expression}
 use Rattle.call_meaning.specs.declared.statement.UnitBlock.{UnitBlock}
@@ -10,16 +10,23 @@ use Rattle.call_meaning.specs.Tables.{parts, commands}
 use Rattle.call_meaning.specs.Offsets.{offsets, all_offsets, levels, all_levels}
 use Rattle.elaboration.specs.declared.context.Context as code
 use Rattle.typed_expressions.specs.declared.walk.Walk.{Walk}
-use Rattle.elaboration.specs.Contexts.{Context}
+use Rattle.elaboration.specs.Contexts.{Context, deeper}
 use Rattle.typed_expressions.specs.Faults.{earliest}
 use Rattle.elaboration.specs.Elaborates.{behind_parameters, parameters_faults}
-use Rattle.typed_expressions.specs.Scopes.{declare}
-use Rattle.elaboration.specs.Statements.{Walked, name_faults}
+use Rattle.typed_expressions.specs.Expressions.{as_test, expression_typed, expression_faults}
+use Rattle.typed_expressions.specs.Scopes.{Scope, declare}
+use Rattle.elaboration.specs.Statements.{Walked, chosen, name_faults, statement_walked, items_walked}
 use Rattle.typed_expressions.specs.Offsets.{offset_in, offsets_in}
 
 -- what a `Context` of the code is
 abbrev pub context_of : code.Context → Context
-context_of c = record { functions = c.functions.now; body = c.body; in_loop = c.in_loop; level = c.level }
+context_of c = record { functions = c.functions.now; body = c.body; in_loop = c.in_loop; last = c.last; level = c.level }
+
+-- an `if` at this token that guards these items, which stand in the place of its `else`
+abbrev pub guard_walked : Context → Scope → ℕ → Expression → Statement → Items → Walked
+guard_walked c scope at test part more =
+    let first = statement_walked (deeper c) scope part in
+    chosen at (expression_faults scope test) (as_test (expression_typed scope test)) first (items_walked (deeper c) first.scope more)
 
 -- the names are those behind a parameter, or behind parameters, and behind the faults so far come theirs
 abbrev pub HasDeclared : Walk → Walk → Name → Type 0

@@ -4,7 +4,7 @@ ghost use Rattle.std.specs.Prelude.{◌≡◌, IfOk, OnOk, Option, map};
 ghost use Rattle.concrete_syntax.specs.Mirror.{call as call_of, expressions, optional};
 ghost use Rattle.step_meaning.specs.Syntax.{expression};
 ghost use Rattle.call_meaning.specs.Tables.{value_of};
-ghost use Rattle.elaboration.specs.Statements.{arguments_faults, arguments_meaning, call_walked, return_faults, return_walked, returned_value, signature_faults};
+ghost use Rattle.elaboration.specs.Statements.{arguments_faults, arguments_meaning, call_walked, misplaced, return_faults, return_walked, returned_value, signature_faults};
 ghost use Rattle.typed_expressions.specs.Walking.{HasFound};
 ghost use Rattle.elaboration.specs.Walking.{HasAdded, HasGone, context_of};
 
@@ -86,43 +86,43 @@ fn arguments(walk: &mut Walk, trees: &[Expression]) -> Result<ExprList, AllocErr
     Ok(ExprList::of(list))
 }
 
-/// A `return` at the token `at`: it is added to `out`. Faults are reported, but whether one of a function is its last statement.
+/// A `return` at the token `at`: it is added to `out`. Faults are reported.
 #[tactic(auto, using(typed_expressions::proofs::Firsts::earliest_more))]
 pub fn returns(
     walk: &mut Walk,
     at: usize,
     tree: &Option<Expression>,
-    body: Body,
+    context: Context,
     out: &mut Vec<UnitStmt>,
 ) -> Result<(), AllocError>
-    ensures gone { OnOk result (HasGone walk.old walk.new (return_walked body walk.old.scope at (optional tree.now))) }
-    ensures added { OnOk result (HasAdded walk.old out.old.items out.new.items (return_walked body walk.old.scope at (optional tree.now))) }
+    ensures gone { OnOk result (HasGone walk.old walk.new (return_walked (context_of context.entry) walk.old.scope at (optional tree.now))) }
+    ensures added { OnOk result (HasAdded walk.old out.old.items out.new.items (return_walked (context_of context.entry) walk.old.scope at (optional tree.now))) }
 {
-    let value = returned(walk, at, tree, body)?;
-    match body {
-        Body::Main => {}
-        Body::Valued | Body::Valueless => walk.scope.add_return(at)?,
-    }
+    let value = returned(walk, at, tree, context.body, context.last)?;
     add(walk, at, UnitKind::Return { value }, out)
 }
 
-// The value of a `return`. That of one in `main` isn't asked for.
+// The value of a `return`, which is the last of its function that is done or isn't. That of one in `main` isn't asked for.
 #[tactic(auto, using(typed_expressions::proofs::Firsts::earliest_more))]
 fn returned(
     walk: &mut Walk,
     at: usize,
     tree: &Option<Expression>,
     body: Body,
+    last: bool,
 ) -> Result<Option<Expr>, AllocError>
     ensures value { IfOk result (λ value. value_of value ≡ returned_value body walk.old.scope (optional tree.now)) }
-    ensures found { OnOk result (HasFound walk.old walk.new (return_faults body walk.old.scope at (optional tree.now))) }
+    ensures found { OnOk result (HasFound walk.old walk.new (return_faults body last walk.old.scope at (optional tree.now))) }
 {
     match (body, tree) {
         (Body::Main, Some(tree)) => {
             walk.expression(tree)?;
             Ok(None)
         }
-        (Body::Valued, Some(tree)) => Ok(Some(walk.number(tree)?)),
+        (Body::Valued, Some(tree)) => {
+            need_last(walk, last, at);
+            Ok(Some(walk.number(tree)?))
+        }
         (Body::Valueless, Some(tree)) => {
             walk.report(Rule::Placed, at);
             Ok(Some(walk.number(tree)?))
@@ -131,6 +131,19 @@ fn returned(
             walk.report(Rule::Placed, at);
             Ok(None)
         }
-        (Body::Main | Body::Valueless, None) => Ok(None),
+        (Body::Valueless, None) => {
+            need_last(walk, last, at);
+            Ok(None)
+        }
+        (Body::Main, None) => Ok(None),
+    }
+}
+
+// Reports a `return` of a function that isn't the last that is done in it.
+fn need_last(walk: &mut Walk, last: bool, token: usize)
+    ensures { HasFound walk.old walk.new (misplaced last token) }
+{
+    if !last {
+        walk.report(Rule::Placed, token);
     }
 }

@@ -1,25 +1,25 @@
 //! Functions.
 
-ghost use Rattle.std.specs.Prelude.{◌≡◌, ◌≤◌, ◌++◌, ◌∷◌, [], None, OnOk, IfOk, map};
+ghost use Rattle.std.specs.Prelude.{◌≡◌, ◌≤◌, ◌++◌, ◌∷◌, [], None, OnOk, map};
 ghost use Rattle.concrete_syntax.specs.Mirror.{name as name_of, parameters as parameters_tree, function as function_tree};
-ghost use Rattle.call_meaning.specs.Tables.{parts};
 ghost use Rattle.typed_expressions.specs.declared.fault.Rule.TheVariants.{Placed};
-ghost use Rattle.typed_expressions.specs.Faults.{earliest, fault};
+ghost use Rattle.typed_expressions.specs.Faults.{earliest};
 ghost use Rattle.elaboration.specs.Functions.{no_functions};
-ghost use Rattle.elaboration.specs.Elaborates.{ends_with_return, function_faults, function_made, functions_behind, made_of, others_behind, parameters_of, returns_faults, twice_faults};
+ghost use Rattle.elaboration.specs.Elaborates.{function_faults, missing_faults, function_made, functions_behind, made_of, others_behind, parameters_of, twice_faults};
 ghost use Rattle.typed_expressions.specs.Walking.{HasFound};
 ghost use Rattle.elaboration.specs.Walking.{HasDeclared, HaveBeenDeclared};
 
 use crate::context::{Body, Context};
 use crate::functions::{Functions, Signature};
+use crate::guards::items_return;
 use crate::levels::items_levels;
 use crate::simple::need_new;
 use crate::statement::items;
-use call_meaning::{Func, UnitBlock, UnitKind, UnitStmt};
+use call_meaning::{Func, UnitBlock};
 use concrete_syntax::{Function, Name, Parameters};
 use source_lex::Token;
 use std::alloc::{AllocError, Global};
-use typed_expressions::{Fault, Rule, Variables, Walk, earlier};
+use typed_expressions::{Fault, Rule, Variables, Walk};
 
 /// The functions of a program so far: what calls have to know of them, what they are, how many variables they have together, and the first fault so far.
 #[derive(Drop)]
@@ -70,14 +70,15 @@ impl<'a> Whole<'a> {
         let mut list = Vec::new(self.alloc);
         let context = Context::top(&self.functions, Body::of(tree.valued));
         items(&mut walk, &tree.items, context, &mut list)?;
-        let ends = ends_with_return(&list);
+        need_return(
+            &mut walk,
+            tree.valued,
+            items_return(&tree.items),
+            tree.behind,
+        );
         let Walk { scope, least, .. } = walk;
-        let Variables {
-            names,
-            free,
-            returns,
-        } = scope.into_variables(self.alloc)?;
-        self.least = with_returns(least, returns, ends, tree.valued, tree.behind)?;
+        let Variables { names, free } = scope.into_variables(self.alloc)?;
+        self.least = least;
         self.others += names.items().len();
         let valued = tree.valued;
         self.functions
@@ -125,58 +126,11 @@ fn parameter(walk: &mut Walk, name: &Name) -> Result<(), AllocError>
     walk.scope.declare(walk.alloc, &name.bytes)
 }
 
-// Whether the last statement is a `return`.
-fn ends_with_return(list: &[UnitStmt]) -> bool
-    ensures { result ≡ ends_with_return (parts list.now) }
+// Reports the `}` before the token `behind` where a function that gives a value doesn't always return.
+fn need_return(walk: &mut Walk, valued: bool, returned: bool, behind: usize)
+    ensures { HasFound walk.old walk.new (missing_faults valued returned behind) }
 {
-    match list.last() {
-        Some(last) => match &last.kind {
-            UnitKind::Return { value: _ } => true,
-            _ => false,
-        },
-        None => false,
+    if valued && !returned {
+        walk.report(Rule::Placed, behind.saturating_sub(1));
     }
-}
-
-// With the faults of the returns of a function at these tokens: each but the last one, where that `ends` the body, and the `}` before the token `behind`
-// where one is missing.
-#[tactic(auto, using(crate::proofs::Ending::none_but_last))]
-fn with_returns(
-    least: Option<Fault>,
-    mut returns: Vec<usize>,
-    ends: bool,
-    valued: bool,
-    behind: usize,
-) -> Result<Option<Fault>, AllocError>
-    ensures { IfOk result (λ first. first ≡ earliest least (returns_faults ends valued returns.items behind)) }
-{
-    if ends {
-        match returns.pop() {
-            Some(_) => Ok(with_misplaced(least, &returns)),
-            None => Ok(least),
-        }
-    } else if valued {
-        returns.push(behind.saturating_sub(1))?;
-        Ok(with_misplaced(least, &returns))
-    } else {
-        Ok(with_misplaced(least, &returns))
-    }
-}
-
-// With the fault of a return at each of these tokens.
-fn with_misplaced(least: Option<Fault>, tokens: &[usize]) -> Option<Fault>
-    ensures { result ≡ earliest least (map (fault Placed) tokens.now) }
-{
-    let mut least = least;
-    for token in tokens.iter() {
-        let rule = Rule::Placed;
-        least = earlier(
-            least,
-            Fault {
-                rule,
-                token: *token,
-            },
-        );
-    }
-    least
 }

@@ -4,7 +4,8 @@ ghost use Rattle.std.specs.Prelude.{◌≡◌, ◌+◌, max, IfOk};
 ghost use Rattle.concrete_syntax.specs.Mirror.{operand as operand_of, tail as tail_of, expression as expression_of, expressions, optional, optional_value, simple as simple_of, optional_simple as optional_simple_of, declaration as declaration_of, start as start_of, statement as statement_of, otherwise as otherwise_of, items as items_of};
 ghost use Rattle.elaboration.specs.Levels as specs;
 
-use crate::context::one_more;
+use crate::context::{MOST_LEVELS, one_more};
+use crate::guards::may_guard;
 use concrete_syntax::{
     Action, Declaration, Expression, ForLoop, Items, Link, Operand, OperandKind, Otherwise, Part,
     Simple, Start, Statement, StatementKind, Tail, Value,
@@ -17,19 +18,33 @@ pub fn items_levels(tree: &Items, level: u32) -> Result<u32, AllocError>
     ensures { IfOk result (λ most. most ≡ specs.items_levels level (items_of tree.now)) }
 {
     let mut most = level;
+    let mut here = level;
     let mut left = tree;
     loop {
         match left {
             Items::Ended => return Ok(most),
             Items::Declaration { first, rest } => {
-                most = most.max(declaration_levels(first, level)?);
+                most = most.max(declaration_levels(first, here)?);
                 left = rest;
             }
             Items::Statement { first, rest } => {
-                most = most.max(statement_levels(first, level)?);
+                most = most.max(statement_levels(first, here)?);
+                here = rest_level(first, here);
+                most = most.max(here);
                 left = rest;
             }
         }
+    }
+}
+
+// Around what follows a statement.
+fn rest_level(tree: &Statement, level: u32) -> u32
+    ensures { result ≡ specs.rest_level level (statement_of tree.now) }
+{
+    if may_guard(tree) && level < MOST_LEVELS {
+        level + 1
+    } else {
+        level
     }
 }
 

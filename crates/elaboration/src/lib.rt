@@ -10,6 +10,7 @@ mod context;
 mod front;
 mod function;
 mod functions;
+mod guards;
 mod levels;
 mod plain;
 mod simple;

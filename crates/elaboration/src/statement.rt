@@ -1,12 +1,13 @@
 //! Statements. Only nesting recurses: the items in braces are walked by a loop.
 
-ghost use Rattle.std.specs.Prelude.{◌≡◌, OnOk, IfOk};
-ghost use Rattle.concrete_syntax.specs.Trees.{conditional as conditional_tree, while_loop as while_tree, do_loop as do_tree};
+ghost use Rattle.std.specs.Prelude.{◌≡◌, true, OnOk, IfOk};
+ghost use Rattle.concrete_syntax.specs.Trees.{statement as statement_item, conditional as conditional_tree, while_loop as while_tree, do_loop as do_tree};
 ghost use Rattle.concrete_syntax.specs.Mirror.{expression as expression_of, start as start_of, optional, optional_simple as optional_simple_of, statement as statement_of, for_loop as for_tree, otherwise as otherwise_of, items as items_of};
 ghost use Rattle.step_meaning.specs.Syntax as syntax;
 ghost use Rattle.elaboration.specs.Statements.{outside_faults, statement_walked, kind_walked, otherwise_walked, items_walked, start_walked, optional_test, optional_faults, optional_simple_walked};
 ghost use Rattle.typed_expressions.specs.Walking.{HasFound};
-ghost use Rattle.elaboration.specs.Walking.{HasGone, HasAdded, HasLooped, IsMade, context_of};
+ghost use Rattle.elaboration.specs.Guards.{guards};
+ghost use Rattle.elaboration.specs.Walking.{guard_walked, HasGone, HasAdded, HasLooped, IsMade, context_of};
 
 use crate::call::{add_call, returns};
 use crate::context::Context;
@@ -53,7 +54,7 @@ fn statement(
         StatementKind::While { test, body } => while_loop(walk, at, test, body, context, out),
         StatementKind::Do { body, end, test } => do_loop(walk, body, *end, test, context, out),
         StatementKind::For(tree) => for_loop(walk, at, tree, context, out),
-        StatementKind::Return(value) => returns(walk, at, value, context.body, out),
+        StatementKind::Return(value) => returns(walk, at, value, context, out),
         StatementKind::Break => {
             need_loop(walk, context.in_loop, at);
             add(walk, at, UnitKind::Break, out)
@@ -215,11 +216,60 @@ pub fn items(
                 left = rest;
             }
             Items::Statement { first, rest } => {
-                statement(walk, first, context, out)?;
+                if context.is_guarded_by(first) {
+                    return guarded(walk, first, rest, context, out);
+                }
+                statement(walk, first, context.around(first, rest), out)?;
                 left = rest;
             }
         }
     }
+}
+
+// A statement that guards the items behind it: they stand in the place of its `else`.
+#[cycle(statements)]
+fn guarded(
+    walk: &mut Walk,
+    tree: &Statement,
+    rest: &Items,
+    context: Context,
+    out: &mut Vec<UnitStmt>,
+) -> Result<(), AllocError>
+    requires guards { guards (context_of context) (statement_of tree.now) ≡ true }
+    ensures gone { OnOk result (HasGone walk.old walk.new (items_walked (context_of context.entry) walk.old.scope (statement_item (statement_of tree.now) (items_of rest.now)))) }
+    ensures added { OnOk result (HasAdded walk.old out.old.items out.new.items (items_walked (context_of context.entry) walk.old.scope (statement_item (statement_of tree.now) (items_of rest.now)))) }
+{
+    match &tree.kind {
+        StatementKind::Conditional {
+            test,
+            part,
+            other: _,
+        } => guard(walk, tree.at, test, part, rest, context, out),
+        _ => Ok(()),
+    }
+}
+
+// An `if` whose word is the token `at`, and these items as its second part.
+#[cycle(statements)]
+fn guard(
+    walk: &mut Walk,
+    at: usize,
+    condition: &Expression,
+    part: &Statement,
+    rest: &Items,
+    context: Context,
+    out: &mut Vec<UnitStmt>,
+) -> Result<(), AllocError>
+    ensures gone { OnOk result (HasGone walk.old walk.new (guard_walked (context_of context.entry) walk.old.scope at (expression_of condition.now) (statement_of part.now) (items_of rest.now))) }
+    ensures added { OnOk result (HasAdded walk.old out.old.items out.new.items (guard_walked (context_of context.entry) walk.old.scope at (expression_of condition.now) (statement_of part.now) (items_of rest.now))) }
+{
+    let test = walk.test(condition)?;
+    let inner = context.deeper()?;
+    let yes = body(walk, part, inner)?;
+    let mut list = Vec::new(walk.alloc);
+    items(walk, rest, inner, &mut list)?;
+    let no = UnitBlock::of(walk.alloc, list)?;
+    add(walk, at, UnitKind::If { test, yes, no }, out)
 }
 
 // The start of a `for`.

@@ -70,7 +70,7 @@ fn of_program(number: u64) -> &'static str {
         14 => "the text goes on past 65,536 bytes",
         17 => "this stands in no body of a loop",
         18 => "this divisor is 0",
-        19 => "a function returns at its end alone, and with a value exactly where it gives one",
+        19 => "a return stands where nothing follows, with a value exactly where one is given",
         20 => "this function has another number of parameters",
         _ => "this is refused",
     }

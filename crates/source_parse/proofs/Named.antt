@@ -19,13 +19,13 @@ use Rattle.source_lex.specs.declared.token.Token.{Token}
 use Rattle.concrete_syntax.specs.Trees.{Part, Start, starts_with_nothing, starts_with, declares, Statement, statement_at, StatementKind, simple, calls, gives, skip, braces, conditional, while_loop, do_loop, for_loop, return, break, continue, Otherwise, without, otherwise, Items, none, declaration, statement, Name as ParameterName, Parameters, nothing, named as named_parameters, Function, Program}
 use Rattle.source_syntax.specs.Spelling.{sign, leading, opening, optional_pieces, part_pieces, parts_pieces, start_pieces, finish_pieces, test_pieces, statement_pieces, statement_kind_pieces, otherwise_pieces, items_pieces, parameters_pieces, further_parameters_pieces, functions_pieces, main_end_pieces, program_pieces}
 use Rattle.call_meaning.specs.declared.statement.Func.{Func}
-use Rattle.elaboration.specs.declared.context.Body.{Body}
-use Rattle.elaboration.specs.declared.context.Body.TheVariants.{Main, Valued, Valueless}
+use Rattle.elaboration.specs.declared.context.Body.TheVariants.{Main}
 use Rattle.elaboration.specs.declared.functions.Signature.{Signature}
 use Rattle.elaboration.specs.Contexts.{Context, at_top, body_of, deeper, looping}
 use Rattle.elaboration.specs.Functions.{Functions, no_functions, with_function}
 use Rattle.typed_expressions.specs.Scopes.{Scope, Name as VariableName, declare, is_among, most_variables, no_names, with_variable}
-use Rattle.elaboration.specs.Statements.{behind_return, part_walked, parts_walked, declaration_walked, start_walked, statement_walked, kind_walked, otherwise_walked, items_walked}
+use Rattle.elaboration.specs.Guards.{around_statement, around_rest}
+use Rattle.elaboration.specs.Statements.{part_walked, parts_walked, declaration_walked, start_walked, statement_walked, kind_walked, otherwise_walked, items_walked}
 use Rattle.elaboration.specs.Elaborates.{Made, behind_parameters, entered, function_made, functions_behind, functions_made, known, known_behind, made_of, names_of, others_behind, parameters_of, signature, variables_behind}
 use Rattle.elaboration.proofs.Apart.{HasNoDot}
 use Rattle.elaboration.proofs.Declared.{distinct_kept, items_keep}
@@ -114,11 +114,6 @@ start_named functions c scope levels (starts_with s) behind names h =
     (names, (behind_named (behind_simple levels s (token (leading S.Semicolon) ∷ behind)) h).1)
 start_named functions c scope levels (declares d) behind names h = parts_named functions c scope levels (d.part ∷ d.more) behind names (tt, h.1)
 
-return_named : (body : Body) (scope : Scope) (at : ℕ) → Declared scope → Declared (behind_return body scope at)
-return_named Main scope at names = names
-return_named Valued scope at names = names
-return_named Valueless scope at names = names
-
 mutual
   statement_named : (functions : Bool) (c : Context) (scope : Scope) (levels : ℕ) (s : Statement) (behind : List Piece) → Declared scope
       → Spelled (statement_pieces functions levels s behind) → Declared (statement_walked c scope s).scope × Spelled behind
@@ -154,7 +149,7 @@ mutual
       let tested = behind_named (behind_optional (levels + 1) test last) started.1 in
       statement_named functions (looping c) before (levels + 1) body behind started.0 (behind_named (behind_finish (levels + 1) step inner) tested.1)
   kind_named functions c scope levels at (return value) behind names h =
-      (return_named c.body scope at names, (behind_named (behind_optional levels value (token (sign S.Semicolon) ∷ behind)) h.1).1)
+      (names, (behind_named (behind_optional levels value (token (sign S.Semicolon) ∷ behind)) h.1).1)
   kind_named functions c scope levels at break behind names h = (names, h.1.1)
   kind_named functions c scope levels at continue behind names h = (names, h.1.1)
 
@@ -170,8 +165,9 @@ mutual
       let this = parts_named functions c scope levels (d.part ∷ d.more) (items_pieces functions levels more behind) names (tt, h.1) in
       items_named functions c (declaration_walked c scope d).scope levels more behind this.0 this.1
   items_named functions c scope levels (statement s more) behind names h =
-      let this = statement_named functions c scope levels s (items_pieces functions levels more behind) names h in
-      items_named functions c (statement_walked c scope s).scope levels more behind this.0 this.1
+      let inner = around_statement c s more in
+      let this = statement_named functions inner scope levels s (items_pieces functions levels more behind) names h in
+      items_named functions (around_rest c s) (statement_walked inner scope s).scope levels more behind this.0 this.1
 
 -- ── Functions ──
 

@@ -16,7 +16,9 @@ use Rattle.elaboration.specs.declared.context.Body.TheVariants.{Main}
 use Rattle.elaboration.specs.Contexts.{Context, at_top, deeper, looping}
 use Rattle.elaboration.specs.Functions.{no_functions}
 use Rattle.typed_expressions.specs.Scopes.{Scope, declare, no_names}
-use Rattle.elaboration.specs.Statements.{is_bare, simple_meaning, optional_simple_walked, initialiser_walked, part_walked, parts_walked, declaration_walked, start_walked, optional_test, statement_walked, kind_walked, otherwise_walked, items_walked}
+use Rattle.elaboration.proofs.Following.{follow}
+use Rattle.elaboration.specs.Guards.{guards, around_statement, around_rest}
+use Rattle.elaboration.specs.Statements.{is_bare, simple_meaning, optional_simple_walked, initialiser_walked, part_walked, parts_walked, declaration_walked, start_walked, optional_test, followed, statement_walked, kind_walked, otherwise_walked, items_walked}
 use Rattle.elaboration.specs.Elaborates.{known, plain, plain_body, variables_behind}
 use Rattle.source_parse.specs.Derives.{IsProgramText}
 use Rattle.source_parse.proofs.Behind.{EndsWith, behind_optional, behind_action, behind_call, behind_functions, behind_initialiser, behind_test, behind_void, behind_preludes}
@@ -28,6 +30,11 @@ size xs = syntax.size_of (plain (of_list xs))
 size_append : (xs ys : List Command) → size (xs ++ ys) ≡ size xs + size ys
 size_append [] ys = omega arith
 size_append (x ∷ xs) ys = omega (arith, size_append xs ys)
+
+size_followed : (guarded : Bool) (xs ys : List Command) → size (followed guarded xs ys) ≤ size xs + size ys
+size_followed guarded xs ys =
+    follow (λ all. size all ≤ size xs + size ys) guarded xs ys (omega (arith, size_append xs ys))
+    (λ test first second is. omega (arith, ap size is))
 
 -- how many words the pieces spell
 abbrev count : List Piece → ℕ
@@ -148,11 +155,13 @@ mutual
         items_size functions c (declaration_walked c scope d).scope levels more behind,
       )
   items_size functions c scope levels (statement s more) behind =
+      let inner = around_statement c s more in
+      let w = statement_walked inner scope s in
       omega (
         arith,
-        size_append (statement_walked c scope s).body (items_walked c (statement_walked c scope s).scope more).body,
-        statement_size functions c scope levels s (items_pieces functions levels more behind),
-        items_size functions c (statement_walked c scope s).scope levels more behind,
+        size_followed (guards c s) w.body (items_walked (around_rest c s) w.scope more).body,
+        statement_size functions inner scope levels s (items_pieces functions levels more behind),
+        items_size functions (around_rest c s) w.scope levels more behind,
       )
 
 body_size : (p : Program) → syntax.size_of (plain_body p) ≤ count (program_pieces false p [])

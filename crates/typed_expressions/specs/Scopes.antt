@@ -7,18 +7,16 @@ abbrev pub Name : Type 0
 Name = List ℕ
 
 -- What is known at a place of a body: how many variables the functions before its own have; the names declared so far, each once, in the order of their
--- first declarations; those that may be used here; which variables, by their places, were declared without initialiser; and at which tokens a `return`
--- of a function stood.
+-- first declarations; those that may be used here; and which variables, by their places, were declared without initialiser.
 pub record Scope : Type 0 where
   pub others : ℕ
   pub declared : List Name
   pub visible : List Name
   pub free : List Bool
-  pub returns : List ℕ
 
 -- at the front of a body
 abbrev pub no_names : ℕ → Scope
-no_names others = record { others = others; declared = []; visible = []; free = replicate 16 false; returns = [] }
+no_names others = record { others = others; declared = []; visible = []; free = replicate 16 false }
 
 abbrev pub is_among : List Name → Name → Bool
 is_among [] x = false
@@ -46,10 +44,6 @@ declare scope x bare =
       visible = scope.visible ++ x ∷ [];
       free = if bare && is_among names x then slice_set scope.free (place_of names x) true else scope.free;
     }
-
--- behind a `return` of a function at this token
-abbrev pub returned : Scope → ℕ → Scope
-returned scope at = record scope { returns = scope.returns ++ at ∷ [] }
 
 -- behind the end of a block or a `for`: what may be used is what could be used before it
 abbrev pub close : Scope → Scope → Scope

@@ -12,22 +12,20 @@ use step_meaning::Names;
 pub const MOST_VARIABLES: usize = 15;
 
 /// What is known at a place of a body: how many variables the functions before have; the names declared so far, each once, in the order of their first
-/// declarations; those that may be used here; which variables were declared without initialiser; and the tokens at which a `return` of a function stood.
+/// declarations; those that may be used here; and which variables were declared without initialiser.
 #[derive(Drop)]
 pub struct Scope {
     others: usize,
     declared: IndexSet<Vec<u8>>,
     visible: Vec<Vec<u8>>,
     free: [bool; 16],
-    returns: Vec<usize>,
 }
 
-/// What is known behind a body: the names of its variables, which of them were declared without initialiser, and the tokens at which a `return` stood.
+/// What is known behind a body: the names of its variables, and which of them were declared without initialiser.
 #[derive(Drop)]
 pub struct Variables {
     pub names: Names,
     pub free: [bool; 16],
-    pub returns: Vec<usize>,
 }
 
 impl Model for Scope {
@@ -36,14 +34,14 @@ impl Model for Scope {
 
     ghost Value = { scopes.Scope };
 
-    ghost view = { λ s. record { others = s.others; declared = map vec_items s.declared.keys; visible = map vec_items s.visible.items; free = s.free; returns = s.returns.items } };
+    ghost view = { λ s. record { others = s.others; declared = map vec_items s.declared.keys; visible = map vec_items s.visible.items; free = s.free } };
 
     ghost invariant = { λ s. s.others + length s.declared.keys ≤ 15 };
 }
 
 impl Scope {
     ghost use Rattle.std.specs.Prelude.{◌≡◌, ◌+◌, ◌≤◌, OnOk, IfOk, length, take, true, false, not, nat_lt};
-    ghost use Rattle.typed_expressions.specs.Scopes.{declare, returned, no_names, is_among, place_of, with_variable, most_variables};
+    ghost use Rattle.typed_expressions.specs.Scopes.{declare, no_names, is_among, place_of, with_variable, most_variables};
 
     /// Before the first declaration, where the functions before have so many variables.
     pub fn new(alloc: Global, others: usize) -> Scope
@@ -55,7 +53,6 @@ impl Scope {
             declared: IndexSet::new(alloc),
             visible: Vec::new(alloc),
             free: [false; 16],
-            returns: Vec::new(alloc),
         }
     }
 
@@ -131,14 +128,6 @@ impl Scope {
         Ok(())
     }
 
-    /// Keeps where a `return` of a function stands. `AllocError` where it finds no room in memory.
-    pub fn add_return(&mut self, token: usize) -> Result<(), AllocError>
-        ensures { OnOk result (self.new ≡ returned self.old token) }
-    {
-        self.returns.push(token)?;
-        Ok(())
-    }
-
     /// How many names may be used here.
     pub fn depth(&self) -> usize
         ensures { result ≡ length self.now.visible }
@@ -157,7 +146,6 @@ impl Scope {
     pub fn into_variables(self, alloc: Global) -> Result<Variables, AllocError>
         ensures names { IfOk result (λ variables. variables.names ≡ self.declared) }
         ensures free { IfOk result (λ variables. variables.free ≡ self.free) }
-        ensures returns { IfOk result (λ variables. variables.returns.items ≡ self.returns) }
         ensures few { self.others + length self.declared ≤ 15 }
     {
         let free = self.free;
@@ -165,7 +153,6 @@ impl Scope {
         Ok(Variables {
             names: Names::of(names),
             free,
-            returns: self.returns,
         })
     }
 }

@@ -19,6 +19,6 @@ decreases-items_levels l = 2 * items_weight (items_of l.tree.now)
 -- the greatest so far and that of what is left is that of all
 abbrev pub invariant-items_levels-loop-left : goal.invariant-items_levels-loop-left
 invariant-items_levels-loop-left l =
-    (max l.most (items_levels l.level (items_of l.left)) ≡ items_levels l.level (items_of l.fn.tree))
-    × (l.level ≤ l.most)
+    (max l.most (items_levels l.here (items_of l.left)) ≡ items_levels l.level (items_of l.fn.tree))
+    × (l.here ≤ l.most)
     × (items_weight (items_of l.left) ≤ items_weight (items_of l.fn.tree))

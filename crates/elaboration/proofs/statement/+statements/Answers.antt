@@ -1,13 +1,15 @@
 use Rattle.std.proofs.lemmas.Grind.{common_steps}
-use Rattle.std.proofs.Common.{◌≡◌, take, ap, ◌∙◌, arith}
+use Rattle.std.proofs.Common.{◌≡◌, true, false, take, sym, ap, ◌∙◌, subst, arith}
 use Rattle.std.proofs.lemmas.Result.{on_ok_weaker}
 use Rattle.concrete_syntax.specs.Mirror.{expression as expression_of, name as name_of, call as call_of, declaration as declaration_of, start as start_of, optional, optional_simple as optional_simple_of, statement as statement_of, statement_kind, otherwise as otherwise_of, items as items_of}
 use Rattle.concrete_syntax.specs.Trees as tree
 use Rattle.elaboration.specs.Contexts.{deeper, looping}
+use Rattle.elaboration.specs.Guards.{guards, around_statement}
 use Rattle.typed_expressions.specs.Expressions.{expression_faults}
 use Rattle.typed_expressions.specs.Scopes.{Scope}
 use Rattle.elaboration.specs.Statements.{joined, declaration_walked, statement_walked, otherwise_walked, items_walked, start_walked, optional_faults, optional_simple_walked}
-use Rattle.elaboration.specs.Walking.{context_of}
+use Rattle.elaboration.specs.Walking.{HasGone, HasAdded, context_of}
+use Rattle.elaboration.proofs.Guarding.{guard_found, unguarded_is}
 use Rattle.elaboration.proofs.Scoping.{closed, items_kept, start_kept}
 use Rattle.elaboration.proofs.Walks.{staying, both_gone, step_on}
 use Rattle.elaboration.proofs.Weights.{items_weight}
@@ -33,17 +35,23 @@ items-loop-left-preserved-in-Declaration t c =
 pub items-loop-left-preserved : goal.items-loop-left-preserved
 items-loop-left-preserved t c =
     let now = c.loop-left.walk in
-    let rest = items_of c.deref-left-in-Statement.result.now in
-    let split : items_of c.loop-left.left.now ≡ tree.statement (statement_of c.deref.result.now) rest =
-    rw (c.deref.ensures, c.deref-left-in-Statement.ensures) (ap items_of c.in-Statement.is)
+    let around = context_of c.args.context in
+    let s = statement_of c.in-Statement.first.value in
+    let rest = items_of c.in-Statement.rest.value in
+    let split : items_of c.loop-left.left.now ≡ tree.statement s rest = ap items_of c.in-Statement.is in
+    let free : guards around s ≡ false = sym (rw (c.deref.ensures) at c.is_guarded_by.ensures) ∙ c.if-is_guarded_by.false in
+    let inner : context_of c.around.result ≡ around_statement around s rest =
+    (rw (c.deref-in-Statement-2.ensures, c.deref-in-Statement-3.ensures) at c.around.ensures) free
     in
-    let made = c.in_ok-statement-in-Statement.ensures in
+    let gone = rw (c.deref-in-Statement.ensures, inner) at c.in_ok-statement-in-Statement.ensures.gone in
+    let added = rw (c.deref-in-Statement.ensures, inner) at c.in_ok-statement-in-Statement.ensures.added in
     let weight = ap items_weight split in
-    let lighter = c.loop-left.invariant.1 in (
+    let lighter = c.loop-left.invariant.1 in
+    rw (c.deref-left-in-Statement.ensures) (
       step_on now c.statement.new.walk _ c.loop-left.out.items c.statement.new.out.items _
-          (statement_walked (context_of c.args.context) now.scope (statement_of c.deref.result.now)) (λ s. items_walked (context_of c.args.context) s rest)
-          (items_walked (context_of c.args.context) now.scope (items_of c.loop-left.left.now)) _
-          made.gone made.added (ap (items_walked (context_of c.args.context) now.scope) split) c.loop-left.invariant.0,
+          (statement_walked (around_statement around s rest) now.scope s) (λ scope. items_walked around scope rest)
+          (items_walked around now.scope (items_of c.loop-left.left.now)) _
+          gone added (ap (items_walked around now.scope) split ∙ unguarded_is around now.scope s rest free) c.loop-left.invariant.0,
       omega (arith, weight, lighter),
     )
 
@@ -155,3 +163,47 @@ for_loop-returns-in_err-test-clause-gone t c = grind (arith, common_steps)
 
 pub for_loop-returns-clause-added : goal.for_loop-returns-clause-added
 for_loop-returns-clause-added t c = grind (arith, common_steps)
+
+pub guard-returns-clause-gone : goal.guard-returns-clause-gone
+guard-returns-clause-gone t c =
+    let old = c.args.walk.now in
+    let tested = c.test.new.self in
+    let last = c.items.new.walk in
+    let part = statement_of c.args.part.now in
+    let more = items_of c.args.rest.now in
+    let around = deeper (context_of c.args.context) in
+    let one = rw c.in_ok-inner.ensures at c.in_ok-yes.ensures.gone in
+    let two = rw c.in_ok-inner.ensures at c.in_ok-items.ensures.gone in
+    let faults = expression_faults old.scope (expression_of c.args.condition.now) in
+    on_ok_weaker c.add.result
+    (λ added. both_gone old tested last (staying old.scope faults)
+    (λ s. joined (statement_walked around s part) (items_walked around (statement_walked around s part).scope more))
+    c.in_ok-test.ensures.found
+    (both_gone tested c.body.new.walk last (statement_walked around tested.scope part) (λ s. items_walked around s more) one two))
+    c.add.ensures.meaning
+
+pub guarded-returns-in-Conditional-clause-gone : goal.guarded-returns-in-Conditional-clause-gone
+guarded-returns-in-Conditional-clause-gone t c =
+    let test = expression_of c.in-Conditional.test in
+    let part = statement_of c.deref.result.now in
+    let other = otherwise_of c.in-Conditional.other in
+    let is : statement_kind c.args.tree.now.kind ≡ tree.conditional test part other = rw (c.deref.ensures) (ap statement_kind c.in-Conditional.is) in
+    let guarding : guards (context_of c.args.context) (tree.statement_at c.args.tree.now.at (tree.conditional test part other)) ≡ true = rw is at c.requires.guards in
+    let found = guard_found (context_of c.args.context) c.args.walk.now.scope c.args.tree.now.at test part other (items_of c.args.rest.now) guarding in
+    let whole = ap (λ kind. items_walked (context_of c.args.context) c.args.walk.now.scope (tree.statement (tree.statement_at c.args.tree.now.at kind) (items_of c.args.rest.now))) is
+    ∙ found
+    in
+    on_ok_weaker c.guard.result (λ h. subst (HasGone c.args.walk.now c.guard.new.walk) (sym whole) h) c.guard.ensures.gone
+
+pub guarded-returns-in-Conditional-clause-added : goal.guarded-returns-in-Conditional-clause-added
+guarded-returns-in-Conditional-clause-added t c =
+    let test = expression_of c.in-Conditional.test in
+    let part = statement_of c.deref.result.now in
+    let other = otherwise_of c.in-Conditional.other in
+    let is : statement_kind c.args.tree.now.kind ≡ tree.conditional test part other = rw (c.deref.ensures) (ap statement_kind c.in-Conditional.is) in
+    let guarding : guards (context_of c.args.context) (tree.statement_at c.args.tree.now.at (tree.conditional test part other)) ≡ true = rw is at c.requires.guards in
+    let found = guard_found (context_of c.args.context) c.args.walk.now.scope c.args.tree.now.at test part other (items_of c.args.rest.now) guarding in
+    let whole = ap (λ kind. items_walked (context_of c.args.context) c.args.walk.now.scope (tree.statement (tree.statement_at c.args.tree.now.at kind) (items_of c.args.rest.now))) is
+    ∙ found
+    in
+    on_ok_weaker c.guard.result (λ h. subst (HasAdded c.args.walk.now c.args.out.now.items c.guard.new.out.items) (sym whole) h) c.guard.ensures.added

@@ -30,6 +30,12 @@ decreases-body l = 4 * statement_weight (statement_of l.tree.now) + 1
 abbrev pub decreases-otherwise : goal.decreases-otherwise
 decreases-otherwise l = 4 * otherwise_weight (otherwise_of l.tree.now)
 
+abbrev pub decreases-guarded : goal.decreases-guarded
+decreases-guarded l = 4 * (statement_weight (statement_of l.tree.now) + items_weight (items_of l.rest.now)) + 3
+
+abbrev pub decreases-guard : goal.decreases-guard
+decreases-guard l = 4 * (statement_weight (statement_of l.part.now) + items_weight (items_of l.rest.now)) + 3
+
 abbrev pub decreases-items : goal.decreases-items
 decreases-items l = 4 * items_weight (items_of l.tree.now)
 

@@ -1,9 +1,8 @@
-use Rattle.std.proofs.Common.{◌≡◌, ◌++◌, length, vec_items, sym, ap, ◌∙◌, arith}
+use Rattle.std.proofs.Common.{◌≡◌, length, vec_items, sym, ap, ◌∙◌, arith}
 use Rattle.std.proofs.lemmas.List.{length-map}
 use Rattle.concrete_syntax.specs.Mirror.{function as function_tree}
-use Rattle.call_meaning.specs.Tables.{parts}
 use Rattle.elaboration.specs.Contexts.{at_top, body_of}
-use Rattle.elaboration.specs.Elaborates.{behind_parameters, ends_with_return, entered, function_walked, parameters_of, parameters_faults, twice_faults}
+use Rattle.elaboration.specs.Elaborates.{behind_parameters, entered, function_walked, parameters_of, parameters_faults, twice_faults}
 use Rattle.typed_expressions.specs.Faults.{earliest}
 use Rattle.elaboration.specs.Statements.{Walked, items_walked}
 use Rattle.elaboration.specs.Walking.{context_of}
@@ -23,7 +22,7 @@ returns-clause-few c =
     let start : c.parameters.new.walk.scope ≡ entered old.others tree = declared.1 ∙ ap (λ s. behind_parameters s (parameters_of tree.parameters)) scope in
     let is = function_is old.functions old.others tree (context_of c.top-context.result) c.parameters.new.walk.scope around start in
     let all : c.in_ok-names.field-0.names ≡ w.scope.declared =
-    c.in_ok-names.ensures.names ∙ ap (λ s. s.declared) c.in_ok-items.ensures.gone.1 ∙ ap (λ (v : Walked). v.scope.declared) is
+    c.in_ok-names.ensures.names ∙ ap (λ s. s.declared) (c.need_return.ensures.1 ∙ c.in_ok-items.ensures.gone.1) ∙ ap (λ (v : Walked). v.scope.declared) is
     in
     let count : length c.items-2.result.now ≡ length w.scope.declared =
     sym (length-map c.items-2.result.now vec_items) ∙ ap length (c.items-2.ensures ∙ all)
@@ -42,12 +41,9 @@ returns-clause-least c =
     let around : context_of c.top-context.result ≡ at_top old.functions (body_of tree.valued) = c.top-context.ensures ∙ ap (at_top old.functions) c.of.ensures in
     let start : c.parameters.new.walk.scope ≡ entered old.others tree = declared.1 ∙ ap (λ s. behind_parameters s own) scope in
     let w = items_walked (context_of c.top-context.result) c.parameters.new.walk.scope tree.items in
-    let made : parts c.items.new.out.items ≡ w.body = c.in_ok-items.ensures.added.0 ∙ ap (λ l. parts l ++ w.body) c.new-list.ensures.items in
     function_found old.functions old.others tree old.least c.need_new_function.new.walk.least c.parameters.new.walk.least c.items.new.walk.least
-    c.in_ok-self.field-0 c.ends_with_return-ends.result c.in_ok-names.field-0.returns.items w
+    c.need_return.new.walk.least c.items_return.result w
     (function_is old.functions old.others tree (context_of c.top-context.result) c.parameters.new.walk.scope around start)
     (named.2 ∙ ap (λ least. earliest least (twice_faults old.functions tree.name)) c.new-walk.ensures.least)
     (declared.2 ∙ ap (λ s. earliest c.need_new_function.new.walk.least (parameters_faults s own)) scope)
-    gone.2 c.in_ok-self.ensures
-    (c.ends_with_return-ends.ensures ∙ ap (λ l. ends_with_return (parts l)) c.deref.ensures.value ∙ ap ends_with_return made)
-    (c.in_ok-names.ensures.returns ∙ ap (λ s. s.returns) gone.1)
+    gone.2 c.need_return.ensures.2 c.items_return.ensures
