@@ -14,6 +14,6 @@ mod walk;
 pub use expression::operation;
 pub use fault::{Fault, Rule, earlier};
 pub use laws::{one_group_is_by_the_ladder, operators_group_by_the_ladder};
-pub use scope::{MOST_VARIABLES, Scope, Variables};
+pub use scope::{MOST_VARIABLES, Scope, Variables, position};
 pub use typed::{Sort, Typed};
 pub use walk::Walk;

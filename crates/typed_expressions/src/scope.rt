@@ -157,8 +157,8 @@ impl Scope {
     }
 }
 
-// The first place of a name among these, counted from 0.
-fn position(names: &[Vec<u8>], wanted: &[u8]) -> Option<usize>
+/// The first place of a name among these, counted from 0, or `None` where it isn't among them.
+pub fn position(names: &[Vec<u8>], wanted: &[u8]) -> Option<usize>
     ensures found { IfSome result (λ place. (is_among (map vec_items names.now) wanted.now ≡ true) × (place ≡ place_of (map vec_items names.now) wanted.now) × (place < length names.now)) }
     ensures missing { IfNone result ((is_among (map vec_items names.now) wanted.now ≡ false) × (place_of (map vec_items names.now) wanted.now ≡ length names.now)) }
 {
