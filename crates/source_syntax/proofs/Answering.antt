@@ -9,12 +9,12 @@ use Rattle.derivation.specs.Comes.{IsNext}
 use Rattle.source_syntax.specs.Language.{Token, Rest, IsQuiet, rest_from}
 use Rattle.derivation.specs.declared.fault.Fault.{Fault}
 use Rattle.source_syntax.specs.Spelling.{plain, sign, leading, opening, leading_opening}
-use Rattle.source_syntax.specs.Pending.{Pending, exactly, exactly_at, a_name, bytes_of_a_name, a_number, a_number_at, Trees, Leads, Stops}
+use Rattle.source_syntax.specs.Pending.{Pending, exactly, a_name, bytes_of_a_name, a_number, a_place, Trees, Leads, Stops}
 use Rattle.source_syntax.specs.Reads.{MissesSign, MissesOpening, MissesName, MissesNumber, AreNext, MissesOne}
 use Rattle.derivation.proofs.Grammars.{over, fails, stay, read, exceeds}
 use Rattle.derivation.proofs.Choices.{held}
 use Rattle.source_syntax.proofs.Completions.{lawful}
-use Rattle.source_syntax.proofs.Expressions.{tokens, token_missed, located_tokens, names, name_bytes, bytes_missed, located_numbers, numbers, number_missed}
+use Rattle.source_syntax.proofs.Expressions.{tokens, token_missed, places, names, name_bytes, bytes_missed, numbers, number_missed}
 
 module _ {c : ℕ} {S : List Pending} {from to : Rest} where
   pub sign_reads : (s : Symbol) (quiet : IsQuiet (Some (symbol s))) → IsNext (symbol s) from to
@@ -37,8 +37,8 @@ module _ {c : ℕ} {S : List Pending} {from to : Rest} where
   number_reads {z} e = read (tokens (plain (numbered z)) (refl, refl) S) e (omega arith, tt)
 
   pub sign_at_reads : (s : Symbol) (quiet : IsQuiet (Some (symbol s))) → IsNext (symbol s) from to
-      → Leads c ((exactly_at (sign s) quiet ∷ S)) from c S to (λ g. (from.number, g))
-  sign_at_reads s quiet e = over (held (located_tokens (sign s) quiet S) c from) (sign_reads s quiet e)
+      → Leads c (a_place ∷ exactly (sign s) quiet ∷ S) from c S to (λ g. (from.number, (tt, g)))
+  sign_at_reads s quiet e = over (held (places (exactly (sign s) quiet ∷ S)) c from) (sign_reads s quiet e)
 
   pub bytes_reads : {x : List ℕ} → IsNext (named x) from to → Leads c (bytes_of_a_name ∷ S) from c S to (λ g. (x, g))
   bytes_reads {x} e = read (name_bytes x S) e (omega arith, tt)
@@ -46,8 +46,8 @@ module _ {c : ℕ} {S : List Pending} {from to : Rest} where
   pub name_reads : {x : List ℕ} → IsNext (named x) from to → Leads c (a_name ∷ S) from c S to (λ g. (record { at = from.number; bytes = x }, g))
   name_reads {x} e = over (held (names S) c from) (bytes_reads e)
 
-  pub number_at_reads : {z : ℤ} → IsNext (numbered z) from to → Leads c (a_number_at ∷ S) from c S to (λ g. ((from.number, z), g))
-  number_at_reads {z} e = over (held (located_numbers S) c from) (read (numbers z S) e (omega arith, tt))
+  pub number_at_reads : {z : ℤ} → IsNext (numbered z) from to → Leads c (a_place ∷ a_number ∷ S) from c S to (λ g. (from.number, (z, g)))
+  number_at_reads {z} e = over (held (places (a_number ∷ S)) c from) (read (numbers z S) e (omega arith, tt))
 
 -- the same for faults
 missed : (c : ℕ) (t : Token) (quiet : IsQuiet (Some t.word)) (S : List Pending) (from : Rest) (s : Symbol) (rule : Rule) → t.word ≡ symbol s
@@ -87,8 +87,8 @@ module _ {c : ℕ} {S : List Pending} (lexemes : List Lexeme) (at : ℕ) (fault 
       (missed_opening c (leading_opening s level) quiet S (rest_from lexemes at) s fault.rule refl h.0)
 
   pub sign_at_refused : (s : Symbol) (quiet : IsQuiet (Some (symbol s))) → MissesSign (rest_from lexemes at) s fault.rule × (fault.at ≡ at)
-      → Stops c ((exactly_at (sign s) quiet ∷ S)) (rest_from lexemes at) fault.rule (rest_from lexemes fault.at)
-  sign_at_refused s quiet h = fails (held (located_tokens (sign s) quiet S) c (rest_from lexemes at)) (sign_refused s quiet h)
+      → Stops c (a_place ∷ exactly (sign s) quiet ∷ S) (rest_from lexemes at) fault.rule (rest_from lexemes fault.at)
+  sign_at_refused s quiet h = fails (held (places (exactly (sign s) quiet ∷ S)) c (rest_from lexemes at)) (sign_refused s quiet h)
 
   pub bytes_refused : MissesName (rest_from lexemes at) fault.rule × (fault.at ≡ at)
       → Stops c ((bytes_of_a_name ∷ S)) (rest_from lexemes at) fault.rule (rest_from lexemes fault.at)
@@ -104,8 +104,8 @@ module _ {c : ℕ} {S : List Pending} (lexemes : List Lexeme) (at : ℕ) (fault 
   name_refused h = fails (held (names S) c (rest_from lexemes at)) (bytes_refused h)
 
   pub number_at_refused : MissesNumber (rest_from lexemes at) fault.rule × (fault.at ≡ at)
-      → Stops c ((a_number_at ∷ S)) (rest_from lexemes at) fault.rule (rest_from lexemes fault.at)
-  number_at_refused h = fails (held (located_numbers S) c (rest_from lexemes at)) (there c lexemes at fault (a_number ∷ S) h.1 (by_rule fault.rule h.0))
+      → Stops c (a_place ∷ a_number ∷ S) (rest_from lexemes at) fault.rule (rest_from lexemes fault.at)
+  number_at_refused h = fails (held (places (a_number ∷ S)) c (rest_from lexemes at)) (there c lexemes at fault (a_number ∷ S) h.1 (by_rule fault.rule h.0))
     where
       by_rule : (rule : Rule) → MissesNumber (rest_from lexemes at) rule → Stops c ((a_number ∷ S)) (rest_from lexemes at) rule (rest_from lexemes at)
       by_rule Expected h = number_missed c S (rest_from lexemes at) h

@@ -11,7 +11,7 @@ use Rattle.source_syntax.specs.declared.opening.LinkOpening.{LinkOpening}
 use Rattle.source_syntax.specs.declared.opening.LinkOpening.TheVariants as Link
 use Rattle.source_syntax.specs.Reads.{right_of, link_of}
 use Rattle.source_syntax.proofs.Words.{link_sign}
-use Rattle.source_syntax.specs.Pending.{Leads, Stops, Pending, exactly, exactly_at, a_name, bytes_of_a_name, a_size, an_end, a_number, a_number_at, a_divisor, an_operand, an_operand_kind, a_tail, an_expression, Trees, pieces, grammar}
+use Rattle.source_syntax.specs.Pending.{Leads, Stops, Pending, exactly, a_name, bytes_of_a_name, a_size, an_end, a_number, a_place, a_divisor, an_operand, an_operand_kind, a_tail, an_expression, Trees, pieces, grammar}
 use Rattle.derivation.proofs.Grammars.{opens, becomes, sticks, Headed}
 use Rattle.concrete_syntax.specs.declared.sign.Prefix.{Prefix}
 use Rattle.source_syntax.specs.declared.opening.OperandOpening.{OperandOpening}
@@ -34,10 +34,9 @@ pub token_missed : (c : ℕ) (t : Token) (quiet : IsQuiet (Some t.word)) (S : Li
 token_missed c t quiet S from h =
     sticks lawful (exactly t quiet ∷ S) c from (λ next. next ≢ Some t.word) (λ f fits other. other refl) (not_next t.word from.words h)
 
--- a token with its number
-pub located_tokens : (t : Token) (quiet : IsQuiet (Some t.word)) (S : List Pending)
-    → Held lawful (exactly_at t quiet ∷ S) (λ m. exactly t quiet ∷ S) (λ m g. (m, g.1))
-located_tokens t quiet S = record { spells = λ m g. refl; view = λ f. (f.0, (tt, f.1), refl) }
+-- the number of the next token
+pub places : (S : List Pending) → Held lawful (a_place ∷ S) (λ m. S) (λ m g. (m, g))
+places S = record { spells = λ m g. refl; view = λ f. (f.0, f.1, refl) }
 
 -- names
 pub names : (S : List Pending) → Held lawful (a_name ∷ S) (λ m. bytes_of_a_name ∷ S) (λ m g. (record { at = m; bytes = g.0 }, g.1))
@@ -52,9 +51,6 @@ bytes_missed c S from h =
     (λ x. not_next (named x) from.words (h x))
 
 -- numbers
-pub located_numbers : (S : List Pending) → Held lawful (a_number_at ∷ S) (λ m. a_number ∷ S) (λ m g. ((m, g.0), g.1))
-located_numbers S = record { spells = λ m g. refl; view = λ f. (f.0.0, (f.0.1, f.1), refl) }
-
 pub numbers : (z : ℤ) (S : List Pending) → Headed grammar (a_number ∷ S) (plain (numbered z)) S (λ g. (z, g))
 numbers z S = record { spells = λ g. refl; view = λ n f fits next. (f.1, let same : f.0 ≡ z = cc in ap (λ y. (y, f.1)) same) }
 
@@ -65,14 +61,14 @@ number_missed c S from h =
 
 -- a divisor, with a `-` and without
 module _ (S : List Pending) where
-  abbrev pub divisor_of : Bool → Trees (a_number_at ∷ S) → Trees (a_divisor ∷ S)
-  divisor_of negative g = (record { negative = negative; at = g.0.0; size = g.0.1 }, g.1)
+  abbrev pub divisor_of : Bool → Trees (a_place ∷ a_number ∷ S) → Trees (a_divisor ∷ S)
+  divisor_of negative g = (record { negative = negative; at = g.0; size = g.1.0 }, g.1.1)
 
-  pub divisors : Fork grammar (a_divisor ∷ S) (sign Sym.Minus) (a_number_at ∷ S) (divisor_of true) (a_number_at ∷ S) (divisor_of false)
-  divisors = record { spells = λ g. refl; spells_other = λ g. refl; view = λ f. view f.0.negative ((f.0.at, f.0.size), f.1) }
+  pub divisors : Fork grammar (a_divisor ∷ S) (sign Sym.Minus) (a_place ∷ a_number ∷ S) (divisor_of true) (a_place ∷ a_number ∷ S) (divisor_of false)
+  divisors = record { spells = λ g. refl; spells_other = λ g. refl; view = λ f. view f.0.negative (f.0.at, (f.0.size, f.1)) }
     where
-      view : (negative : Bool) (g : Trees (a_number_at ∷ S))
-          → Sides grammar (a_divisor ∷ S) (sign Sym.Minus) (a_number_at ∷ S) (divisor_of true) (a_number_at ∷ S) (divisor_of false) (divisor_of negative g)
+      view : (negative : Bool) (g : Trees (a_place ∷ a_number ∷ S))
+          → Sides grammar (a_divisor ∷ S) (sign Sym.Minus) (a_place ∷ a_number ∷ S) (divisor_of true) (a_place ∷ a_number ∷ S) (divisor_of false) (divisor_of negative g)
       view true g = inl (g, refl)
       view false g = inr (g, refl, λ e. cc)
 

@@ -5,8 +5,8 @@ pub mod Calling
 pub mod Programs
 pub mod Words
 pub mod Answering
-pub mod Reading
 pub mod Loops
 pub mod Whole
 pub mod OneTree
 pub mod Standing
+mod Steps

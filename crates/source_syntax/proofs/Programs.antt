@@ -4,16 +4,15 @@ use Rattle.derivation.specs.declared.symbol.Symbol.{Symbol}
 use Rattle.derivation.specs.declared.symbol.Symbol.TheVariants as Sym
 use Rattle.derivation.specs.Pieces.{Fits}
 use Rattle.derivation.proofs.Grammars.{opens}
-use Rattle.derivation.proofs.Choices.{begins, Way, Choice, Sides, Fork, Held}
+use Rattle.derivation.proofs.Choices.{begins, Way, Choice, Sides, Fork}
 use Rattle.source_syntax.specs.declared.opening.PreludeOpening.{PreludeOpening}
 use Rattle.source_syntax.specs.Openings.{opening_of_prelude}
 use Rattle.concrete_syntax.specs.Trees.{Name, Items, Prelude, extern_call, typedef_bool, Parameters, nothing, named as named_parameters, Function}
 use Rattle.source_syntax.specs.Language.{Rest}
 use Rattle.source_syntax.specs.Spelling.{sign}
 use Rattle.source_syntax.specs.Ends.{Definitions, DefinitionsEnd, is_main, is_function, function_of, after_function}
-use Rattle.source_syntax.specs.Pending.{Pending, exactly, a_name, a_void, parameters, further_parameters, a_place, definitions_end, definitions, a_program, Trees, pieces, grammar, Leads}
+use Rattle.source_syntax.specs.Pending.{Pending, exactly, a_name, a_void, parameters, further_parameters, definitions_end, definitions, a_program, Trees, pieces, grammar, Leads}
 use Rattle.source_syntax.specs.Reads.{main_end, function_end}
-use Rattle.source_syntax.proofs.Completions.{lawful}
 use Rattle.source_syntax.proofs.Answering.{AreQuiet, in_turn, units, behind_units}
 use Rattle.source_syntax.proofs.Expressions.{Same}
 
@@ -37,10 +36,6 @@ module _ (S : List Pending) where
           (λ g. (g.1.0 ∷ g.1.1.0, g.1.1.1)) (exactly (sign Sym.CloseParenthesis) (refl, refl) ∷ S) (λ g. ([], g.1)) (all, rest)
       view (x ∷ more) rest = inl ((tt, (x, (more, rest))), refl)
       view [] rest = inr ((tt, rest), refl, λ e. cc)
-
-  -- the number of the next token
-  pub places : Held lawful (a_place ∷ S) (λ m. S) (λ m g. (m, g))
-  places = record { spells = λ m g. refl; view = λ f. (f.0, f.1, refl) }
 
   -- where functions are allowed: one of no value, or what begins with `int`
   abbrev pub with_function : Bool → Trees (function_end (definitions true ∷ S)) → Trees (definitions true ∷ S)

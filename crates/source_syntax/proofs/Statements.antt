@@ -6,7 +6,7 @@ use Rattle.derivation.specs.declared.symbol.Symbol.TheVariants as Sym
 use Rattle.derivation.specs.Word.{Word, symbol, name as named, number as numbered, unknown as unreadable}
 use Rattle.derivation.specs.Pieces.{look, first, Fits}
 use Rattle.source_syntax.specs.Language.{Rest, is_else, no_else, IsQuiet}
-use Rattle.source_syntax.specs.Pending.{Leads, Pending, exactly, exactly_at, a_name, a_tail, an_expression, an_optional, a_test, an_action, a_simple, an_initialiser, a_part_end, parts, a_declaration, a_start, a_finish, a_statement_end, a_statement, a_statement_kind, an_otherwise, items, a_void, Trees, pieces, grammar}
+use Rattle.source_syntax.specs.Pending.{Leads, Pending, exactly, a_place, a_name, a_tail, an_expression, an_optional, a_test, an_action, a_simple, an_initialiser, a_part_end, parts, a_declaration, a_start, a_finish, a_statement_end, a_statement, a_statement_kind, an_otherwise, items, a_void, Trees, pieces, grammar}
 use Rattle.derivation.proofs.Grammars.{opens, becomes, Headed}
 use Rattle.concrete_syntax.specs.declared.sign.Assignment.{Assignment}
 use Rattle.concrete_syntax.specs.declared.sign.Step.{Step}
@@ -75,12 +75,12 @@ IsSimple _ = Unit {0}
 module _ (n : ℕ) where
   abbrev pub simple_rest : SimpleOpening → List Pending → List Pending
   simple_rest SimpleOpening.Name S = a_name ∷ an_action n ∷ S
-  simple_rest (SimpleOpening.Steps s) S = exactly_at (sign (step_sign s)) (step_quiet s) ∷ a_name ∷ S
+  simple_rest (SimpleOpening.Steps s) S = a_place ∷ exactly (sign (step_sign s)) (step_quiet s) ∷ a_name ∷ S
   simple_rest SimpleOpening.Nothing S = a_simple n ∷ S
 
   abbrev pub simple_tree : (o : SimpleOpening) → (S : List Pending) → Trees (simple_rest o S) → Trees (a_simple n ∷ S)
   simple_tree SimpleOpening.Name S g = (acts g.0 g.1.0, g.1.1)
-  simple_tree (SimpleOpening.Steps s) S g = (steps_before g.0 s g.1.0, g.1.1)
+  simple_tree (SimpleOpening.Steps s) S g = (steps_before g.0 s g.1.1.0, g.1.1.1)
   simple_tree SimpleOpening.Nothing S g = g
 
   pub simples : (S : List Pending) → Choice grammar (a_simple n ∷ S) opening_of_simple IsSimple (λ o. simple_rest o S) (λ o. simple_tree o S)
@@ -94,8 +94,8 @@ module _ (n : ℕ) where
       view : (f : Trees (a_simple n ∷ S))
           → Way grammar (a_simple n ∷ S) IsSimple (λ o. simple_rest o S) (λ o. simple_tree o S) (opening_of_simple (begins grammar (a_simple n ∷ S) f)) f
       view (acts x action, rest) = (tt, (x, (action, rest)), refl)
-      view (steps_before at Step.Increment x, rest) = (tt, (at, (x, rest)), refl)
-      view (steps_before at Step.Decrement x, rest) = (tt, (at, (x, rest)), refl)
+      view (steps_before at Step.Increment x, rest) = (tt, (at, (tt, (x, rest))), refl)
+      view (steps_before at Step.Decrement x, rest) = (tt, (at, (tt, (x, rest))), refl)
 
 -- the parts of a declaration
 module _ (functions : Bool) (n : ℕ) (S : List Pending) where
@@ -259,7 +259,7 @@ module _ (functions : Bool) (n : ℕ) where
   statement_rest StatementOpening.Braces S = exactly (opening Sym.OpenBrace (n + 1)) (refl, refl) ∷ items functions (n + 1) ∷ S
   statement_rest StatementOpening.If S = exactly (opening Sym.If (n + 1)) (refl, refl) ∷ a_test (n + 1) ∷ a_statement functions (n + 1) ∷ an_otherwise functions (n + 1) ∷ S
   statement_rest StatementOpening.While S = exactly (opening Sym.While (n + 1)) (refl, refl) ∷ a_test (n + 1) ∷ a_statement functions (n + 1) ∷ S
-  statement_rest StatementOpening.Do S = exactly (opening Sym.Do (n + 1)) (refl, refl) ∷ a_statement functions (n + 1) ∷ exactly_at (sign Sym.While) (refl, refl) ∷ a_test (n + 1) ∷ exactly (sign Sym.Semicolon) (refl, refl) ∷ S
+  statement_rest StatementOpening.Do S = exactly (opening Sym.Do (n + 1)) (refl, refl) ∷ a_statement functions (n + 1) ∷ a_place ∷ exactly (sign Sym.While) (refl, refl) ∷ a_test (n + 1) ∷ exactly (sign Sym.Semicolon) (refl, refl) ∷ S
   statement_rest StatementOpening.For S = exactly (opening Sym.For (n + 1)) (refl, refl) ∷ exactly (sign Sym.OpenParenthesis) (refl, refl) ∷ a_start functions (n + 1) ∷ an_optional (n + 1) ∷ a_finish (n + 1) ∷ a_statement functions (n + 1) ∷ S
   statement_rest StatementOpening.Return S = exactly (leading Sym.Return) (refl, refl) ∷ an_optional n ∷ S
   statement_rest StatementOpening.Break S = in_turn break_signs break_quiet S
@@ -273,7 +273,7 @@ module _ (functions : Bool) (n : ℕ) where
   statement_tree StatementOpening.Braces S g = (braces g.1.0, g.1.1)
   statement_tree StatementOpening.If S g = (conditional g.1.0 g.1.1.0 g.1.1.1.0, g.1.1.1.1)
   statement_tree StatementOpening.While S g = (while_loop g.1.0 g.1.1.0, g.1.1.1)
-  statement_tree StatementOpening.Do S g = (do_loop g.1.0 g.1.1.0 g.1.1.1.0, g.1.1.1.1.1)
+  statement_tree StatementOpening.Do S g = (do_loop g.1.0 g.1.1.0 g.1.1.1.1.0, g.1.1.1.1.1.1)
   statement_tree StatementOpening.For S g = (for_loop g.1.1.0 g.1.1.1.0 g.1.1.1.1.0 g.1.1.1.1.1.0, g.1.1.1.1.1.1)
   statement_tree StatementOpening.Return S g = (return g.1.0, g.1.1)
   statement_tree StatementOpening.Break S g = (break, g.1.1)
@@ -315,7 +315,7 @@ module _ (functions : Bool) (n : ℕ) where
       view (braces all, rest) = (tt, (tt, (all, rest)), refl)
       view (conditional test part other, rest) = (tt, (tt, (test, (part, (other, rest)))), refl)
       view (while_loop test body, rest) = (tt, (tt, (test, (body, rest))), refl)
-      view (do_loop body end test, rest) = (tt, (tt, (body, (end, (test, (tt, rest))))), refl)
+      view (do_loop body end test, rest) = (tt, (tt, (body, (end, (tt, (test, (tt, rest)))))), refl)
       view (for_loop start test step body, rest) = (tt, (tt, (tt, (start, (test, (step, (body, rest)))))), refl)
       view (return value, rest) = (tt, (tt, (value, rest)), refl)
       view (break, rest) = (tt, (tt, (tt, rest)), refl)

@@ -10,6 +10,7 @@ use Rattle.derivation.specs.Pieces.{Token as TokenOf, Piece as PieceOf, Rest as 
 use Rattle.derivation.specs.Comes.{Phrase as PhraseOf}
 use Rattle.concrete_syntax.specs.declared.sign.Division.{Division}
 use Rattle.concrete_syntax.specs.declared.sign.Operator.{Operator}
+use Rattle.source_syntax.specs.declared.input.Reader.{Reader}
 use Rattle.source_syntax.specs.declared.opening.LinkOpening.{LinkOpening}
 use Rattle.source_syntax.specs.declared.opening.LinkOpening.TheVariants as Link
 
@@ -72,3 +73,7 @@ IsQuiet next = (link_opening next ≡ None) × IsFalse (is_else next)
 -- what is left of a list of words from a number on
 abbrev pub rest_from : List Lexeme → ℕ → Rest
 rest_from lexemes at = record { number = at; words = words_from lexemes at }
+
+-- the same of a reader's words
+abbrev pub rest_at : Reader → ℕ → Rest
+rest_at reader at = rest_from reader.words.now at

@@ -10,18 +10,16 @@ use Rattle.concrete_syntax.specs.Trees.{Divisor, End, Operand, OperandKind, Tail
 use Rattle.source_syntax.specs.Spelling.{plain, sign, size_pieces, end_pieces, divisor_pieces, operand_pieces, operand_kind_pieces, tail_pieces, expression_pieces, optional_pieces, name_pieces, action_pieces, simple_pieces, value_pieces, initialiser_pieces, parts_pieces, declaration_pieces, start_pieces, finish_pieces, test_pieces, statement_pieces, statement_kind_pieces, otherwise_pieces, items_pieces, arguments_pieces, further_arguments_pieces, void_pieces, parameters_pieces, further_parameters_pieces, program_pieces}
 use Rattle.source_syntax.specs.Ends.{ValueEnd, Closing, StatementEnd, Definitions, DefinitionsEnd, closing_pieces, value_end_pieces, statement_end_pieces, definitions_pieces, definitions_end_pieces}
 
--- Something to be read, where so many levels are open; some where functions are allowed, or aren't, and values in a declaration, or not. Some take the sign behind them along, by
--- which the next word tells their end: an optional expression its `;`, the parts of a declaration their `;`, the start of a `for` its `;`, its
--- last part the `)`, a value what stands behind it, arguments and parameters the `)`, and items the `}`.
+-- Something to be read, or the number of the next token (`a_place`), where so many levels are open; some where functions are allowed, or aren't, and values in a
+-- declaration, or not. Some take the sign behind them along, by which the next word tells their end: an optional expression its `;`, the parts of a declaration their
+-- `;`, the start of a `for` its `;`, its last part the `)`, a value what stands behind it, arguments and parameters the `)`, and items the `}`.
 pub data Pending : Type 0 where
   exactly : (t : Token) → IsQuiet (Some t.word) → Pending
-  exactly_at : (t : Token) → IsQuiet (Some t.word) → Pending
   a_name : Pending
   bytes_of_a_name : Pending
   a_size : Pending
   an_end : Pending
   a_number : Pending
-  a_number_at : Pending
   a_divisor : Pending
   an_operand : ℕ → Pending
   an_operand_kind : ℕ → Pending
@@ -57,13 +55,11 @@ pub data Pending : Type 0 where
 
 abbrev pub TreeOf : Pending → Type 0
 TreeOf (exactly t quiet) = Unit {0}
-TreeOf (exactly_at t quiet) = ℕ
 TreeOf a_name = Name
 TreeOf bytes_of_a_name = List ℕ
 TreeOf a_size = Option ℤ
 TreeOf an_end = End
 TreeOf a_number = ℤ
-TreeOf a_number_at = ℕ × ℤ
 TreeOf a_divisor = Divisor
 TreeOf (an_operand n) = Operand
 TreeOf (an_operand_kind n) = OperandKind
@@ -99,13 +95,11 @@ TreeOf (a_program functions) = Program
 
 abbrev pub pieces_of : (p : Pending) → TreeOf p → List Piece → List Piece
 pieces_of (exactly t quiet) tree behind = token t ∷ behind
-pieces_of (exactly_at t quiet) at behind = look (is_at at) ∷ token t ∷ behind
 pieces_of a_name x behind = name_pieces x behind
 pieces_of bytes_of_a_name x behind = token (plain (named x)) ∷ behind
 pieces_of a_size size behind = size_pieces size behind
 pieces_of an_end end behind = end_pieces end behind
 pieces_of a_number z behind = token (plain (numbered z)) ∷ behind
-pieces_of a_number_at x behind = look (is_at x.0) ∷ token (plain (numbered x.1)) ∷ behind
 pieces_of a_divisor d behind = divisor_pieces d behind
 pieces_of (an_operand n) e behind = operand_pieces n e behind
 pieces_of (an_operand_kind n) kind behind = operand_kind_pieces n kind behind

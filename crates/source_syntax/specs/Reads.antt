@@ -14,7 +14,7 @@ use Rattle.concrete_syntax.specs.Mirror.{functions, items as items_tree}
 use Rattle.concrete_syntax.specs.Chains.{tail_of}
 use Rattle.source_syntax.specs.Spelling.{sign, opening}
 use Rattle.source_syntax.specs.Ends.{ValueEnd, value_of, StatementEnd, kind_of, Definitions}
-use Rattle.source_syntax.specs.Pending.{Pending, exactly, exactly_at, an_operand, a_divisor, a_tail, an_optional, a_test, a_name, an_initialiser, a_part_end, parts, a_declaration, a_start, a_finish, a_value, a_value_end, a_closing, arguments, further_arguments, a_statement_end, items, a_void, parameters, further_parameters, a_place, TreeOf, Leads, Stops}
+use Rattle.source_syntax.specs.Pending.{Pending, exactly, an_operand, a_divisor, a_tail, an_optional, a_test, a_name, an_initialiser, a_part_end, parts, a_declaration, a_start, a_finish, a_value, a_value_end, a_closing, arguments, further_arguments, a_statement_end, items, a_void, parameters, further_parameters, a_place, TreeOf, Leads, Stops}
 use Rattle.source_syntax.specs.declared.opening.LinkOpening.{LinkOpening}
 use Rattle.source_syntax.specs.declared.opening.LinkOpening.TheVariants.{Operation, Division}
 
@@ -162,12 +162,12 @@ pub record ComesToParts (functions : Bool) (levels : ℕ) (part : Part) (so_far 
 
 -- what stands behind the body of a `do`
 abbrev pub end_of_do : ℕ → List Pending → List Pending
-end_of_do levels behind = exactly_at (sign S.While) (refl, refl) ∷ a_test levels ∷ exactly (sign S.Semicolon) (refl, refl) ∷ behind
+end_of_do levels behind = a_place ∷ exactly (sign S.While) (refl, refl) ∷ a_test levels ∷ exactly (sign S.Semicolon) (refl, refl) ∷ behind
 
 -- the words up to `to` are the end of a `do` with this test
 pub record ReadsEndOfDo (levels : ℕ) (test : Expression) (from to : Rest) : Type 0 where
   pub comes : (count : ℕ) (behind : List Pending)
-      → (now : ℕ) × Leads count (end_of_do levels behind) from now behind to (λ trees. (from.number, (test, (tt, trees))))
+      → (now : ℕ) × Leads count (end_of_do levels behind) from now behind to (λ trees. (from.number, (tt, (test, (tt, trees)))))
 
 abbrev pub RefusesEndOfDo : ℕ → Rest → Rule → Rest → Type 0
 RefusesEndOfDo levels from rule to = (count : ℕ) (behind : List Pending) → Stops count (end_of_do levels behind) from rule to

@@ -3,7 +3,7 @@
 ghost use Rattle.std.specs.Prelude.{◌≡◌, ◌≤◌, ℕ, length, IfOk, IfErr};
 ghost use Rattle.derivation.specs.Pieces.{first};
 ghost use Rattle.derivation.specs.Spelled.{words_from, IsBehind};
-ghost use Rattle.source_syntax.specs.Language.{rest_from};
+ghost use Rattle.source_syntax.specs.Language.{rest_at};
 ghost use Rattle.concrete_syntax.specs.Mirror.{operand as operand_tree, operand_kind as kind_tree, expression as expression_tree, tail as tail_tree, link as link_tree, divisor as divisor_tree, range_end as end_tree};
 ghost use Rattle.concrete_syntax.specs.Trees.{call as call_tree, range as range_tree};
 ghost use Rattle.source_syntax.specs.Openings.{opening_of_operand};
@@ -12,13 +12,13 @@ ghost use Rattle.derivation.specs.Failures.{IfFault};
 ghost use Rattle.source_syntax.specs.Pending.{an_operand, an_operand_kind, an_expression, a_tail, a_divisor, an_end, a_size};
 ghost use Rattle.source_syntax.specs.Reads.{ReadsCounting, RefusesCounting, ReadsRight, RefusesRight};
 
+use crate::input::{Counted, Reader};
 use crate::opening::{
     LinkOpening, OperandOpening, SizeOpening, link_opening, opening_of_operand, size_opening,
 };
 use crate::reader::{number, opening, owned_name, sign};
 use concrete_syntax::{Divisor, End, Expression, Link, Operand, OperandKind, Prefix, Tail};
-use derivation::{Failure, Fault, Lexeme, MOST_LEVELS, Rule, Symbol, after};
-use std::alloc::Global;
+use derivation::{Failure, Fault, MOST_LEVELS, Rule, Symbol, after};
 
 /// How many binary operators one expression may have.
 pub const MOST_OPERATORS: u32 = 256;
@@ -26,49 +26,37 @@ pub const MOST_OPERATORS: u32 = 256;
 /// Reads an expression where `levels` levels are open, behind `operators` operators of the same whole expression. Answers the
 /// expression, the number of the word behind it and the count of operators by then.
 #[cycle(expressions)]
-pub fn expression(
-    alloc: Global,
-    words: &[Lexeme<'_>],
-    at: usize,
-    levels: u32,
-    operators: u32,
-) -> Result<(Expression, usize, u32), Failure>
+pub fn expression(reader: Reader<'_>, at: usize, levels: u32, operators: u32) -> Counted<Expression>
     requires shallow { levels ≤ 64 }
     requires few { operators ≤ 256 }
-    ensures read { IfOk result (λ found. ReadsCounting operators (an_expression levels) (expression_tree found.0) (rest_from words.now at) found.2 (rest_from words.now found.1)) }
+    ensures read { IfOk result (λ found. ReadsCounting operators (an_expression levels) (expression_tree found.0) (rest_at reader.entry at) found.2 (rest_at reader.entry found.1)) }
     ensures counted { IfOk result (λ found. found.2 ≤ 256) }
-    ensures forward { IfOk result (λ found. IsBehind words.now at found.1) }
-    ensures refused { IfFault result (λ fault. RefusesCounting operators (an_expression levels) (rest_from words.now at) fault.rule (rest_from words.now fault.at)) }
+    ensures forward { IfOk result (λ found. IsBehind reader.entry.words.now at found.1) }
+    ensures refused { IfFault result (λ fault. RefusesCounting operators (an_expression levels) (rest_at reader.entry at) fault.rule (rest_at reader.entry fault.at)) }
 {
-    let (operand, behind, before) = operand(alloc, words, at, levels, operators)?;
-    let (tail, next, count) = tail(alloc, words, behind, levels, before)?;
+    let (operand, behind, before) = operand(reader, at, levels, operators)?;
+    let (tail, next, count) = tail(reader, behind, levels, before)?;
     Ok((Expression { operand, tail }, next, count))
 }
 
 /// Reads what stands behind the first operand of an expression where `levels` levels are open, behind `operators` operators of the same
 /// whole expression. Answers it, the number of the word behind it and the count of operators by then.
 #[cycle(expressions)]
-pub fn tail(
-    alloc: Global,
-    words: &[Lexeme<'_>],
-    at: usize,
-    levels: u32,
-    operators: u32,
-) -> Result<(Tail, usize, u32), Failure>
+pub fn tail(reader: Reader<'_>, at: usize, levels: u32, operators: u32) -> Counted<Tail>
     requires shallow { levels ≤ 64 }
     requires few { operators ≤ 256 }
-    requires within { at ≤ length words.now }
-    ensures read { IfOk result (λ found. ReadsCounting operators (a_tail levels) (tail_tree found.0) (rest_from words.now at) found.2 (rest_from words.now found.1)) }
+    requires within { at ≤ length reader.words.now }
+    ensures read { IfOk result (λ found. ReadsCounting operators (a_tail levels) (tail_tree found.0) (rest_at reader.entry at) found.2 (rest_at reader.entry found.1)) }
     ensures counted { IfOk result (λ found. found.2 ≤ 256) }
     ensures forward { IfOk result (λ found. at ≤ found.1) }
-    ensures inside { IfOk result (λ found. found.1 ≤ length words.now) }
-    ensures refused { IfFault result (λ fault. RefusesCounting operators (a_tail levels) (rest_from words.now at) fault.rule (rest_from words.now fault.at)) }
+    ensures inside { IfOk result (λ found. found.1 ≤ length reader.entry.words.now) }
+    ensures refused { IfFault result (λ fault. RefusesCounting operators (a_tail levels) (rest_at reader.entry at) fault.rule (rest_at reader.entry fault.at)) }
 {
     let mut here = at;
     let mut count = operators;
-    let mut links = Vec::new(alloc);
+    let mut links = Vec::new(reader.alloc);
     'operators: loop {
-        match link_opening(words, here) {
+        match link_opening(reader, here) {
             Some(link) => {
                 if count + 1 > MOST_OPERATORS {
                     return Err(Failure::Fault(Fault {
@@ -76,13 +64,13 @@ pub fn tail(
                         at: here,
                     }));
                 }
-                let (further, next, now) = right(alloc, words, here + 1, levels, count + 1, link)?;
+                let (further, next, now) = right(reader, here + 1, levels, count + 1, link)?;
                 links.push(further)?;
                 here = next;
                 count = now;
             }
             None => {
-                let made = Tail::of(alloc, links)?;
+                let made = Tail::of(reader.alloc, links)?;
                 return Ok((made, here, count));
             }
         }
@@ -92,27 +80,26 @@ pub fn tail(
 // Reads what stands behind the sign of a link.
 #[cycle(expressions)]
 fn right(
-    alloc: Global,
-    words: &[Lexeme<'_>],
+    reader: Reader<'_>,
     at: usize,
     levels: u32,
     operators: u32,
     link: LinkOpening,
-) -> Result<(Link, usize, u32), Failure>
+) -> Counted<Link>
     requires shallow { levels ≤ 64 }
     requires few { operators ≤ 256 }
-    ensures read { IfOk result (λ found. ReadsRight operators levels link (link_tree found.0) (rest_from words.now at) found.2 (rest_from words.now found.1)) }
+    ensures read { IfOk result (λ found. ReadsRight operators levels link (link_tree found.0) (rest_at reader.entry at) found.2 (rest_at reader.entry found.1)) }
     ensures counted { IfOk result (λ found. found.2 ≤ 256) }
-    ensures forward { IfOk result (λ found. IsBehind words.now at found.1) }
-    ensures refused { IfFault result (λ fault. RefusesRight operators levels link (rest_from words.now at) fault.rule (rest_from words.now fault.at)) }
+    ensures forward { IfOk result (λ found. IsBehind reader.entry.words.now at found.1) }
+    ensures refused { IfFault result (λ fault. RefusesRight operators levels link (rest_at reader.entry at) fault.rule (rest_at reader.entry fault.at)) }
 {
     match link {
         LinkOpening::Operation(op) => {
-            let (operand, next, count) = operand(alloc, words, at, levels, operators)?;
+            let (operand, next, count) = operand(reader, at, levels, operators)?;
             Ok((Link::Operation { op, operand }, next, count))
         }
         LinkOpening::Division(division) => {
-            let (divisor, next) = divisor(words, at)?;
+            let (divisor, next) = divisor(reader, at)?;
             Ok((Link::Division { division, divisor }, next, operators))
         }
     }
@@ -120,56 +107,44 @@ fn right(
 
 // Reads an operand.
 #[cycle(expressions)]
-fn operand(
-    alloc: Global,
-    words: &[Lexeme<'_>],
-    at: usize,
-    levels: u32,
-    operators: u32,
-) -> Result<(Operand, usize, u32), Failure>
+fn operand(reader: Reader<'_>, at: usize, levels: u32, operators: u32) -> Counted<Operand>
     requires shallow { levels ≤ 64 }
     requires few { operators ≤ 256 }
-    ensures read { IfOk result (λ found. ReadsCounting operators (an_operand levels) (operand_tree found.0) (rest_from words.now at) found.2 (rest_from words.now found.1)) }
+    ensures read { IfOk result (λ found. ReadsCounting operators (an_operand levels) (operand_tree found.0) (rest_at reader.entry at) found.2 (rest_at reader.entry found.1)) }
     ensures counted { IfOk result (λ found. found.2 ≤ 256) }
-    ensures forward { IfOk result (λ found. IsBehind words.now at found.1) }
-    ensures refused { IfFault result (λ fault. RefusesCounting operators (an_operand levels) (rest_from words.now at) fault.rule (rest_from words.now fault.at)) }
+    ensures forward { IfOk result (λ found. IsBehind reader.entry.words.now at found.1) }
+    ensures refused { IfFault result (λ fault. RefusesCounting operators (an_operand levels) (rest_at reader.entry at) fault.rule (rest_at reader.entry fault.at)) }
 {
-    let (kind, next, count) = operand_kind(alloc, words, at, levels, operators)?;
+    let (kind, next, count) = operand_kind(reader, at, levels, operators)?;
     Ok((Operand { at, kind }, next, count))
 }
 
 // Reads what an operand is.
 #[cycle(expressions)]
-fn operand_kind(
-    alloc: Global,
-    words: &[Lexeme<'_>],
-    at: usize,
-    levels: u32,
-    operators: u32,
-) -> Result<(OperandKind, usize, u32), Failure>
+fn operand_kind(reader: Reader<'_>, at: usize, levels: u32, operators: u32) -> Counted<OperandKind>
     requires shallow { levels ≤ 64 }
     requires few { operators ≤ 256 }
-    ensures read { IfOk result (λ found. ReadsCounting operators (an_operand_kind levels) (kind_tree found.0) (rest_from words.now at) found.2 (rest_from words.now found.1)) }
+    ensures read { IfOk result (λ found. ReadsCounting operators (an_operand_kind levels) (kind_tree found.0) (rest_at reader.entry at) found.2 (rest_at reader.entry found.1)) }
     ensures counted { IfOk result (λ found. found.2 ≤ 256) }
-    ensures forward { IfOk result (λ found. IsBehind words.now at found.1) }
-    ensures refused { IfFault result (λ fault. RefusesCounting operators (an_operand_kind levels) (rest_from words.now at) fault.rule (rest_from words.now fault.at)) }
+    ensures forward { IfOk result (λ found. IsBehind reader.entry.words.now at found.1) }
+    ensures refused { IfFault result (λ fault. RefusesCounting operators (an_operand_kind levels) (rest_at reader.entry at) fault.rule (rest_at reader.entry fault.at)) }
 {
-    match opening_of_operand(words, at) {
+    match opening_of_operand(reader, at) {
         OperandOpening::Number(value) => Ok((OperandKind::Number(value), at + 1, operators)),
         OperandOpening::Name => {
-            let (name, next) = owned_name(alloc, words, at)?;
+            let (name, next) = owned_name(reader, at)?;
             Ok((OperandKind::Name(name), next, operators))
         }
         OperandOpening::Truth(value) => Ok((OperandKind::Truth(value), at + 1, operators)),
         OperandOpening::Unknown => Ok((OperandKind::Unknown, at + 1, operators)),
         OperandOpening::Call => {
-            let next = call(words, at, levels)?;
+            let next = call(reader, at, levels)?;
             Ok((OperandKind::Call, next, operators))
         }
-        OperandOpening::Signed(prefix) => signed(alloc, words, at, levels, operators, prefix),
-        OperandOpening::Parenthesis => parentheses(alloc, words, at, levels, operators),
+        OperandOpening::Signed(prefix) => signed(reader, at, levels, operators, prefix),
+        OperandOpening::Parenthesis => parentheses(reader, at, levels, operators),
         OperandOpening::Bracket => {
-            let (low, high, next) = range(words, at, levels)?;
+            let (low, high, next) = range(reader, at, levels)?;
             Ok((OperandKind::Range { low, high }, next, operators))
         }
         OperandOpening::Nothing => Err(Failure::Fault(Fault {
@@ -182,149 +157,118 @@ fn operand_kind(
 // Reads a sign and its operand.
 #[cycle(expressions)]
 fn signed(
-    alloc: Global,
-    words: &[Lexeme<'_>],
+    reader: Reader<'_>,
     at: usize,
     levels: u32,
     operators: u32,
     prefix: Prefix,
-) -> Result<(OperandKind, usize, u32), Failure>
+) -> Counted<OperandKind>
     requires shallow { levels ≤ 64 }
     requires few { operators ≤ 256 }
-    requires opens { Signed prefix ≡ opening_of_operand (first (words_from words.now at)) }
-    ensures read { IfOk result (λ found. ReadsCounting operators (an_operand_kind levels) (kind_tree found.0) (rest_from words.now at) found.2 (rest_from words.now found.1)) }
+    requires opens { Signed prefix ≡ opening_of_operand (first (words_from reader.words.now at)) }
+    ensures read { IfOk result (λ found. ReadsCounting operators (an_operand_kind levels) (kind_tree found.0) (rest_at reader.entry at) found.2 (rest_at reader.entry found.1)) }
     ensures counted { IfOk result (λ found. found.2 ≤ 256) }
-    ensures forward { IfOk result (λ found. IsBehind words.now at found.1) }
-    ensures refused { IfFault result (λ fault. RefusesCounting operators (an_operand_kind levels) (rest_from words.now at) fault.rule (rest_from words.now fault.at)) }
+    ensures forward { IfOk result (λ found. IsBehind reader.entry.words.now at found.1) }
+    ensures refused { IfFault result (λ fault. RefusesCounting operators (an_operand_kind levels) (rest_at reader.entry at) fault.rule (rest_at reader.entry fault.at)) }
 {
     let inner_levels = levels + 1;
     if inner_levels > MOST_LEVELS {
-        return Err(Failure::Fault(Fault {
-            rule: Rule::Nesting,
-            at,
-        }));
+        let rule = Rule::Nesting;
+        return Err(Failure::Fault(Fault { rule, at }));
     }
-    let (inner, next, count) = operand(alloc, words, at + 1, inner_levels, operators)?;
-    let operand = Box::new(alloc, inner)?;
+    let (inner, next, count) = operand(reader, at + 1, inner_levels, operators)?;
+    let operand = Box::new(reader.alloc, inner)?;
     Ok((OperandKind::Signed { prefix, operand }, next, count))
 }
 
 // Reads an expression in parentheses.
 #[cycle(expressions)]
-fn parentheses(
-    alloc: Global,
-    words: &[Lexeme<'_>],
-    at: usize,
-    levels: u32,
-    operators: u32,
-) -> Result<(OperandKind, usize, u32), Failure>
+fn parentheses(reader: Reader<'_>, at: usize, levels: u32, operators: u32) -> Counted<OperandKind>
     requires shallow { levels ≤ 64 }
     requires few { operators ≤ 256 }
-    requires opens { Parenthesis ≡ opening_of_operand (first (words_from words.now at)) }
-    ensures read { IfOk result (λ found. ReadsCounting operators (an_operand_kind levels) (kind_tree found.0) (rest_from words.now at) found.2 (rest_from words.now found.1)) }
+    requires opens { Parenthesis ≡ opening_of_operand (first (words_from reader.words.now at)) }
+    ensures read { IfOk result (λ found. ReadsCounting operators (an_operand_kind levels) (kind_tree found.0) (rest_at reader.entry at) found.2 (rest_at reader.entry found.1)) }
     ensures counted { IfOk result (λ found. found.2 ≤ 256) }
-    ensures forward { IfOk result (λ found. IsBehind words.now at found.1) }
-    ensures refused { IfFault result (λ fault. RefusesCounting operators (an_operand_kind levels) (rest_from words.now at) fault.rule (rest_from words.now fault.at)) }
+    ensures forward { IfOk result (λ found. IsBehind reader.entry.words.now at found.1) }
+    ensures refused { IfFault result (λ fault. RefusesCounting operators (an_operand_kind levels) (rest_at reader.entry at) fault.rule (rest_at reader.entry fault.at)) }
 {
     let inner_levels = levels + 1;
-    let inner = opening(words, at, Symbol::OpenParenthesis, inner_levels)?;
-    let (value, behind, count) = expression(alloc, words, inner, inner_levels, operators)?;
-    let next = sign(words, behind, Symbol::CloseParenthesis)?;
-    let operand = Box::new(alloc, value.operand)?;
-    let tail = Box::new(alloc, value.tail)?;
+    let inner = opening(reader, at, Symbol::OpenParenthesis, inner_levels)?;
+    let (value, behind, count) = expression(reader, inner, inner_levels, operators)?;
+    let next = sign(reader, behind, Symbol::CloseParenthesis)?;
+    let operand = Box::new(reader.alloc, value.operand)?;
+    let tail = Box::new(reader.alloc, value.tail)?;
     Ok((OperandKind::Parentheses { operand, tail }, next, count))
 }
 
 // Reads a divisor.
-fn divisor(words: &[Lexeme<'_>], at: usize) -> Result<(Divisor, usize), Fault>
-    ensures read { IfOk result (λ found. (count : ℕ) → ReadsCounting count a_divisor (divisor_tree found.0) (rest_from words.now at) count (rest_from words.now found.1)) }
-    ensures forward { IfOk result (λ found. IsBehind words.now at found.1) }
-    ensures refused { IfErr result (λ fault. (count : ℕ) → RefusesCounting count a_divisor (rest_from words.now at) fault.rule (rest_from words.now fault.at)) }
+fn divisor(reader: Reader<'_>, at: usize) -> Result<(Divisor, usize), Fault>
+    ensures read { IfOk result (λ found. (count : ℕ) → ReadsCounting count a_divisor (divisor_tree found.0) (rest_at reader.entry at) count (rest_at reader.entry found.1)) }
+    ensures forward { IfOk result (λ found. IsBehind reader.entry.words.now at found.1) }
+    ensures refused { IfErr result (λ fault. (count : ℕ) → RefusesCounting count a_divisor (rest_at reader.entry at) fault.rule (rest_at reader.entry fault.at)) }
 {
-    if let Some(inner) = after(words, at, Symbol::Minus) {
-        let (size, next) = number(words, inner)?;
-        return Ok((
-            Divisor {
-                negative: true,
-                at: inner,
-                size,
-            },
-            next,
-        ));
+    if let Some(at) = after(reader.words, at, Symbol::Minus) {
+        let negative = true;
+        let (size, next) = number(reader, at)?;
+        return Ok((Divisor { negative, at, size }, next));
     }
-    let (size, next) = number(words, at)?;
-    Ok((
-        Divisor {
-            negative: false,
-            at,
-            size,
-        },
-        next,
-    ))
+    let negative = false;
+    let (size, next) = number(reader, at)?;
+    Ok((Divisor { negative, at, size }, next))
 }
 
 // Reads `__VERIFIER_nondet_int()`.
-fn call(words: &[Lexeme<'_>], at: usize, levels: u32) -> Result<usize, Fault>
+fn call(reader: Reader<'_>, at: usize, levels: u32) -> Result<usize, Fault>
     requires shallow { levels ≤ 64 }
-    requires opens { Call ≡ opening_of_operand (first (words_from words.now at)) }
-    ensures read { IfOk result (λ next. (count : ℕ) → ReadsCounting count (an_operand_kind levels) call_tree (rest_from words.now at) count (rest_from words.now next)) }
-    ensures forward { IfOk result (IsBehind words.now at) }
-    ensures refused { IfErr result (λ fault. (count : ℕ) → RefusesCounting count (an_operand_kind levels) (rest_from words.now at) fault.rule (rest_from words.now fault.at)) }
+    requires opens { Call ≡ opening_of_operand (first (words_from reader.words.now at)) }
+    ensures read { IfOk result (λ next. (count : ℕ) → ReadsCounting count (an_operand_kind levels) call_tree (rest_at reader.entry at) count (rest_at reader.entry next)) }
+    ensures forward { IfOk result (IsBehind reader.entry.words.now at) }
+    ensures refused { IfErr result (λ fault. (count : ℕ) → RefusesCounting count (an_operand_kind levels) (rest_at reader.entry at) fault.rule (rest_at reader.entry fault.at)) }
 {
-    let open = sign(words, at, Symbol::Nondeterministic)?;
-    let close = opening(words, open, Symbol::OpenParenthesis, levels + 1)?;
-    let next = sign(words, close, Symbol::CloseParenthesis)?;
+    let open = sign(reader, at, Symbol::Nondeterministic)?;
+    let close = opening(reader, open, Symbol::OpenParenthesis, levels + 1)?;
+    let next = sign(reader, close, Symbol::CloseParenthesis)?;
     Ok(next)
 }
 
 // Reads `[a, b]`. Answers both ends and the number behind.
-fn range(words: &[Lexeme<'_>], at: usize, levels: u32) -> Result<(End, End, usize), Fault>
-    requires opens { Bracket ≡ opening_of_operand (first (words_from words.now at)) }
-    ensures read { IfOk result (λ found. (count : ℕ) → ReadsCounting count (an_operand_kind levels) (range_tree (end_tree found.0) (end_tree found.1)) (rest_from words.now at) count (rest_from words.now found.2)) }
-    ensures forward { IfOk result (λ found. IsBehind words.now at found.2) }
-    ensures refused { IfErr result (λ fault. (count : ℕ) → RefusesCounting count (an_operand_kind levels) (rest_from words.now at) fault.rule (rest_from words.now fault.at)) }
+fn range(reader: Reader<'_>, at: usize, levels: u32) -> Result<(End, End, usize), Fault>
+    requires opens { Bracket ≡ opening_of_operand (first (words_from reader.words.now at)) }
+    ensures read { IfOk result (λ found. (count : ℕ) → ReadsCounting count (an_operand_kind levels) (range_tree (end_tree found.0) (end_tree found.1)) (rest_at reader.entry at) count (rest_at reader.entry found.2)) }
+    ensures forward { IfOk result (λ found. IsBehind reader.entry.words.now at found.2) }
+    ensures refused { IfErr result (λ fault. (count : ℕ) → RefusesCounting count (an_operand_kind levels) (rest_at reader.entry at) fault.rule (rest_at reader.entry fault.at)) }
 {
-    let first = sign(words, at, Symbol::OpenBracket)?;
-    let (low, comma) = range_end(words, first)?;
-    let second = sign(words, comma, Symbol::Comma)?;
-    let (high, close) = range_end(words, second)?;
-    let next = sign(words, close, Symbol::CloseBracket)?;
+    let first = sign(reader, at, Symbol::OpenBracket)?;
+    let (low, comma) = range_end(reader, first)?;
+    let second = sign(reader, comma, Symbol::Comma)?;
+    let (high, close) = range_end(reader, second)?;
+    let next = sign(reader, close, Symbol::CloseBracket)?;
     Ok((low, high, next))
 }
 
 // Reads an end of a range.
-fn range_end(words: &[Lexeme<'_>], at: usize) -> Result<(End, usize), Fault>
-    ensures read { IfOk result (λ found. (count : ℕ) → ReadsCounting count an_end (end_tree found.0) (rest_from words.now at) count (rest_from words.now found.1)) }
-    ensures forward { IfOk result (λ found. IsBehind words.now at found.1) }
-    ensures refused { IfErr result (λ fault. (count : ℕ) → RefusesCounting count an_end (rest_from words.now at) fault.rule (rest_from words.now fault.at)) }
+fn range_end(reader: Reader<'_>, at: usize) -> Result<(End, usize), Fault>
+    ensures read { IfOk result (λ found. (count : ℕ) → ReadsCounting count an_end (end_tree found.0) (rest_at reader.entry at) count (rest_at reader.entry found.1)) }
+    ensures forward { IfOk result (λ found. IsBehind reader.entry.words.now at found.1) }
+    ensures refused { IfErr result (λ fault. (count : ℕ) → RefusesCounting count an_end (rest_at reader.entry at) fault.rule (rest_at reader.entry fault.at)) }
 {
-    if let Some(inner) = after(words, at, Symbol::Minus) {
-        let (below, next) = size(words, inner)?;
-        return Ok((
-            End {
-                negative: true,
-                size: below,
-            },
-            next,
-        ));
+    if let Some(inner) = after(reader.words, at, Symbol::Minus) {
+        let negative = true;
+        let (size, next) = size(reader, inner)?;
+        return Ok((End { negative, size }, next));
     }
-    let (above, next) = size(words, at)?;
-    Ok((
-        End {
-            negative: false,
-            size: above,
-        },
-        next,
-    ))
+    let negative = false;
+    let (size, next) = size(reader, at)?;
+    Ok((End { negative, size }, next))
 }
 
 // Reads a number or `inf`, of which it answers `None`.
-fn size(words: &[Lexeme<'_>], at: usize) -> Result<(Option<i64>, usize), Fault>
-    ensures read { IfOk result (λ found. (count : ℕ) → ReadsCounting count a_size found.0 (rest_from words.now at) count (rest_from words.now found.1)) }
-    ensures forward { IfOk result (λ found. IsBehind words.now at found.1) }
-    ensures refused { IfErr result (λ fault. (count : ℕ) → RefusesCounting count a_size (rest_from words.now at) fault.rule (rest_from words.now fault.at)) }
+fn size(reader: Reader<'_>, at: usize) -> Result<(Option<i64>, usize), Fault>
+    ensures read { IfOk result (λ found. (count : ℕ) → ReadsCounting count a_size found.0 (rest_at reader.entry at) count (rest_at reader.entry found.1)) }
+    ensures forward { IfOk result (λ found. IsBehind reader.entry.words.now at found.1) }
+    ensures refused { IfErr result (λ fault. (count : ℕ) → RefusesCounting count a_size (rest_at reader.entry at) fault.rule (rest_at reader.entry fault.at)) }
 {
-    match size_opening(words, at) {
+    match size_opening(reader, at) {
         SizeOpening::Number(value) => Ok((Some(value), at + 1)),
         SizeOpening::Infinite => Ok((None, at + 1)),
         SizeOpening::Nothing => Err(Fault {

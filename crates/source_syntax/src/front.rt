@@ -11,6 +11,7 @@ ghost use Rattle.source_syntax.specs.Texts.{programs, offset_in, IsTreeText, IsF
 ghost use Rattle.source_syntax.specs.Places.{IsExpressionAt, IsNoExpressionAt};
 
 use crate::expression::expression;
+use crate::input::Reader;
 use crate::program::program;
 use concrete_syntax::{Expression, Program};
 use derivation::{Failure, Fault, Lexeme, Rule, SyntaxFault, lexemes};
@@ -57,7 +58,7 @@ fn read_words(alloc: Global, words: &[Lexeme<'_>], functions: bool) -> Result<Pr
     ensures syntax { IfOk result (λ tree. IsSpelledBy (programs functions) (all_spelled words.now) (program_tree tree)) }
     ensures fault { IfFault result (λ fault. FirstFault (programs functions) (all_spelled words.now) fault.rule (words_from words.now fault.at)) }
 {
-    let (tree, end) = program(alloc, words, 0, functions)?;
+    let (tree, end) = program(Reader { alloc, words }, 0, functions)?;
     if end < words.len() {
         return Err(Failure::Fault(Fault {
             rule: Rule::Expected,
@@ -102,7 +103,15 @@ pub fn read_expression(
         Ok(words) => words,
         Err(error) => return Err(SyntaxFault::Memory(error)),
     };
-    match expression(alloc, &words, at, level, 0) {
+    match expression(
+        Reader {
+            alloc,
+            words: &words,
+        },
+        at,
+        level,
+        0,
+    ) {
         Ok((tree, next, _)) => Ok((tree, next)),
         Err(Failure::Fault(fault)) => Err(SyntaxFault::Broken {
             rule: fault.rule,

@@ -8,6 +8,7 @@ mod call;
 mod declaration;
 mod expression;
 mod front;
+mod input;
 mod laws;
 mod opening;
 mod program;

@@ -8,8 +8,8 @@ use Rattle.source_syntax.proofs.call.arguments.Given as goal
 abbrev pub invariant-further : goal.invariant-further
 invariant-further l = record {
   forward : l.at + 1 ≤ l.here;
-  comes : ComesToArguments l.levels (expressions l.list.items) (rest_from l.words l.at) (rest_from l.words l.here);
+  comes : ComesToArguments l.levels (expressions l.list.items) (rest_from l.reader.words.now l.at) (rest_from l.reader.words.now l.here);
 }
 
 abbrev pub decreases-further : goal.decreases-further
-decreases-further l = length l.words - l.here
+decreases-further l = length l.reader.words.now - l.here

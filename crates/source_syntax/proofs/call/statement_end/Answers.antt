@@ -2,11 +2,8 @@ use Rattle.std.proofs.Common.{◌∙◌, sym, refl}
 use Rattle.derivation.specs.declared.symbol.Symbol.TheVariants as Sym
 use Rattle.source_syntax.specs.declared.opening.EndOpening.TheVariants as EndOpening
 use Rattle.source_syntax.specs.Ends.{does, applied, given_value}
-use Rattle.derivation.proofs.Grammars.{over, fails}
-use Rattle.derivation.proofs.Choices.{goes}
+use Rattle.source_syntax.proofs.Steps.{over, fails, goes, failed_on, passed_on, sign_reads, sign_refused, leading_reads, leading_refused}
 use Rattle.source_syntax.proofs.Calling.{statement_ends, closes_statement}
-use Rattle.derivation.proofs.Answering.{failed_on, passed_on}
-use Rattle.source_syntax.proofs.Answering.{sign_reads, sign_refused, leading_reads, leading_refused}
 use Rattle.source_syntax.proofs.call.statement_end.Goals as goal
 
 pub returns-in_err-inner-in-Call-clause-refused : goal.returns-in_err-inner-in-Call-clause-refused

@@ -1,9 +1,6 @@
 use Rattle.std.proofs.Common.{true, false}
-use Rattle.derivation.proofs.Grammars.{over, fails}
-use Rattle.derivation.proofs.Choices.{goes}
+use Rattle.source_syntax.proofs.Steps.{over, fails, goes, passed_on, name_reads, name_refused}
 use Rattle.source_syntax.proofs.Calling.{values, told_value}
-use Rattle.derivation.proofs.Answering.{passed_on}
-use Rattle.source_syntax.proofs.Answering.{name_reads, name_refused}
 use Rattle.source_syntax.proofs.call.value.Goals as goal
 
 pub returns-in_err-bytes-clause-refused : goal.returns-in_err-bytes-clause-refused

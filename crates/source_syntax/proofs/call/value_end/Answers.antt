@@ -1,9 +1,7 @@
 use Rattle.std.proofs.Common.{refl, arith}
 use Rattle.source_syntax.specs.Ends.{continues, called}
-use Rattle.derivation.proofs.Grammars.{over, fails}
-use Rattle.derivation.proofs.Choices.{not_next, taken, left_out}
+use Rattle.source_syntax.proofs.Steps.{over, fails, not_next, taken, left_out, passed_on}
 use Rattle.source_syntax.proofs.Calling.{value_ends}
-use Rattle.derivation.proofs.Answering.{passed_on}
 use Rattle.source_syntax.proofs.call.value_end.Goals as goal
 
 pub returns-in_err-arguments-clause-refused : goal.returns-in_err-arguments-clause-refused

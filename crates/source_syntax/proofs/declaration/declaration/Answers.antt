@@ -1,12 +1,10 @@
-use Rattle.std.proofs.Common.{◌≡◌, [], ◌∷◌, ◌++◌, map, ap, refl, arith, rules}
+use Rattle.std.proofs.Common.{◌≡◌, [], ◌∷◌, ◌++◌, map, sym, ap, refl, arith, rules}
+use Rattle.std.proofs.lemmas.List.{append-nil}
 use Rattle.derivation.specs.declared.symbol.Symbol.TheVariants as Sym
 use Rattle.concrete_syntax.specs.Mirror.{part}
-use Rattle.derivation.proofs.Grammars.{fails}
-use Rattle.derivation.proofs.Choices.{not_next, taken, left_out}
+use Rattle.source_syntax.proofs.Steps.{over, fails, refilled, not_next, taken, left_out, failed_on, passed_on, sign_reads, leading_reads, sign_refused, leading_refused}
 use Rattle.source_syntax.proofs.Statements.{further_parts, declaration_goes}
-use Rattle.derivation.proofs.Answering.{failed_on, passed_on}
-use Rattle.source_syntax.proofs.Answering.{sign_refused, leading_refused}
-use Rattle.source_syntax.proofs.Loops.{one_part_more, parts_from, part_missing, parts_over, parts_close}
+use Rattle.source_syntax.proofs.Loops.{longer}
 use Rattle.source_syntax.proofs.declaration.declaration.Goals as goal
 
 pub returns-in_err-inner-clause-refused : goal.returns-in_err-inner-clause-refused
@@ -17,13 +15,20 @@ returns-in_err-inner-clause-refused c =
 pub returns-in_err-first-clause-refused : goal.returns-in_err-first-clause-refused
 returns-in_err-first-clause-refused c =
     passed_on _ _ _ _ c.from_residual-in_err-first.ensures c.in_err-first.ensures.refused
-    (λ fault refused. part_missing _ _ _ _ _ c.in_ok-inner.ensures.read _ refused)
+    (λ fault refused count behind. fails (declaration_goes _ _ count behind _) (fails (sign_reads Sym.Int (refl, refl) c.in_ok-inner.ensures.read) (refused _ behind)))
 
 pub parts-init : goal.parts-init
-parts-init c = record {
-  forward = omega (arith, c.in_ok-inner.ensures.forward.forward, c.in_ok-first.ensures.forward.forward);
-  comes = parts_from _ _ _ _ _ _ _ (let none : c.new-more.result.items ≡ [] = search rules in ap (map part) none) c.in_ok-inner.ensures.read c.in_ok-first.ensures.read;
-}
+parts-init c =
+    let none : c.new-more.result.items ≡ [] = search rules in record {
+      forward = omega (arith, c.in_ok-inner.ensures.forward.forward, c.in_ok-first.ensures.forward.forward);
+      comes = record {
+        comes = λ count behind. (
+          _,
+          refilled (λ g. ap (λ l. (record { part = part c.in_ok-first.first; more = map part l ++ g.0 }, g.1)) (sym none))
+              (over (declaration_goes _ _ count behind _) (over (sign_reads Sym.Int (refl, refl) c.in_ok-inner.ensures.read) (c.in_ok-first.ensures.read.comes _ behind).1)),
+        );
+      };
+    }
 
 pub returns-in_err-further-clause-refused : goal.returns-in_err-further-clause-refused
 returns-in_err-further-clause-refused c =
@@ -35,7 +40,14 @@ pub parts-preserved : goal.parts-preserved
 parts-preserved c =
     let pushed : c.push.new.self.items ≡ c.parts.more.items ++ c.in_ok-further.further ∷ [] = search rules in record {
       forward = omega (arith, c.parts.invariant.forward, c.in-Some.ensures.forward.forward, c.in_ok-further.ensures.forward.forward);
-      comes = parts_over _ _ _ _ _ _ _ _ _ _ (one_part_more _ _ _ pushed) c.parts.invariant.comes c.in-Some.ensures.read c.in_ok-further.ensures.read;
+      comes = record {
+        comes = λ count behind. (
+          _,
+          refilled (λ g. ap (λ l. (record { part = part c.in_ok-first.first; more = l }, g.1)) (longer part _ _ _ pushed g.0))
+              (over (c.parts.invariant.comes.comes count behind).1
+              (over (taken (further_parts _ _ behind) c.in-Some.ensures.read (omega arith, tt)) (c.in_ok-further.ensures.read.comes _ behind).1)),
+        );
+      };
     }
 
 pub returns-in_err-next-clause-refused : goal.returns-in_err-next-clause-refused
@@ -45,4 +57,8 @@ returns-in_err-next-clause-refused c =
     (fails (left_out (further_parts _ _ behind) (not_next _ _ c.in_default.ensures.read)) (leading_refused _ _ c.in_err-next.field-0.0 Sym.Semicolon (refl, refl) c.in_err-next.ensures.missed)))
 
 pub returns-in_default-clause-read : goal.returns-in_default-clause-read
-returns-in_default-clause-read c = parts_close _ _ _ _ _ _ _ c.parts.invariant.comes c.in_default.ensures.read c.in_ok-next.ensures.read
+returns-in_default-clause-read c = record {
+  comes = λ count behind.
+      refilled (λ g. ap (λ l. (record { part = part c.in_ok-first.first; more = l }, g)) (append-nil _)) (over (c.parts.invariant.comes.comes count behind).1
+      (over (left_out (further_parts _ _ behind) (not_next _ _ c.in_default.ensures.read)) (leading_reads Sym.Semicolon (refl, refl) c.in_ok-next.ensures.read)));
+}

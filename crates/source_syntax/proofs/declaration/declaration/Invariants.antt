@@ -8,8 +8,8 @@ use Rattle.source_syntax.proofs.declaration.declaration.Given as goal
 abbrev pub invariant-parts : goal.invariant-parts
 invariant-parts l = record {
   forward : l.at + 1 ≤ l.here;
-  comes : ComesToParts l.functions l.levels (part l.first) (map part l.more.items) (rest_from l.words l.at) (rest_from l.words l.here);
+  comes : ComesToParts l.functions l.levels (part l.first) (map part l.more.items) (rest_from l.reader.words.now l.at) (rest_from l.reader.words.now l.here);
 }
 
 abbrev pub decreases-parts : goal.decreases-parts
-decreases-parts l = length l.words - l.here
+decreases-parts l = length l.reader.words.now - l.here

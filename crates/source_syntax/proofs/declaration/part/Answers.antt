@@ -1,9 +1,6 @@
 use Rattle.std.proofs.Common.{arith}
-use Rattle.derivation.proofs.Grammars.{over, fails}
-use Rattle.derivation.proofs.Choices.{not_next, taken, left_out}
+use Rattle.source_syntax.proofs.Steps.{over, fails, not_next, taken, left_out, passed_on, name_reads, name_refused}
 use Rattle.source_syntax.proofs.Statements.{part_ends}
-use Rattle.derivation.proofs.Answering.{passed_on}
-use Rattle.source_syntax.proofs.Answering.{name_reads, name_refused}
 use Rattle.source_syntax.proofs.declaration.part.Goals as goal
 
 pub returns-in_err-bytes-clause-refused : goal.returns-in_err-bytes-clause-refused

@@ -1,11 +1,8 @@
 use Rattle.std.proofs.Common.{◌∙◌, sym, refl}
 use Rattle.derivation.specs.declared.symbol.Symbol.TheVariants as Sym
 use Rattle.source_syntax.specs.declared.opening.StartOpening.TheVariants as StartOpening
-use Rattle.derivation.proofs.Grammars.{over, fails}
-use Rattle.derivation.proofs.Choices.{goes}
+use Rattle.source_syntax.proofs.Steps.{over, fails, goes, failed_on, passed_on, leading_reads, leading_refused}
 use Rattle.source_syntax.proofs.Statements.{starts}
-use Rattle.derivation.proofs.Answering.{failed_on, passed_on}
-use Rattle.source_syntax.proofs.Answering.{leading_reads, leading_refused}
 use Rattle.source_syntax.proofs.declaration.start.Goals as goal
 
 pub returns-in_ok-next-in-Nothing-clause-read : goal.returns-in_ok-next-in-Nothing-clause-read

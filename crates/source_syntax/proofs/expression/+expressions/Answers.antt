@@ -1,4 +1,4 @@
-use Rattle.std.proofs.Common.{◌≡◌, [], ◌∙◌, sym, ap, refl, arith, rules}
+use Rattle.std.proofs.Common.{◌≡◌, [], ◌∷◌, ◌∙◌, sym, ap, refl, arith, rules}
 use mir.Val.{to_z, of_z}
 use mir.Syntax.{w64}
 use borrow.Author.Rules.{sfits_of}
@@ -6,16 +6,14 @@ use Rattle.std.proofs.lemmas.Int.{to_z-of_z}
 use Rattle.derivation.specs.declared.symbol.Symbol.TheVariants as Sym
 use Rattle.source_syntax.specs.declared.opening.OperandOpening.TheVariants as OperandOpening
 use Rattle.concrete_syntax.specs.Mirror.{operand, tail, links}
+use Rattle.concrete_syntax.specs.Chains.{tail_of}
+use Rattle.source_syntax.specs.Pending.{a_tail}
 use Rattle.concrete_syntax.specs.Trees.{number, parentheses, signed}
 use Rattle.derivation.specs.declared.rule.Rule.TheVariants.{Nesting, Operators}
-use Rattle.derivation.proofs.Grammars.{over, fails, read, exceeds}
-use Rattle.source_syntax.proofs.Completions.{lawful}
+use Rattle.source_syntax.proofs.Steps.{over, fails, stay, refilled, read, exceeds, lawful, goes, stuck, held, failed_on, passed_on, sign_reads, number_reads, opening_reads, bytes_reads, sign_refused, opening_refused, bytes_refused}
 use Rattle.source_syntax.proofs.Words.{next_word, operand_word, link_word}
-use Rattle.derivation.proofs.Choices.{goes, stuck, held}
-use Rattle.source_syntax.proofs.Expressions.{operands, located_operands, prefixes, link_signs, expression_goes}
-use Rattle.derivation.proofs.Answering.{failed_on, passed_on}
-use Rattle.source_syntax.proofs.Answering.{sign_reads, opening_reads, bytes_reads, sign_refused, opening_refused, bytes_refused}
-use Rattle.source_syntax.proofs.Reading.{operand_number, operand_truth, operand_unknown, operation_reads, operation_refused, division_reads, division_refused, tail_from, tail_over, tail_done, one_link_more, told}
+use Rattle.source_syntax.proofs.Expressions.{truth_quiet, operands, located_operands, prefixes, link_signs, tail_ends, expression_goes}
+use Rattle.source_syntax.proofs.Loops.{tail_over, one_link_more, told}
 use Rattle.source_syntax.proofs.expression.+expressions.Goals as goal
 
 pub expression-returns-in_err-operand-clause-refused : goal.expression-returns-in_err-operand-clause-refused
@@ -34,28 +32,29 @@ expression-returns-clause-read t c = record {
 }
 
 pub tail-operators-init : goal.tail-operators-init
-tail-operators-init t c = record {
-  forward = omega arith;
-  inside = c.requires.within;
-  few = c.requires.few;
-  comes = tail_from _ _ _ _ (let none : c.new-links.result.items ≡ [] = search rules in ap links none);
-}
+tail-operators-init t c =
+    let none : c.new-links.result.items ≡ [] = search rules in record {
+      forward = omega arith;
+      inside = c.requires.within;
+      few = c.requires.few;
+      comes = record { comes = λ behind. refilled (λ g. ap (λ l. (tail_of (links l) g.0, g.1)) (sym none)) (stay _ (a_tail _ ∷ behind) _) };
+    }
 
 pub tail-returns-then-count-gt-MOST_OPERATORS-clause-refused : goal.tail-returns-then-count-gt-MOST_OPERATORS-clause-refused
 tail-returns-then-count-gt-MOST_OPERATORS-clause-refused t c = λ behind.
     fails (c.operators.invariant.comes.comes behind)
     (exceeds (link_signs _ behind c.in-Some.link) lawful
-    (next_word c.args.words.now c.operators.here (link_word _ c.in-Some.link (sym c.in-Some.is ∙ c.link_opening.ensures))) Operators (λ e. cc) (omega arith, c.if-count-gt-MOST_OPERATORS.true))
+    (next_word c.args.reader.words.now c.operators.here (link_word _ c.in-Some.link (sym c.in-Some.is ∙ c.link_opening.ensures))) Operators (λ e. cc) (omega arith, c.if-count-gt-MOST_OPERATORS.true))
 
 pub tail-returns-in_err-further-in-Some-clause-refused : goal.tail-returns-in_err-further-in-Some-clause-refused
 tail-returns-in_err-further-in-Some-clause-refused t c =
-    let next = next_word c.args.words.now c.operators.here (link_word _ c.in-Some.link (sym c.in-Some.is ∙ c.link_opening.ensures)) in
+    let next = next_word c.args.reader.words.now c.operators.here (link_word _ c.in-Some.link (sym c.in-Some.is ∙ c.link_opening.ensures)) in
     passed_on _ _ _ _ c.from_residual.ensures c.in_err-further-in-Some.ensures.refused
     (λ fault refused behind. fails (c.operators.invariant.comes.comes behind) (fails (read (link_signs _ behind c.in-Some.link) next (omega arith, c.if-count-gt-MOST_OPERATORS.false)) (refused _)))
 
 pub tail-operators-preserved : goal.tail-operators-preserved
 tail-operators-preserved t c =
-    let next = next_word c.args.words.now c.operators.here (link_word _ c.in-Some.link (sym c.in-Some.is ∙ c.link_opening.ensures)) in
+    let next = next_word c.args.reader.words.now c.operators.here (link_word _ c.in-Some.link (sym c.in-Some.is ∙ c.link_opening.ensures)) in
     record {
       forward = omega (arith, c.operators.invariant.forward, c.in_ok-further-in-Some.ensures.forward.forward);
       inside = c.in_ok-further-in-Some.ensures.forward.inside;
@@ -65,22 +64,24 @@ tail-operators-preserved t c =
     }
 
 pub tail-returns-in-None-clause-read : goal.tail-returns-in-None-clause-read
-tail-returns-in-None-clause-read t c =
-    tail_done _ _ _ _ _ _ _ c.operators.invariant.comes (sym c.in-None.is ∙ c.link_opening.ensures) c.in_ok-made-in-None.ensures
+tail-returns-in-None-clause-read t c = record {
+  comes = λ behind. refilled (λ g. ap (λ t. (t, g)) (sym c.in_ok-made-in-None.ensures))
+      (over (c.operators.invariant.comes.comes behind) (tail_ends _ _ behind _ (sym c.in-None.is ∙ c.link_opening.ensures)));
+}
 
 pub right-returns-in_err-operand-in-Operation-clause-refused : goal.right-returns-in_err-operand-in-Operation-clause-refused
 right-returns-in_err-operand-in-Operation-clause-refused t c =
-    passed_on _ _ _ _ c.from_residual.ensures c.in_err-operand-in-Operation.ensures.refused (λ fault refused. operation_refused c.in-Operation.is refused)
+    passed_on _ _ _ _ c.from_residual.ensures c.in_err-operand-in-Operation.ensures.refused (λ fault refused. rw c.in-Operation.is refused)
 
 pub right-returns-in_ok-operand-in-Operation-clause-read : goal.right-returns-in_ok-operand-in-Operation-clause-read
-right-returns-in_ok-operand-in-Operation-clause-read t c = operation_reads c.in-Operation.is c.in_ok-operand-in-Operation.ensures.read
+right-returns-in_ok-operand-in-Operation-clause-read t c = rw c.in-Operation.is (record { tree = _; made = refl; reads = c.in_ok-operand-in-Operation.ensures.read })
 
 pub right-returns-in_err-divisor-in-Division-clause-refused : goal.right-returns-in_err-divisor-in-Division-clause-refused
 right-returns-in_err-divisor-in-Division-clause-refused t c =
-    failed_on _ _ _ c.from_residual-in_err-divisor-in-Division.ensures (division_refused _ c.in-Division.is (c.in_err-divisor-in-Division.ensures.refused _))
+    failed_on _ _ _ c.from_residual-in_err-divisor-in-Division.ensures (rw c.in-Division.is (c.in_err-divisor-in-Division.ensures.refused _))
 
 pub right-returns-in_ok-divisor-in-Division-clause-read : goal.right-returns-in_ok-divisor-in-Division-clause-read
-right-returns-in_ok-divisor-in-Division-clause-read t c = division_reads c.in-Division.is (c.in_ok-divisor-in-Division.ensures.read _)
+right-returns-in_ok-divisor-in-Division-clause-read t c = rw c.in-Division.is (record { tree = _; made = refl; reads = c.in_ok-divisor-in-Division.ensures.read _ })
 
 pub operand-returns-in_err-kind-clause-refused : goal.operand-returns-in_err-kind-clause-refused
 operand-returns-in_err-kind-clause-refused t c =
@@ -96,7 +97,11 @@ pub operand_kind-returns-in-Number-clause-read : goal.operand_kind-returns-in-Nu
 operand_kind-returns-in-Number-clause-read t c =
     let fits = rw c.in-Number.is at c.opening_of_operand.type_inv in
     let kept : to_z w64 (of_z w64 c.in-Number.value) ≡ c.in-Number.value = to_z-of_z w64 c.in-Number.value (sfits_of fits.1.1.1.1.0.1) in
-    told (ap number kept) (operand_number c.args.words.now c.args.at _ c.in-Number.value (sym c.in-Number.is ∙ c.opening_of_operand.ensures) _)
+    let opens = sym c.in-Number.is ∙ c.opening_of_operand.ensures in
+    told (ap number kept) (record {
+      comes = λ behind. over (goes (operands _ behind) _ _ (OperandOpening.Number c.in-Number.value) opens)
+          (number_reads (next_word c.args.reader.words.now c.args.at (operand_word _ (OperandOpening.Number c.in-Number.value) opens)));
+    })
 
 pub operand_kind-returns-in_err-name-in-Name-clause-refused : goal.operand_kind-returns-in_err-name-in-Name-clause-refused
 operand_kind-returns-in_err-name-in-Name-clause-refused t c =
@@ -110,11 +115,17 @@ operand_kind-returns-in_ok-name-in-Name-clause-read t c = record {
 
 pub operand_kind-returns-in-Truth-clause-read : goal.operand_kind-returns-in-Truth-clause-read
 operand_kind-returns-in-Truth-clause-read t c =
-    operand_truth c.args.words.now c.args.at _ c.in-Truth.value (sym c.in-Truth.is ∙ c.opening_of_operand.ensures) _
+    let opens = sym c.in-Truth.is ∙ c.opening_of_operand.ensures in record {
+      comes = λ behind. over (goes (operands _ behind) _ _ (OperandOpening.Truth c.in-Truth.value) opens)
+          (sign_reads _ (truth_quiet c.in-Truth.value) (next_word c.args.reader.words.now c.args.at (operand_word _ (OperandOpening.Truth c.in-Truth.value) opens)));
+    }
 
 pub operand_kind-returns-in-Unknown-clause-read : goal.operand_kind-returns-in-Unknown-clause-read
 operand_kind-returns-in-Unknown-clause-read t c =
-    operand_unknown c.args.words.now c.args.at _ (sym c.in-Unknown.is ∙ c.opening_of_operand.ensures) _
+    let opens = sym c.in-Unknown.is ∙ c.opening_of_operand.ensures in record {
+      comes = λ behind. over (goes (operands _ behind) _ _ OperandOpening.Unknown opens)
+          (sign_reads Sym.Question (refl, refl) (next_word c.args.reader.words.now c.args.at (operand_word _ OperandOpening.Unknown opens)));
+    }
 
 pub operand_kind-returns-in-Nothing-clause-refused : goal.operand_kind-returns-in-Nothing-clause-refused
 operand_kind-returns-in-Nothing-clause-refused t c = λ behind. stuck (operands _ behind) lawful _ _ _ (λ shut. shut) (sym c.in-Nothing.is ∙ c.opening_of_operand.ensures)
@@ -152,17 +163,17 @@ parentheses-returns-clause-read t c =
 
 pub signed-returns-then-inner_levels-gt-MOST_LEVELS-clause-refused : goal.signed-returns-then-inner_levels-gt-MOST_LEVELS-clause-refused
 signed-returns-then-inner_levels-gt-MOST_LEVELS-clause-refused t c = λ behind.
-    exceeds (prefixes _ behind c.args.prefix) lawful (next_word c.args.words.now c.args.at (operand_word _ (OperandOpening.Signed c.args.prefix) c.requires.opens)) Nesting (λ e. cc) c.if-inner_levels-gt-MOST_LEVELS.true
+    exceeds (prefixes _ behind c.args.prefix) lawful (next_word c.args.reader.words.now c.args.at (operand_word _ (OperandOpening.Signed c.args.prefix) c.requires.opens)) Nesting (λ e. cc) c.if-inner_levels-gt-MOST_LEVELS.true
 
 pub signed-returns-in_err-inner-clause-refused : goal.signed-returns-in_err-inner-clause-refused
 signed-returns-in_err-inner-clause-refused t c =
-    let next = next_word c.args.words.now c.args.at (operand_word _ (OperandOpening.Signed c.args.prefix) c.requires.opens) in
+    let next = next_word c.args.reader.words.now c.args.at (operand_word _ (OperandOpening.Signed c.args.prefix) c.requires.opens) in
     passed_on _ _ _ _ c.from_residual.ensures c.in_err-inner.ensures.refused
     (λ fault refused behind. fails (read (prefixes _ behind c.args.prefix) next (c.if-inner_levels-gt-MOST_LEVELS.false, tt)) (refused behind))
 
 pub signed-returns-clause-read : goal.signed-returns-clause-read
 signed-returns-clause-read t c =
-    let next = next_word c.args.words.now c.args.at (operand_word _ (OperandOpening.Signed c.args.prefix) c.requires.opens) in
+    let next = next_word c.args.reader.words.now c.args.at (operand_word _ (OperandOpening.Signed c.args.prefix) c.requires.opens) in
     let kept : c.in_ok-operand.operand.value ≡ c.in_ok-inner.inner = search rules in
     told (ap (λ e. signed c.args.prefix (operand e)) kept) (record {
       comes = λ behind. over (read (prefixes _ behind c.args.prefix) next (c.if-inner_levels-gt-MOST_LEVELS.false, tt)) (c.in_ok-inner.ensures.read.comes behind);

@@ -1,11 +1,8 @@
 use Rattle.std.proofs.Common.{refl}
 use Rattle.derivation.specs.declared.symbol.Symbol.TheVariants as Sym
-use Rattle.derivation.proofs.Grammars.{over, fails}
-use Rattle.derivation.proofs.Choices.{goes}
+use Rattle.source_syntax.proofs.Steps.{over, fails, goes, handed_on, sign_reads, opening_reads, sign_refused, opening_refused}
 use Rattle.source_syntax.specs.declared.opening.OperandOpening.TheVariants.{Call}
 use Rattle.source_syntax.proofs.Expressions.{operands}
-use Rattle.derivation.proofs.Answering.{handed_on}
-use Rattle.source_syntax.proofs.Answering.{sign_reads, opening_reads, sign_refused, opening_refused}
 use Rattle.source_syntax.proofs.expression.call.Goals as goal
 
 pub returns-in_err-close-clause-refused : goal.returns-in_err-close-clause-refused

@@ -1,12 +1,9 @@
 use Rattle.std.proofs.Common.{◌≡◌, true, false, ap, arith, rules}
 use mir.Val.{to_z, of_z}
 use mir.Syntax.{w64}
-use Rattle.derivation.proofs.Grammars.{over, fails}
-use Rattle.derivation.proofs.Choices.{not_next, taken, left_out}
+use Rattle.source_syntax.proofs.Steps.{over, fails, not_next, taken, left_out, handed_on, number_at_reads, number_at_refused}
 use Rattle.source_syntax.proofs.Expressions.{divisors}
-use Rattle.derivation.proofs.Answering.{handed_on}
-use Rattle.source_syntax.proofs.Answering.{number_at_reads, number_at_refused}
-use Rattle.source_syntax.proofs.Reading.{told}
+use Rattle.source_syntax.proofs.Loops.{told}
 use Rattle.source_syntax.proofs.expression.divisor.Goals as goal
 
 pub returns-in_err-size-clause-refused : goal.returns-in_err-size-clause-refused
@@ -18,7 +15,7 @@ returns-in_err-size-clause-refused c =
 pub returns-in-Some-clause-read : goal.returns-in-Some-clause-read
 returns-in-Some-clause-read c =
     let kept : to_z w64 (of_z w64 c.in_ok-size.size) ≡ c.in_ok-size.size = search rules in
-    λ count. told (ap (λ z. record { negative = true; at = c.in-Some.inner; size = z }) kept)
+    λ count. told (ap (λ z. record { negative = true; at = c.in-Some.at; size = z }) kept)
     (record {
       comes = λ behind. over (taken (divisors behind) c.in-Some.ensures.read (omega arith, tt)) (number_at_reads c.in_ok-size.ensures.read);
     })

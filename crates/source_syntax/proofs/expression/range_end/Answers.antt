@@ -1,26 +1,24 @@
 use Rattle.std.proofs.Common.{arith}
-use Rattle.derivation.proofs.Grammars.{over, fails}
-use Rattle.derivation.proofs.Choices.{not_next, taken, left_out}
+use Rattle.source_syntax.proofs.Steps.{over, fails, not_next, taken, left_out, handed_on}
 use Rattle.source_syntax.proofs.Expressions.{ends}
-use Rattle.derivation.proofs.Answering.{handed_on}
 use Rattle.source_syntax.proofs.expression.range_end.Goals as goal
 
-pub returns-in_err-below-clause-refused : goal.returns-in_err-below-clause-refused
-returns-in_err-below-clause-refused c =
+pub returns-in_err-size-clause-refused : goal.returns-in_err-size-clause-refused
+returns-in_err-size-clause-refused c =
     handed_on _ _ _ c.from_residual.ensures
-    (λ count behind. fails (taken (ends behind) c.in-Some.ensures.read (omega arith, tt)) (c.in_err-below.ensures.refused count behind))
+    (λ count behind. fails (taken (ends behind) c.in-Some.ensures.read (omega arith, tt)) (c.in_err-size.ensures.refused count behind))
 
 pub returns-in-Some-clause-read : goal.returns-in-Some-clause-read
 returns-in-Some-clause-read c = λ count. record {
-  comes = λ behind. over (taken (ends behind) c.in-Some.ensures.read (omega arith, tt)) ((c.in_ok-below.ensures.read count).comes behind);
+  comes = λ behind. over (taken (ends behind) c.in-Some.ensures.read (omega arith, tt)) ((c.in_ok-size.ensures.read count).comes behind);
 }
 
-pub returns-in_err-above-clause-refused : goal.returns-in_err-above-clause-refused
-returns-in_err-above-clause-refused c =
-    handed_on _ _ _ c.from_residual-in_err-above.ensures
-    (λ count behind. fails (left_out (ends behind) (not_next _ _ c.in_default.ensures.read)) (c.in_err-above.ensures.refused count behind))
+pub returns-in_err-size-2-clause-refused : goal.returns-in_err-size-2-clause-refused
+returns-in_err-size-2-clause-refused c =
+    handed_on _ _ _ c.from_residual-in_err-size-2.ensures
+    (λ count behind. fails (left_out (ends behind) (not_next _ _ c.in_default.ensures.read)) (c.in_err-size-2.ensures.refused count behind))
 
 pub returns-clause-read : goal.returns-clause-read
 returns-clause-read c = λ count. record {
-  comes = λ behind. over (left_out (ends behind) (not_next _ _ c.in_default.ensures.read)) ((c.in_ok-above.ensures.read count).comes behind);
+  comes = λ behind. over (left_out (ends behind) (not_next _ _ c.in_default.ensures.read)) ((c.in_ok-size-2.ensures.read count).comes behind);
 }

@@ -1,5 +1,5 @@
 use Rattle.std.proofs.Common.{refl}
-use Rattle.derivation.proofs.Answering.{passed_on}
+use Rattle.source_syntax.proofs.Steps.{passed_on}
 use Rattle.derivation.proofs.Whole.{whole_read, whole_trails, whole_stops, none_left, some_left}
 use Rattle.derivation.specs.Spelled.{spelled}
 use Rattle.source_syntax.specs.Language.{rest_from}

@@ -1,11 +1,8 @@
 use Rattle.std.proofs.Common.{refl}
 use Rattle.derivation.specs.declared.symbol.Symbol.TheVariants as Sym
 use Rattle.source_syntax.specs.declared.opening.PreludeOpening.TheVariants as PreludeOpening
-use Rattle.derivation.proofs.Grammars.{over, fails}
-use Rattle.derivation.proofs.Choices.{goes}
+use Rattle.source_syntax.proofs.Steps.{over, fails, goes, handed_on, sign_reads, sign_refused, signs_read, signs_refused}
 use Rattle.source_syntax.proofs.Programs.{extern_signs, extern_quiet, beginnings}
-use Rattle.derivation.proofs.Answering.{handed_on}
-use Rattle.source_syntax.proofs.Answering.{sign_reads, sign_refused, signs_read, signs_refused}
 use Rattle.source_syntax.proofs.program.extern_call.Goals as goal
 
 pub returns-in_err-inner-clause-refused : goal.returns-in_err-inner-clause-refused

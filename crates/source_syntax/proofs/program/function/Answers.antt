@@ -1,10 +1,7 @@
 use Rattle.std.proofs.Common.{refl}
 use Rattle.derivation.specs.declared.symbol.Symbol.TheVariants as Sym
-use Rattle.derivation.proofs.Grammars.{over, fails}
-use Rattle.derivation.proofs.Choices.{held}
-use Rattle.derivation.proofs.Answering.{failed_on, passed_on}
-use Rattle.source_syntax.proofs.Answering.{sign_reads, sign_refused, opening_reads, opening_refused, name_reads, name_refused}
-use Rattle.source_syntax.proofs.Programs.{places}
+use Rattle.source_syntax.proofs.Steps.{over, fails, held, failed_on, passed_on, sign_reads, sign_refused, opening_reads, opening_refused, name_reads, name_refused}
+use Rattle.source_syntax.proofs.Expressions.{places}
 use Rattle.source_syntax.proofs.program.function.Goals as goal
 
 pub returns-in_err-bytes-clause-refused : goal.returns-in_err-bytes-clause-refused

@@ -8,8 +8,8 @@ use Rattle.source_syntax.proofs.program.parameters.Given as goal
 abbrev pub invariant-further : goal.invariant-further
 invariant-further l = record {
   forward : l.at + 1 ≤ l.here;
-  comes : ComesToParameters (name l.first) (names l.more.items) (rest_from l.words l.at) (rest_from l.words l.here);
+  comes : ComesToParameters (name l.first) (names l.more.items) (rest_from l.reader.words.now l.at) (rest_from l.reader.words.now l.here);
 }
 
 abbrev pub decreases-further : goal.decreases-further
-decreases-further l = length l.words - l.here
+decreases-further l = length l.reader.words.now - l.here

@@ -9,8 +9,8 @@ use Rattle.source_syntax.proofs.program.program.Given as goal
 abbrev pub invariant-preludes : goal.invariant-preludes
 invariant-preludes l = record {
   forward : l.at ≤ l.here;
-  comes : Continues (a_program l.functions) (behind_preludes (map prelude l.preludes.items)) (rest_from l.words l.at) (rest_from l.words l.here);
+  comes : Continues (a_program l.functions) (behind_preludes (map prelude l.preludes.items)) (rest_from l.reader.words.now l.at) (rest_from l.reader.words.now l.here);
 }
 
 abbrev pub decreases-preludes : goal.decreases-preludes
-decreases-preludes l = length l.words - l.here
+decreases-preludes l = length l.reader.words.now - l.here

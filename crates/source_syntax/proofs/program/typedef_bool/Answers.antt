@@ -1,9 +1,6 @@
 use Rattle.source_syntax.specs.declared.opening.PreludeOpening.TheVariants as PreludeOpening
-use Rattle.derivation.proofs.Grammars.{over, fails}
-use Rattle.derivation.proofs.Choices.{goes}
+use Rattle.source_syntax.proofs.Steps.{over, fails, goes, handed_on, signs_read, signs_refused}
 use Rattle.source_syntax.proofs.Programs.{typedef_signs, typedef_quiet, beginnings}
-use Rattle.derivation.proofs.Answering.{handed_on}
-use Rattle.source_syntax.proofs.Answering.{signs_read, signs_refused}
 use Rattle.source_syntax.proofs.program.typedef_bool.Goals as goal
 
 pub returns-in_err-next-clause-refused : goal.returns-in_err-next-clause-refused

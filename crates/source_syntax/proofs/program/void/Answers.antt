@@ -1,10 +1,7 @@
 use Rattle.std.proofs.Common.{refl, arith}
 use Rattle.derivation.specs.declared.symbol.Symbol.TheVariants as Sym
-use Rattle.derivation.proofs.Grammars.{over, fails}
-use Rattle.derivation.proofs.Choices.{not_next, taken, left_out}
+use Rattle.source_syntax.proofs.Steps.{over, fails, not_next, taken, left_out, handed_on, sign_reads, sign_refused}
 use Rattle.source_syntax.proofs.Statements.{voids}
-use Rattle.derivation.proofs.Answering.{handed_on}
-use Rattle.source_syntax.proofs.Answering.{sign_reads, sign_refused}
 use Rattle.source_syntax.proofs.program.void.Goals as goal
 
 pub returns-in_err-end-clause-refused : goal.returns-in_err-end-clause-refused

@@ -9,8 +9,8 @@ use Rattle.source_syntax.proofs.program.with_functions.Given as goal
 abbrev pub invariant-further : goal.invariant-further
 invariant-further l = record {
   forward : l.at ≤ l.here;
-  comes : Continues (definitions true) (behind_functions (functions l.functions.items)) (rest_from l.words l.at) (rest_from l.words l.here);
+  comes : Continues (definitions true) (behind_functions (functions l.functions.items)) (rest_from l.reader.words.now l.at) (rest_from l.reader.words.now l.here);
 }
 
 abbrev pub decreases-further : goal.decreases-further
-decreases-further l = length l.words - l.here
+decreases-further l = length l.reader.words.now - l.here

@@ -8,8 +8,8 @@ use Rattle.source_syntax.proofs.reader.signs.Given as goal
 abbrev pub invariant-loop-symbol : goal.invariant-loop-symbol
 invariant-loop-symbol l = record {
   forward : l.at + l.symbol-index ≤ l.here;
-  inside : 0 < l.symbol-index → l.here ≤ length l.words;
-  stand : (to : Rest) → AreNext (drop l.symbol-index l.wanted) (rest_from l.words l.here) to → AreNext l.wanted (rest_from l.words l.at) to;
-  missed : (rule : Rule) (to : Rest) → MissesOne (drop l.symbol-index l.wanted) (rest_from l.words l.here) rule to
-      → MissesOne l.wanted (rest_from l.words l.at) rule to;
+  inside : 0 < l.symbol-index → l.here ≤ length l.reader.words.now;
+  stand : (to : Rest) → AreNext (drop l.symbol-index l.wanted) (rest_from l.reader.words.now l.here) to → AreNext l.wanted (rest_from l.reader.words.now l.at) to;
+  missed : (rule : Rule) (to : Rest) → MissesOne (drop l.symbol-index l.wanted) (rest_from l.reader.words.now l.here) rule to
+      → MissesOne l.wanted (rest_from l.reader.words.now l.at) rule to;
 }

@@ -1,13 +1,9 @@
 use Rattle.std.proofs.Common.{◌∙◌, sym}
 use Rattle.source_syntax.specs.declared.opening.ActionOpening.TheVariants as ActionOpening
-use Rattle.derivation.proofs.Grammars.{over, fails}
-use Rattle.derivation.proofs.Choices.{goes, stuck}
-use Rattle.source_syntax.proofs.Completions.{lawful}
+use Rattle.source_syntax.proofs.Steps.{over, fails, goes, stuck, lawful, passed_on, sign_reads, leading_reads}
 use Rattle.source_syntax.proofs.Statements.{actions, assignment_quiet, step_quiet}
-use Rattle.derivation.proofs.Answering.{passed_on}
-use Rattle.source_syntax.proofs.Answering.{sign_reads, leading_reads}
 use Rattle.source_syntax.specs.Spelling.{step_sign, assignment_sign}
-use Rattle.source_syntax.proofs.Reading.{written}
+use Rattle.source_syntax.proofs.Loops.{written}
 use Rattle.source_syntax.proofs.simple.action.Goals as goal
 
 pub returns-in_err-value-in-Assigns-clause-refused : goal.returns-in_err-value-in-Assigns-clause-refused

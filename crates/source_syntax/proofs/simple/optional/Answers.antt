@@ -1,10 +1,7 @@
 use Rattle.std.proofs.Common.{refl, arith}
 use Rattle.derivation.specs.declared.symbol.Symbol.TheVariants as Sym
-use Rattle.derivation.proofs.Grammars.{over, fails}
-use Rattle.derivation.proofs.Choices.{not_next, taken, left_out}
+use Rattle.source_syntax.proofs.Steps.{over, fails, not_next, taken, left_out, failed_on, passed_on, sign_reads, sign_refused}
 use Rattle.source_syntax.proofs.Statements.{optionals}
-use Rattle.derivation.proofs.Answering.{failed_on, passed_on}
-use Rattle.source_syntax.proofs.Answering.{sign_reads, sign_refused}
 use Rattle.source_syntax.proofs.simple.optional.Goals as goal
 
 pub returns-in-Some-clause-read : goal.returns-in-Some-clause-read

@@ -1,13 +1,9 @@
 use Rattle.std.proofs.Common.{◌∙◌, sym}
 use Rattle.source_syntax.specs.declared.opening.SimpleOpening.TheVariants as SimpleOpening
-use Rattle.derivation.proofs.Grammars.{over, fails}
-use Rattle.derivation.proofs.Choices.{goes, stuck}
-use Rattle.source_syntax.proofs.Completions.{lawful}
+use Rattle.source_syntax.proofs.Steps.{over, fails, goes, stuck, lawful, passed_on, sign_at_reads, name_reads, name_refused}
 use Rattle.source_syntax.proofs.Statements.{simples, step_quiet}
-use Rattle.derivation.proofs.Answering.{passed_on}
-use Rattle.source_syntax.proofs.Answering.{sign_at_reads, name_reads, name_refused}
 use Rattle.source_syntax.specs.Spelling.{step_sign}
-use Rattle.source_syntax.proofs.Reading.{written}
+use Rattle.source_syntax.proofs.Loops.{written}
 use Rattle.source_syntax.proofs.simple.simple.Goals as goal
 
 pub returns-in_err-bytes-in-Name-clause-refused : goal.returns-in_err-bytes-in-Name-clause-refused

@@ -1,17 +1,14 @@
 use Rattle.std.proofs.Common.{◌≡◌, [], ◌∷◌, ◌++◌, ◌∙◌, map, sym, ap, refl, arith, rules}
+use Rattle.concrete_syntax.specs.Chains.{items_of}
 use Rattle.derivation.specs.declared.symbol.Symbol.TheVariants as Sym
 use Rattle.source_syntax.specs.declared.opening.StatementOpening.TheVariants as StatementOpening
 use Rattle.source_syntax.specs.declared.opening.ItemOpening.TheVariants as ItemOpening
 use Rattle.concrete_syntax.specs.declared.statement.Item.TheVariants as Item
 use Rattle.concrete_syntax.specs.Mirror.{item, statement, for_loop as for_kind}
 use Rattle.derivation.specs.declared.rule.Rule.TheVariants.{Nesting}
-use Rattle.derivation.proofs.Grammars.{over, fails, read, exceeds}
-use Rattle.source_syntax.proofs.Completions.{lawful}
-use Rattle.derivation.proofs.Choices.{goes, stuck, held}
-use Rattle.source_syntax.proofs.Statements.{statements, located_statements, all_items, otherwise_ends, elses, not_else}
-use Rattle.derivation.proofs.Answering.{failed_on, passed_on}
-use Rattle.source_syntax.proofs.Answering.{opening_reads, opening_refused}
-use Rattle.source_syntax.proofs.Loops.{told_reads, items_from, one_item_more, items_declaration, items_statement, items_close}
+use Rattle.source_syntax.proofs.Steps.{over, fails, refilled, read, exceeds, lawful, goes, stuck, held, failed_on, passed_on, sign_reads, sign_refused, signs_read, signs_refused, opening_reads, opening_refused}
+use Rattle.source_syntax.proofs.Statements.{break_signs, break_quiet, continue_signs, continue_quiet, statements, located_statements, all_items, otherwise_ends, elses, not_else}
+use Rattle.source_syntax.proofs.Loops.{told_reads, continues_from, one_item_more}
 use Rattle.source_syntax.proofs.statement.+statements.Goals as goal
 
 pub braces-returns-in_err-inner-clause-refused : goal.braces-returns-in_err-inner-clause-refused
@@ -125,7 +122,9 @@ otherwise-returns-in_err-part-clause-refused t c =
     (λ fault refused count behind. fails (read (elses _ _ behind) c.in-Some.ensures.read (c.if-inner_levels-gt-MOST_LEVELS.false, tt)) (refused count behind))
 
 pub items-further-init : goal.items-further-init
-items-further-init t c = record { forward = omega arith; comes = items_from _ _ _ _ (let none : c.new-list.result.items ≡ [] = search rules in ap (map item) none) }
+items-further-init t c =
+    let none : c.new-list.result.items ≡ [] = search rules in
+    record { forward = omega arith; comes = continues_from _ (λ all. ap (λ l. items_of (map item l) all) (sym none)) }
 
 pub statement-returns-in_err-kind-clause-refused : goal.statement-returns-in_err-kind-clause-refused
 statement-returns-in_err-kind-clause-refused t c =
@@ -137,30 +136,78 @@ statement-returns-clause-read t c = record {
   comes = λ count behind. (_, over (held (located_statements _ _ behind) count _) (c.in_ok-kind.ensures.read.comes count behind).1);
 }
 
-pub boxed_statement-returns-clause-read : goal.boxed_statement-returns-clause-read
-boxed_statement-returns-clause-read t c =
+pub boxed-returns-clause-read : goal.boxed-returns-clause-read
+boxed-returns-clause-read t c =
     let kept : c.in_ok-boxed.boxed.value ≡ c.in_ok-inner.inner = search rules in
     told_reads (ap statement kept) c.in_ok-inner.ensures.read
 
-pub statement_kind-returns-in-Nothing-clause-refused : goal.statement_kind-returns-in-Nothing-clause-refused
-statement_kind-returns-in-Nothing-clause-refused t c = λ count behind. stuck (statements _ _ behind) lawful count _ _ (λ shut. shut) (sym c.in-Nothing.is ∙ c.opening_of_statement.ensures)
+pub kind-returns-in_err-next-in-Skip-clause-refused : goal.kind-returns-in_err-next-in-Skip-clause-refused
+kind-returns-in_err-next-in-Skip-clause-refused t c =
+    failed_on _ _ _ c.from_residual.ensures
+    (λ count behind. fails (goes (statements _ _ behind) count _ StatementOpening.Skip (sym c.in-Skip.is ∙ c.opening_of_statement.ensures)) (sign_refused _ _ c.in_err-next-in-Skip.field-0.0 Sym.Semicolon (refl, refl) c.in_err-next-in-Skip.ensures.missed))
+
+pub kind-returns-in_ok-next-in-Skip-clause-read : goal.kind-returns-in_ok-next-in-Skip-clause-read
+kind-returns-in_ok-next-in-Skip-clause-read t c = record {
+  comes = λ count behind. (_, over (goes (statements _ _ behind) count _ StatementOpening.Skip (sym c.in-Skip.is ∙ c.opening_of_statement.ensures)) (sign_reads Sym.Semicolon (refl, refl) c.in_ok-next-in-Skip.ensures.read));
+}
+
+pub kind-returns-in_err-next-in-Break-clause-refused : goal.kind-returns-in_err-next-in-Break-clause-refused
+kind-returns-in_err-next-in-Break-clause-refused t c =
+    failed_on _ _ _ c.from_residual-in_err-next-in-Break.ensures
+    (λ count behind. fails (goes (statements _ _ behind) count _ StatementOpening.Break (sym c.in-Break.is ∙ c.opening_of_statement.ensures)) (signs_refused _ break_signs break_quiet c.in_err-next-in-Break.ensures.missed))
+
+pub kind-returns-in_ok-next-in-Break-clause-read : goal.kind-returns-in_ok-next-in-Break-clause-read
+kind-returns-in_ok-next-in-Break-clause-read t c = record {
+  comes = λ count behind. (_, over (goes (statements _ _ behind) count _ StatementOpening.Break (sym c.in-Break.is ∙ c.opening_of_statement.ensures)) (signs_read break_signs break_quiet c.in_ok-next-in-Break.ensures.read));
+}
+
+pub kind-returns-in_err-next-in-Continue-clause-refused : goal.kind-returns-in_err-next-in-Continue-clause-refused
+kind-returns-in_err-next-in-Continue-clause-refused t c =
+    failed_on _ _ _ c.from_residual-in_err-next-in-Continue.ensures
+    (λ count behind. fails (goes (statements _ _ behind) count _ StatementOpening.Continue (sym c.in-Continue.is ∙ c.opening_of_statement.ensures)) (signs_refused _ continue_signs continue_quiet c.in_err-next-in-Continue.ensures.missed))
+
+pub kind-returns-in_ok-next-in-Continue-clause-read : goal.kind-returns-in_ok-next-in-Continue-clause-read
+kind-returns-in_ok-next-in-Continue-clause-read t c = record {
+  comes = λ count behind. (_, over (goes (statements _ _ behind) count _ StatementOpening.Continue (sym c.in-Continue.is ∙ c.opening_of_statement.ensures)) (signs_read continue_signs continue_quiet c.in_ok-next-in-Continue.ensures.read));
+}
+
+pub kind-returns-in-Nothing-clause-refused : goal.kind-returns-in-Nothing-clause-refused
+kind-returns-in-Nothing-clause-refused t c = λ count behind. stuck (statements _ _ behind) lawful count _ _ (λ shut. shut) (sym c.in-Nothing.is ∙ c.opening_of_statement.ensures)
 
 pub items-further-preserved-in-Declaration : goal.items-further-preserved-in-Declaration
 items-further-preserved-in-Declaration t c =
     let pushed : c.push.new.self.items ≡ c.further.list.items ++ Item.Declaration c.in_ok-further-in-Declaration.further ∷ [] = search rules in record {
       forward = omega (arith, c.further.invariant.forward, c.in_ok-further-in-Declaration.ensures.forward.forward);
-      comes = items_declaration _ _ _ _ _ _ _ _ (one_item_more _ _ _ pushed) c.further.invariant.comes (sym c.in-Declaration.is ∙ c.opening_of_item.ensures) c.in_ok-further-in-Declaration.ensures.read;
+      comes = record {
+        comes = λ count behind. (
+          _,
+          refilled (λ g. ap (λ all. (all, g.1)) (one_item_more _ _ _ pushed g.0)) (over (c.further.invariant.comes.comes count behind).1
+              (over (goes (all_items _ _ behind) _ _ ItemOpening.Declaration (sym c.in-Declaration.is ∙ c.opening_of_item.ensures)) (c.in_ok-further-in-Declaration.ensures.read.comes _ _))),
+        );
+      };
     }
 
 pub items-further-preserved : goal.items-further-preserved
 items-further-preserved t c =
     let pushed : c.push-in-Statement.new.self.items ≡ c.further.list.items ++ Item.Statement c.in_ok-further-in-Statement.further ∷ [] = search rules in record {
       forward = omega (arith, c.further.invariant.forward, c.in_ok-further-in-Statement.ensures.forward.forward);
-      comes = items_statement _ _ _ _ _ _ _ _ (one_item_more _ _ _ pushed) c.further.invariant.comes (sym c.in-Statement.is ∙ c.opening_of_item.ensures) c.in_ok-further-in-Statement.ensures.read;
+      comes = record {
+        comes = λ count behind. (
+          _,
+          refilled (λ g. ap (λ all. (all, g.1)) (one_item_more _ _ _ pushed g.0)) (over (c.further.invariant.comes.comes count behind).1
+              (over (goes (all_items _ _ behind) _ _ ItemOpening.Statement (sym c.in-Statement.is ∙ c.opening_of_item.ensures)) (c.in_ok-further-in-Statement.ensures.read.comes _ _).1)),
+        );
+      };
     }
 
 pub items-returns-in-Close-clause-read : goal.items-returns-in-Close-clause-read
-items-returns-in-Close-clause-read t c = items_close _ _ _ _ _ _ _ c.further.invariant.comes (sym c.in-Close.is ∙ c.opening_of_item.ensures) c.in_ok-next-in-Close.ensures.read c.in_ok-all-in-Close.ensures
+items-returns-in-Close-clause-read t c = record {
+  comes = λ count behind. (
+    _,
+    refilled (λ g. ap (λ all. (all, g)) (sym c.in_ok-all-in-Close.ensures)) (over (c.further.invariant.comes.comes count behind).1
+        (over (goes (all_items _ _ behind) _ _ ItemOpening.Close (sym c.in-Close.is ∙ c.opening_of_item.ensures)) (sign_reads Sym.CloseBrace (refl, refl) c.in_ok-next-in-Close.ensures.read))),
+  );
+}
 
 pub items-returns-in_err-further-in-Declaration-clause-refused : goal.items-returns-in_err-further-in-Declaration-clause-refused
 items-returns-in_err-further-in-Declaration-clause-refused t c =

@@ -1,10 +1,8 @@
 use Rattle.std.proofs.Common.{refl}
 use Rattle.derivation.specs.declared.symbol.Symbol.TheVariants as Sym
 use Rattle.source_syntax.specs.Ends.{does}
-use Rattle.derivation.proofs.Grammars.{over, fails}
+use Rattle.source_syntax.proofs.Steps.{over, fails, failed_on, passed_on, sign_reads, sign_refused}
 use Rattle.source_syntax.proofs.Calling.{no_calls}
-use Rattle.derivation.proofs.Answering.{failed_on, passed_on}
-use Rattle.source_syntax.proofs.Answering.{sign_reads, sign_refused}
 use Rattle.source_syntax.proofs.statement.acting.Goals as goal
 
 pub returns-in_err-action-clause-refused : goal.returns-in_err-action-clause-refused

@@ -1,8 +1,6 @@
 use Rattle.std.proofs.Common.{refl}
 use Rattle.derivation.specs.declared.symbol.Symbol.TheVariants as Sym
-use Rattle.derivation.proofs.Grammars.{over, fails}
-use Rattle.derivation.proofs.Answering.{failed_on, passed_on}
-use Rattle.source_syntax.proofs.Answering.{sign_reads, sign_at_reads, sign_refused, sign_at_refused}
+use Rattle.source_syntax.proofs.Steps.{over, fails, failed_on, passed_on, sign_reads, sign_at_reads, sign_refused, sign_at_refused}
 use Rattle.source_syntax.proofs.statement.end_of_do.Goals as goal
 
 pub returns-in_err-open-clause-refused : goal.returns-in_err-open-clause-refused

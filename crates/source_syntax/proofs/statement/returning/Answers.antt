@@ -1,12 +1,9 @@
 use Rattle.std.proofs.Common.{refl}
 use Rattle.derivation.specs.declared.symbol.Symbol.TheVariants as Sym
 use Rattle.source_syntax.specs.declared.opening.StatementOpening.TheVariants as StatementOpening
-use Rattle.derivation.proofs.Grammars.{over, fails}
-use Rattle.derivation.proofs.Choices.{goes}
+use Rattle.source_syntax.proofs.Steps.{over, fails, goes, failed_on, passed_on, leading_reads, leading_refused}
 use Rattle.source_syntax.proofs.Statements.{statements}
-use Rattle.derivation.proofs.Answering.{failed_on, passed_on}
-use Rattle.source_syntax.proofs.Answering.{leading_reads, leading_refused}
-use Rattle.source_syntax.proofs.statement.return_statement.Goals as goal
+use Rattle.source_syntax.proofs.statement.returning.Goals as goal
 
 pub returns-in_err-behind-clause-refused : goal.returns-in_err-behind-clause-refused
 returns-in_err-behind-clause-refused c =

@@ -1,11 +1,8 @@
 use Rattle.source_syntax.specs.declared.opening.StatementOpening.TheVariants as StatementOpening
-use Rattle.derivation.proofs.Grammars.{over, fails}
-use Rattle.derivation.proofs.Choices.{goes}
+use Rattle.source_syntax.proofs.Steps.{over, fails, goes, passed_on, name_reads, name_refused}
 use Rattle.source_syntax.proofs.Statements.{statements}
-use Rattle.derivation.proofs.Answering.{passed_on}
-use Rattle.source_syntax.proofs.Answering.{name_reads, name_refused}
-use Rattle.source_syntax.proofs.Loops.{told_reads, end_reads, end_refused}
-use Rattle.source_syntax.proofs.statement.named_statement.Goals as goal
+use Rattle.source_syntax.proofs.Loops.{told_reads}
+use Rattle.source_syntax.proofs.statement.named.Goals as goal
 
 pub returns-in_err-bytes-clause-refused : goal.returns-in_err-bytes-clause-refused
 returns-in_err-bytes-clause-refused c =
@@ -16,24 +13,24 @@ pub returns-in_err-kind-clause-refused : goal.returns-in_err-kind-clause-refused
 returns-in_err-kind-clause-refused c =
     passed_on _ _ _ _ c.from_residual-in_err-kind.ensures c.in_err-kind.ensures.refused
     (λ fault refused count behind. fails (goes (statements _ _ behind) count _ StatementOpening.Name c.requires.opens)
-    (fails (name_reads c.in_ok-bytes.ensures.read) (end_refused c.if-functions.true refused _ _)))
+    (fails (name_reads c.in_ok-bytes.ensures.read) (rw c.if-functions.true (refused _ _))))
 
 pub returns-then-functions-clause-read : goal.returns-then-functions-clause-read
 returns-then-functions-clause-read c =
-    let r = end_reads c.if-functions.true c.in_ok-kind.ensures.read in
-    told_reads r.made (record {
+    let r = c.in_ok-kind.ensures.read in
+    rw c.if-functions.true (told_reads r.made (record {
       comes = λ count behind. (_, over (goes (statements _ _ behind) count _ StatementOpening.Name c.requires.opens) (over (name_reads c.in_ok-bytes.ensures.read) (r.reads.comes _ _).1));
-    })
+    }))
 
 pub returns-in_err-acting-clause-refused : goal.returns-in_err-acting-clause-refused
 returns-in_err-acting-clause-refused c =
     passed_on _ _ _ _ c.from_residual-in_err-acting.ensures c.in_err-acting.ensures.refused
     (λ fault refused count behind. fails (goes (statements _ _ behind) count _ StatementOpening.Name c.requires.opens)
-    (fails (name_reads c.in_ok-bytes.ensures.read) (end_refused c.if-functions.false refused _ _)))
+    (fails (name_reads c.in_ok-bytes.ensures.read) (rw c.if-functions.false (refused _ _))))
 
 pub returns-clause-read : goal.returns-clause-read
 returns-clause-read c =
-    let r = end_reads c.if-functions.false c.in_ok-acting.ensures.read in
-    told_reads r.made (record {
+    let r = c.in_ok-acting.ensures.read in
+    rw c.if-functions.false (told_reads r.made (record {
       comes = λ count behind. (_, over (goes (statements _ _ behind) count _ StatementOpening.Name c.requires.opens) (over (name_reads c.in_ok-bytes.ensures.read) (r.reads.comes _ _).1));
-    })
+    }))

@@ -1,9 +1,7 @@
 use Rattle.std.proofs.Common.{refl}
 use Rattle.derivation.specs.declared.symbol.Symbol.TheVariants as Sym
-use Rattle.derivation.proofs.Grammars.{over, fails}
-use Rattle.derivation.proofs.Answering.{failed_on, passed_on}
-use Rattle.source_syntax.proofs.Answering.{sign_reads, sign_refused, opening_reads, opening_refused}
-use Rattle.source_syntax.proofs.program.main_function.Goals as goal
+use Rattle.source_syntax.proofs.Steps.{over, fails, failed_on, passed_on, sign_reads, sign_refused, opening_reads, opening_refused}
+use Rattle.source_syntax.proofs.program.main_end.Goals as goal
 
 pub returns-in_err-inner-clause-refused : goal.returns-in_err-inner-clause-refused
 returns-in_err-inner-clause-refused c =
