@@ -7,3 +7,4 @@ pub mod Reading
 pub mod Groups
 mod Whole
 mod OneTree
+mod Steps

@@ -6,6 +6,7 @@ use Rattle.derivation.specs.Comes.{Phrase as PhraseOf}
 use Rattle.formula_syntax.specs.declared.sign.Connective.{Connective}
 use Rattle.formula_syntax.specs.declared.sign.Operator.{Operator}
 use Rattle.formula_syntax.specs.declared.sign.Sign.TheVariants as S
+use Rattle.formula_syntax.specs.declared.input.Reader.{Reader}
 use Rattle.formula_syntax.specs.declared.lexeme.Lexeme.{Lexeme}
 use Rattle.formula_syntax.specs.Words.{Word, sign, words_from}
 
@@ -54,3 +55,7 @@ IsQuiet next = (operator_of next ≡ None) × (connective_of next ≡ None)
 -- what is left of a list of words from a number on
 abbrev pub rest_from : List Lexeme → ℕ → Rest
 rest_from lexemes at = record { number = at; words = words_from lexemes at }
+
+-- the same of a reader's words
+abbrev pub rest_at : Reader → ℕ → Rest
+rest_at reader at = rest_from reader.words.now at

@@ -8,6 +8,7 @@ ghost use Rattle.formula_syntax.specs.Mirror.{formula as formula_tree};
 ghost use Rattle.derivation.specs.Failures.{IfFault};
 ghost use Rattle.formula_syntax.specs.Texts.{formulas, offset_in, IsFormulaText, IsFaultOf};
 
+use crate::input::Reader;
 use crate::lexeme::{Lexeme, lexemes};
 use crate::part::formula;
 use crate::tree::Formula;
@@ -54,7 +55,7 @@ fn read_words(alloc: Global, words: &[Lexeme<'_>]) -> Result<Formula, Failure>
     ensures syntax { IfOk result (λ tree. IsSpelledBy formulas (all_spelled words.now) (formula_tree tree)) }
     ensures fault { IfFault result (λ fault. FirstFault formulas (all_spelled words.now) fault.rule (words_from words.now fault.at)) }
 {
-    let (tree, end, _) = formula(alloc, words, 0, 0, 0)?;
+    let (tree, end, _) = formula(Reader { alloc, words }, 0, 0, 0)?;
     if end < words.len() {
         return Err(Failure::Fault(Fault {
             rule: Rule::Expected,

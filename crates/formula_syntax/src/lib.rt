@@ -5,6 +5,7 @@
 #![tactic(auto)]
 
 mod front;
+mod input;
 mod laws;
 mod lexeme;
 mod opening;

@@ -6,6 +6,7 @@ ghost use Rattle.formula_syntax.specs.Words.{words_from, sign as sign_word};
 ghost use Rattle.formula_syntax.specs.Language.{operator_of, connective_of};
 ghost use Rattle.formula_syntax.specs.Openings.{opening_of_part, opening_of_factor, comparison_of, until_of, IsPart, IsFactor};
 
+use crate::input::Reader;
 use crate::lexeme::Lexeme;
 use crate::sign::{Comparison, Connective, Operator, Prefix, Sign};
 
@@ -33,11 +34,11 @@ pub enum FactorOpening {
 }
 
 /// How a part of a formula opens at this word.
-pub fn opening_of_part(words: &[Lexeme<'_>], at: usize) -> Opening
-    ensures class { result ≡ opening_of_part (first (words_from words.now at)) }
-    ensures inside { IsPart result → at < length words.now }
+pub fn opening_of_part(reader: Reader<'_>, at: usize) -> Opening
+    ensures class { result ≡ opening_of_part (first (words_from reader.entry.words.now at)) }
+    ensures inside { IsPart result → at < length reader.entry.words.now }
 {
-    let Some(word) = words.get(at) else {
+    let Some(word) = reader.words.get(at) else {
         return Opening::Nothing;
     };
     match *word {
@@ -63,11 +64,11 @@ fn part_with(sign: Sign) -> Opening
 }
 
 /// How a factor opens at this word.
-pub fn opening_of_factor(words: &[Lexeme<'_>], at: usize) -> FactorOpening
-    ensures class { result ≡ opening_of_factor (first (words_from words.now at)) }
-    ensures inside { IsFactor result → at < length words.now }
+pub fn opening_of_factor(reader: Reader<'_>, at: usize) -> FactorOpening
+    ensures class { result ≡ opening_of_factor (first (words_from reader.entry.words.now at)) }
+    ensures inside { IsFactor result → at < length reader.entry.words.now }
 {
-    let Some(word) = words.get(at) else {
+    let Some(word) = reader.words.get(at) else {
         return FactorOpening::Nothing;
     };
     match *word {
@@ -91,44 +92,44 @@ fn factor_with(sign: Sign) -> FactorOpening
 }
 
 /// The sign between two factors that this word is; `None` where it is another word, or the end.
-pub fn operator_of(words: &[Lexeme<'_>], at: usize) -> Option<Operator>
-    ensures class { result ≡ operator_of (first (words_from words.now at)) }
-    ensures inside { IfSome result (λ _. at < length words.now) }
+pub fn operator_of(reader: Reader<'_>, at: usize) -> Option<Operator>
+    ensures class { result ≡ operator_of (first (words_from reader.entry.words.now at)) }
+    ensures inside { IfSome result (λ _. at < length reader.entry.words.now) }
 {
-    match words.get(at)? {
+    match reader.words.get(at)? {
         Lexeme::Sign(Sign::Operator(op)) => Some(*op),
         _ => None,
     }
 }
 
 /// The sign between two parts that this word is, likewise.
-pub fn connective_of(words: &[Lexeme<'_>], at: usize) -> Option<Connective>
-    ensures class { result ≡ connective_of (first (words_from words.now at)) }
-    ensures inside { IfSome result (λ _. at < length words.now) }
+pub fn connective_of(reader: Reader<'_>, at: usize) -> Option<Connective>
+    ensures class { result ≡ connective_of (first (words_from reader.entry.words.now at)) }
+    ensures inside { IfSome result (λ _. at < length reader.entry.words.now) }
 {
-    match words.get(at)? {
+    match reader.words.get(at)? {
         Lexeme::Sign(Sign::Connective(connective)) => Some(*connective),
         _ => None,
     }
 }
 
 /// The comparison that this word is, likewise.
-pub fn comparison_of(words: &[Lexeme<'_>], at: usize) -> Option<Comparison>
-    ensures class { result ≡ comparison_of (first (words_from words.now at)) }
-    ensures inside { IfSome result (λ _. at < length words.now) }
+pub fn comparison_of(reader: Reader<'_>, at: usize) -> Option<Comparison>
+    ensures class { result ≡ comparison_of (first (words_from reader.entry.words.now at)) }
+    ensures inside { IfSome result (λ _. at < length reader.entry.words.now) }
 {
-    match words.get(at)? {
+    match reader.words.get(at)? {
         Lexeme::Sign(Sign::Comparison(comparison)) => Some(*comparison),
         _ => None,
     }
 }
 
 /// Whether this word is `W` and not `U`; `None` where it is neither.
-pub fn until_of(words: &[Lexeme<'_>], at: usize) -> Option<bool>
-    ensures class { result ≡ until_of (first (words_from words.now at)) }
-    ensures inside { IfSome result (λ _. at < length words.now) }
+pub fn until_of(reader: Reader<'_>, at: usize) -> Option<bool>
+    ensures class { result ≡ until_of (first (words_from reader.entry.words.now at)) }
+    ensures inside { IfSome result (λ _. at < length reader.entry.words.now) }
 {
-    match words.get(at)? {
+    match reader.words.get(at)? {
         Lexeme::Sign(Sign::Until { weak }) => Some(*weak),
         _ => None,
     }

@@ -4,7 +4,7 @@
 ghost use Rattle.std.specs.Prelude.{◌≡◌, ◌<◌, length, ◌≢◌, ◌∷◌, List, ◌≤◌, IfOk, Some};
 ghost use Rattle.derivation.specs.Pieces.{first};
 ghost use Rattle.formula_syntax.specs.Words.{Word, sign as sign_word, words_from, IsBehind};
-ghost use Rattle.formula_syntax.specs.Language.{rest_from, connective_of};
+ghost use Rattle.formula_syntax.specs.Language.{rest_at, connective_of};
 ghost use Rattle.formula_syntax.specs.Trees.{quantified, grouped, factor_at, summed};
 ghost use Rattle.formula_syntax.specs.Mirror.{factor as factor_tree, tail as tail_tree, sum as sum_tree, part as part_tree, chain as chain_tree, formula as formula_tree};
 ghost use Rattle.formula_syntax.specs.Inners.{inner as inner_tree, inner_end as inner_end_tree, inner_of};
@@ -15,7 +15,8 @@ ghost use Rattle.derivation.specs.Failures.{IfFault};
 ghost use Rattle.formula_syntax.specs.Pending.{a_part, a_chain, a_formula, an_inner, an_inner_end, a_group};
 ghost use Rattle.formula_syntax.specs.Reads.{Reads, Refuses, IsFrom};
 
-use crate::lexeme::{Lexeme, after};
+use crate::input::{Read, Reader};
+use crate::lexeme::after;
 use crate::opening::{Opening, connective_of, opening_of_part};
 use crate::reader::{MOST_OPERATORS, opening, sign, until};
 use crate::sign::{Connective, Prefix, Sign};
@@ -26,43 +27,31 @@ use std::alloc::{AllocError, Global};
 
 /// Reads a formula.
 #[cycle(parts)]
-pub fn formula(
-    alloc: Global,
-    words: &[Lexeme<'_>],
-    at: usize,
-    levels: u32,
-    operators: u32,
-) -> Result<(Formula, usize, u32), Failure>
+pub fn formula(reader: Reader<'_>, at: usize, levels: u32, operators: u32) -> Read<Formula>
     requires shallow { levels ≤ 64 }
     requires few { operators ≤ 64 }
-    ensures read { IfOk result (λ found. Reads operators (a_formula levels) (formula_tree found.0) (rest_from words.now at) found.2 (rest_from words.now found.1)) }
+    ensures read { IfOk result (λ found. Reads operators (a_formula levels) (formula_tree found.0) (rest_at reader.entry at) found.2 (rest_at reader.entry found.1)) }
     ensures counted { IfOk result (λ found. found.2 ≤ 64) }
-    ensures forward { IfOk result (λ found. IsBehind words.now at found.1) }
-    ensures refused { IfFault result (λ fault. Refuses operators (a_formula levels) (rest_from words.now at) fault.rule (rest_from words.now fault.at)) }
+    ensures forward { IfOk result (λ found. IsBehind reader.entry.words.now at found.1) }
+    ensures refused { IfFault result (λ fault. Refuses operators (a_formula levels) (rest_at reader.entry at) fault.rule (rest_at reader.entry fault.at)) }
 {
-    let (first, behind, count) = part(alloc, words, at, levels, operators)?;
-    let (chain, next, now) = chain(alloc, words, behind, levels, count)?;
+    let (first, behind, count) = part(reader, at, levels, operators)?;
+    let (chain, next, now) = chain(reader, behind, levels, count)?;
     Ok((Formula { part: first, chain }, next, now))
 }
 
 // Reads what stands behind the first part of a formula.
 #[cycle(parts)]
-fn chain(
-    alloc: Global,
-    words: &[Lexeme<'_>],
-    at: usize,
-    levels: u32,
-    operators: u32,
-) -> Result<(Chain, usize, u32), Failure>
+fn chain(reader: Reader<'_>, at: usize, levels: u32, operators: u32) -> Read<Chain>
     requires shallow { levels ≤ 64 }
     requires few { operators ≤ 64 }
-    ensures read { IfOk result (λ found. Reads operators (a_chain levels) (chain_tree found.0) (rest_from words.now at) found.2 (rest_from words.now found.1)) }
+    ensures read { IfOk result (λ found. Reads operators (a_chain levels) (chain_tree found.0) (rest_at reader.entry at) found.2 (rest_at reader.entry found.1)) }
     ensures counted { IfOk result (λ found. found.2 ≤ 64) }
-    ensures forward { IfOk result (λ found. IsFrom words.now at found.1) }
-    ensures refused { IfFault result (λ fault. Refuses operators (a_chain levels) (rest_from words.now at) fault.rule (rest_from words.now fault.at)) }
+    ensures forward { IfOk result (λ found. IsFrom reader.entry.words.now at found.1) }
+    ensures refused { IfFault result (λ fault. Refuses operators (a_chain levels) (rest_at reader.entry at) fault.rule (rest_at reader.entry fault.at)) }
 {
-    match connective_of(words, at) {
-        Some(connective) => joined(alloc, words, at, levels, operators, connective),
+    match connective_of(reader, at) {
+        Some(connective) => joined(reader, at, levels, operators, connective),
         None => Ok((Chain::Done, at, operators)),
     }
 }
@@ -70,33 +59,30 @@ fn chain(
 // Reads a connective and what stands behind it.
 #[cycle(parts)]
 fn joined(
-    alloc: Global,
-    words: &[Lexeme<'_>],
+    reader: Reader<'_>,
     at: usize,
     levels: u32,
     operators: u32,
     connective: Connective,
-) -> Result<(Chain, usize, u32), Failure>
+) -> Read<Chain>
     requires shallow { levels ≤ 64 }
-    requires inside { at < length words.now }
+    requires inside { at < length reader.words.now }
     requires few { operators ≤ 64 }
-    requires opens { Some connective ≡ connective_of (first (words_from words.now at)) }
-    ensures read { IfOk result (λ found. Reads operators (a_chain levels) (chain_tree found.0) (rest_from words.now at) found.2 (rest_from words.now found.1)) }
+    requires opens { Some connective ≡ connective_of (first (words_from reader.words.now at)) }
+    ensures read { IfOk result (λ found. Reads operators (a_chain levels) (chain_tree found.0) (rest_at reader.entry at) found.2 (rest_at reader.entry found.1)) }
     ensures counted { IfOk result (λ found. found.2 ≤ 64) }
-    ensures forward { IfOk result (λ found. IsBehind words.now at found.1) }
-    ensures refused { IfFault result (λ fault. Refuses operators (a_chain levels) (rest_from words.now at) fault.rule (rest_from words.now fault.at)) }
+    ensures forward { IfOk result (λ found. IsBehind reader.entry.words.now at found.1) }
+    ensures refused { IfFault result (λ fault. Refuses operators (a_chain levels) (rest_at reader.entry at) fault.rule (rest_at reader.entry fault.at)) }
 {
     let more = operators + 1;
     if more > MOST_OPERATORS {
-        return Err(Failure::Fault(Fault {
-            rule: Rule::Operators,
-            at,
-        }));
+        let rule = Rule::Operators;
+        return Err(Failure::Fault(Fault { rule, at }));
     }
-    let (first, behind, count) = part(alloc, words, at + 1, levels, more)?;
-    let (others, next, now) = chain(alloc, words, behind, levels, count)?;
-    let part = Box::new(alloc, first)?;
-    let rest = Box::new(alloc, others)?;
+    let (first, behind, count) = part(reader, at + 1, levels, more)?;
+    let (others, next, now) = chain(reader, behind, levels, count)?;
+    let part = Box::new(reader.alloc, first)?;
+    let rest = Box::new(reader.alloc, others)?;
     Ok((
         Chain::Joined {
             connective,
@@ -110,25 +96,19 @@ fn joined(
 
 // Reads a part of a formula.
 #[cycle(parts)]
-fn part(
-    alloc: Global,
-    words: &[Lexeme<'_>],
-    at: usize,
-    levels: u32,
-    operators: u32,
-) -> Result<(Part, usize, u32), Failure>
+fn part(reader: Reader<'_>, at: usize, levels: u32, operators: u32) -> Read<Part>
     requires shallow { levels ≤ 64 }
     requires few { operators ≤ 64 }
-    ensures read { IfOk result (λ found. Reads operators (a_part levels) (part_tree found.0) (rest_from words.now at) found.2 (rest_from words.now found.1)) }
+    ensures read { IfOk result (λ found. Reads operators (a_part levels) (part_tree found.0) (rest_at reader.entry at) found.2 (rest_at reader.entry found.1)) }
     ensures counted { IfOk result (λ found. found.2 ≤ 64) }
-    ensures forward { IfOk result (λ found. IsBehind words.now at found.1) }
-    ensures refused { IfFault result (λ fault. Refuses operators (a_part levels) (rest_from words.now at) fault.rule (rest_from words.now fault.at)) }
+    ensures forward { IfOk result (λ found. IsBehind reader.entry.words.now at found.1) }
+    ensures refused { IfFault result (λ fault. Refuses operators (a_part levels) (rest_at reader.entry at) fault.rule (rest_at reader.entry fault.at)) }
 {
-    match opening_of_part(words, at) {
-        Opening::Sum => compared(alloc, words, at, levels, operators),
-        Opening::Parenthesis => grouped(alloc, words, at, levels, operators),
-        Opening::Prefix(prefix) => prefixed(alloc, words, at, levels, operators, prefix),
-        Opening::Quantifier { all } => quantified(alloc, words, at, levels, operators, all),
+    match opening_of_part(reader, at) {
+        Opening::Sum => compared(reader, at, levels, operators),
+        Opening::Parenthesis => grouped(reader, at, levels, operators),
+        Opening::Prefix(prefix) => prefixed(reader, at, levels, operators, prefix),
+        Opening::Quantifier { all } => quantified(reader, at, levels, operators, all),
         Opening::Truth(value) => Ok((Part::Truth(value), at + 1, operators)),
         Opening::Exit => Ok((Part::Exit, at + 1, operators)),
         Opening::Nothing => Err(Failure::Fault(Fault {
@@ -141,74 +121,60 @@ fn part(
 // Reads a prefix and its part.
 #[cycle(parts)]
 fn prefixed(
-    alloc: Global,
-    words: &[Lexeme<'_>],
+    reader: Reader<'_>,
     at: usize,
     levels: u32,
     operators: u32,
     prefix: Prefix,
-) -> Result<(Part, usize, u32), Failure>
+) -> Read<Part>
     requires shallow { levels ≤ 64 }
-    requires inside { at < length words.now }
+    requires inside { at < length reader.words.now }
     requires few { operators ≤ 64 }
-    requires opens { OpensPrefix prefix ≡ opening_of_part (first (words_from words.now at)) }
-    ensures read { IfOk result (λ found. Reads operators (a_part levels) (part_tree found.0) (rest_from words.now at) found.2 (rest_from words.now found.1)) }
+    requires opens { OpensPrefix prefix ≡ opening_of_part (first (words_from reader.words.now at)) }
+    ensures read { IfOk result (λ found. Reads operators (a_part levels) (part_tree found.0) (rest_at reader.entry at) found.2 (rest_at reader.entry found.1)) }
     ensures counted { IfOk result (λ found. found.2 ≤ 64) }
-    ensures forward { IfOk result (λ found. IsBehind words.now at found.1) }
-    ensures refused { IfFault result (λ fault. Refuses operators (a_part levels) (rest_from words.now at) fault.rule (rest_from words.now fault.at)) }
+    ensures forward { IfOk result (λ found. IsBehind reader.entry.words.now at found.1) }
+    ensures refused { IfFault result (λ fault. Refuses operators (a_part levels) (rest_at reader.entry at) fault.rule (rest_at reader.entry fault.at)) }
 {
     let inner_levels = levels + 1;
     if inner_levels > MOST_LEVELS {
-        return Err(Failure::Fault(Fault {
-            rule: Rule::Nesting,
-            at,
-        }));
+        let rule = Rule::Nesting;
+        return Err(Failure::Fault(Fault { rule, at }));
     }
     let more = operators + 1;
     if more > MOST_OPERATORS {
-        return Err(Failure::Fault(Fault {
-            rule: Rule::Operators,
-            at,
-        }));
+        let rule = Rule::Operators;
+        return Err(Failure::Fault(Fault { rule, at }));
     }
-    let (inner, next, count) = part(alloc, words, at + 1, inner_levels, more)?;
-    let part = Box::new(alloc, inner)?;
+    let (inner, next, count) = part(reader, at + 1, inner_levels, more)?;
+    let part = Box::new(reader.alloc, inner)?;
     Ok((Part::Prefixed { prefix, part }, next, count))
 }
 
 // Reads an until or a weak until.
 #[cycle(parts)]
-fn quantified(
-    alloc: Global,
-    words: &[Lexeme<'_>],
-    at: usize,
-    levels: u32,
-    operators: u32,
-    all: bool,
-) -> Result<(Part, usize, u32), Failure>
+fn quantified(reader: Reader<'_>, at: usize, levels: u32, operators: u32, all: bool) -> Read<Part>
     requires shallow { levels ≤ 64 }
-    requires inside { at < length words.now }
+    requires inside { at < length reader.words.now }
     requires few { operators ≤ 64 }
-    requires opens { Quantifier all ≡ opening_of_part (first (words_from words.now at)) }
-    ensures read { IfOk result (λ found. Reads operators (a_part levels) (part_tree found.0) (rest_from words.now at) found.2 (rest_from words.now found.1)) }
+    requires opens { Quantifier all ≡ opening_of_part (first (words_from reader.words.now at)) }
+    ensures read { IfOk result (λ found. Reads operators (a_part levels) (part_tree found.0) (rest_at reader.entry at) found.2 (rest_at reader.entry found.1)) }
     ensures counted { IfOk result (λ found. found.2 ≤ 64) }
-    ensures forward { IfOk result (λ found. IsBehind words.now at found.1) }
-    ensures refused { IfFault result (λ fault. Refuses operators (a_part levels) (rest_from words.now at) fault.rule (rest_from words.now fault.at)) }
+    ensures forward { IfOk result (λ found. IsBehind reader.entry.words.now at found.1) }
+    ensures refused { IfFault result (λ fault. Refuses operators (a_part levels) (rest_at reader.entry at) fault.rule (rest_at reader.entry fault.at)) }
 {
     let more = operators + 1;
     if more > MOST_OPERATORS {
-        return Err(Failure::Fault(Fault {
-            rule: Rule::Operators,
-            at,
-        }));
+        let rule = Rule::Operators;
+        return Err(Failure::Fault(Fault { rule, at }));
     }
     let inner_levels = levels + 1;
-    let open = opening(words, at + 1, Sign::OpenBracket, inner_levels)?;
-    let (first, middle, count) = formula(alloc, words, open, inner_levels, more)?;
-    let (weak, goal) = until(words, middle)?;
-    let (second, close, now) = formula(alloc, words, goal, inner_levels, count)?;
-    let next = sign(words, close, Sign::CloseBracket)?;
-    let made = quantify(alloc, all, first, weak, second)?;
+    let open = opening(reader, at + 1, Sign::OpenBracket, inner_levels)?;
+    let (first, middle, count) = formula(reader, open, inner_levels, more)?;
+    let (weak, goal) = until(reader, middle)?;
+    let (second, close, now) = formula(reader, goal, inner_levels, count)?;
+    let next = sign(reader, close, Sign::CloseBracket)?;
+    let made = quantify(reader.alloc, all, first, weak, second)?;
     Ok((made, next, now))
 }
 
@@ -237,23 +203,17 @@ fn quantify(
 }
 
 // Reads a comparison that doesn't begin with a `(`.
-fn compared(
-    alloc: Global,
-    words: &[Lexeme<'_>],
-    at: usize,
-    levels: u32,
-    operators: u32,
-) -> Result<(Part, usize, u32), Failure>
+fn compared(reader: Reader<'_>, at: usize, levels: u32, operators: u32) -> Read<Part>
     requires shallow { levels ≤ 64 }
     requires few { operators ≤ 64 }
-    requires opens { OpensSum ≡ opening_of_part (first (words_from words.now at)) }
-    ensures read { IfOk result (λ found. Reads operators (a_part levels) (part_tree found.0) (rest_from words.now at) found.2 (rest_from words.now found.1)) }
+    requires opens { OpensSum ≡ opening_of_part (first (words_from reader.words.now at)) }
+    ensures read { IfOk result (λ found. Reads operators (a_part levels) (part_tree found.0) (rest_at reader.entry at) found.2 (rest_at reader.entry found.1)) }
     ensures counted { IfOk result (λ found. found.2 ≤ 64) }
-    ensures forward { IfOk result (λ found. IsBehind words.now at found.1) }
-    ensures refused { IfFault result (λ fault. Refuses operators (a_part levels) (rest_from words.now at) fault.rule (rest_from words.now fault.at)) }
+    ensures forward { IfOk result (λ found. IsBehind reader.entry.words.now at found.1) }
+    ensures refused { IfFault result (λ fault. Refuses operators (a_part levels) (rest_at reader.entry at) fault.rule (rest_at reader.entry fault.at)) }
 {
-    let (left, behind, count) = sum(alloc, words, at, levels, operators)?;
-    let (comparison, right, next, now) = right(alloc, words, behind, levels, count)?;
+    let (left, behind, count) = sum(reader, at, levels, operators)?;
+    let (comparison, right, next, now) = right(reader, behind, levels, count)?;
     Ok((
         Part::Compared {
             left,
@@ -267,31 +227,25 @@ fn compared(
 
 // Reads a part that begins with a `(`.
 #[cycle(parts)]
-fn grouped(
-    alloc: Global,
-    words: &[Lexeme<'_>],
-    at: usize,
-    levels: u32,
-    operators: u32,
-) -> Result<(Part, usize, u32), Failure>
+fn grouped(reader: Reader<'_>, at: usize, levels: u32, operators: u32) -> Read<Part>
     requires shallow { levels ≤ 64 }
     requires few { operators ≤ 64 }
-    requires opens { Parenthesis ≡ opening_of_part (first (words_from words.now at)) }
-    ensures read { IfOk result (λ found. Reads operators (a_part levels) (part_tree found.0) (rest_from words.now at) found.2 (rest_from words.now found.1)) }
+    requires opens { Parenthesis ≡ opening_of_part (first (words_from reader.words.now at)) }
+    ensures read { IfOk result (λ found. Reads operators (a_part levels) (part_tree found.0) (rest_at reader.entry at) found.2 (rest_at reader.entry found.1)) }
     ensures counted { IfOk result (λ found. found.2 ≤ 64) }
-    ensures forward { IfOk result (λ found. IsBehind words.now at found.1) }
-    ensures refused { IfFault result (λ fault. Refuses operators (a_part levels) (rest_from words.now at) fault.rule (rest_from words.now fault.at)) }
+    ensures forward { IfOk result (λ found. IsBehind reader.entry.words.now at found.1) }
+    ensures refused { IfFault result (λ fault. Refuses operators (a_part levels) (rest_at reader.entry at) fault.rule (rest_at reader.entry fault.at)) }
 {
-    let (inner, behind, count) = group(alloc, words, at, levels, operators)?;
+    let (inner, behind, count) = group(reader, at, levels, operators)?;
     match inner {
         Inner::Formula(formula) => {
-            let part = grouping(alloc, at, formula)?;
+            let part = grouping(reader.alloc, at, formula)?;
             Ok((part, behind, count))
         }
         Inner::Sum(inner) => {
-            let first = summing(alloc, at, inner)?;
-            let (tail, middle, count) = tail(alloc, words, behind, levels, count)?;
-            let (comparison, right, next, now) = right(alloc, words, middle, levels, count)?;
+            let first = summing(reader.alloc, at, inner)?;
+            let (tail, middle, count) = tail(reader, behind, levels, count)?;
+            let (comparison, right, next, now) = right(reader, middle, levels, count)?;
             let left = Sum {
                 factor: first,
                 tail,
@@ -332,49 +286,37 @@ fn summing(alloc: Global, at: usize, inner: Sum) -> Result<Factor, AllocError>
 
 // Reads a formula or a sum in parentheses.
 #[cycle(parts)]
-fn group(
-    alloc: Global,
-    words: &[Lexeme<'_>],
-    at: usize,
-    levels: u32,
-    operators: u32,
-) -> Result<(Inner, usize, u32), Failure>
+fn group(reader: Reader<'_>, at: usize, levels: u32, operators: u32) -> Read<Inner>
     requires shallow { levels ≤ 64 }
     requires few { operators ≤ 64 }
-    ensures read { IfOk result (λ found. Reads operators (a_group levels) (record { at = at; inner = inner_tree found.0 }) (rest_from words.now at) found.2 (rest_from words.now found.1)) }
+    ensures read { IfOk result (λ found. Reads operators (a_group levels) (record { at = at; inner = inner_tree found.0 }) (rest_at reader.entry at) found.2 (rest_at reader.entry found.1)) }
     ensures counted { IfOk result (λ found. found.2 ≤ 64) }
-    ensures forward { IfOk result (λ found. IsBehind words.now at found.1) }
-    ensures refused { IfFault result (λ fault. Refuses operators (a_group levels) (rest_from words.now at) fault.rule (rest_from words.now fault.at)) }
+    ensures forward { IfOk result (λ found. IsBehind reader.entry.words.now at found.1) }
+    ensures refused { IfFault result (λ fault. Refuses operators (a_group levels) (rest_at reader.entry at) fault.rule (rest_at reader.entry fault.at)) }
 {
     let inner_levels = levels + 1;
-    let open = opening(words, at, Sign::OpenParenthesis, inner_levels)?;
-    let (inner, next, count) = inner(alloc, words, open, inner_levels, operators)?;
+    let open = opening(reader, at, Sign::OpenParenthesis, inner_levels)?;
+    let (inner, next, count) = inner(reader, open, inner_levels, operators)?;
     Ok((inner, next, count))
 }
 
 // Reads what stands in parentheses, and the `)`.
 #[cycle(parts)]
-fn inner(
-    alloc: Global,
-    words: &[Lexeme<'_>],
-    at: usize,
-    levels: u32,
-    operators: u32,
-) -> Result<(Inner, usize, u32), Failure>
+fn inner(reader: Reader<'_>, at: usize, levels: u32, operators: u32) -> Read<Inner>
     requires shallow { levels ≤ 64 }
     requires few { operators ≤ 64 }
-    ensures read { IfOk result (λ found. Reads operators (an_inner levels) (inner_tree found.0) (rest_from words.now at) found.2 (rest_from words.now found.1)) }
+    ensures read { IfOk result (λ found. Reads operators (an_inner levels) (inner_tree found.0) (rest_at reader.entry at) found.2 (rest_at reader.entry found.1)) }
     ensures counted { IfOk result (λ found. found.2 ≤ 64) }
-    ensures forward { IfOk result (λ found. IsBehind words.now at found.1) }
-    ensures refused { IfFault result (λ fault. Refuses operators (an_inner levels) (rest_from words.now at) fault.rule (rest_from words.now fault.at)) }
+    ensures forward { IfOk result (λ found. IsBehind reader.entry.words.now at found.1) }
+    ensures refused { IfFault result (λ fault. Refuses operators (an_inner levels) (rest_at reader.entry at) fault.rule (rest_at reader.entry fault.at)) }
 {
-    match opening_of_part(words, at) {
-        Opening::Sum => inner_sum(alloc, words, at, levels, operators),
-        Opening::Parenthesis => inner_group(alloc, words, at, levels, operators),
-        Opening::Prefix(_) => closed_formula(alloc, words, at, levels, operators),
-        Opening::Quantifier { .. } => closed_formula(alloc, words, at, levels, operators),
-        Opening::Truth(_) => closed_formula(alloc, words, at, levels, operators),
-        Opening::Exit => closed_formula(alloc, words, at, levels, operators),
+    match opening_of_part(reader, at) {
+        Opening::Sum => inner_sum(reader, at, levels, operators),
+        Opening::Parenthesis => inner_group(reader, at, levels, operators),
+        Opening::Prefix(_) => closed_formula(reader, at, levels, operators),
+        Opening::Quantifier { .. } => closed_formula(reader, at, levels, operators),
+        Opening::Truth(_) => closed_formula(reader, at, levels, operators),
+        Opening::Exit => closed_formula(reader, at, levels, operators),
         Opening::Nothing => Err(Failure::Fault(Fault {
             rule: Rule::Expected,
             at,
@@ -384,77 +326,59 @@ fn inner(
 
 // Reads it where only a formula begins so.
 #[cycle(parts)]
-fn closed_formula(
-    alloc: Global,
-    words: &[Lexeme<'_>],
-    at: usize,
-    levels: u32,
-    operators: u32,
-) -> Result<(Inner, usize, u32), Failure>
+fn closed_formula(reader: Reader<'_>, at: usize, levels: u32, operators: u32) -> Read<Inner>
     requires shallow { levels ≤ 64 }
     requires few { operators ≤ 64 }
-    requires opens { IsProper (opening_of_part (first (words_from words.now at))) }
-    ensures read { IfOk result (λ found. Reads operators (an_inner levels) (inner_tree found.0) (rest_from words.now at) found.2 (rest_from words.now found.1)) }
+    requires opens { IsProper (opening_of_part (first (words_from reader.words.now at))) }
+    ensures read { IfOk result (λ found. Reads operators (an_inner levels) (inner_tree found.0) (rest_at reader.entry at) found.2 (rest_at reader.entry found.1)) }
     ensures counted { IfOk result (λ found. found.2 ≤ 64) }
-    ensures forward { IfOk result (λ found. IsBehind words.now at found.1) }
-    ensures refused { IfFault result (λ fault. Refuses operators (an_inner levels) (rest_from words.now at) fault.rule (rest_from words.now fault.at)) }
+    ensures forward { IfOk result (λ found. IsBehind reader.entry.words.now at found.1) }
+    ensures refused { IfFault result (λ fault. Refuses operators (an_inner levels) (rest_at reader.entry at) fault.rule (rest_at reader.entry fault.at)) }
 {
-    let (formula, behind, count) = formula(alloc, words, at, levels, operators)?;
-    let next = sign(words, behind, Sign::CloseParenthesis)?;
+    let (formula, behind, count) = formula(reader, at, levels, operators)?;
+    let next = sign(reader, behind, Sign::CloseParenthesis)?;
     Ok((Inner::Formula(formula), next, count))
 }
 
 // Reads it where it begins with a sum, but not with a `(`.
 #[cycle(parts)]
-fn inner_sum(
-    alloc: Global,
-    words: &[Lexeme<'_>],
-    at: usize,
-    levels: u32,
-    operators: u32,
-) -> Result<(Inner, usize, u32), Failure>
+fn inner_sum(reader: Reader<'_>, at: usize, levels: u32, operators: u32) -> Read<Inner>
     requires shallow { levels ≤ 64 }
     requires few { operators ≤ 64 }
-    requires opens { OpensSum ≡ opening_of_part (first (words_from words.now at)) }
-    ensures read { IfOk result (λ found. Reads operators (an_inner levels) (inner_tree found.0) (rest_from words.now at) found.2 (rest_from words.now found.1)) }
+    requires opens { OpensSum ≡ opening_of_part (first (words_from reader.words.now at)) }
+    ensures read { IfOk result (λ found. Reads operators (an_inner levels) (inner_tree found.0) (rest_at reader.entry at) found.2 (rest_at reader.entry found.1)) }
     ensures counted { IfOk result (λ found. found.2 ≤ 64) }
-    ensures forward { IfOk result (λ found. IsBehind words.now at found.1) }
-    ensures refused { IfFault result (λ fault. Refuses operators (an_inner levels) (rest_from words.now at) fault.rule (rest_from words.now fault.at)) }
+    ensures forward { IfOk result (λ found. IsBehind reader.entry.words.now at found.1) }
+    ensures refused { IfFault result (λ fault. Refuses operators (an_inner levels) (rest_at reader.entry at) fault.rule (rest_at reader.entry fault.at)) }
 {
-    let (left, behind, count) = sum(alloc, words, at, levels, operators)?;
-    let (end, next, now) = inner_end(alloc, words, behind, levels, count)?;
+    let (left, behind, count) = sum(reader, at, levels, operators)?;
+    let (end, next, now) = inner_end(reader, behind, levels, count)?;
     Ok((inner_of(left, end), next, now))
 }
 
 // Reads it where it begins with a `(`.
 #[cycle(parts)]
-fn inner_group(
-    alloc: Global,
-    words: &[Lexeme<'_>],
-    at: usize,
-    levels: u32,
-    operators: u32,
-) -> Result<(Inner, usize, u32), Failure>
+fn inner_group(reader: Reader<'_>, at: usize, levels: u32, operators: u32) -> Read<Inner>
     requires shallow { levels ≤ 64 }
     requires few { operators ≤ 64 }
-    requires opens { Parenthesis ≡ opening_of_part (first (words_from words.now at)) }
-    ensures read { IfOk result (λ found. Reads operators (an_inner levels) (inner_tree found.0) (rest_from words.now at) found.2 (rest_from words.now found.1)) }
+    requires opens { Parenthesis ≡ opening_of_part (first (words_from reader.words.now at)) }
+    ensures read { IfOk result (λ found. Reads operators (an_inner levels) (inner_tree found.0) (rest_at reader.entry at) found.2 (rest_at reader.entry found.1)) }
     ensures counted { IfOk result (λ found. found.2 ≤ 64) }
-    ensures forward { IfOk result (λ found. IsBehind words.now at found.1) }
-    ensures refused { IfFault result (λ fault. Refuses operators (an_inner levels) (rest_from words.now at) fault.rule (rest_from words.now fault.at)) }
+    ensures forward { IfOk result (λ found. IsBehind reader.entry.words.now at found.1) }
+    ensures refused { IfFault result (λ fault. Refuses operators (an_inner levels) (rest_at reader.entry at) fault.rule (rest_at reader.entry fault.at)) }
 {
-    let (inner, behind, count) = group(alloc, words, at, levels, operators)?;
+    let (inner, behind, count) = group(reader, at, levels, operators)?;
     match inner {
         Inner::Formula(inner) => {
-            let part = grouping(alloc, at, inner)?;
-            let (chain, close, now) = chain(alloc, words, behind, levels, count)?;
-            let next = sign(words, close, Sign::CloseParenthesis)?;
+            let part = grouping(reader.alloc, at, inner)?;
+            let (chain, close, now) = chain(reader, behind, levels, count)?;
+            let next = sign(reader, close, Sign::CloseParenthesis)?;
             Ok((Inner::Formula(Formula { part, chain }), next, now))
         }
         Inner::Sum(inner) => {
-            let first = summing(alloc, at, inner)?;
-            let (tail, middle, count) = tail(alloc, words, behind, levels, count)?;
-            let (end, next, now) = inner_end(alloc, words, middle, levels, count)?;
+            let first = summing(reader.alloc, at, inner)?;
+            let (tail, middle, count) = tail(reader, behind, levels, count)?;
+            let (end, next, now) = inner_end(reader, middle, levels, count)?;
             let left = Sum {
                 factor: first,
                 tail,
@@ -466,46 +390,34 @@ fn inner_group(
 
 // Reads what stands in parentheses behind a sum, and the `)`.
 #[cycle(parts)]
-fn inner_end(
-    alloc: Global,
-    words: &[Lexeme<'_>],
-    at: usize,
-    levels: u32,
-    operators: u32,
-) -> Result<(InnerEnd, usize, u32), Failure>
+fn inner_end(reader: Reader<'_>, at: usize, levels: u32, operators: u32) -> Read<InnerEnd>
     requires shallow { levels ≤ 64 }
     requires few { operators ≤ 64 }
-    ensures read { IfOk result (λ found. Reads operators (an_inner_end levels) (inner_end_tree found.0) (rest_from words.now at) found.2 (rest_from words.now found.1)) }
+    ensures read { IfOk result (λ found. Reads operators (an_inner_end levels) (inner_end_tree found.0) (rest_at reader.entry at) found.2 (rest_at reader.entry found.1)) }
     ensures counted { IfOk result (λ found. found.2 ≤ 64) }
-    ensures forward { IfOk result (λ found. IsBehind words.now at found.1) }
-    ensures refused { IfFault result (λ fault. Refuses operators (an_inner_end levels) (rest_from words.now at) fault.rule (rest_from words.now fault.at)) }
+    ensures forward { IfOk result (λ found. IsBehind reader.entry.words.now at found.1) }
+    ensures refused { IfFault result (λ fault. Refuses operators (an_inner_end levels) (rest_at reader.entry at) fault.rule (rest_at reader.entry fault.at)) }
 {
-    match after(words, at, Sign::CloseParenthesis) {
+    match after(reader.words, at, Sign::CloseParenthesis) {
         Some(next) => Ok((InnerEnd::Closed, next, operators)),
-        None => inner_compared(alloc, words, at, levels, operators),
+        None => inner_compared(reader, at, levels, operators),
     }
 }
 
 // Reads a comparison there and what stands behind it.
 #[cycle(parts)]
-fn inner_compared(
-    alloc: Global,
-    words: &[Lexeme<'_>],
-    at: usize,
-    levels: u32,
-    operators: u32,
-) -> Result<(InnerEnd, usize, u32), Failure>
+fn inner_compared(reader: Reader<'_>, at: usize, levels: u32, operators: u32) -> Read<InnerEnd>
     requires shallow { levels ≤ 64 }
     requires few { operators ≤ 64 }
-    requires goes_on { (rest : List Word) → words_from words.now at ≢ sign_word CloseParenthesis ∷ rest }
-    ensures read { IfOk result (λ found. Reads operators (an_inner_end levels) (inner_end_tree found.0) (rest_from words.now at) found.2 (rest_from words.now found.1)) }
+    requires goes_on { (rest : List Word) → words_from reader.words.now at ≢ sign_word CloseParenthesis ∷ rest }
+    ensures read { IfOk result (λ found. Reads operators (an_inner_end levels) (inner_end_tree found.0) (rest_at reader.entry at) found.2 (rest_at reader.entry found.1)) }
     ensures counted { IfOk result (λ found. found.2 ≤ 64) }
-    ensures forward { IfOk result (λ found. IsBehind words.now at found.1) }
-    ensures refused { IfFault result (λ fault. Refuses operators (an_inner_end levels) (rest_from words.now at) fault.rule (rest_from words.now fault.at)) }
+    ensures forward { IfOk result (λ found. IsBehind reader.entry.words.now at found.1) }
+    ensures refused { IfFault result (λ fault. Refuses operators (an_inner_end levels) (rest_at reader.entry at) fault.rule (rest_at reader.entry fault.at)) }
 {
-    let (comparison, right, behind, count) = right(alloc, words, at, levels, operators)?;
-    let (chain, close, now) = chain(alloc, words, behind, levels, count)?;
-    let next = sign(words, close, Sign::CloseParenthesis)?;
+    let (comparison, right, behind, count) = right(reader, at, levels, operators)?;
+    let (chain, close, now) = chain(reader, behind, levels, count)?;
+    let next = sign(reader, close, Sign::CloseParenthesis)?;
     Ok((
         InnerEnd::Compared {
             comparison,

@@ -1,5 +1,5 @@
 use Rattle.std.proofs.Common.{refl}
-use Rattle.derivation.proofs.Answering.{passed_on}
+use Rattle.formula_syntax.proofs.Steps.{passed_on}
 use Rattle.derivation.proofs.Whole.{whole_read, whole_trails, whole_stops, none_left, some_left}
 use Rattle.formula_syntax.specs.Language.{rest_from}
 use Rattle.formula_syntax.specs.Words.{spelled}

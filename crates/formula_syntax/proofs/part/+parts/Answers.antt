@@ -6,14 +6,10 @@ use Rattle.formula_syntax.specs.Inners.{inner, inner_end, inner_of}
 use Rattle.formula_syntax.specs.Trees.{prefixed, compared, joined}
 use Rattle.formula_syntax.specs.Pending.{of_formula}
 use Rattle.derivation.specs.declared.rule.Rule.TheVariants.{Nesting, Operators}
-use Rattle.derivation.proofs.Grammars.{over, fails, read, exceeds}
-use Rattle.formula_syntax.proofs.Completions.{lawful}
+use Rattle.formula_syntax.proofs.Steps.{over, fails, read, exceeds, lawful, goes, stuck, held, taken, failed_on, passed_on, mark_reads, opening_reads, mark_refused, opening_refused, told}
 use Rattle.formula_syntax.proofs.Words.{next_word, part_word, connective_word}
-use Rattle.derivation.proofs.Choices.{goes, stuck, held, taken}
 use Rattle.formula_syntax.proofs.Parts.{located_groups, parts, inners, inner_ends, chain_ends, connectives, formula_goes}
 use Rattle.formula_syntax.proofs.Groups.{group_is, grouped_part, summed_part, grouped_inner, summed_inner, properly, compared_end}
-use Rattle.derivation.proofs.Answering.{failed_on, passed_on}
-use Rattle.formula_syntax.proofs.Answering.{mark_reads, opening_reads, mark_refused, opening_refused, told}
 use Rattle.formula_syntax.proofs.Reading.{part_truth, part_exit, prefixes, quantifiers}
 use Rattle.formula_syntax.proofs.part.+parts.Goals as goal
 
@@ -38,19 +34,19 @@ chain-returns-in-None-clause-read t c = record { comes = λ behind. chain_ends _
 
 pub joined-returns-then-more-gt-MOST_OPERATORS-clause-refused : goal.joined-returns-then-more-gt-MOST_OPERATORS-clause-refused
 joined-returns-then-more-gt-MOST_OPERATORS-clause-refused t c = λ behind.
-    exceeds (connectives _ behind c.args.connective) lawful (next_word c.args.words.now c.args.at (connective_word _ c.args.connective c.requires.opens)) Operators (λ e. cc) (omega arith, c.if-more-gt-MOST_OPERATORS.true)
+    exceeds (connectives _ behind c.args.connective) lawful (next_word c.args.reader.words.now c.args.at (connective_word _ c.args.connective c.requires.opens)) Operators (λ e. cc) (omega arith, c.if-more-gt-MOST_OPERATORS.true)
 
 pub joined-returns-in_err-first-clause-refused : goal.joined-returns-in_err-first-clause-refused
 joined-returns-in_err-first-clause-refused t c =
     passed_on _ _ _ _ c.from_residual.ensures c.in_err-first.ensures.refused
     (λ fault refused behind.
-    fails (read (connectives _ behind c.args.connective) (next_word c.args.words.now c.args.at (connective_word _ c.args.connective c.requires.opens)) (omega arith, c.if-more-gt-MOST_OPERATORS.false)) (refused _))
+    fails (read (connectives _ behind c.args.connective) (next_word c.args.reader.words.now c.args.at (connective_word _ c.args.connective c.requires.opens)) (omega arith, c.if-more-gt-MOST_OPERATORS.false)) (refused _))
 
 pub joined-returns-in_err-others-clause-refused : goal.joined-returns-in_err-others-clause-refused
 joined-returns-in_err-others-clause-refused t c =
     passed_on _ _ _ _ c.from_residual-in_err-others.ensures c.in_err-others.ensures.refused
     (λ fault refused behind.
-    fails (read (connectives _ behind c.args.connective) (next_word c.args.words.now c.args.at (connective_word _ c.args.connective c.requires.opens)) (omega arith, c.if-more-gt-MOST_OPERATORS.false))
+    fails (read (connectives _ behind c.args.connective) (next_word c.args.reader.words.now c.args.at (connective_word _ c.args.connective c.requires.opens)) (omega arith, c.if-more-gt-MOST_OPERATORS.false))
     (fails (c.in_ok-first.ensures.read.comes _) (refused _)))
 
 pub joined-returns-clause-read : goal.joined-returns-clause-read
@@ -59,33 +55,33 @@ joined-returns-clause-read t c =
     let rest_kept : c.in_ok-rest.rest.value ≡ c.in_ok-others.others = search rules in
     told (ap (λ f. joined c.args.connective (part f) (chain c.in_ok-rest.rest.value)) part_kept ∙ ap (λ more. joined c.args.connective (part c.in_ok-first.first) (chain more)) rest_kept) (record {
       comes = λ behind.
-          over (read (connectives _ behind c.args.connective) (next_word c.args.words.now c.args.at (connective_word _ c.args.connective c.requires.opens)) (omega arith, c.if-more-gt-MOST_OPERATORS.false))
+          over (read (connectives _ behind c.args.connective) (next_word c.args.reader.words.now c.args.at (connective_word _ c.args.connective c.requires.opens)) (omega arith, c.if-more-gt-MOST_OPERATORS.false))
           (over (c.in_ok-first.ensures.read.comes _) (c.in_ok-others.ensures.read.comes _));
     })
 
 -- parts
 pub part-returns-in-Truth-clause-read : goal.part-returns-in-Truth-clause-read
-part-returns-in-Truth-clause-read t c = part_truth c.args.words.now c.args.at _ _ c.in-Truth.value (sym c.in-Truth.is ∙ c.opening_of_part.ensures.class)
+part-returns-in-Truth-clause-read t c = part_truth c.args.reader.words.now c.args.at _ _ c.in-Truth.value (sym c.in-Truth.is ∙ c.opening_of_part.ensures.class)
 
 pub part-returns-in-Exit-clause-read : goal.part-returns-in-Exit-clause-read
-part-returns-in-Exit-clause-read t c = part_exit c.args.words.now c.args.at _ _ (sym c.in-Exit.is ∙ c.opening_of_part.ensures.class)
+part-returns-in-Exit-clause-read t c = part_exit c.args.reader.words.now c.args.at _ _ (sym c.in-Exit.is ∙ c.opening_of_part.ensures.class)
 
 pub part-returns-in-Nothing-clause-refused : goal.part-returns-in-Nothing-clause-refused
 part-returns-in-Nothing-clause-refused t c = λ behind. stuck (parts _ behind) lawful _ _ _ (λ shut. shut) (sym c.in-Nothing.is ∙ c.opening_of_part.ensures.class)
 
 pub prefixed-returns-then-inner_levels-gt-MOST_LEVELS-clause-refused : goal.prefixed-returns-then-inner_levels-gt-MOST_LEVELS-clause-refused
 prefixed-returns-then-inner_levels-gt-MOST_LEVELS-clause-refused t c = λ behind.
-    exceeds (prefixes _ behind c.args.prefix) lawful (next_word c.args.words.now c.args.at (part_word _ (Opening.Prefix c.args.prefix) c.requires.opens)) Nesting (λ e. cc) c.if-inner_levels-gt-MOST_LEVELS.true
+    exceeds (prefixes _ behind c.args.prefix) lawful (next_word c.args.reader.words.now c.args.at (part_word _ (Opening.Prefix c.args.prefix) c.requires.opens)) Nesting (λ e. cc) c.if-inner_levels-gt-MOST_LEVELS.true
 
 pub prefixed-returns-then-more-gt-MOST_OPERATORS-clause-refused : goal.prefixed-returns-then-more-gt-MOST_OPERATORS-clause-refused
 prefixed-returns-then-more-gt-MOST_OPERATORS-clause-refused t c = λ behind.
-    exceeds (prefixes _ behind c.args.prefix) lawful (next_word c.args.words.now c.args.at (part_word _ (Opening.Prefix c.args.prefix) c.requires.opens)) Operators (λ e. cc) (c.if-inner_levels-gt-MOST_LEVELS.false, c.if-more-gt-MOST_OPERATORS.true)
+    exceeds (prefixes _ behind c.args.prefix) lawful (next_word c.args.reader.words.now c.args.at (part_word _ (Opening.Prefix c.args.prefix) c.requires.opens)) Operators (λ e. cc) (c.if-inner_levels-gt-MOST_LEVELS.false, c.if-more-gt-MOST_OPERATORS.true)
 
 pub prefixed-returns-in_err-inner-clause-refused : goal.prefixed-returns-in_err-inner-clause-refused
 prefixed-returns-in_err-inner-clause-refused t c =
     passed_on _ _ _ _ c.from_residual.ensures c.in_err-inner.ensures.refused
     (λ fault refused behind.
-    fails (read (prefixes _ behind c.args.prefix) (next_word c.args.words.now c.args.at (part_word _ (Opening.Prefix c.args.prefix) c.requires.opens)) (c.if-inner_levels-gt-MOST_LEVELS.false, c.if-more-gt-MOST_OPERATORS.false))
+    fails (read (prefixes _ behind c.args.prefix) (next_word c.args.reader.words.now c.args.at (part_word _ (Opening.Prefix c.args.prefix) c.requires.opens)) (c.if-inner_levels-gt-MOST_LEVELS.false, c.if-more-gt-MOST_OPERATORS.false))
     (refused _))
 
 pub prefixed-returns-clause-read : goal.prefixed-returns-clause-read
@@ -93,51 +89,51 @@ prefixed-returns-clause-read t c =
     let kept : c.in_ok-part.part.value ≡ c.in_ok-inner.inner = search rules in
     told (ap (λ f. prefixed c.args.prefix (part f)) kept) (record {
       comes = λ behind.
-          over (read (prefixes _ behind c.args.prefix) (next_word c.args.words.now c.args.at (part_word _ (Opening.Prefix c.args.prefix) c.requires.opens)) (c.if-inner_levels-gt-MOST_LEVELS.false, c.if-more-gt-MOST_OPERATORS.false))
+          over (read (prefixes _ behind c.args.prefix) (next_word c.args.reader.words.now c.args.at (part_word _ (Opening.Prefix c.args.prefix) c.requires.opens)) (c.if-inner_levels-gt-MOST_LEVELS.false, c.if-more-gt-MOST_OPERATORS.false))
           (c.in_ok-inner.ensures.read.comes _);
     })
 
 pub quantified-returns-then-more-gt-MOST_OPERATORS-clause-refused : goal.quantified-returns-then-more-gt-MOST_OPERATORS-clause-refused
 quantified-returns-then-more-gt-MOST_OPERATORS-clause-refused t c = λ behind.
-    exceeds (quantifiers _ behind c.args.all) lawful (next_word c.args.words.now c.args.at (part_word _ (Opening.Quantifier c.args.all) c.requires.opens)) Operators (λ e. cc) (omega arith, c.if-more-gt-MOST_OPERATORS.true)
+    exceeds (quantifiers _ behind c.args.all) lawful (next_word c.args.reader.words.now c.args.at (part_word _ (Opening.Quantifier c.args.all) c.requires.opens)) Operators (λ e. cc) (omega arith, c.if-more-gt-MOST_OPERATORS.true)
 
 pub quantified-returns-in_err-open-clause-refused : goal.quantified-returns-in_err-open-clause-refused
 quantified-returns-in_err-open-clause-refused t c =
     failed_on _ _ _ c.from_residual.ensures
-    (λ behind. fails (read (quantifiers _ behind c.args.all) (next_word c.args.words.now c.args.at (part_word _ (Opening.Quantifier c.args.all) c.requires.opens)) (omega arith, c.if-more-gt-MOST_OPERATORS.false))
+    (λ behind. fails (read (quantifiers _ behind c.args.all) (next_word c.args.reader.words.now c.args.at (part_word _ (Opening.Quantifier c.args.all) c.requires.opens)) (omega arith, c.if-more-gt-MOST_OPERATORS.false))
     (opening_refused _ _ c.in_err-open.field-0.0 Mark.OpenBracket _ (refl, refl) c.in_err-open.ensures.missed))
 
 pub quantified-returns-in_err-first-clause-refused : goal.quantified-returns-in_err-first-clause-refused
 quantified-returns-in_err-first-clause-refused t c =
     passed_on _ _ _ _ c.from_residual-in_err-first.ensures c.in_err-first.ensures.refused
-    (λ fault refused behind. fails (read (quantifiers _ behind c.args.all) (next_word c.args.words.now c.args.at (part_word _ (Opening.Quantifier c.args.all) c.requires.opens)) (omega arith, c.if-more-gt-MOST_OPERATORS.false))
+    (λ fault refused behind. fails (read (quantifiers _ behind c.args.all) (next_word c.args.reader.words.now c.args.at (part_word _ (Opening.Quantifier c.args.all) c.requires.opens)) (omega arith, c.if-more-gt-MOST_OPERATORS.false))
     (fails (opening_reads Mark.OpenBracket _ (refl, refl) c.in_ok-open.ensures.read c.in_ok-open.ensures.shallow) (refused _)))
 
 pub quantified-returns-in_err-weak-clause-refused : goal.quantified-returns-in_err-weak-clause-refused
 quantified-returns-in_err-weak-clause-refused t c =
     failed_on _ _ _ c.from_residual-in_err-weak.ensures
-    (λ behind. fails (read (quantifiers _ behind c.args.all) (next_word c.args.words.now c.args.at (part_word _ (Opening.Quantifier c.args.all) c.requires.opens)) (omega arith, c.if-more-gt-MOST_OPERATORS.false))
+    (λ behind. fails (read (quantifiers _ behind c.args.all) (next_word c.args.reader.words.now c.args.at (part_word _ (Opening.Quantifier c.args.all) c.requires.opens)) (omega arith, c.if-more-gt-MOST_OPERATORS.false))
     (fails (opening_reads Mark.OpenBracket _ (refl, refl) c.in_ok-open.ensures.read c.in_ok-open.ensures.shallow)
     (fails (c.in_ok-first.ensures.read.comes _) (c.in_err-weak.ensures.refused _ _))))
 
 pub quantified-returns-in_err-second-clause-refused : goal.quantified-returns-in_err-second-clause-refused
 quantified-returns-in_err-second-clause-refused t c =
     passed_on _ _ _ _ c.from_residual-in_err-second.ensures c.in_err-second.ensures.refused
-    (λ fault refused behind. fails (read (quantifiers _ behind c.args.all) (next_word c.args.words.now c.args.at (part_word _ (Opening.Quantifier c.args.all) c.requires.opens)) (omega arith, c.if-more-gt-MOST_OPERATORS.false))
+    (λ fault refused behind. fails (read (quantifiers _ behind c.args.all) (next_word c.args.reader.words.now c.args.at (part_word _ (Opening.Quantifier c.args.all) c.requires.opens)) (omega arith, c.if-more-gt-MOST_OPERATORS.false))
     (fails (opening_reads Mark.OpenBracket _ (refl, refl) c.in_ok-open.ensures.read c.in_ok-open.ensures.shallow)
     (fails (c.in_ok-first.ensures.read.comes _) (fails ((c.in_ok-weak.ensures.read _).comes _) (refused _)))))
 
 pub quantified-returns-in_err-next-clause-refused : goal.quantified-returns-in_err-next-clause-refused
 quantified-returns-in_err-next-clause-refused t c =
     failed_on _ _ _ c.from_residual-in_err-next.ensures
-    (λ behind. fails (read (quantifiers _ behind c.args.all) (next_word c.args.words.now c.args.at (part_word _ (Opening.Quantifier c.args.all) c.requires.opens)) (omega arith, c.if-more-gt-MOST_OPERATORS.false))
+    (λ behind. fails (read (quantifiers _ behind c.args.all) (next_word c.args.reader.words.now c.args.at (part_word _ (Opening.Quantifier c.args.all) c.requires.opens)) (omega arith, c.if-more-gt-MOST_OPERATORS.false))
     (fails (opening_reads Mark.OpenBracket _ (refl, refl) c.in_ok-open.ensures.read c.in_ok-open.ensures.shallow)
     (fails (c.in_ok-first.ensures.read.comes _) (fails ((c.in_ok-weak.ensures.read _).comes _) (fails (c.in_ok-second.ensures.read.comes _)
     (mark_refused _ _ c.in_err-next.field-0.0 Mark.CloseBracket (refl, refl) c.in_err-next.ensures.missed))))))
 
 pub quantified-returns-clause-read : goal.quantified-returns-clause-read
 quantified-returns-clause-read t c = told c.in_ok-made.ensures (record {
-  comes = λ behind. over (read (quantifiers _ behind c.args.all) (next_word c.args.words.now c.args.at (part_word _ (Opening.Quantifier c.args.all) c.requires.opens)) (omega arith, c.if-more-gt-MOST_OPERATORS.false))
+  comes = λ behind. over (read (quantifiers _ behind c.args.all) (next_word c.args.reader.words.now c.args.at (part_word _ (Opening.Quantifier c.args.all) c.requires.opens)) (omega arith, c.if-more-gt-MOST_OPERATORS.false))
       (over (opening_reads Mark.OpenBracket _ (refl, refl) c.in_ok-open.ensures.read c.in_ok-open.ensures.shallow)
       (over (c.in_ok-first.ensures.read.comes _) (over ((c.in_ok-weak.ensures.read _).comes _) (over (c.in_ok-second.ensures.read.comes _)
       (mark_reads Mark.CloseBracket (refl, refl) c.in_ok-next.ensures.read)))));

@@ -1,8 +1,6 @@
 use Rattle.formula_syntax.specs.declared.opening.Opening.TheVariants as Opening
-use Rattle.derivation.proofs.Grammars.{over, fails}
-use Rattle.derivation.proofs.Choices.{goes}
+use Rattle.formula_syntax.proofs.Steps.{over, fails, goes, passed_on}
 use Rattle.formula_syntax.proofs.Parts.{parts}
-use Rattle.derivation.proofs.Answering.{passed_on}
 use Rattle.formula_syntax.proofs.part.compared.Goals as goal
 
 pub returns-in_err-left-clause-refused : goal.returns-in_err-left-clause-refused

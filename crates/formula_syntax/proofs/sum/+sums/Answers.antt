@@ -8,13 +8,9 @@ use Rattle.formula_syntax.specs.declared.opening.FactorOpening.TheVariants as Fa
 use Rattle.formula_syntax.specs.Mirror.{factor, tail}
 use Rattle.formula_syntax.specs.Trees.{number, signed, summed, further}
 use Rattle.derivation.specs.declared.rule.Rule.TheVariants.{Nesting, Operators}
-use Rattle.derivation.proofs.Grammars.{over, fails, read, exceeds}
-use Rattle.formula_syntax.proofs.Completions.{lawful}
+use Rattle.formula_syntax.proofs.Steps.{over, fails, read, exceeds, lawful, goes, stuck, held, failed_on, passed_on, mark_reads, opening_reads, mark_refused, opening_refused, bytes_refused, told}
 use Rattle.formula_syntax.proofs.Words.{next_word, factor_word, operator_word}
-use Rattle.derivation.proofs.Choices.{goes, stuck, held}
 use Rattle.formula_syntax.proofs.Sums.{located_factors, factors, signs, operators, sum_goes, tail_ends, bytes_read}
-use Rattle.derivation.proofs.Answering.{failed_on, passed_on}
-use Rattle.formula_syntax.proofs.Answering.{mark_reads, opening_reads, mark_refused, opening_refused, bytes_refused, told}
 use Rattle.formula_syntax.proofs.Reading.{factor_number}
 use Rattle.formula_syntax.proofs.sum.+sums.Goals as goal
 
@@ -38,19 +34,19 @@ tail-returns-in-None-clause-read t c = record { comes = λ behind. tail_ends _ _
 
 pub further-returns-then-more-gt-MOST_OPERATORS-clause-refused : goal.further-returns-then-more-gt-MOST_OPERATORS-clause-refused
 further-returns-then-more-gt-MOST_OPERATORS-clause-refused t c = λ behind.
-    exceeds (operators _ behind c.args.op) lawful (next_word c.args.words.now c.args.at (operator_word _ c.args.op c.requires.opens)) Operators (λ e. cc) (omega arith, c.if-more-gt-MOST_OPERATORS.true)
+    exceeds (operators _ behind c.args.op) lawful (next_word c.args.reader.words.now c.args.at (operator_word _ c.args.op c.requires.opens)) Operators (λ e. cc) (omega arith, c.if-more-gt-MOST_OPERATORS.true)
 
 pub further-returns-in_err-first-clause-refused : goal.further-returns-in_err-first-clause-refused
 further-returns-in_err-first-clause-refused t c =
     passed_on _ _ _ _ c.from_residual.ensures c.in_err-first.ensures.refused
     (λ fault refused behind.
-    fails (read (operators _ behind c.args.op) (next_word c.args.words.now c.args.at (operator_word _ c.args.op c.requires.opens)) (omega arith, c.if-more-gt-MOST_OPERATORS.false)) (refused _))
+    fails (read (operators _ behind c.args.op) (next_word c.args.reader.words.now c.args.at (operator_word _ c.args.op c.requires.opens)) (omega arith, c.if-more-gt-MOST_OPERATORS.false)) (refused _))
 
 pub further-returns-in_err-others-clause-refused : goal.further-returns-in_err-others-clause-refused
 further-returns-in_err-others-clause-refused t c =
     passed_on _ _ _ _ c.from_residual-in_err-others.ensures c.in_err-others.ensures.refused
     (λ fault refused behind.
-    fails (read (operators _ behind c.args.op) (next_word c.args.words.now c.args.at (operator_word _ c.args.op c.requires.opens)) (omega arith, c.if-more-gt-MOST_OPERATORS.false))
+    fails (read (operators _ behind c.args.op) (next_word c.args.reader.words.now c.args.at (operator_word _ c.args.op c.requires.opens)) (omega arith, c.if-more-gt-MOST_OPERATORS.false))
     (fails (c.in_ok-first.ensures.read.comes _) (refused _)))
 
 pub further-returns-clause-read : goal.further-returns-clause-read
@@ -59,7 +55,7 @@ further-returns-clause-read t c =
     let rest_kept : c.in_ok-rest.rest.value ≡ c.in_ok-others.others = search rules in
     told (ap (λ e. further c.args.op (factor e) (tail c.in_ok-rest.rest.value)) factor_kept ∙ ap (λ more. further c.args.op (factor c.in_ok-first.first) (tail more)) rest_kept) (record {
       comes = λ behind.
-          over (read (operators _ behind c.args.op) (next_word c.args.words.now c.args.at (operator_word _ c.args.op c.requires.opens)) (omega arith, c.if-more-gt-MOST_OPERATORS.false))
+          over (read (operators _ behind c.args.op) (next_word c.args.reader.words.now c.args.at (operator_word _ c.args.op c.requires.opens)) (omega arith, c.if-more-gt-MOST_OPERATORS.false))
           (over (c.in_ok-first.ensures.read.comes _) (c.in_ok-others.ensures.read.comes _));
     })
 
@@ -77,7 +73,7 @@ pub factor_kind-returns-in-Number-clause-read : goal.factor_kind-returns-in-Numb
 factor_kind-returns-in-Number-clause-read t c =
     let fits = rw c.in-Number.is at c.opening_of_factor.type_inv in
     let kept : to_z w64 (of_z w64 c.in-Number.value) ≡ c.in-Number.value = to_z-of_z w64 c.in-Number.value (sfits_of fits.1.1.1.1.0.1) in
-    told (ap number kept) (factor_number c.args.words.now c.args.at _ _ c.in-Number.value (sym c.in-Number.is ∙ c.opening_of_factor.ensures.class))
+    told (ap number kept) (factor_number c.args.reader.words.now c.args.at _ _ c.in-Number.value (sym c.in-Number.is ∙ c.opening_of_factor.ensures.class))
 
 pub factor_kind-returns-in_err-name-in-Name-clause-refused : goal.factor_kind-returns-in_err-name-in-Name-clause-refused
 factor_kind-returns-in_err-name-in-Name-clause-refused t c =
@@ -96,17 +92,17 @@ factor_kind-returns-in-Nothing-clause-refused t c = λ behind. stuck (factors _ 
 
 pub signed-returns-then-inner_levels-gt-MOST_LEVELS-clause-refused : goal.signed-returns-then-inner_levels-gt-MOST_LEVELS-clause-refused
 signed-returns-then-inner_levels-gt-MOST_LEVELS-clause-refused t c = λ behind.
-    exceeds (signs _ behind c.args.negative) lawful (next_word c.args.words.now c.args.at (factor_word _ (FactorOpening.Signed c.args.negative) c.requires.opens)) Nesting (λ e. cc) c.if-inner_levels-gt-MOST_LEVELS.true
+    exceeds (signs _ behind c.args.negative) lawful (next_word c.args.reader.words.now c.args.at (factor_word _ (FactorOpening.Signed c.args.negative) c.requires.opens)) Nesting (λ e. cc) c.if-inner_levels-gt-MOST_LEVELS.true
 
 pub signed-returns-then-more-gt-MOST_OPERATORS-clause-refused : goal.signed-returns-then-more-gt-MOST_OPERATORS-clause-refused
 signed-returns-then-more-gt-MOST_OPERATORS-clause-refused t c = λ behind.
-    exceeds (signs _ behind c.args.negative) lawful (next_word c.args.words.now c.args.at (factor_word _ (FactorOpening.Signed c.args.negative) c.requires.opens)) Operators (λ e. cc) (c.if-inner_levels-gt-MOST_LEVELS.false, c.if-more-gt-MOST_OPERATORS.true)
+    exceeds (signs _ behind c.args.negative) lawful (next_word c.args.reader.words.now c.args.at (factor_word _ (FactorOpening.Signed c.args.negative) c.requires.opens)) Operators (λ e. cc) (c.if-inner_levels-gt-MOST_LEVELS.false, c.if-more-gt-MOST_OPERATORS.true)
 
 pub signed-returns-in_err-inner-clause-refused : goal.signed-returns-in_err-inner-clause-refused
 signed-returns-in_err-inner-clause-refused t c =
     passed_on _ _ _ _ c.from_residual.ensures c.in_err-inner.ensures.refused
     (λ fault refused behind.
-    fails (read (signs _ behind c.args.negative) (next_word c.args.words.now c.args.at (factor_word _ (FactorOpening.Signed c.args.negative) c.requires.opens)) (c.if-inner_levels-gt-MOST_LEVELS.false, c.if-more-gt-MOST_OPERATORS.false))
+    fails (read (signs _ behind c.args.negative) (next_word c.args.reader.words.now c.args.at (factor_word _ (FactorOpening.Signed c.args.negative) c.requires.opens)) (c.if-inner_levels-gt-MOST_LEVELS.false, c.if-more-gt-MOST_OPERATORS.false))
     (refused _))
 
 pub signed-returns-clause-read : goal.signed-returns-clause-read
@@ -114,7 +110,7 @@ signed-returns-clause-read t c =
     let kept : c.in_ok-factor.factor.value ≡ c.in_ok-inner.inner = search rules in
     told (ap (λ e. signed c.args.negative (factor e)) kept) (record {
       comes = λ behind.
-          over (read (signs _ behind c.args.negative) (next_word c.args.words.now c.args.at (factor_word _ (FactorOpening.Signed c.args.negative) c.requires.opens)) (c.if-inner_levels-gt-MOST_LEVELS.false, c.if-more-gt-MOST_OPERATORS.false))
+          over (read (signs _ behind c.args.negative) (next_word c.args.reader.words.now c.args.at (factor_word _ (FactorOpening.Signed c.args.negative) c.requires.opens)) (c.if-inner_levels-gt-MOST_LEVELS.false, c.if-more-gt-MOST_OPERATORS.false))
           (c.in_ok-inner.ensures.read.comes _);
     })
 
