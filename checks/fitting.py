@@ -58,11 +58,16 @@ def lines_of(report):
     return lines[1:between] + lines[between + 1:-2]
 
 
+def names_of(maker):
+    """The variables of `main`, and those of the functions."""
+    return maker.names + [f"{function.name}.{name}" for function in maker.callees for name in function.names]
+
+
 def broken(report, dice, maker, block):
     """What is wrong with a report, or None."""
     lines = lines_of(report)
     for _ in range(INPUTS):
-        store = {name: dice.choice(CORNERS) if dice.random() < 0.8 else dice.randint(LEAST, GREATEST) for name in maker.names}
+        store = {name: dice.choice(CORNERS) if dice.random() < 0.8 else dice.randint(LEAST, GREATEST) for name in names_of(maker)}
         claims = met(lines, store)
         if len(claims) != 1:
             return f"{store} meets {claims}"

@@ -214,7 +214,7 @@ def case(number, seed, command, counts):
     dice = random.Random(f"formulas {seed} {number}")
     maker = Maker(dice)
     maker.names = maker.names[:3]
-    block, source = maker.program()
+    block, source = maker.program(functions=())
     text, tree = maker.formula(2)
     f = normal(tree)
     words = [f"--ctl={text}"]

@@ -3,7 +3,7 @@
 
     python3 checks/fuzz.py [--cases N] [--seed S] [--command PATH]
 
-It is no part of the gate. Texts are made at random from a seed: programs, of which every third is damaged by a byte or two, rows of words of the language, bytes, and long
+It is no part of the gate. Texts are made at random from a seed: programs, half of them with functions, of which every third is damaged by a byte or two, rows of words of the language, bytes, and long
 programs up to the limits and past them. Of the words of the command line some are none, and some have a formula, which may be damaged or long too. Each answer comes within
 60 seconds and 8 MB of stack, it has a status with its text, and on standard error nothing but words on a refusal, with its line and column; a report has, for each of some inputs, exactly one line of `proved`, `ranked` and
 `unknown` together and at most one of the exact part; and, of a program without a formula, some runs from the input, with what they choose made at random, end within each bound that
@@ -16,6 +16,7 @@ import resource
 import subprocess
 import sys
 import time
+from dataclasses import dataclass
 from pathlib import Path
 
 TOP = Path(__file__).resolve().parent.parent
@@ -32,12 +33,24 @@ LONGEST_RUN = 2000
 SHOWN = 2000
 
 
-class Maker:
-    """Makes programs, as trees of tuples, and their texts."""
+@dataclass(frozen=True)
+class Function:
+    """A function: whether it gives a value, its variables, the parameters first, the places of those declared without initialiser, and its statements."""
 
-    def __init__(self, dice):
-        self.dice = dice
-        self.names = NAMES[:dice.randint(1, len(NAMES))]
+    name: str
+    valued: bool
+    names: list
+    parameters: int
+    free: list
+    block: list
+
+
+class Maker:
+    """Makes programs, as trees of tuples, and their texts: `main`, or a function that calls some of those before it."""
+
+    def __init__(self, dice, most=len(NAMES), callees=(), is_main=True):
+        self.dice, self.callees, self.is_main = dice, list(callees), is_main
+        self.names = NAMES[:dice.randint(1, most)]
 
     def number(self):
         return self.dice.choice([0, 1, 1, 2, 3, 5, 10, 100, 2**31, 2**63 - 1] if self.dice.random() < 0.05 else [0, 1, 1, 1, 2, 3, 7])
@@ -74,14 +87,37 @@ class Maker:
         if depth and kind < 0.4:
             return (self.dice.choice(["while", "do"]), self.test(1), self.block(depth - 1, True))
         if kind < 0.45:
-            return self.dice.choice([("skip",), ("return",)] + [("break",), ("continue",)] * in_loop)
+            return self.dice.choice([("skip",)] + [("return",)] * self.is_main + [("break",), ("continue",)] * in_loop)
+        if self.callees and kind < 0.6:
+            return self.call(self.dice.choice(self.callees))
         if kind < 0.7:
             place = self.dice.randrange(len(self.names))
             return ("set", place, ("pair", self.dice.choice("+--"), ("name", place), ("number", self.dice.choice([1, 1, 2]))))
         return ("set", self.dice.randrange(len(self.names)), self.expression(2))
 
+    def call(self, function):
+        target = self.dice.randrange(len(self.names)) if function.valued and self.dice.random() < 0.8 else None
+        return ("call", target, function, [self.expression(1) for _ in range(function.parameters)])
+
     def block(self, depth, in_loop):
         return [self.statement(depth, in_loop) for _ in range(self.dice.randint(0, 3))]
+
+    def closing(self, valued, returns, depth):
+        """Statements that end a function, by a `return` on each way where it gives a value or they have to return."""
+        before, kind = [self.statement(1, False) for _ in range(self.dice.randint(0, 1))], self.dice.random()
+        if depth and kind < 0.3:
+            return [*before, ("if", self.test(1), self.closing(valued, returns, depth - 1), self.closing(valued, returns, depth - 1))]
+        if depth and kind < 0.6:
+            return [*before, ("guard", self.test(1), self.closing(valued, True, depth - 1)), *self.closing(valued, returns, depth - 1)]
+        if valued:
+            return [*before, ("give", self.expression(1))]
+        return [*before, *[("give", None)] * (returns or self.dice.random() < 0.5)]
+
+    def function(self, name):
+        valued, parameters = self.dice.random() < 0.6, self.dice.randint(0, len(self.names))
+        free = [place for place in range(parameters, len(self.names)) if self.dice.random() < 0.5]
+        first = [("declare", place, ("number", self.number())) for place in range(parameters, len(self.names)) if place not in free]
+        return Function(name, valued, self.names, parameters, free, first + self.closing(valued, False, 2))
 
     def text(self, tree):
         kind, *parts = tree
@@ -98,8 +134,14 @@ class Maker:
         return f"!{self.text(parts[0])}" if kind == "not" else self.statement_text(kind, parts)
 
     def statement_text(self, kind, parts):
-        if kind == "set":
-            return f"{self.names[parts[0]]} = {self.text(parts[1])};"
+        if kind in ("set", "declare"):
+            return f"{'int ' * (kind == 'declare')}{self.names[parts[0]]} = {self.text(parts[1])};"
+        if kind == "call":
+            return f"{'' if parts[0] is None else self.names[parts[0]] + ' = '}{parts[1].name}({', '.join(map(self.text, parts[2]))});"
+        if kind == "give":
+            return "return;" if parts[0] is None else f"return {self.text(parts[0])};"
+        if kind == "guard":
+            return f"if ({self.text(parts[0])}) {self.block_text(parts[1])}"
         if kind == "if":
             return f"if ({self.text(parts[0])}) {self.block_text(parts[1])} else {self.block_text(parts[2])}"
         if kind == "while":
@@ -111,9 +153,20 @@ class Maker:
     def block_text(self, block):
         return "{ " + " ".join(map(self.text, block)) + " }"
 
-    def program(self):
+    def function_text(self, function):
+        parameters = ", ".join(f"int {name}" for name in function.names[:function.parameters])
+        free = "".join(f"int {function.names[place]}; " for place in function.free)
+        return f"{'int' if function.valued else 'void'} {function.name}({parameters}) {{ {free}{' '.join(map(self.text, function.block))} }} "
+
+    def program(self, functions=("f", "g")):
+        """A program that has some of these functions, in half of the cases: the statements of `main`, and the text."""
+        texts = []
+        for name in functions[:self.dice.choice([0, 0, 1, 2])]:
+            maker = Maker(self.dice, 3, self.callees, False)
+            self.callees.append(maker.function(name))
+            texts.append(maker.function_text(self.callees[-1]))
         block = [self.statement(2, False) for _ in range(self.dice.randint(1, 5))]
-        return block, f"int main() {{ int {', '.join(self.names)}; {' '.join(map(self.text, block))} }}"
+        return block, f"{''.join(texts)}int main() {{ int {', '.join(self.names)}; {' '.join(map(self.text, block))} }}"
 
     def long_program(self):
         """A program of one part many times over, at the limits or near them, as a text."""
@@ -226,17 +279,43 @@ class Run:
             self.statement(*statement)
 
     def statement(self, kind, *parts):
-        if kind == "if":
-            self.block(parts[1] if self.asks(parts[0]) else parts[2])
+        if kind in ("if", "guard"):
+            if self.asks(parts[0]):
+                self.block(parts[1])
+            elif kind == "if":
+                self.block(parts[2])
         elif kind in ("while", "do"):
             self.loop(kind, *parts)
+        elif kind == "call":
+            self.call(*parts)
         else:
             self.step()
-            if kind == "set":
+            if kind == "give":
+                raise Jump(kind, parts[0] and self.value(parts[0]))
+            if kind in ("set", "declare"):
                 value = self.value(parts[1])
                 self.store[parts[0]] = value
             elif kind != "skip":
                 raise Jump(kind)
+
+    def call(self, target, function, arguments):
+        """A call, with a store of its own: a step for each parameter, and for each variable that is any number at first."""
+        store = [0] * len(function.names)
+        for place, argument in enumerate(arguments):
+            self.step()
+            store[place] = self.value(argument)
+        for place in function.free:
+            self.step()
+            store[place] = self.value(("free",))
+        outer, self.store = self.store, store
+        try:
+            self.block(function.block)
+        except Jump as jump:
+            if jump.args[0] != "give":
+                raise
+            if target is not None:
+                outer[target] = jump.args[1]
+        self.store = outer
 
     def loop(self, kind, test, body):
         asked = kind == "do" or self.asks(test)
@@ -262,7 +341,7 @@ class Run:
 def affine(text, store):
     """The value of a printed affine function."""
     total = 0
-    for sign, size, name in re.findall(r"(?:^|([+-]) )(-?\d*)\*?([A-Za-z_]\w*)?", text):
+    for sign, size, name in re.findall(r"(?:^|([+-]) )(-?\d*)\*?([A-Za-z_][\w.]*)?", text):
         if size or name:
             number = -1 if size == "-" else int(size or 1)
             total += (-number if sign == "-" else number) * (store[name] if name else 1)
