@@ -5,6 +5,7 @@ Each change keeps the length of the text and its lines, so that places stay, and
 import re
 from dataclasses import dataclass
 
+from statements import needless_elses
 from tokens import line_of, readable, tokens
 
 CHOICE = "__VERIFIER_nondet_int"
@@ -49,9 +50,9 @@ def told(name, text, changes):
 
 
 def changes_for(text, inputs):
-    """What is changed of a text: directives, declarations and `bool` where it has them, and with `inputs` the choices at the front of `main`."""
+    """What is changed of a text: directives, declarations, `bool` and an `else` that nothing needs where it has them, and with `inputs` the choices at the front of `main`."""
     found = []
-    for kind in (directives, declarations, truth_values, front_choices) if inputs else (directives, declarations, truth_values):
+    for kind in [directives, declarations, truth_values, elses, *[front_choices] * inputs]:
         found += kind(changed(text, found))
     return found
 
@@ -79,35 +80,41 @@ def defines_in_vain(text, words):
 
 
 def declarations(text):
-    """Declarations of functions that the competitions' files have: of known names, in front of `main`, but for the one that the language reads."""
-    listed, found = tokens(text), []
-    at = 0
-    while at < len(listed):
-        start = at
-        while at < len(listed) and listed[at].text not in (";", "{", "}"):
-            at += 1
-        words = [token.text for token in listed[start:at]]
-        if at < len(listed) and listed[at].text == "{":
-            if words[:1] != ["typedef"]:
-                return found
-            while at < len(listed) and listed[at].text != ";":
-                at += 1
-        at += 1
-        if is_known_declaration(words):
-            begin, end = listed[start].offset, listed[min(at, len(listed)) - 1].end
+    """Declarations of functions that the text has, and of known ones that the competitions' files have, but for the one that the language reads."""
+    parts = list(outermost(tokens(text)))
+    defined = {name_of([token.text for token in part]) for part in parts if part[-1].text == "}"}
+    found = []
+    for part in parts:
+        begin, end = part[0].offset, part[-1].end
+        if is_declaration([token.text for token in part], defined):
             found.append(Change(begin, text[begin:end], blank(text[begin:end]), "a declaration is left out"))
     return found
 
 
-def is_known_declaration(words):
-    """Whether the words in front of a `;` declare a known function, otherwise than the language reads it."""
-    if "(" not in words or words[-1] != ")" or "=" in words:
+def outermost(listed):
+    """What stands outside of all braces, each as its tokens up to its `;` or to the `}` of its body."""
+    part, depth = [], 0
+    for token in listed:
+        part.append(token)
+        depth += (token.text == "{") - (token.text == "}")
+        if depth <= 0 and (token.text == ";" or token.text == "}" and part[0].text != "typedef"):
+            yield part
+            part, depth = [], 0
+
+
+def name_of(words):
+    """What stands in front of the first `(`, or nothing where there is none."""
+    return words[words.index("(") - 1] if "(" in words[1:] else ""
+
+
+def is_declaration(words, defined):
+    """Whether the words declare a function that is among these, or a known one otherwise than the language reads it."""
+    if words[-2:] != [")", ";"] or "=" in words:
         return False
-    name = words[words.index("(") - 1]
-    reads = ["extern", "int", CHOICE, "("]
-    if words[:4] == reads and words[4:] in (["void", ")"], [")"]):
-        return False
-    return bool(DECLARED_ELSEWHERE.fullmatch(name))
+    name = name_of(words)
+    if name == CHOICE:
+        return words[:4] != ["extern", "int", CHOICE, "("] or words[4:-2] not in ([], ["void"])
+    return name in defined or bool(DECLARED_ELSEWHERE.fullmatch(name))
 
 
 def truth_values(text):
@@ -126,6 +133,20 @@ def truth_values(text):
         elif token.text in ("true", "false") and (before in NUMBER_BEFORE or behind in NUMBER_BEHIND):
             new = ("1" if token.text == "true" else "0").ljust(len(token.text))
             found.append(Change(token.offset, token.text, new, "a truth value is kept as a number"))
+    return found
+
+
+def elses(text):
+    """Each `else` of a function behind a part that always returns, where something follows the `if`: the language reads that without it."""
+    found = []
+    for part in outermost(tokens(text)):
+        words = [token.text for token in part]
+        if words[-1] == "}" and name_of(words) not in ("", "main"):
+            try:
+                places = list(needless_elses(words, words.index("{"), False))
+            except (ValueError, IndexError):
+                continue
+            found += [Change(part[place].offset, "else", " " * len("else"), "an else behind a return is left out") for place in places]
     return found
 
 

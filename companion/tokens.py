@@ -41,9 +41,10 @@ def readable(text):
 
 
 def declared(text):
-    """The names that a program's text declares, in the order of their first declarations."""
+    """The names that `main` declares in a program's text, in the order of their first declarations: a function has variables of its own."""
     found, depth, declaring = [], 0, False
     listed = tokens(text)
+    listed = listed[max((at for at, token in enumerate(listed) if token.text == "main"), default=0):]
     for before, token in zip([None, *listed], listed):
         if token.text in ("(", "["):
             depth += 1

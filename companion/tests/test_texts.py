@@ -78,7 +78,7 @@ class Directives(unittest.TestCase):
             self.assertEqual(after(text), text)
 
 
-class Declarations(unittest.TestCase):
+class Declarations(InFolder):
     READ = "extern int __VERIFIER_nondet_int(void); extern int __VERIFIER_nondet_int(); int main() { }"
 
     def test_known_ones_are_left_out(self):
@@ -86,9 +86,55 @@ class Declarations(unittest.TestCase):
                      "extern void __assert_fail(const char *a, const char *b, unsigned int c, const char *d);"):
             self.assertEqual(after(text + " int main() { }"), " " * len(text) + " int main() { }")
 
+    def test_those_of_functions_that_the_text_has_are_left_out(self):
+        for before, declared_first, behind in [("", "int f(int);", " int f(int a) { return a; } int main() { }"), ("", "extern void f(void);", " void f() { { ; } } int main(void) { f(); }"),
+                                               ("int f(int a) { return a; }", "int g(int a, int);", "int g(int b, int c) { return f(b); } int main() { }"),
+                                               ("typedef enum {false, true} bool; ", "int main(void);", " int main() { }"), ("int g() { return 1; } ", "int f(int a);", " int main() { } int f(int a) { return a; }")]:
+            with self.subTest(declared_first):
+                self.assertEqual(after(before + declared_first + behind), before + " " * len(declared_first) + behind)
+
     def test_others_stay(self):
-        for text in (self.READ, "extern int twice(int); int main() { }", "int f() { } int main() { }", "int x; int main() { }", "int main() { int abort; }", "int x = abort(); int main() { }"):
+        for text in (self.READ, "extern int twice(int); int main() { }", "int f() { } int main() { }", "int x; int main() { }", "int main() { int abort; }", "int x = abort(); int main() { }",
+                     "int main() { f(1); } int g() { }", "int f(int); int main() { int f; }", "(); int main() { }", "int f(", "} f(); {", ");"):
             self.assertEqual(after(text), text)
+
+    def test_a_program_with_them_is_read(self):
+        self.write("f.c", "int less(int a);\n\nint less(int a) {\n  return a - 1;\n}\n\nint main(void) {\n  int x;\n  while (x > 0)\n    x = less(x);\n}\n")
+        self.assertEqual(self.run_here("f.c"), (0, "f.c: ends from all inputs\n  x <= 0: exactly 1 step\n  x == 1: exactly 4 steps\n  x >= 2: within 3*x + 1 steps\n", "f.c: 1 place of the text was changed (--show-text shows them)\n"))
+
+
+class Elses(InFolder):
+    CASES = [
+        # one behind a part that always returns, where something follows
+        ("int f(int a) { if (a > 0) return 1; else if (a < 0) return 2; return 3; }", "int f(int a) { if (a > 0) return 1; if (a < 0) return 2; return 3; }"),
+        ("int f(int a) { if (a) { ; { return 1; } } else { a = 2; } return a; }", "int f(int a) { if (a) { ; { return 1; } } { a = 2; } return a; }"),
+        ("int f(int a) { { if (a) { if (a > 2) return 1; else return 2; } else if (a < 1) return 2; else a = 3; ; } return a; }",
+         "int f(int a) { { if (a) { if (a > 2) return 1; else return 2; } if (a < 1) return 2; a = 3; ; } return a; }"),
+        ("void f(int a) { while (a > 0) { do a = a - 1; while (a > 9); } if (a) return; else a = 2; for (; a > 0;) a = a - 1; }",
+         "void f(int a) { while (a > 0) { do a = a - 1; while (a > 9); } if (a) return; a = 2; for (; a > 0;) a = a - 1; }"),
+        # not where nothing follows, where the part may go on, or where the if is itself a part
+        ("int f(int a) { if (a > 0) return 1; else if (a < 0) return 2; else return 3; }", None),
+        ("int f(int a) { if (a > 0) { if (a > 1) return 1; } else return 2; return 3; }", None),
+        ("int f(int a) { if (a > 0) if (a > 1) return 1; else a = 2; return 3; }", None),
+        ("int f(int a) { while (a > 0) if (a > 1) return 1; else a = 2; return 3; }", None),
+        # nor in a text that is none
+        ("int f(int a) { if (a > 0 return 1; else a = 2; return 3; }", None),
+        ("int f(int a) { if (a > 0) return 1 else }", None),
+        ("int f(int a) { do return 1; else a = 2 }", None),
+    ]
+
+    def test_needless_ones_are_left_out(self):
+        for text, due in self.CASES:
+            with self.subTest(text):
+                self.assertEqual(squeezed(after(text + " int main() { }")), squeezed((due or text) + " int main() { }"))
+
+    def test_those_of_main_stay(self):
+        text = "int main() { int x; if (x > 0) return 1; else x = 2; x = 3; }"
+        self.assertEqual(after(text), text)
+
+    def test_a_function_with_them_is_read(self):
+        self.write("f.c", "int sign(int a) {\n  if (a > 0)\n    return 1;\n  else if (a < 0)\n    return -1;\n  return 0;\n}\nint main() {\n  int x, y;\n  y = sign(x);\n}\n")
+        self.assertEqual(self.run_here("f.c", "--show-text"), (0, "f.c:4:3: an else behind a return is left out: else\nf.c: ends from all inputs\n  always: within 4 steps\n  of these, x <= 0: exactly 4 steps\n  of these, x >= 1: exactly 3 steps\n", ""))
 
 
 class TruthValues(unittest.TestCase):
@@ -107,10 +153,16 @@ class TruthValues(unittest.TestCase):
         self.assertEqual(after(text), text)
 
 
-class Looking(unittest.TestCase):
+class Looking(InFolder):
     def test_names_stand_in_the_order_of_their_declarations(self):
         self.assertEqual(declared("extern int __VERIFIER_nondet_int(void); int main(void) { int b, a = [0, 3], c = (1 + b); for (int i = 0; i < 3; i++) { int b2; } int a; }"), ["b", "a", "c", "i", "b2"])
         self.assertEqual(declared("int main() { }"), [])
+
+    def test_those_of_functions_are_their_own(self):
+        self.assertEqual(declared("int f(int a, int b) { int c = a; return c; } void g() { int d; } int main() { int e = f(1, 2), x; g(); }"), ["e", "x"])
+        self.write("f.c", "void down(int n) { while (n > 0) n = n - 1; } int main() { int x; down(x); }")
+        self.assertEqual(self.run_here("f.c", "--at", "x=3"), (0, "f.c: from x=3: within 8 steps\n", ""))
+        self.assertEqual(self.run_here("f.c", "--at", "n=3")[2], "f.c: --at n=3: the program has no variable n; its variables are x\n")
 
     def test_only_an_assignment_chooses_without_bounds(self):
         for text, due in (("x = ?;", True), ("x = y + __VERIFIER_nondet_int();", True), ("x = [0, inf];", True), ("x = [-inf, 3] + 1;", True), ("int x = ?, y;", True), ("x += ?;", True),
