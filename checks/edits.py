@@ -4,7 +4,7 @@
     python3 checks/edits.py [NAME ..]
 
 It copies the tree as it stands, puts each crate's edits/ in the place of its must-fail/ there, and runs `rt ci` over the crates that are named, or over all that have such edits. What `rt ci` passed
-on this machine is kept, so behind a gate only the edits are tried: each crate is proved once more before its edits, and a run over all takes some 40 minutes on four processors. The last line counts
+on this machine is kept, so behind a gate only the edits are tried: each crate is proved once more before its edits, and a run over all takes an hour or so on four processors. The last line counts
 the edits; it ends with 1 where one isn't refused, can't be applied or wasn't tried, or where a crate isn't proved.
 """
 import re

@@ -11,6 +11,15 @@ def behind(words, at, opens, closes):
     raise ValueError(f"no {closes}")
 
 
+def most_open(words):
+    """How many braces are open at most."""
+    depth = most = 0
+    for word in words:
+        depth += (word == "{") - (word == "}")
+        most = max(most, depth)
+    return most
+
+
 def part_of(words, at):
     """Where the first part of the `if` at a place begins, and the place behind it."""
     first = behind(words, at + 1, "(", ")")

@@ -5,7 +5,7 @@ Each change keeps the length of the text and its lines, so that places stay, and
 import re
 from dataclasses import dataclass
 
-from statements import needless_elses
+from statements import most_open, needless_elses
 from tokens import line_of, readable, tokens
 
 CHOICE = "__VERIFIER_nondet_int"
@@ -13,6 +13,7 @@ DECLARED_ELSEWHERE = re.compile(r"__VERIFIER_\w+|__assert\w*|abort|assert|exit|r
 BOOL = ("typedef", "enum", "{", "false", ",", "true", "}", "bool", ";")
 NUMBER_BEFORE = ("=", "+=", "-=", "*=", "==", "!=", "<", "<=", ">", ">=", "+", "-", "*")
 NUMBER_BEHIND = ("==", "!=", "<", "<=", ">", ">=", "+", "-", "*", "/", "%")
+MOST_LEVELS = 64
 LEFT_OUT = ("include", "pragma", "line", "warning", "ident")
 
 
@@ -141,10 +142,10 @@ def elses(text):
     found = []
     for part in outermost(tokens(text)):
         words = [token.text for token in part]
-        if words[-1] == "}" and name_of(words) not in ("", "main"):
+        if words[-1] == "}" and name_of(words) not in ("", "main") and most_open(words) <= MOST_LEVELS:
             try:
                 places = list(needless_elses(words, words.index("{"), False))
-            except (ValueError, IndexError):
+            except (ValueError, IndexError, RecursionError):
                 continue
             found += [Change(part[place].offset, "else", " " * len("else"), "an else behind a return is left out") for place in places]
     return found

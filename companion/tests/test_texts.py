@@ -117,6 +117,10 @@ class Elses(InFolder):
         ("int f(int a) { if (a > 0) { if (a > 1) return 1; } else return 2; return 3; }", None),
         ("int f(int a) { if (a > 0) if (a > 1) return 1; else a = 2; return 3; }", None),
         ("int f(int a) { while (a > 0) if (a > 1) return 1; else a = 2; return 3; }", None),
+        # nor past the levels of the language
+        ("int f(int a) { " + "{ " * 20000 + "if (a) return 1; else ; return 2; " + "} " * 20000 + "}", None),
+        ("int f(int a) { " + "if (a) " * 9000 + "return 1; else ; return 2; }", None),
+        ("int f(int a) { " + "if (a) return 1; else " * 5000 + "; return 2; }", None),
         # nor in a text that is none
         ("int f(int a) { if (a > 0 return 1; else a = 2; return 3; }", None),
         ("int f(int a) { if (a > 0) return 1 else }", None),
