@@ -1,12 +1,17 @@
--- What readers hand on when they fail, and the word that stands at a number.
-use Rattle.std.proofs.Common.{◌≡◌, ℕ, suc, ◌+◌, ◌<◌, ◌≤◌, ◌⊎◌, inl, inr, List, [], ◌∷◌, Some, Result, Ok, Err, length, map, drop, get_or, drop-cons, sym, ap, ◌∙◌, subst, add-one, IfErr}
+-- What readers hand on when they fail, why reading stops at a word, and the word that stands at a number.
+use Rattle.std.proofs.Common.{◌≡◌, ◌≢◌, ℕ, suc, ◌+◌, ◌<◌, ◌≤◌, ◌⊎◌, inl, inr, List, [], ◌∷◌, Some, Result, Ok, Err, length, map, drop, get_or, drop-cons, sym, ap, ◌∙◌, subst, add-one, IfErr}
 use Rattle.std.proofs.lemmas.Bool.{cases_lt}
 use Rattle.std.proofs.lemmas.List.{drop_all}
 use Rattle.std.specs.Result.{IsErr, IsErrAnd}
 use Rattle.derivation.specs.declared.fault.Fault.{Fault}
 use Rattle.derivation.specs.declared.fault.Failure.{Failure}
-use Rattle.derivation.specs.Failures.{OnFault, IfFault}
-use Rattle.derivation.specs.Pieces.{first}
+use Rattle.derivation.specs.declared.rule.Rule.{Rule}
+use Rattle.derivation.specs.declared.rule.Rule.TheVariants.{Expected, Nesting}
+use Rattle.derivation.specs.Failures.{OnFault, IfFault, MissesWord, MissesOpening, MissesKind}
+use Rattle.derivation.specs.Pieces.{Token, Rest, first}
+use Rattle.derivation.specs.Grammars.{Grammar, Trees, Stops}
+use Rattle.derivation.proofs.Grammars.{Lawful, sticks, Headed, exceeds}
+use Rattle.derivation.proofs.Choices.{begins, not_next}
 
 -- a fault that is handed on
 pub handed_on : {X : Type 0} (r : Result X Fault) (f : Fault) (P : Fault → Type 0) → IsErr r × IsErrAnd r (λ e. e ≡ f) → P f → IfErr r P
@@ -25,6 +30,28 @@ pub passed_on : {X : Type 0} (r : Result X Failure) (f : Failure) (P Q : Fault �
 passed_on (Ok x) f P Q h k turn = tt
 passed_on (Err (Failure.Memory e)) f P Q h k turn = tt
 passed_on (Err (Failure.Fault g)) f P Q h k turn = turn g (subst (λ f. OnFault f P) (sym h.1) k)
+
+-- Where each tree begins with a word of this kind, or with this one, reading stops at another word, or where it opens level 65.
+module _ {G : Grammar} (laws : Lawful G) (A : G.Sequence) {c : ℕ} {from : Rest G.language} where
+  pub kind_missed : {X : Type 0} (kind : X → G.language.Word) → ((f : Trees G A) → (x : X) × (begins G A f ≡ Some (kind x))) → (rule : Rule)
+      → MissesKind from kind rule → Stops G c A from rule from
+  kind_missed {X} kind all Expected h =
+      sticks laws A c from (λ next. (x : X) → next ≢ Some (kind x)) (λ f fits other. other (all f).0 (all f).1) (λ x. not_next (kind x) from.words (h x))
+  kind_missed kind all _ h = absurd h
+
+  pub word_missed : (w : G.language.Word) → ((f : Trees G A) → begins G A f ≡ Some w) → (rule : Rule) → MissesWord from w rule → Stops G c A from rule from
+  word_missed w all Expected h = sticks laws A c from (λ next. next ≢ Some w) (λ f fits other. other (all f)) (not_next w from.words h)
+  word_missed w all _ h = absurd h
+
+  pub opening_missed : {t : Token G.language} {B : G.Sequence} {fill : Trees G B → Trees G A} → Headed G A t B fill
+      → ((f : Trees G A) → begins G A f ≡ Some t.word) → (rule : Rule) → MissesOpening from t.word t.level rule → Stops G c A from rule from
+  opening_missed x all Nesting h = exceeds x laws {to = h.0.0} h.0.1 Nesting (λ e. cc) h.1
+  opening_missed {t} x all rule h = word_missed t.word all rule h
+
+-- a fault that a reader tells by the number of its word, where what is left from a number on is `rest`
+pub there : (G : Grammar) {c : ℕ} {A : G.Sequence} (rest : ℕ → Rest G.language) (at : ℕ) (fault : Fault) → fault.at ≡ at
+    → Stops G c A (rest at) fault.rule (rest at) → Stops G c A (rest at) fault.rule (rest fault.at)
+there G {c} {A} rest at fault e h = subst (λ n. Stops G c A (rest at) fault.rule (rest n)) (sym e) h
 
 -- where a word stands, there is room for it, and the others stand behind
 stands_at : {X W : Type 0} (word : X → W) (xs : List X) (at : ℕ) (w : W) (rest : List W) → map word (drop at xs) ≡ w ∷ rest

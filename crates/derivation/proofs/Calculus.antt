@@ -1,11 +1,11 @@
 -- How one reading follows from another.
-use Rattle.std.proofs.Common.{◌≡◌, ◌≢◌, ℕ, ◌+◌, List, [], ◌∷◌, ◌++◌, Option, None, Some, refl, sym, ap, ◌∙◌, subst, append_assoc}
+use Rattle.std.proofs.Common.{◌≡◌, ℕ, ◌+◌, List, [], ◌∷◌, ◌++◌, Option, None, Some, refl, sym, ap, ◌∙◌, subst, append_assoc}
 use Rattle.derivation.specs.declared.rule.Rule.{Rule}
-use Rattle.derivation.specs.declared.rule.Rule.TheVariants.{Expected, Nesting, Operators}
+use Rattle.derivation.specs.declared.rule.Rule.TheVariants.{Expected}
 use Rattle.derivation.specs.Languages.{Language}
 use Rattle.derivation.specs.Pieces.{Token, Piece, token, look, Rest, spelling, first, first_before, number_behind, FitsBefore, Fits}
-use Rattle.derivation.specs.Limits.{IsWithin, AllWithin, count_behind, count_on, BreaksLimit}
-use Rattle.derivation.specs.Comes.{Phrase, MayStandFor, IsNext, Comes, AllBreak, Cause, Breaks}
+use Rattle.derivation.specs.Limits.{AllWithin, count_behind, count_on, BreaksLimit}
+use Rattle.derivation.specs.Comes.{Phrase, MayStandFor, Comes, AllBreak, Cause, Breaks}
 
 -- pieces one behind the other
 module _ {L : Language} where
@@ -181,21 +181,13 @@ why : {L : Language} {c d : ℕ} {A B : Phrase L} {a b : Rest L} {F : B.Tree →
 why {L} {c} {d} {A} {B} {a} {b} {F} p more rest x parted Expected k = λ f fits behind_words e next.
     let found = behind A B F c d a b p more x parted f fits behind_words e next in
     k found.0 found.2 behind_words found.3 next
-why {L} {c} {d} {A} {B} {a} {b} {F} p more rest x parted Nesting k = (
+why {L} {c} {d} {A} {B} {a} {b} {F} p more rest x parted limit k = (
   k.0,
   k.1,
   k.2,
   k.3,
-  limit_behind _ _ (ap (λ n. count_behind n more) p.counted ∙ sym (count_behind-append p.front more c)) k.0 Nesting k.4,
-  all_break p more x parted Nesting k.5,
-)
-why {L} {c} {d} {A} {B} {a} {b} {F} p more rest x parted Operators k = (
-  k.0,
-  k.1,
-  k.2,
-  k.3,
-  limit_behind _ _ (ap (λ n. count_behind n more) p.counted ∙ sym (count_behind-append p.front more c)) k.0 Operators k.4,
-  all_break p more x parted Operators k.5,
+  limit_behind _ _ (ap (λ n. count_behind n more) p.counted ∙ sym (count_behind-append p.front more c)) k.0 limit k.4,
+  all_break p more x parted limit k.5,
 )
 
 -- a fault behind a reading
@@ -222,101 +214,15 @@ fails {L} {c} {d} {A} {B} {a} {b} {x} {F} {rule} p q =
       cause = why p q.front q.rest x.words q.parted rule q.cause;
     }
 
--- What is still to be read is something else where the next word opens it so: each tree of the one is a tree of the other, with the same
--- pieces behind `front`, which has no words, and each tree whose first word opens it so is one.
-pub opens : {L : Language} (A B : Phrase L) → (c : ℕ) → (from : Rest L) → (Opens : Option L.Word → Type 0) → (front : List (Piece L))
-    → (fill : B.Tree → A.Tree) → (spelling front ≡ []) → (from.number ≡ number_behind from.number front) → AllWithin c front
-    → (c ≡ count_behind c front) → FitsBefore from.number front (first from.words)
-    → ((g : B.Tree) → A.pieces (fill g) ≡ front ++ B.pieces g)
-    → ((f : A.Tree) → Fits from.number (A.pieces f) → Opens (first_before (A.pieces f) None) → (g : B.Tree) × (f ≡ fill g))
-    → Opens (first from.words) → Comes c A from c B from fill
-opens A B c from Opens front fill empty numbered within counted fits spells view is = record {
-  front = front;
-  parted = ap (λ ws. ws ++ from.words) (sym empty);
-  numbered = numbered;
-  within = within;
-  counted = counted;
-  fits = fits;
-  spells = spells;
-  only = λ f f_fits rest e next.
-      view f f_fits
-      (subst Opens (sym (sym (first_spelling (A.pieces f)) ∙ ap first (e ∙ ap (λ ws. ws ++ rest) empty) ∙ next)) is);
-}
-
--- a token stands where it has to
-pub reads : {L : Language} (A B : Phrase L) → (c : ℕ) → (from to : Rest L) → (t : Token L) → (fill : B.Tree → A.Tree) → IsNext t.word from to
-    → IsWithin c t → ((g : B.Tree) → A.pieces (fill g) ≡ token t ∷ B.pieces g)
-    → ((f : A.Tree) → Fits from.number (A.pieces f) → first_before (A.pieces f) None ≡ Some t.word → (g : B.Tree) × (f ≡ fill g))
-    → Comes c A from (count_on c t.counting) B to fill
-reads A B c from to t fill e within spells view = record {
-  front = token t ∷ [];
-  parted = e.0;
-  numbered = e.1;
-  within = (within, tt);
-  counted = refl;
-  fits = tt;
-  spells = spells;
-  only = λ f fits rest same next. view f fits (sym (first_spelling (A.pieces f)) ∙ ap first same);
-}
-
--- no tree goes on with the next word
-pub sticks : {L : Language} (A : Phrase L) → (c : ℕ) → (from : Rest L) → (Opens : Option L.Word → Type 0) → (tree : A.Tree)
-    → Fits from.number (A.pieces tree) → MayStandFor L (first_before (A.pieces tree) None) (first from.words)
-    → ((f : A.Tree) → Fits from.number (A.pieces f) → Opens (first_before (A.pieces f) None) → ⊥) → Opens (first from.words)
-    → Breaks c A from Expected from
-sticks A c from Opens tree fits stands never is = record {
-  front = [];
-  rest = A.pieces tree;
-  parted = refl;
-  numbered = refl;
-  within = tt;
-  tree = tree;
-  fits = fits;
-  begins = refl;
-  stands = stands;
-  cause = λ f f_fits behind_words e next.
-      never f f_fits (subst Opens (sym (sym (first_spelling (A.pieces f)) ∙ ap first e ∙ next)) is);
-}
-
 -- behind no words the first word is the next token's
-first_behind : {L : Language} (before after : List (Piece L)) (t : Token L) → spelling before ≡ [] → first_before (before ++ token t ∷ after) None ≡ Some t.word
+pub first_behind : {L : Language} (before after : List (Piece L)) (t : Token L) → spelling before ≡ [] → first_before (before ++ token t ∷ after) None ≡ Some t.word
 first_behind [] after t none = refl
 first_behind (token s ∷ before) after t none = absurd (cc)
 first_behind (look l ∷ before) after t none = first_behind before after t none
 
 -- pieces that begin with a token have nothing before their first
-at_once : {L : Language} (c : ℕ) (rule : Rule) (before after more : List (Piece L)) (t u : Token L) → before ++ token t ∷ after ≡ token u ∷ more
+pub at_once : {L : Language} (c : ℕ) (rule : Rule) (before after more : List (Piece L)) (t u : Token L) → before ++ token t ∷ after ≡ token u ∷ more
     → spelling before ≡ [] → BreaksLimit c u rule → BreaksLimit (count_behind c before) t rule
 at_once c rule [] after more t u e none h = let same : u ≡ t = cc in subst (λ x. BreaksLimit c x rule) same h
 at_once c rule (token s ∷ before) after more t u e none h = absurd (cc)
 at_once c rule (look l ∷ before) after more t u e none h = absurd (cc)
-
--- the next word is one that breaks a limit, whatever tree spells it
-pub exceeds : {L : Language} (A : Phrase L) → (c : ℕ) → (from : Rest L) → (t : Token L) → (more : List (Piece L)) → (rule : Rule) → (tree : A.Tree)
-    → Fits from.number (A.pieces tree) → A.pieces tree ≡ token t ∷ more → first from.words ≡ Some t.word → (rule ≢ Expected) → BreaksLimit c t rule
-    → ((f : A.Tree) → Fits from.number (A.pieces f) → first_before (A.pieces f) None ≡ Some t.word
-    → (rest : List (Piece L)) × (A.pieces f ≡ token t ∷ rest))
-    → Breaks c A from rule from
-exceeds {L} A c from t more rule tree fits begins next limit breaks view = record {
-  front = [];
-  rest = A.pieces tree;
-  parted = refl;
-  numbered = refl;
-  within = tt;
-  tree = tree;
-  fits = fits;
-  begins = refl;
-  stands = subst (MayStandFor L (first_before (A.pieces tree) None)) (ap (λ ps. first_before ps None) begins ∙ sym next) (λ l n meets. meets);
-  cause = cause rule limit breaks all;
-}
-  where
-    all : AllBreak from.number c A rule [] (first from.words)
-    all f f_fits before after u split words same =
-        let found = view f f_fits (ap (λ ps. first_before ps None) split ∙ first_behind before after u words ∙ same ∙ next) in
-        at_once c rule before after found.0 u t (sym split ∙ found.1) words breaks
-
-    cause : (r : Rule) → r ≢ Expected → BreaksLimit c t r → AllBreak from.number c A r [] (first from.words)
-        → Cause from.number c A r [] (A.pieces tree) (first from.words)
-    cause Expected h k all = absurd (h refl)
-    cause Nesting h k all = (t, more, begins, next, k, all)
-    cause Operators h k all = (t, more, begins, next, k, all)

@@ -1,11 +1,11 @@
 -- What the next word chooses: readings that go on in one of several ways.
-use Rattle.std.proofs.Common.{◌≡◌, ◌≢◌, ℕ, ◌⊎◌, inl, inr, List, [], ◌∷◌, Option, None, Some, refl, sym, ap, ◌∙◌, subst}
+use Rattle.std.proofs.Common.{◌≡◌, ◌≢◌, ℕ, ◌⊎◌, inl, inr, List, [], ◌∷◌, Option, None, Some, sym, ap, ◌∙◌, subst}
 use Rattle.derivation.specs.declared.rule.Rule.TheVariants.{Expected}
 use Rattle.derivation.specs.Pieces.{Token, token, look, Rest, first, first_before, Fits}
 use Rattle.derivation.specs.Limits.{IsWithin, count_on}
 use Rattle.derivation.specs.Comes.{IsNext}
 use Rattle.derivation.specs.Grammars.{Grammar, Trees, pieces, Leads, Stops}
-use Rattle.derivation.proofs.Grammars.{Lawful, opens, sticks, Headed, read}
+use Rattle.derivation.proofs.Grammars.{Lawful, turns, looks, sticks, Headed, read}
 
 -- the first word of a tree
 abbrev pub begins : (G : Grammar) (A : G.Sequence) → Trees G A → Option G.language.Word
@@ -26,7 +26,7 @@ module _ {G : Grammar} {Opening : Type 0} {A : G.Sequence} {classify : Option G.
     {rest : Opening → G.Sequence} {fill : (o : Opening) → Trees G (rest o) → Trees G A} (x : Choice G A classify IsOpen rest fill) where
   pub goes : (c : ℕ) (from : Rest G.language) (o : Opening) → o ≡ classify (first from.words) → Leads G c A from c (rest o) from (fill o)
   goes c from o e =
-      opens G A (rest o) c from (λ next. classify next ≡ o) [] (fill o) refl refl tt refl tt (x.spells o)
+      turns (λ next. classify next ≡ o) (x.spells o)
       (λ f fits is. let way = subst (λ o. Way G A IsOpen rest fill o f) is (x.view f) in (way.1, way.2)) (sym e)
 
   pub stuck : (laws : Lawful G) (c : ℕ) (from : Rest G.language) (o : Opening) → (IsOpen o → ⊥) → o ≡ classify (first from.words)
@@ -85,8 +85,7 @@ module _ {G : Grammar} {A : G.Sequence} {t : Token G.language} {B : G.Sequence} 
   taken e within = read this_side e within
 
   pub left_out : {c : ℕ} {from : Rest G.language} → first from.words ≢ Some t.word → Leads G c A from c C from other
-  left_out {c} {from} differs =
-      opens G A C c from (λ next. next ≢ Some t.word) [] other refl refl tt refl tt x.spells_other (λ f fits other_word. that_side f other_word) differs
+  left_out differs = turns (λ next. next ≢ Some t.word) x.spells_other (λ f fits other_word. that_side f other_word) differs
 
 -- Things to be read that hold the number of their first token, and are others but for that.
 pub record Held {G : Grammar} (laws : Lawful G) (A : G.Sequence) (B : ℕ → G.Sequence) (fill : (m : ℕ) → Trees G (B m) → Trees G A) : Type 0 where
@@ -108,6 +107,5 @@ module _ {G : Grammar} {laws : Lawful G} {A : G.Sequence} {B : ℕ → G.Sequenc
 
   pub held : (c : ℕ) (from : Rest G.language) → Leads G c A from c (B from.number) from (fill from.number)
   held c from =
-      opens G A (B from.number) c from (λ next. Unit {0}) (look (laws.is_at from.number) ∷ []) (fill from.number) refl refl tt refl
-      (laws.met from.number _, tt) (x.spells from.number)
+      looks (λ next. Unit {0}) (laws.is_at from.number) (laws.met from.number _) (x.spells from.number)
       (λ f fits any. let here = placed from.number f fits in (here.0, here.1)) tt

@@ -4,7 +4,7 @@ use Rattle.std.proofs.lemmas.List.{append-nil}
 use Rattle.derivation.specs.declared.rule.Rule.{Rule}
 use Rattle.derivation.specs.declared.rule.Rule.TheVariants.{Expected, Nesting, Operators}
 use Rattle.derivation.specs.Languages.{Language}
-use Rattle.derivation.specs.Pieces.{Counting, keeps, one_more, anew, Token, Piece, token, look, spelling, first, Fits}
+use Rattle.derivation.specs.Pieces.{Counting, one_more, Token, Piece, token, look, spelling, first, Fits}
 use Rattle.derivation.specs.Limits.{IsWithin, IsCounted, IsTooMany, AllWithin, count_behind, count_on, BreaksLimit}
 use Rattle.derivation.specs.Comes.{Phrase, AllBreak, Cause, FirstFault, IsSpelledBy}
 use Rattle.derivation.proofs.Calculus.{spelling-append}
@@ -55,9 +55,8 @@ within_at c (token s ∷ before) after t h = within_at (count_on c s.counting) b
 within_at c (look l ∷ before) after t h = within_at c before after t h
 
 too_many : (most c : ℕ) (k : Counting) → IsCounted most c k → IsTooMany most c k → ⊥
-too_many most c keeps h j = j
 too_many most c one_more h j = absurd (omega (arith, h, j))
-too_many most c anew h j = j
+too_many most c _ h j = j
 
 breaks_none : {L : Language} (c : ℕ) (t : Token L) (rule : Rule) → IsWithin c t → BreaksLimit c t rule → ⊥
 breaks_none c t Expected h k = k
@@ -85,8 +84,7 @@ module _ {L : Language} {A : Phrase L} {all to : List L.Word} where
           k tree fits (w ∷ (vs ++ spelling rest))
           (ap spelling begins ∙ spelling-append front rest ∙ ap (λ ws. ws ++ spelling rest) spelled ∙ append_assoc (spelling fault.front) (w ∷ vs) (spelling rest))
           next
-      by_rule Nesting k = limit Nesting k.5
-      by_rule Operators k = limit Operators k.5
+      by_rule r k = limit r k.5
 
 -- words that a tree spells have no fault
 pub spelled_has_no_fault : {L : Language} (A : Phrase L) (all to : List L.Word) (rule : Rule) (tree : A.Tree) → FirstFault A all rule to → IsSpelledBy A all tree → ⊥
@@ -96,8 +94,7 @@ spelled_has_no_fault A all [] rule tree fault s = at_end rule fault.cause
   where
     at_end : (r : Rule) → Cause 0 0 A r fault.front fault.rest None → ⊥
     at_end Expected k = k tree s.fits [] (sym s.spelled ∙ fault.parted) refl
-    at_end Nesting k = absurd (let e = k.3 in cc)
-    at_end Operators k = absurd (let e = k.3 in cc)
+    at_end _ k = absurd (let e = k.3 in cc)
 
 -- the second of two fronts of one list is longer
 record IsLonger {W : Type 0} (xs ys cs ds : List W) : Type 0 where
@@ -145,10 +142,8 @@ same_rule : {L : Language} {A : Phrase L} {all to other : List L.Word} (rule rul
 same_rule Expected Expected f g same nexts = refl
 same_rule Nesting Nesting f g same nexts = refl
 same_rule Operators Operators f g same nexts = refl
-same_rule Expected Nesting f g same nexts = absurd (not_expected Nesting f g same nexts g.cause.0 g.cause.1 g.cause.2 g.cause.3)
-same_rule Expected Operators f g same nexts = absurd (not_expected Operators f g same nexts g.cause.0 g.cause.1 g.cause.2 g.cause.3)
-same_rule Nesting Expected f g same nexts = absurd (not_expected Nesting g f (sym same) (sym nexts) f.cause.0 f.cause.1 f.cause.2 f.cause.3)
-same_rule Operators Expected f g same nexts = absurd (not_expected Operators g f (sym same) (sym nexts) f.cause.0 f.cause.1 f.cause.2 f.cause.3)
+same_rule Expected limit f g same nexts = absurd (not_expected limit f g same nexts g.cause.0 g.cause.1 g.cause.2 g.cause.3)
+same_rule limit Expected f g same nexts = absurd (not_expected limit g f (sym same) (sym nexts) f.cause.0 f.cause.1 f.cause.2 f.cause.3)
 same_rule Nesting Operators f g same nexts = absurd (not_both f g same nexts)
 same_rule Operators Nesting f g same nexts = absurd (not_both g f (sym same) (sym nexts))
 

@@ -2,11 +2,12 @@
 use Rattle.std.proofs.Common.{◌≡◌, ◌≢◌, ℕ, ◌+◌, List, [], ◌∷◌, ◌++◌, Option, None, Some, refl, sym, ap, ◌∙◌, subst}
 use Rattle.derivation.specs.declared.rule.Rule.{Rule}
 use Rattle.derivation.specs.declared.rule.Rule.TheVariants.{Expected}
-use Rattle.derivation.specs.Pieces.{Token, Piece, token, Rest, spelling, first, first_before, number_behind, FitsBefore, Fits}
+use Rattle.derivation.specs.Pieces.{Token, Piece, token, look, Rest, spelling, first, first_before, number_behind, FitsBefore, Fits}
 use Rattle.derivation.specs.Limits.{IsWithin, AllWithin, count_behind, count_on, BreaksLimit}
-use Rattle.derivation.specs.Comes.{MayStandFor, IsNext}
+use Rattle.derivation.specs.Comes.{MayStandFor, IsNext, AllBreak, Cause}
 use Rattle.derivation.specs.Grammars.{Grammar, Trees, pieces, Leads, Stops}
 use Rattle.derivation.proofs.Calculus as calculus
+use Rattle.derivation.proofs.Calculus.{first_spelling, first_behind, at_once}
 
 -- What the proofs ask of a grammar: all that is to be read can be completed, from the token of any number on, by words of which the first may
 -- stand for any other; and a tree may hold the number of its first token.
@@ -47,28 +48,63 @@ module _ {G : Grammar} where
     };
   }
 
-module _ (G : Grammar) where
-  pub opens : (A B : G.Sequence) → (c : ℕ) → (from : Rest G.language) → (Opens : Option G.language.Word → Type 0) → (front : List (Piece G.language))
-      → (fill : Trees G B → Trees G A)
-      → (spelling front ≡ []) → (from.number ≡ number_behind from.number front) → AllWithin c front → (c ≡ count_behind c front)
-      → FitsBefore from.number front (first from.words)
+module _ {G : Grammar} {A B : G.Sequence} {c : ℕ} {from : Rest G.language} {fill : Trees G B → Trees G A} where
+  -- What is still to be read is something else where the next word opens it so: each tree of the one is a tree of the other, with the same
+  -- pieces behind `front`, which has no words, and each tree whose first word opens it so is one.
+  opens : (Opens : Option G.language.Word → Type 0) → (front : List (Piece G.language)) → (spelling front ≡ [])
+      → (from.number ≡ number_behind from.number front) → AllWithin c front → (c ≡ count_behind c front) → FitsBefore from.number front (first from.words)
       → ((g : Trees G B) → pieces G A (fill g) ≡ front ++ pieces G B g)
       → ((f : Trees G A) → Fits from.number (pieces G A f) → Opens (first_before (pieces G A f) None) → (g : Trees G B) × (f ≡ fill g))
       → Opens (first from.words) → Leads G c A from c B from fill
-  opens A B c from Opens front fill empty numbered within counted fits spells view is =
-      record { comes = calculus.opens (G.phrase A) (G.phrase B) c from Opens front fill empty numbered within counted fits spells view is }
+  opens Opens front empty numbered within counted fits spells view is = record {
+    comes = record {
+      front = front;
+      parted = ap (λ ws. ws ++ from.words) (sym empty);
+      numbered = numbered;
+      within = within;
+      counted = counted;
+      fits = fits;
+      spells = spells;
+      only = λ f f_fits rest e next.
+          view f f_fits
+          (subst Opens (sym (sym (first_spelling (pieces G A f)) ∙ ap first (e ∙ ap (λ ws. ws ++ rest) empty) ∙ next)) is);
+    };
+  }
+
+  -- where no piece is before them, or what is asked of the next token
+  pub turns : (Opens : Option G.language.Word → Type 0) → ((g : Trees G B) → pieces G A (fill g) ≡ pieces G B g)
+      → ((f : Trees G A) → Fits from.number (pieces G A f) → Opens (first_before (pieces G A f) None) → (g : Trees G B) × (f ≡ fill g))
+      → Opens (first from.words) → Leads G c A from c B from fill
+  turns Opens spells view is = opens Opens [] refl refl tt refl tt spells view is
+
+  pub looks : (Opens : Option G.language.Word → Type 0) (l : G.language.Look) → G.language.Meets l from.number (first from.words)
+      → ((g : Trees G B) → pieces G A (fill g) ≡ look l ∷ pieces G B g)
+      → ((f : Trees G A) → Fits from.number (pieces G A f) → Opens (first_before (pieces G A f) None) → (g : Trees G B) × (f ≡ fill g))
+      → Opens (first from.words) → Leads G c A from c B from fill
+  looks Opens l meets spells view is = opens Opens (look l ∷ []) refl refl tt refl (meets, tt) spells view is
 
   -- where each tree of the one is made of one of the other, of the same pieces
-  pub becomes : (A B : G.Sequence) → (c : ℕ) → (from : Rest G.language) → (fill : Trees G B → Trees G A)
-      → ((g : Trees G B) → pieces G A (fill g) ≡ pieces G B g) → ((f : Trees G A) → (g : Trees G B) × (f ≡ fill g)) → Leads G c A from c B from fill
-  becomes A B c from fill spells view = opens A B c from (λ next. Unit {0}) [] fill refl refl tt refl tt spells (λ f fits any. view f) tt
+  pub becomes : ((g : Trees G B) → pieces G A (fill g) ≡ pieces G B g) → ((f : Trees G A) → (g : Trees G B) × (f ≡ fill g)) → Leads G c A from c B from fill
+  becomes spells view = turns (λ next. Unit {0}) spells (λ f fits any. view f) tt
 
 -- no tree goes on with the next word
 pub sticks : {G : Grammar} (laws : Lawful G) (A : G.Sequence) → (c : ℕ) → (from : Rest G.language) → (Opens : Option G.language.Word → Type 0)
     → ((f : Trees G A) → Fits from.number (pieces G A f) → Opens (first_before (pieces G A f) None) → ⊥)
     → Opens (first from.words) → Stops G c A from Expected from
-sticks {G} laws A c from Opens never is =
-    record { breaks = calculus.sticks (G.phrase A) c from Opens (laws.complete from.number A) (laws.fits from.number A) (laws.stands from.number A _) never is }
+sticks {G} laws A c from Opens never is = record {
+  breaks = record {
+    front = [];
+    rest = pieces G A (laws.complete from.number A);
+    parted = refl;
+    numbered = refl;
+    within = tt;
+    tree = laws.complete from.number A;
+    fits = laws.fits from.number A;
+    begins = refl;
+    stands = laws.stands from.number A _;
+    cause = λ f fits behind e next. never f fits (subst Opens (sym (sym (first_spelling (pieces G A f)) ∙ ap first e ∙ next)) is);
+  };
+}
 
 -- Things to be read of which each tree that begins with this token is the token and what stands behind it.
 pub record Headed (G : Grammar) (A : G.Sequence) (t : Token G.language) (B : G.Sequence) (fill : Trees G B → Trees G A) : Type 0 where
@@ -78,16 +114,45 @@ pub record Headed (G : Grammar) (A : G.Sequence) (t : Token G.language) (B : G.S
 module _ {G : Grammar} {A : G.Sequence} {t : Token G.language} {B : G.Sequence} {fill : Trees G B → Trees G A} (x : Headed G A t B fill) where
   -- the token stands where it has to
   pub read : {c : ℕ} {from to : Rest G.language} → IsNext t.word from to → IsWithin c t → Leads G c A from (count_on c t.counting) B to fill
-  read {c} {from} {to} e within =
-      record { comes = calculus.reads (G.phrase A) (G.phrase B) c from to t fill e within x.spells (λ f fits next. x.view from.number f fits next) }
+  read {c} {from} {to} e within = record {
+    comes = record {
+      front = token t ∷ [];
+      parted = e.0;
+      numbered = e.1;
+      within = (within, tt);
+      counted = refl;
+      fits = tt;
+      spells = x.spells;
+      only = λ f fits rest same next. x.view from.number f fits (sym (first_spelling (pieces G A f)) ∙ ap first same);
+    };
+  }
 
-  -- it breaks a limit there
+  -- it breaks a limit there, whatever tree spells it
   pub exceeds : (laws : Lawful G) {c : ℕ} {from to : Rest G.language} → IsNext t.word from to → (rule : Rule) → rule ≢ Expected → BreaksLimit c t rule
       → Stops G c A from rule from
   exceeds laws {c} {from} {to} e rule limit breaks =
-      let inner = laws.complete (from.number + 1) B in
-      record {
-        breaks = calculus.exceeds (G.phrase A) c from t (pieces G B inner) rule (fill inner)
-            (subst (Fits from.number) (sym (x.spells inner)) (laws.fits (from.number + 1) B)) (x.spells inner) (ap first e.0) limit breaks
-            (λ f fits next. let found = x.view from.number f fits next in (pieces G B found.0, ap (pieces G A) found.1 ∙ x.spells found.0));
+      let inner = laws.complete (from.number + 1) B in record {
+        breaks = record {
+          front = [];
+          rest = pieces G A (fill inner);
+          parted = refl;
+          numbered = refl;
+          within = tt;
+          tree = fill inner;
+          fits = subst (Fits from.number) (sym (x.spells inner)) (laws.fits (from.number + 1) B);
+          begins = refl;
+          stands = subst (MayStandFor G.language (first_before (pieces G A (fill inner)) None))
+              (ap (λ ps. first_before ps None) (x.spells inner) ∙ sym (ap first e.0)) (λ l n meets. meets);
+          cause = cause rule limit breaks all;
+        };
       }
+    where
+      all : AllBreak from.number c (G.phrase A) rule [] (first from.words)
+      all f fits before after u split words same =
+          let found = x.view from.number f fits (ap (λ ps. first_before ps None) split ∙ first_behind before after u words ∙ same ∙ ap first e.0) in
+          at_once c rule before after (pieces G B found.0) u t (sym split ∙ ap (pieces G A) found.1 ∙ x.spells found.0) words breaks
+
+      cause : (r : Rule) → r ≢ Expected → BreaksLimit c t r → AllBreak from.number c (G.phrase A) r [] (first from.words)
+          → Cause from.number c (G.phrase A) r [] (pieces G A (fill (laws.complete (from.number + 1) B))) (first from.words)
+      cause Expected h k all = absurd (h refl)
+      cause _ h k all = (t, pieces G B (laws.complete (from.number + 1) B), x.spells (laws.complete (from.number + 1) B), ap first e.0, k, all)

@@ -7,4 +7,3 @@ pub mod Whole
 pub mod Texts
 pub mod Answering
 mod Known
-mod Formulas

@@ -2,7 +2,7 @@
 use Rattle.std.proofs.Common.{◌≡◌, ◌≢◌, ℕ, ◌<◌, ◌≤◌, List, [], ◌∷◌, ◌++◌, length, map, drop, None, refl, sym, ap, ◌∙◌, subst, arith}
 use Rattle.std.proofs.lemmas.List.{append-nil, length-map, length-drop, drop_all}
 use Rattle.derivation.specs.declared.rule.Rule.{Rule}
-use Rattle.derivation.specs.declared.rule.Rule.TheVariants.{Expected, Nesting, Operators}
+use Rattle.derivation.specs.declared.rule.Rule.TheVariants.{Expected}
 use Rattle.derivation.specs.Pieces.{Rest, spelling, first, first_before, FitsBefore, Fits}
 use Rattle.derivation.specs.Limits.{AllWithin}
 use Rattle.derivation.specs.Comes.{Phrase, Cause, FirstFault, IsSpelledBy}
@@ -45,8 +45,7 @@ module _ {G : Grammar} {laws : Lawful G} {A : Phrase G.language} {all nothing : 
       why : (r : Rule) → Cause 0 0 (G.phrase all) r h.breaks.front h.breaks.rest (first to.words)
           → Cause 0 0 A r h.breaks.front h.breaks.rest (first to.words)
       why Expected k = λ f fits behind e. k (fill f) (fitting f fits) behind (ap spelling (x.spells f) ∙ e)
-      why Nesting k = (k.0, k.1, k.2, k.3, k.4, λ f fits before after t split. k.5 (fill f) (fitting f fits) before after t (x.spells f ∙ split))
-      why Operators k = (k.0, k.1, k.2, k.3, k.4, λ f fits before after t split. k.5 (fill f) (fitting f fits) before after t (x.spells f ∙ split))
+      why _ k = (k.0, k.1, k.2, k.3, k.4, λ f fits before after t split. k.5 (fill f) (fitting f fits) before after t (x.spells f ∙ split))
 
   pub whole_trails : {now : ℕ} {f : A.Tree} → Leads G 0 all from now nothing to (λ end. fill f) → to.words ≢ [] → FirstFault A from.words Expected to.words
   whole_trails {now} r h =

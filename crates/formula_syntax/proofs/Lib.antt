@@ -3,8 +3,8 @@ pub mod Sums
 pub mod Parts
 pub mod Words
 pub mod Answering
-pub mod Reading
 pub mod Groups
 mod Whole
 mod OneTree
 mod Steps
+mod Example

@@ -6,7 +6,7 @@ use Rattle.derivation.proofs.OneTree.{IsOnly as IsOnlyIn, Next as NextIn, own, f
 use Rattle.formula_syntax.specs.declared.opening.Opening.{Opening}
 use Rattle.formula_syntax.specs.Language.{operator_of, connective_of}
 use Rattle.formula_syntax.specs.Openings.{IsPart}
-use Rattle.formula_syntax.specs.Trees.{FactorKind, number, name, signed, summed, Tail, ended, further, Part, Chain, done, joined, Formula}
+use Rattle.formula_syntax.specs.Trees.{FactorKind, signed, Tail, ended, further, Part, Chain, done, joined, Formula}
 use Rattle.formula_syntax.specs.Pending.{Pending, Inner, exactly, bytes_of_a_name, a_factor, a_factor_kind, a_tail, a_sum, a_right, an_until, a_part, a_chain, a_formula, an_inner, an_inner_end, a_group, Sequence, nothing, first_read, Trees, pieces, grammar}
 use Rattle.formula_syntax.proofs.Sums.{located_factors, factors, tokens, names, untils, rights, signs, operators, tail_ends, sum_goes}
 use Rattle.formula_syntax.proofs.Parts.{located_groups, part_rest, parts, inner_rest, inners, inner_ends, chain_ends, connectives, formula_goes}
@@ -44,9 +44,7 @@ inner_lower n S _ h = omega arith
 
 factor_next : (n : ℕ) (kind : FactorKind) (S : FactorKind → Sequence) (rest : Trees (S kind)) → Next (first_read (a_factor_kind n) S) (kind, rest)
 factor_next n (signed negative e) S rest = by_token (signs n S negative) (e, rest)
-factor_next n (number z) S rest = by_its_opening (factors n S) (number z, rest) (omega arith)
-factor_next n (name x) S rest = by_its_opening (factors n S) (name x, rest) (omega arith)
-factor_next n (summed e more) S rest = by_its_opening (factors n S) (summed e more, rest) (omega arith)
+factor_next n kind S rest = by_its_opening (factors n S) (kind, rest) (omega arith)
 
 -- what ends where no operator or no connective follows
 tail_next : (n : ℕ) (t : Tail) (S : Tail → Sequence) (rest : Trees (S t)) → Next (first_read (a_tail n) S) (t, rest)

@@ -1,20 +1,21 @@
 -- How the reading of formulas and their parts goes on, by the next word.
-use Rattle.std.proofs.Common.{◌≡◌, inl, inr, ℕ, ◌+◌, [], ◌∷◌, None, Some, true, false, refl, sym, ap, ◌∙◌, subst}
-use Rattle.derivation.specs.Pieces.{look, first, first_before, Fits}
+use Rattle.std.proofs.Common.{◌≡◌, inl, inr, ℕ, ◌+◌, Bool, None, Some, true, refl, sym, ap, ◌∙◌, subst}
+use Rattle.derivation.specs.Pieces.{first, first_before, Fits}
 use Rattle.formula_syntax.specs.declared.sign.Comparison.{Comparison}
 use Rattle.formula_syntax.specs.declared.sign.Connective.{Connective}
+use Rattle.formula_syntax.specs.declared.sign.Prefix.{Prefix}
 use Rattle.formula_syntax.specs.declared.sign.Sign.TheVariants as Mark
 use Rattle.formula_syntax.specs.declared.opening.Opening.{Opening}
 use Rattle.formula_syntax.specs.Language.{Rest, connective_of, no_connective}
 use Rattle.formula_syntax.specs.Openings.{opening_of_part, IsPart}
-use Rattle.formula_syntax.specs.Trees.{Factor, factor_at, number, name, signed, summed, Tail, Sum, Part, prefixed, quantified, truth, exit, compared, grouped, Chain, done, joined, Formula}
+use Rattle.formula_syntax.specs.Trees.{Factor, factor_at, signed, summed, Tail, Sum, Part, prefixed, quantified, truth, exit, compared, grouped, Chain, done, joined, Formula}
 use Rattle.formula_syntax.specs.Spelling.{mark, opening, counted, counted_opening}
 use Rattle.formula_syntax.specs.Pending.{Inner, of_formula, of_sum, InnerEnd, closed, compares, Group, exactly, a_tail, a_sum, a_right, an_until, a_part, a_chain, a_formula, an_inner, an_inner_end, a_group, Sequence, first_read, then_read, Trees, pieces, grammar, Leads}
 use Rattle.formula_syntax.specs.Inners.{inner_of}
-use Rattle.derivation.proofs.Grammars.{opens, becomes, Headed}
+use Rattle.derivation.proofs.Grammars.{looks, becomes, Headed}
 use Rattle.formula_syntax.proofs.Completions.{lawful}
-use Rattle.derivation.proofs.Choices.{begins, Way, Choice, Sides, Fork, Held}
-use Rattle.formula_syntax.proofs.Sums.{Same}
+use Rattle.derivation.proofs.Choices.{begins, Way, Choice, headed, Sides, Fork, Held}
+use Rattle.formula_syntax.proofs.Sums.{Same, tokens}
 
 -- a sum in parentheses, as a factor and what stands behind it
 abbrev pub summing : ℕ → Sum → Tail → Sum
@@ -69,24 +70,17 @@ module _ (n : ℕ) where
         spells_group at (of_sum s) g = refl
 
         spells : (o : Opening) → (g : Trees (part_rest o)) → pieces (first_read (a_part n) K) (part_tree o g) ≡ pieces (part_rest o) g
-        spells Opening.Sum g = refl
         spells Opening.Parenthesis g = spells_group g.0.at g.0.inner g.1
-        spells (Opening.Prefix p) g = refl
-        spells (Opening.Quantifier all) g = refl
-        spells (Opening.Truth b) g = refl
-        spells Opening.Exit g = refl
-        spells Opening.Nothing g = refl
+        spells _ g = refl
 
         compared_view : (e : Factor) (t : Tail) (c : Comparison) (s : Sum) (rest : Trees (K (compared (record { factor = e; tail = t }) c s)))
             → Way grammar (first_read (a_part n) K) IsPart part_rest part_tree
             (opening_of_part (begins grammar (first_read (a_part n) K) (compared (record { factor = e; tail = t }) c s, rest)))
             (compared (record { factor = e; tail = t }) c s, rest)
-        compared_view (factor_at m (number z)) t c s rest = (tt, (record { factor = factor_at m (number z); tail = t }, (record { comparison = c; sum = s }, rest)), refl)
-        compared_view (factor_at m (name x)) t c s rest = (tt, (record { factor = factor_at m (name x); tail = t }, (record { comparison = c; sum = s }, rest)), refl)
-        compared_view (factor_at m (signed true e)) t c s rest = (tt, (record { factor = factor_at m (signed true e); tail = t }, (record { comparison = c; sum = s }, rest)), refl)
-        compared_view (factor_at m (signed false e)) t c s rest = (tt, (record { factor = factor_at m (signed false e); tail = t }, (record { comparison = c; sum = s }, rest)), refl)
         compared_view (factor_at m (summed e more)) t c s rest =
             (tt, (record { at = m; inner = of_sum (record { factor = e; tail = more }) }, (t, (record { comparison = c; sum = s }, rest))), refl)
+        compared_view (factor_at m (signed true e)) t c s rest = (tt, (record { factor = factor_at m (signed true e); tail = t }, (record { comparison = c; sum = s }, rest)), refl)
+        compared_view e t c s rest = (tt, (record { factor = e; tail = t }, (record { comparison = c; sum = s }, rest)), refl)
 
         view : (f : Part) (rest : Trees (K f))
             → Way grammar (first_read (a_part n) K) IsPart part_rest part_tree (opening_of_part (begins grammar (first_read (a_part n) K) (f, rest))) (f, rest)
@@ -159,36 +153,26 @@ module _ (n : ℕ) where
         spells : (o : Opening) → (g : Trees (inner_rest o)) → pieces (first_read (an_inner n) K) (inner_tree o g) ≡ pieces (inner_rest o) g
         spells Opening.Sum g = spells_end g.0 g.1.0 g.1.1
         spells Opening.Parenthesis g = spells_group g.0.at g.0.inner g.1
-        spells (Opening.Prefix p) g = refl
-        spells (Opening.Quantifier all) g = refl
-        spells (Opening.Truth b) g = refl
-        spells Opening.Exit g = refl
-        spells Opening.Nothing g = refl
+        spells _ g = refl
 
         sum_view : (e : Factor) (t : Tail) (rest : Trees (K (of_sum (record { factor = e; tail = t })))) → WayOf (of_sum (record { factor = e; tail = t })) rest
-        sum_view (factor_at m (number z)) t rest = (tt, (record { factor = factor_at m (number z); tail = t }, (closed, rest)), refl)
-        sum_view (factor_at m (name x)) t rest = (tt, (record { factor = factor_at m (name x); tail = t }, (closed, rest)), refl)
-        sum_view (factor_at m (signed true e)) t rest = (tt, (record { factor = factor_at m (signed true e); tail = t }, (closed, rest)), refl)
-        sum_view (factor_at m (signed false e)) t rest = (tt, (record { factor = factor_at m (signed false e); tail = t }, (closed, rest)), refl)
         sum_view (factor_at m (summed e more)) t rest =
             (tt, (record { at = m; inner = of_sum (record { factor = e; tail = more }) }, (t, (closed, rest))), refl)
+        sum_view (factor_at m (signed true e)) t rest = (tt, (record { factor = factor_at m (signed true e); tail = t }, (closed, rest)), refl)
+        sum_view e t rest = (tt, (record { factor = e; tail = t }, (closed, rest)), refl)
 
         compared_view : (e : Factor) (t : Tail) (c : Comparison) (s : Sum) (chain : Chain) (rest : Trees (K (comparing e t c s chain)))
             → WayOf (comparing e t c s chain) rest
-        compared_view (factor_at m (number z)) t c s chain rest = (tt, (record { factor = factor_at m (number z); tail = t }, (compares (record { comparison = c; sum = s }) chain, rest)), refl)
-        compared_view (factor_at m (name x)) t c s chain rest = (tt, (record { factor = factor_at m (name x); tail = t }, (compares (record { comparison = c; sum = s }) chain, rest)), refl)
-        compared_view (factor_at m (signed true e)) t c s chain rest = (tt, (record { factor = factor_at m (signed true e); tail = t }, (compares (record { comparison = c; sum = s }) chain, rest)), refl)
-        compared_view (factor_at m (signed false e)) t c s chain rest = (tt, (record { factor = factor_at m (signed false e); tail = t }, (compares (record { comparison = c; sum = s }) chain, rest)), refl)
         compared_view (factor_at m (summed e more)) t c s chain rest =
             (tt, (record { at = m; inner = of_sum (record { factor = e; tail = more }) }, (t, (compares (record { comparison = c; sum = s }) chain, rest))), refl)
+        compared_view (factor_at m (signed true e)) t c s chain rest =
+            (tt, (record { factor = factor_at m (signed true e); tail = t }, (compares (record { comparison = c; sum = s }) chain, rest)), refl)
+        compared_view e t c s chain rest = (tt, (record { factor = e; tail = t }, (compares (record { comparison = c; sum = s }) chain, rest)), refl)
 
         formula_view : (f : Part) (c : Chain) (rest : Trees (K (of_formula (record { part = f; chain = c })))) → WayOf (of_formula (record { part = f; chain = c })) rest
-        formula_view (prefixed p f) c rest = (tt, (record { part = prefixed p f; chain = c }, (tt, rest)), refl)
-        formula_view (quantified all f d weak g e) c rest = (tt, (record { part = quantified all f d weak g e; chain = c }, (tt, rest)), refl)
-        formula_view (truth b) c rest = (tt, (record { part = truth b; chain = c }, (tt, rest)), refl)
-        formula_view exit c rest = (tt, (record { part = exit; chain = c }, (tt, rest)), refl)
         formula_view (compared left comparison s) c rest = compared_view left.factor left.tail comparison s c rest
         formula_view (grouped at f d) c rest = (tt, (record { at = at; inner = of_formula (record { part = f; chain = d }) }, (c, (tt, rest))), refl)
+        formula_view f c rest = (tt, (record { part = f; chain = c }, (tt, rest)), refl)
 
         view : (i : Inner) (rest : Trees (K i)) → WayOf i rest
         view (of_formula f) rest = formula_view f.part f.chain rest
@@ -213,8 +197,7 @@ module _ (n c : ℕ) (K : Chain → Sequence) (from : Rest) where
   pub chain_ends : None ≡ connective_of (first from.words)
       → Leads c (first_read (a_chain n) K) from c (K done) from (λ g. (done, g))
   chain_ends e =
-      opens grammar (first_read (a_chain n) K) (K done) c from (λ next. connective_of next ≡ None) (look no_connective ∷ []) (λ g. (done, g)) refl refl tt refl
-      (sym e, tt) (λ g. refl) (λ f fits none. view f.0 f.1 none) (sym e)
+      looks (λ next. connective_of next ≡ None) no_connective (sym e) (λ g. refl) (λ f fits none. view f.0 f.1 none) (sym e)
     where
       view : (t : Chain) (rest : Trees (K t)) → connective_of (first_before (pieces (first_read (a_chain n) K) (t, rest)) None) ≡ None
           → (g : Trees (K done)) × Same (first_read (a_chain n) K) (t, rest) (done, g)
@@ -243,6 +226,19 @@ module _ (n : ℕ) (K : Chain → Sequence) where
 pub formula_goes : (n c : ℕ) (K : Formula → Sequence) (from : Rest)
     → Leads c (first_read (a_formula n) K) from c (first_read (a_part n) (λ f. first_read (a_chain n) (λ t. K (record { part = f; chain = t })))) from
     (λ g. (record { part = g.0; chain = g.1.0 }, g.1.1))
-formula_goes n c K from =
-    becomes grammar (first_read (a_formula n) K) (first_read (a_part n) (λ f. first_read (a_chain n) (λ t. K (record { part = f; chain = t })))) c from
-    (λ g. (record { part = g.0; chain = g.1.0 }, g.1.1)) (λ g. refl) (λ f. ((f.0.part, (f.0.chain, f.1)), refl))
+formula_goes n c K from = becomes (λ g. refl) (λ f. ((f.0.part, (f.0.chain, f.1)), refl))
+
+module _ (n : ℕ) (K : Part → Sequence) where
+  -- a prefix before a part
+  pub prefixes : (p : Prefix)
+      → Headed grammar (first_read (a_part n) K) (counted_opening (Mark.Prefix p) (n + 1)) (first_read (a_part (n + 1)) (λ f. K (prefixed p f))) (λ g. (prefixed p g.0, g.1))
+  prefixes p = headed (Opening.Prefix p) (parts n K) refl (tokens (counted_opening (Mark.Prefix p) (n + 1)) (refl, refl) _)
+
+  -- `A` or `E`
+  pub quantifiers : (all : Bool)
+      → Headed grammar (first_read (a_part n) K) (counted (Mark.Quantifier all))
+      (then_read (exactly (opening Mark.OpenBracket (n + 1)) (refl, refl))
+      (first_read (a_formula (n + 1)) (λ f. first_read an_until (λ weak. first_read (a_formula (n + 1)) (λ g.
+      then_read (exactly (mark Mark.CloseBracket) (refl, refl)) (K (quantified all f.part f.chain weak g.part g.chain)))))))
+      (λ g. (quantified all g.1.0.part g.1.0.chain g.1.1.0 g.1.1.1.0.part g.1.1.1.0.chain, g.1.1.1.1.1))
+  quantifiers all = headed (Opening.Quantifier all) (parts n K) refl (tokens (counted (Mark.Quantifier all)) (refl, refl) _)

@@ -1,21 +1,20 @@
 -- How the reading of words, factors and sums goes on, by the next word.
-use Rattle.std.proofs.Common.{◌≡◌, ◌≢◌, ℕ, ◌+◌, List, [], ◌∷◌, None, Some, Bool, true, false, refl, sym, ap, ◌∙◌, subst, arith}
+use Rattle.std.proofs.Common.{◌≡◌, ℕ, ◌+◌, List, None, Some, Bool, true, false, refl, sym, ap, ◌∙◌, subst}
 use Rattle.derivation.specs.declared.rule.Rule.TheVariants.{Expected}
-use Rattle.derivation.specs.Pieces.{look, first, first_before, Fits}
-use Rattle.derivation.specs.Comes.{IsNext}
+use Rattle.derivation.specs.Pieces.{first, first_before, Fits}
 use Rattle.formula_syntax.specs.declared.sign.Comparison.{Comparison}
 use Rattle.formula_syntax.specs.declared.sign.Operator.{Operator}
 use Rattle.formula_syntax.specs.declared.sign.Sign.TheVariants as Mark
 use Rattle.formula_syntax.specs.declared.opening.FactorOpening.{FactorOpening}
-use Rattle.formula_syntax.specs.Words.{Word, sign, name as named, number as numbered}
+use Rattle.formula_syntax.specs.Words.{sign, name as named, number as numbered}
 use Rattle.formula_syntax.specs.Language.{Token, Rest, operator_of, no_operator, IsQuiet}
 use Rattle.formula_syntax.specs.Openings.{opening_of_factor, comparison_of, until_of, IsFactor}
 use Rattle.formula_syntax.specs.Trees.{Factor, factor_at, FactorKind, number, name, signed, summed, Tail, ended, further, Sum}
 use Rattle.formula_syntax.specs.Spelling.{plain, mark, opening, counted, counted_opening, sign_of}
 use Rattle.formula_syntax.specs.Pending.{Right, exactly, bytes_of_a_name, a_factor, a_factor_kind, a_tail, a_sum, a_right, an_until, Sequence, first_read, then_read, Trees, pieces, grammar, Leads, Stops}
-use Rattle.derivation.proofs.Grammars.{opens, becomes, sticks, Headed, read}
+use Rattle.derivation.proofs.Grammars.{looks, becomes, sticks, Headed}
 use Rattle.formula_syntax.proofs.Completions.{lawful}
-use Rattle.derivation.proofs.Choices.{begins, Way, Choice, Held, not_next}
+use Rattle.derivation.proofs.Choices.{begins, Way, Choice, Held}
 
 abbrev pub Same : (all : Sequence) → Trees all → Trees all → Type 0
 Same all x y = x ≡ y
@@ -24,26 +23,12 @@ Same all x y = x ≡ y
 pub tokens : (t : Token) (quiet : IsQuiet (Some t.word)) (S : Sequence) → Headed grammar (then_read (exactly t quiet) S) t S (λ g. (tt, g))
 tokens t quiet S = record { spells = λ g. refl; view = λ n f fits next. (f.1, refl) }
 
-pub token_missed : (c : ℕ) (t : Token) (quiet : IsQuiet (Some t.word)) (S : Sequence) (from : Rest) → ((to : List Word) → from.words ≢ t.word ∷ to)
-    → Stops c (then_read (exactly t quiet) S) from Expected from
-token_missed c t quiet S from h =
-    sticks lawful (then_read (exactly t quiet) S) c from (λ next. next ≢ Some t.word) (λ f fits other. other refl) (not_next t.word from.words h)
-
 -- names
 pub names : (x : List ℕ) (S : List ℕ → Sequence) → Headed grammar (first_read bytes_of_a_name S) (plain (named x)) (S x) (λ g. (x, g))
 names x S = record { spells = λ g. refl; view = λ n f fits next. view f.0 f.1 (cc) }
   where
     view : (y : List ℕ) (rest : Trees (S y)) → y ≡ x → (g : Trees (S x)) × Same (first_read bytes_of_a_name S) (y, rest) (x, g)
     view y rest e = subst (λ z. (g : Trees (S z)) × Same (first_read bytes_of_a_name S) (y, rest) (z, g)) e (rest, refl)
-
-module _ (c : ℕ) (S : List ℕ → Sequence) (from : Rest) where
-  pub bytes_read : (x : List ℕ) (to : Rest) → IsNext (named x) from to → Leads c (first_read bytes_of_a_name S) from c (S x) to (λ g. (x, g))
-  bytes_read x to e = read (names x S) e (omega arith, tt)
-
-  pub bytes_missed : ((x : List ℕ) (to : List Word) → from.words ≢ named x ∷ to) → Stops c (first_read bytes_of_a_name S) from Expected from
-  bytes_missed h =
-      sticks lawful (first_read bytes_of_a_name S) c from (λ next. (x : List ℕ) → next ≢ Some (named x)) (λ f fits other. other f.0 refl)
-      (λ x. not_next (named x) from.words (h x))
 
 -- factors
 module _ (n : ℕ) where
@@ -76,11 +61,8 @@ module _ (n : ℕ) where
     factors = record { spells = spells; view = λ f. view f.0 f.1 }
       where
         spells : (o : FactorOpening) → (g : Trees (factor_rest o)) → pieces (first_read (a_factor_kind n) S) (factor_tree o g) ≡ pieces (factor_rest o) g
-        spells (FactorOpening.Number z) g = refl
-        spells FactorOpening.Name g = refl
-        spells (FactorOpening.Signed negative) g = refl
-        spells FactorOpening.Parenthesis g = refl
         spells FactorOpening.Nothing g = refl
+        spells _ g = refl
 
         view : (kind : FactorKind) (rest : Trees (S kind))
             → Way grammar (first_read (a_factor_kind n) S) IsFactor factor_rest factor_tree (opening_of_factor (begins grammar (first_read (a_factor_kind n) S) (kind, rest))) (kind, rest)
@@ -115,8 +97,7 @@ module _ (n c : ℕ) (S : Tail → Sequence) (from : Rest) where
   pub tail_ends : None ≡ operator_of (first from.words)
       → Leads c (first_read (a_tail n) S) from c (S ended) from (λ g. (ended, g))
   tail_ends e =
-      opens grammar (first_read (a_tail n) S) (S ended) c from (λ next. operator_of next ≡ None) (look no_operator ∷ []) (λ g. (ended, g)) refl refl tt refl
-      (sym e, tt) (λ g. refl) (λ f fits none. view f.0 f.1 none) (sym e)
+      looks (λ next. operator_of next ≡ None) no_operator (sym e) (λ g. refl) (λ f fits none. view f.0 f.1 none) (sym e)
     where
       view : (t : Tail) (rest : Trees (S t)) → operator_of (first_before (pieces (first_read (a_tail n) S) (t, rest)) None) ≡ None
           → (g : Trees (S ended)) × Same (first_read (a_tail n) S) (t, rest) (ended, g)
@@ -145,9 +126,7 @@ module _ (n : ℕ) (S : Tail → Sequence) where
 pub sum_goes : (n c : ℕ) (S : Sum → Sequence) (from : Rest)
     → Leads c (first_read (a_sum n) S) from c (first_read (a_factor n) (λ e. first_read (a_tail n) (λ t. S (record { factor = e; tail = t })))) from
     (λ g. (record { factor = g.0; tail = g.1.0 }, g.1.1))
-sum_goes n c S from =
-    becomes grammar (first_read (a_sum n) S) (first_read (a_factor n) (λ e. first_read (a_tail n) (λ t. S (record { factor = e; tail = t })))) c from
-    (λ g. (record { factor = g.0; tail = g.1.0 }, g.1.1)) (λ g. refl) (λ f. ((f.0.factor, (f.0.tail, f.1)), refl))
+sum_goes n c S from = becomes (λ g. refl) (λ f. ((f.0.factor, (f.0.tail, f.1)), refl))
 
 -- a comparison and the sum at its right
 module _ (n : ℕ) (S : Right → Sequence) where

@@ -37,37 +37,29 @@ pub until_word : (next : Option Word) (weak : Bool) → Some weak ≡ until_of n
 until_word (Some (sign (Mark.Until o))) weak e = let same : weak ≡ o = cc in ap (λ o. Some (sign (Mark.Until o))) (sym same)
 until_word _ weak e = absurd (cc)
 
--- the word that opens a factor or a part so, where one alone does
+-- the word that opens a factor or a part so, where one alone does; of others nothing is said
 abbrev WordFor : FactorOpening → Option Word → Type 0
 WordFor (FactorOpening.Number z) next = next ≡ Some (numbered z)
 WordFor (FactorOpening.Signed negative) next = next ≡ Some (sign (Mark.Operator (sign_of negative)))
-WordFor _ next = Unit {0}
+WordFor _ next = next ≡ next
 
 pub factor_word : (next : Option Word) (o : FactorOpening) → o ≡ opening_of_factor next → WordFor o next
 factor_word next o e = subst (λ o. WordFor o next) (sym e) (word next)
   where
     word : (next : Option Word) → WordFor (opening_of_factor next) next
-    word (Some (numbered z)) = refl
     word (Some (sign (Mark.Operator O.Add))) = refl
-    word (Some (sign (Mark.Operator O.Subtract))) = refl
-    word _ = tt
+    word _ = refl
 
 abbrev WordForPart : Opening → Option Word → Type 0
 WordForPart (Opening.Prefix p) next = next ≡ Some (sign (Mark.Prefix p))
 WordForPart (Opening.Quantifier all) next = next ≡ Some (sign (Mark.Quantifier all))
 WordForPart (Opening.Truth b) next = next ≡ Some (sign (Mark.Truth b))
 WordForPart Opening.Exit next = next ≡ Some (sign Mark.Exit)
-WordForPart _ next = Unit {0}
+WordForPart _ next = next ≡ next
 
 pub part_word : (next : Option Word) (o : Opening) → o ≡ opening_of_part next → WordForPart o next
 part_word next o e = subst (λ o. WordForPart o next) (sym e) (word next)
   where
     word : (next : Option Word) → WordForPart (opening_of_part next) next
-    word (Some (sign (Mark.Prefix p))) = refl
-    word (Some (sign (Mark.Quantifier b))) = refl
-    word (Some (sign (Mark.Truth b))) = refl
-    word (Some (sign Mark.Exit)) = refl
-    word (Some (sign (Mark.Operator O.Add))) = tt
-    word (Some (sign (Mark.Operator O.Subtract))) = tt
-    word (Some (sign (Mark.Operator O.Multiply))) = tt
-    word _ = tt
+    word (Some (sign (Mark.Operator O.Add))) = refl
+    word _ = refl

@@ -83,15 +83,12 @@ fn joined(
     let (others, next, now) = chain(reader, behind, levels, count)?;
     let part = Box::new(reader.alloc, first)?;
     let rest = Box::new(reader.alloc, others)?;
-    Ok((
-        Chain::Joined {
-            connective,
-            part,
-            rest,
-        },
-        next,
-        now,
-    ))
+    let chain = Chain::Joined {
+        connective,
+        part,
+        rest,
+    };
+    Ok((chain, next, now))
 }
 
 // Reads a part of a formula.
@@ -214,15 +211,12 @@ fn compared(reader: Reader<'_>, at: usize, levels: u32, operators: u32) -> Read<
 {
     let (left, behind, count) = sum(reader, at, levels, operators)?;
     let (comparison, right, next, now) = right(reader, behind, levels, count)?;
-    Ok((
-        Part::Compared {
-            left,
-            comparison,
-            right,
-        },
-        next,
-        now,
-    ))
+    let part = Part::Compared {
+        left,
+        comparison,
+        right,
+    };
+    Ok((part, next, now))
 }
 
 // Reads a part that begins with a `(`.
@@ -243,22 +237,16 @@ fn grouped(reader: Reader<'_>, at: usize, levels: u32, operators: u32) -> Read<P
             Ok((part, behind, count))
         }
         Inner::Sum(inner) => {
-            let first = summing(reader.alloc, at, inner)?;
+            let factor = summing(reader.alloc, at, inner)?;
             let (tail, middle, count) = tail(reader, behind, levels, count)?;
             let (comparison, right, next, now) = right(reader, middle, levels, count)?;
-            let left = Sum {
-                factor: first,
-                tail,
+            let left = Sum { factor, tail };
+            let part = Part::Compared {
+                left,
+                comparison,
+                right,
             };
-            Ok((
-                Part::Compared {
-                    left,
-                    comparison,
-                    right,
-                },
-                next,
-                now,
-            ))
+            Ok((part, next, now))
         }
     }
 }
@@ -376,13 +364,10 @@ fn inner_group(reader: Reader<'_>, at: usize, levels: u32, operators: u32) -> Re
             Ok((Inner::Formula(Formula { part, chain }), next, now))
         }
         Inner::Sum(inner) => {
-            let first = summing(reader.alloc, at, inner)?;
+            let factor = summing(reader.alloc, at, inner)?;
             let (tail, middle, count) = tail(reader, behind, levels, count)?;
             let (end, next, now) = inner_end(reader, middle, levels, count)?;
-            let left = Sum {
-                factor: first,
-                tail,
-            };
+            let left = Sum { factor, tail };
             Ok((inner_of(left, end), next, now))
         }
     }
@@ -418,15 +403,12 @@ fn inner_compared(reader: Reader<'_>, at: usize, levels: u32, operators: u32) ->
     let (comparison, right, behind, count) = right(reader, at, levels, operators)?;
     let (chain, close, now) = chain(reader, behind, levels, count)?;
     let next = sign(reader, close, Sign::CloseParenthesis)?;
-    Ok((
-        InnerEnd::Compared {
-            comparison,
-            right,
-            chain,
-        },
-        next,
-        now,
-    ))
+    let end = InnerEnd::Compared {
+        comparison,
+        right,
+        chain,
+    };
+    Ok((end, next, now))
 }
 
 // What stands in parentheses: a sum, or the formula that begins with its comparison.

@@ -4,9 +4,9 @@ ghost use Rattle.std.specs.Prelude.{◌≡◌, ◌≤◌, IfOk, IfErr, ℕ};
 ghost use Rattle.derivation.specs.Comes.{IsNext};
 ghost use Rattle.formula_syntax.specs.Words.{sign as sign_word, name as named, IsBehind};
 ghost use Rattle.formula_syntax.specs.Language.{rest_at};
-ghost use Rattle.derivation.specs.Failures.{IfFault};
+ghost use Rattle.derivation.specs.Failures.{IfFault, MissesWord, MissesOpening, MissesKind};
 ghost use Rattle.formula_syntax.specs.Pending.{an_until};
-ghost use Rattle.formula_syntax.specs.Reads.{Reads, Refuses, MissesSign, MissesOpening, MissesName};
+ghost use Rattle.formula_syntax.specs.Reads.{Reads, Refuses};
 
 use crate::input::Reader;
 use crate::lexeme::{Lexeme, after};
@@ -21,7 +21,7 @@ pub const MOST_OPERATORS: u32 = 64;
 pub fn sign(reader: Reader<'_>, at: usize, wanted: Sign) -> Result<usize, Fault>
     ensures read { IfOk result (λ next. IsNext (sign_word wanted) (rest_at reader.entry at) (rest_at reader.entry next)) }
     ensures forward { IfOk result (IsBehind reader.entry.words.now at) }
-    ensures missed { IfErr result (λ fault. MissesSign (rest_at reader.entry at) wanted fault.rule × (fault.at ≡ at)) }
+    ensures missed { IfErr result (λ fault. MissesWord (rest_at reader.entry at) (sign_word wanted) fault.rule × (fault.at ≡ at)) }
 {
     match after(reader.words, at, wanted) {
         Some(next) => Ok(next),
@@ -37,14 +37,11 @@ pub fn opening(reader: Reader<'_>, at: usize, wanted: Sign, level: u32) -> Resul
     ensures read { IfOk result (λ next. IsNext (sign_word wanted) (rest_at reader.entry at) (rest_at reader.entry next)) }
     ensures shallow { IfOk result (λ _. level ≤ 64) }
     ensures forward { IfOk result (IsBehind reader.entry.words.now at) }
-    ensures missed { IfErr result (λ fault. MissesOpening (rest_at reader.entry at) wanted level fault.rule × (fault.at ≡ at)) }
+    ensures missed { IfErr result (λ fault. MissesOpening (rest_at reader.entry at) (sign_word wanted) level fault.rule × (fault.at ≡ at)) }
 {
-    let next = match after(reader.words, at, wanted) {
-        Some(next) => next,
-        None => {
-            let rule = Rule::Expected;
-            return Err(Fault { rule, at });
-        }
+    let Some(next) = after(reader.words, at, wanted) else {
+        let rule = Rule::Expected;
+        return Err(Fault { rule, at });
     };
     if level > MOST_LEVELS {
         let rule = Rule::Nesting;
@@ -57,7 +54,7 @@ pub fn opening(reader: Reader<'_>, at: usize, wanted: Sign, level: u32) -> Resul
 pub fn owned_name(reader: Reader<'_>, at: usize) -> Result<(Vec<u8>, usize), Failure>
     ensures read { IfOk result (λ found. IsNext (named found.0.items) (rest_at reader.entry at) (rest_at reader.entry found.1)) }
     ensures forward { IfOk result (λ found. IsBehind reader.entry.words.now at found.1) }
-    ensures missed { IfFault result (λ fault. MissesName (rest_at reader.entry at) fault.rule × (fault.at ≡ at)) }
+    ensures missed { IfFault result (λ fault. MissesKind (rest_at reader.entry at) named fault.rule × (fault.at ≡ at)) }
 {
     let (bytes, next) = name(reader, at)?;
     let owned = bytes.to_vec(reader.alloc)?;
@@ -68,7 +65,7 @@ pub fn owned_name(reader: Reader<'_>, at: usize) -> Result<(Vec<u8>, usize), Fai
 fn name<'t>(reader: Reader<'t>, at: usize) -> Result<(&'t [u8], usize), Fault>
     ensures read { IfOk result (λ found. IsNext (named found.0.now) (rest_at reader.entry at) (rest_at reader.entry found.1)) }
     ensures forward { IfOk result (λ found. IsBehind reader.entry.words.now at found.1) }
-    ensures missed { IfErr result (λ fault. MissesName (rest_at reader.entry at) fault.rule × (fault.at ≡ at)) }
+    ensures missed { IfErr result (λ fault. MissesKind (rest_at reader.entry at) named fault.rule × (fault.at ≡ at)) }
 {
     let rule = Rule::Expected;
     let missing = Fault { rule, at };

@@ -32,16 +32,10 @@ pub fn sum(reader: Reader<'_>, at: usize, levels: u32, operators: u32) -> Read<S
     ensures forward { IfOk result (λ found. IsBehind reader.entry.words.now at found.1) }
     ensures refused { IfFault result (λ fault. Refuses operators (a_sum levels) (rest_at reader.entry at) fault.rule (rest_at reader.entry fault.at)) }
 {
-    let (first, behind, count) = factor(reader, at, levels, operators)?;
+    let (factor, behind, count) = factor(reader, at, levels, operators)?;
     let (tail, next, now) = tail(reader, behind, levels, count)?;
-    Ok((
-        Sum {
-            factor: first,
-            tail,
-        },
-        next,
-        now,
-    ))
+    let sum = Sum { factor, tail };
+    Ok((sum, next, now))
 }
 
 /// Reads what stands behind the first factor of a sum.

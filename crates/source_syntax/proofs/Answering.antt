@@ -1,39 +1,40 @@
 -- The readers' answers as steps of the calculus.
-use Rattle.std.proofs.Common.{◌≡◌, inl, inr, ℕ, ◌≤◌, ℤ, List, [], ◌∷◌, Some, refl, sym, ap, ◌∙◌, subst, arith}
+use Rattle.std.proofs.Common.{◌≡◌, inl, inr, ℕ, ◌≤◌, ℤ, List, [], ◌∷◌, Some, refl, sym, subst, arith}
 use Rattle.derivation.specs.declared.rule.Rule.{Rule}
-use Rattle.derivation.specs.declared.rule.Rule.TheVariants.{Expected, Nesting, Operators}
 use Rattle.derivation.specs.declared.symbol.Symbol.{Symbol}
 use Rattle.derivation.specs.declared.lexeme.Lexeme.{Lexeme}
 use Rattle.derivation.specs.Word.{symbol, name as named, number as numbered}
 use Rattle.derivation.specs.Comes.{IsNext}
-use Rattle.source_syntax.specs.Language.{Token, Rest, IsQuiet, rest_from}
+use Rattle.derivation.specs.Failures.{MissesWord, MissesOpening, MissesKind}
+use Rattle.source_syntax.specs.Language.{Rest, IsQuiet, rest_from}
 use Rattle.derivation.specs.declared.fault.Fault.{Fault}
 use Rattle.source_syntax.specs.Spelling.{plain, sign, leading, opening, leading_opening}
-use Rattle.source_syntax.specs.Pending.{Pending, exactly, a_name, bytes_of_a_name, a_number, a_place, Trees, Leads, Stops}
-use Rattle.source_syntax.specs.Reads.{MissesSign, MissesOpening, MissesName, MissesNumber, AreNext, MissesOne}
-use Rattle.derivation.proofs.Grammars.{over, fails, stay, read, exceeds}
+use Rattle.source_syntax.specs.Pending.{Pending, exactly, a_name, bytes_of_a_name, a_number, a_place, Trees, grammar, Leads, Stops}
+use Rattle.source_syntax.specs.Reads.{AreNext, MissesOne}
+use Rattle.derivation.proofs.Grammars.{over, fails, stay, read}
 use Rattle.derivation.proofs.Choices.{held}
+use Rattle.derivation.proofs.Answering.{kind_missed, word_missed, opening_missed, there}
 use Rattle.source_syntax.proofs.Completions.{lawful}
-use Rattle.source_syntax.proofs.Expressions.{tokens, token_missed, places, names, name_bytes, bytes_missed, numbers, number_missed}
+use Rattle.source_syntax.proofs.Expressions.{tokens, places, names, name_bytes, numbers}
 
 module _ {c : ℕ} {S : List Pending} {from to : Rest} where
   pub sign_reads : (s : Symbol) (quiet : IsQuiet (Some (symbol s))) → IsNext (symbol s) from to
-      → Leads c ((exactly (sign s) quiet ∷ S)) from c S to (λ g. (tt, g))
+      → Leads c (exactly (sign s) quiet ∷ S) from c S to (λ g. (tt, g))
   sign_reads s quiet e = read (tokens (sign s) quiet S) e (omega arith, tt)
 
   pub leading_reads : (s : Symbol) (quiet : IsQuiet (Some (symbol s))) → IsNext (symbol s) from to
-      → Leads c ((exactly (leading s) quiet ∷ S)) from 0 S to (λ g. (tt, g))
+      → Leads c (exactly (leading s) quiet ∷ S) from 0 S to (λ g. (tt, g))
   leading_reads s quiet e = read (tokens (leading s) quiet S) e (omega arith, tt)
 
   pub opening_reads : (s : Symbol) (level : ℕ) (quiet : IsQuiet (Some (symbol s))) → IsNext (symbol s) from to → level ≤ 64
-      → Leads c ((exactly (opening s level) quiet ∷ S)) from c S to (λ g. (tt, g))
+      → Leads c (exactly (opening s level) quiet ∷ S) from c S to (λ g. (tt, g))
   opening_reads s level quiet e shallow = read (tokens (opening s level) quiet S) e (shallow, tt)
 
   pub leading_opening_reads : (s : Symbol) (level : ℕ) (quiet : IsQuiet (Some (symbol s))) → IsNext (symbol s) from to → level ≤ 64
-      → Leads c ((exactly (leading_opening s level) quiet ∷ S)) from 0 S to (λ g. (tt, g))
+      → Leads c (exactly (leading_opening s level) quiet ∷ S) from 0 S to (λ g. (tt, g))
   leading_opening_reads s level quiet e shallow = read (tokens (leading_opening s level) quiet S) e (shallow, tt)
 
-  pub number_reads : {z : ℤ} → IsNext (numbered z) from to → Leads c ((exactly (plain (numbered z)) (refl, refl) ∷ S)) from c S to (λ g. (tt, g))
+  pub number_reads : {z : ℤ} → IsNext (numbered z) from to → Leads c (exactly (plain (numbered z)) (refl, refl) ∷ S) from c S to (λ g. (tt, g))
   number_reads {z} e = read (tokens (plain (numbered z)) (refl, refl) S) e (omega arith, tt)
 
   pub sign_at_reads : (s : Symbol) (quiet : IsQuiet (Some (symbol s))) → IsNext (symbol s) from to
@@ -50,67 +51,45 @@ module _ {c : ℕ} {S : List Pending} {from to : Rest} where
   number_at_reads {z} e = over (held (places (a_number ∷ S)) c from) (read (numbers z S) e (omega arith, tt))
 
 -- the same for faults
-missed : (c : ℕ) (t : Token) (quiet : IsQuiet (Some t.word)) (S : List Pending) (from : Rest) (s : Symbol) (rule : Rule) → t.word ≡ symbol s
-    → MissesSign from s rule → Stops c ((exactly t quiet ∷ S)) from rule from
-missed c t quiet S from s Expected e h = token_missed c t quiet S from (λ to same. h to (same ∙ ap (λ w. w ∷ to) e))
-missed c t quiet S from s Nesting e h = absurd h
-missed c t quiet S from s Operators e h = absurd h
-
-missed_opening : (c : ℕ) (t : Token) (quiet : IsQuiet (Some t.word)) (S : List Pending) (from : Rest) (s : Symbol) (rule : Rule) → t.word ≡ symbol s
-    → MissesOpening from s t.level rule → Stops c ((exactly t quiet ∷ S)) from rule from
-missed_opening c t quiet S from s Expected e h = token_missed c t quiet S from (λ to same. h to (same ∙ ap (λ w. w ∷ to) e))
-missed_opening c t quiet S from s Nesting e h = exceeds (tokens t quiet S) lawful {to = h.0.0} (h.0.1.0 ∙ ap (λ w. w ∷ h.0.0.words) (sym e), h.0.1.1) Nesting (λ e. cc) h.1
-missed_opening c t quiet S from s Operators e h = absurd h
-
-there : (c : ℕ) (lexemes : List Lexeme) (at : ℕ) (fault : Fault) (A : List Pending) → fault.at ≡ at
-    → Stops c A (rest_from lexemes at) fault.rule (rest_from lexemes at) → Stops c A (rest_from lexemes at) fault.rule (rest_from lexemes fault.at)
-there c lexemes at fault A e h = subst (λ n. Stops c A (rest_from lexemes at) fault.rule (rest_from lexemes n)) (sym e) h
-
 module _ {c : ℕ} {S : List Pending} (lexemes : List Lexeme) (at : ℕ) (fault : Fault) where
-  pub sign_refused : (s : Symbol) (quiet : IsQuiet (Some (symbol s))) → MissesSign (rest_from lexemes at) s fault.rule × (fault.at ≡ at)
-      → Stops c ((exactly (sign s) quiet ∷ S)) (rest_from lexemes at) fault.rule (rest_from lexemes fault.at)
-  sign_refused s quiet h = there c lexemes at fault (exactly (sign s) quiet ∷ S) h.1 (missed c (sign s) quiet S (rest_from lexemes at) s fault.rule refl h.0)
+  pub sign_refused : (s : Symbol) (quiet : IsQuiet (Some (symbol s))) → MissesWord (rest_from lexemes at) (symbol s) fault.rule × (fault.at ≡ at)
+      → Stops c (exactly (sign s) quiet ∷ S) (rest_from lexemes at) fault.rule (rest_from lexemes fault.at)
+  sign_refused s quiet h =
+      there grammar (rest_from lexemes) at fault h.1 (word_missed lawful (exactly (sign s) quiet ∷ S) (symbol s) (λ f. refl) fault.rule h.0)
 
-  pub leading_refused : (s : Symbol) (quiet : IsQuiet (Some (symbol s))) → MissesSign (rest_from lexemes at) s fault.rule × (fault.at ≡ at)
-      → Stops c ((exactly (leading s) quiet ∷ S)) (rest_from lexemes at) fault.rule (rest_from lexemes fault.at)
-  leading_refused s quiet h = there c lexemes at fault (exactly (leading s) quiet ∷ S) h.1 (missed c (leading s) quiet S (rest_from lexemes at) s fault.rule refl h.0)
+  pub leading_refused : (s : Symbol) (quiet : IsQuiet (Some (symbol s))) → MissesWord (rest_from lexemes at) (symbol s) fault.rule × (fault.at ≡ at)
+      → Stops c (exactly (leading s) quiet ∷ S) (rest_from lexemes at) fault.rule (rest_from lexemes fault.at)
+  leading_refused s quiet h =
+      there grammar (rest_from lexemes) at fault h.1 (word_missed lawful (exactly (leading s) quiet ∷ S) (symbol s) (λ f. refl) fault.rule h.0)
 
-  pub opening_refused : (s : Symbol) (level : ℕ) (quiet : IsQuiet (Some (symbol s))) → MissesOpening (rest_from lexemes at) s level fault.rule × (fault.at ≡ at)
-      → Stops c ((exactly (opening s level) quiet ∷ S)) (rest_from lexemes at) fault.rule (rest_from lexemes fault.at)
+  pub opening_refused : (s : Symbol) (level : ℕ) (quiet : IsQuiet (Some (symbol s))) → MissesOpening (rest_from lexemes at) (symbol s) level fault.rule × (fault.at ≡ at)
+      → Stops c (exactly (opening s level) quiet ∷ S) (rest_from lexemes at) fault.rule (rest_from lexemes fault.at)
   opening_refused s level quiet h =
-      there c lexemes at fault (exactly (opening s level) quiet ∷ S) h.1 (missed_opening c (opening s level) quiet S (rest_from lexemes at) s fault.rule refl h.0)
+      there grammar (rest_from lexemes) at fault h.1 (opening_missed lawful _ (tokens (opening s level) quiet S) (λ f. refl) fault.rule h.0)
 
-  pub leading_opening_refused : (s : Symbol) (level : ℕ) (quiet : IsQuiet (Some (symbol s))) → MissesOpening (rest_from lexemes at) s level fault.rule × (fault.at ≡ at)
-      → Stops c ((exactly (leading_opening s level) quiet ∷ S)) (rest_from lexemes at) fault.rule (rest_from lexemes fault.at)
+  pub leading_opening_refused : (s : Symbol) (level : ℕ) (quiet : IsQuiet (Some (symbol s)))
+      → MissesOpening (rest_from lexemes at) (symbol s) level fault.rule × (fault.at ≡ at)
+      → Stops c (exactly (leading_opening s level) quiet ∷ S) (rest_from lexemes at) fault.rule (rest_from lexemes fault.at)
   leading_opening_refused s level quiet h =
-      there c lexemes at fault (exactly (leading_opening s level) quiet ∷ S) h.1
-      (missed_opening c (leading_opening s level) quiet S (rest_from lexemes at) s fault.rule refl h.0)
+      there grammar (rest_from lexemes) at fault h.1 (opening_missed lawful _ (tokens (leading_opening s level) quiet S) (λ f. refl) fault.rule h.0)
 
-  pub sign_at_refused : (s : Symbol) (quiet : IsQuiet (Some (symbol s))) → MissesSign (rest_from lexemes at) s fault.rule × (fault.at ≡ at)
+  pub sign_at_refused : (s : Symbol) (quiet : IsQuiet (Some (symbol s))) → MissesWord (rest_from lexemes at) (symbol s) fault.rule × (fault.at ≡ at)
       → Stops c (a_place ∷ exactly (sign s) quiet ∷ S) (rest_from lexemes at) fault.rule (rest_from lexemes fault.at)
   sign_at_refused s quiet h = fails (held (places (exactly (sign s) quiet ∷ S)) c (rest_from lexemes at)) (sign_refused s quiet h)
 
-  pub bytes_refused : MissesName (rest_from lexemes at) fault.rule × (fault.at ≡ at)
-      → Stops c ((bytes_of_a_name ∷ S)) (rest_from lexemes at) fault.rule (rest_from lexemes fault.at)
-  bytes_refused h = there c lexemes at fault (bytes_of_a_name ∷ S) h.1 (by_rule fault.rule h.0)
-    where
-      by_rule : (rule : Rule) → MissesName (rest_from lexemes at) rule → Stops c ((bytes_of_a_name ∷ S)) (rest_from lexemes at) rule (rest_from lexemes at)
-      by_rule Expected h = bytes_missed c S (rest_from lexemes at) h
-      by_rule Nesting h = absurd h
-      by_rule Operators h = absurd h
+  pub bytes_refused : MissesKind (rest_from lexemes at) named fault.rule × (fault.at ≡ at)
+      → Stops c (bytes_of_a_name ∷ S) (rest_from lexemes at) fault.rule (rest_from lexemes fault.at)
+  bytes_refused h = there grammar (rest_from lexemes) at fault h.1 (kind_missed lawful (bytes_of_a_name ∷ S) named (λ f. (f.0, refl)) fault.rule h.0)
 
-  pub name_refused : MissesName (rest_from lexemes at) fault.rule × (fault.at ≡ at)
-      → Stops c ((a_name ∷ S)) (rest_from lexemes at) fault.rule (rest_from lexemes fault.at)
+  pub name_refused : MissesKind (rest_from lexemes at) named fault.rule × (fault.at ≡ at)
+      → Stops c (a_name ∷ S) (rest_from lexemes at) fault.rule (rest_from lexemes fault.at)
   name_refused h = fails (held (names S) c (rest_from lexemes at)) (bytes_refused h)
 
-  pub number_at_refused : MissesNumber (rest_from lexemes at) fault.rule × (fault.at ≡ at)
+  pub number_at_refused : MissesKind (rest_from lexemes at) numbered fault.rule × (fault.at ≡ at)
       → Stops c (a_place ∷ a_number ∷ S) (rest_from lexemes at) fault.rule (rest_from lexemes fault.at)
-  number_at_refused h = fails (held (places (a_number ∷ S)) c (rest_from lexemes at)) (there c lexemes at fault (a_number ∷ S) h.1 (by_rule fault.rule h.0))
-    where
-      by_rule : (rule : Rule) → MissesNumber (rest_from lexemes at) rule → Stops c ((a_number ∷ S)) (rest_from lexemes at) rule (rest_from lexemes at)
-      by_rule Expected h = number_missed c S (rest_from lexemes at) h
-      by_rule Nesting h = absurd h
-      by_rule Operators h = absurd h
+  number_at_refused h =
+      fails (held (places (a_number ∷ S)) c (rest_from lexemes at))
+      (there grammar (rest_from lexemes) at fault h.1 (kind_missed lawful (a_number ∷ S) numbered (λ f. (f.0, refl)) fault.rule h.0))
 
 -- signs one behind the other
 abbrev pub AreQuiet : List Symbol → Type 0
@@ -139,5 +118,5 @@ pub signs_refused : {c : ℕ} (S : List Pending) (all : List Symbol) (quiet : Ar
     → MissesOne all from rule to → Stops c (in_turn all quiet S) from rule to
 signs_refused S [] quiet h = absurd h
 signs_refused {c} S (s ∷ more) quiet {from} {to} {rule} (inl h) =
-    subst (λ to. Stops c (in_turn (s ∷ more) quiet S) from rule to) (sym h.1) (missed c (sign s) quiet.0 (in_turn more quiet.1 S) from s rule refl h.0)
+    subst (λ to. Stops c (in_turn (s ∷ more) quiet S) from rule to) (sym h.1) (word_missed lawful (in_turn (s ∷ more) quiet S) (symbol s) (λ f. refl) rule h.0)
 signs_refused S (s ∷ more) quiet (inr h) = fails (sign_reads s quiet.0 h.1) (signs_refused S more quiet.1 h.2)

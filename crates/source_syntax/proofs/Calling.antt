@@ -3,11 +3,11 @@ use Rattle.std.proofs.Common.{◌≡◌, ◌≢◌, inl, inr, ℕ, List, [], ◌
 use Rattle.derivation.specs.declared.symbol.Symbol.TheVariants as Sym
 use Rattle.derivation.specs.Word.{symbol}
 use Rattle.derivation.specs.Pieces.{Fits}
-use Rattle.derivation.proofs.Grammars.{opens, becomes}
+use Rattle.derivation.proofs.Grammars.{turns, becomes}
 use Rattle.derivation.proofs.Choices.{begins, Way, Choice, Sides, Fork}
 use Rattle.concrete_syntax.specs.declared.sign.Assignment.{Assignment}
 use Rattle.concrete_syntax.specs.declared.sign.Step.{Step}
-use Rattle.concrete_syntax.specs.Trees.{Operand, operand_at, OperandKind, number, name, truth, unknown, call, signed, parentheses, range, operation, division, Tail, ended, further, Expression, Name, assigns, steps, Value, evaluates, answers}
+use Rattle.concrete_syntax.specs.Trees.{Operand, operand_at, number, name, operation, division, Tail, ended, further, Expression, Name, assigns, steps, Value, evaluates, answers}
 use Rattle.source_syntax.specs.declared.opening.EndOpening.{EndOpening}
 use Rattle.source_syntax.specs.declared.opening.LinkOpening.TheVariants as Link
 use Rattle.source_syntax.specs.Language.{Rest, link_opening}
@@ -42,18 +42,14 @@ module _ (n : ℕ) where
       value_spells (answers c) rest = refl
 
       spells : (o : EndOpening) → (g : Trees (end_rest o S)) → pieces (a_statement_end true n ∷ S) (end_tree o S g) ≡ pieces (end_rest o S) g
-      spells EndOpening.Call g = refl
       spells EndOpening.Value g = value_spells g.1.0.0 g.1.1
-      spells EndOpening.Action g = refl
+      spells _ g = refl
 
       view : (f : Trees (a_statement_end true n ∷ S))
           → Way grammar (a_statement_end true n ∷ S) Anything (λ o. end_rest o S) (λ o. end_tree o S) (opening_of_end (begins grammar (a_statement_end true n ∷ S) f)) f
       view (does (assigns Assignment.Assign e), rest) = (tt, (tt, ((evaluates e, tt), rest)), refl)
-      view (does (assigns Assignment.Add e), rest) = (tt, (assigns Assignment.Add e, (tt, rest)), refl)
-      view (does (assigns Assignment.Subtract e), rest) = (tt, (assigns Assignment.Subtract e, (tt, rest)), refl)
-      view (does (assigns Assignment.Multiply e), rest) = (tt, (assigns Assignment.Multiply e, (tt, rest)), refl)
       view (does (steps Step.Increment), rest) = (tt, (steps Step.Increment, (tt, rest)), refl)
-      view (does (steps Step.Decrement), rest) = (tt, (steps Step.Decrement, (tt, rest)), refl)
+      view (does action, rest) = (tt, (action, (tt, rest)), refl)
       view (applied all, rest) = (tt, (tt, (all, (tt, rest))), refl)
       view (given c, rest) = (tt, (tt, ((answers c, tt), rest)), refl)
 
@@ -61,8 +57,7 @@ module _ (n : ℕ) where
   pub no_calls : (c : ℕ) (S : List Pending) (from : Rest)
       → Leads c (a_statement_end false n ∷ S) from c (an_action n ∷ exactly (sign Sym.Semicolon) (refl, refl) ∷ S) from (λ g. (does g.0, g.1.1))
   no_calls c S from =
-      opens grammar (a_statement_end false n ∷ S) (an_action n ∷ exactly (sign Sym.Semicolon) (refl, refl) ∷ S) c from Anything []
-      (λ g. (does g.0, g.1.1)) refl refl tt refl tt (λ g. refl) (λ f fits any. view f.0 f.1 fits) tt
+      turns Anything (λ g. refl) (λ f fits any. view f.0 f.1 fits) tt
     where
       view : (end : StatementEnd) (rest : Trees S) → Fits from.number (pieces (a_statement_end false n ∷ S) (end, rest))
           → (g : Trees (an_action n ∷ exactly (sign Sym.Semicolon) (refl, refl) ∷ S)) × Same (a_statement_end false n ∷ S) (end, rest) (does g.0, g.1.1)
@@ -73,14 +68,13 @@ module _ (n : ℕ) where
 -- what stands behind a value
 module _ (n c : ℕ) (S : List Pending) (from : Rest) where
   pub closes_statement : Leads c (a_closing false n ∷ S) from c (exactly (sign Sym.Semicolon) (refl, refl) ∷ S) from (λ g. (tt, g.1))
-  closes_statement =
-      becomes grammar (a_closing false n ∷ S) (exactly (sign Sym.Semicolon) (refl, refl) ∷ S) c from (λ g. (tt, g.1)) (λ g. refl) (λ f. ((tt, f.1), refl))
+  closes_statement = becomes (λ g. refl) (λ f. ((tt, f.1), refl))
 
   pub closes_part : Leads c (a_closing true n ∷ S) from c (parts true n ∷ S) from (λ g. g)
-  closes_part = becomes grammar (a_closing true n ∷ S) (parts true n ∷ S) c from (λ g. g) (λ g. refl) (λ f. (f, refl))
+  closes_part = becomes (λ g. refl) (λ f. (f, refl))
 
   pub initialiser_goes : Leads c (an_initialiser true n ∷ S) from c (a_value true n ∷ S) from (λ g. g)
-  initialiser_goes = becomes grammar (an_initialiser true n ∷ S) (a_value true n ∷ S) c from (λ g. g) (λ g. refl) (λ f. (f, refl))
+  initialiser_goes = becomes (λ g. refl) (λ f. (f, refl))
 
 -- the right side of an `=`
 module _ (initialises : Bool) (n : ℕ) where
@@ -109,22 +103,12 @@ module _ (initialises : Bool) (n : ℕ) where
       spells true g = named_spells g.0 g.1.0.0 g.1.0.1 g.1.1
       spells false g = refl
 
-      opened : (at : ℕ) (kind : OperandKind) (t : Tail) (end : Closing initialises) (rest : Trees S)
-          → IsMade S (evaluates (record { operand = operand_at at kind; tail = t })) end rest
-      opened at (name x) t end rest = (tt, (record { at = at; bytes = x }, ((continues t, end), rest)), refl)
-      opened at (number z) t end rest = (tt, (record { operand = operand_at at (number z); tail = t }, (end, rest)), refl)
-      opened at (truth b) t end rest = (tt, (record { operand = operand_at at (truth b); tail = t }, (end, rest)), refl)
-      opened at unknown t end rest = (tt, (record { operand = operand_at at unknown; tail = t }, (end, rest)), refl)
-      opened at call t end rest = (tt, (record { operand = operand_at at call; tail = t }, (end, rest)), refl)
-      opened at (signed p e) t end rest = (tt, (record { operand = operand_at at (signed p e); tail = t }, (end, rest)), refl)
-      opened at (parentheses e more) t end rest = (tt, (record { operand = operand_at at (parentheses e more); tail = t }, (end, rest)), refl)
-      opened at (range lo hi) t end rest = (tt, (record { operand = operand_at at (range lo hi); tail = t }, (end, rest)), refl)
-
-      shaped : (e : Operand) (t : Tail) (end : Closing initialises) (rest : Trees S) → IsMade S (evaluates (record { operand = e; tail = t })) end rest
-      shaped (operand_at at kind) t end rest = opened at kind t end rest
+      opened : (e : Operand) (t : Tail) (end : Closing initialises) (rest : Trees S) → IsMade S (evaluates (record { operand = e; tail = t })) end rest
+      opened (operand_at at (name x)) t end rest = (tt, (record { at = at; bytes = x }, ((continues t, end), rest)), refl)
+      opened e t end rest = (tt, (record { operand = e; tail = t }, (end, rest)), refl)
 
       view : (v : Value) (end : Closing initialises) (rest : Trees S) → IsMade S v end rest
-      view (evaluates e) end rest = shaped e.operand e.tail end rest
+      view (evaluates e) end rest = opened e.operand e.tail end rest
       view (answers c) end rest = (tt, (c.function, ((called c.arguments, end), rest)), refl)
 
   -- the rest of an expression doesn't begin with a `(`, nor does what stands behind it

@@ -1,18 +1,17 @@
 -- How the reading of expressions goes on, by the next word.
-use Rattle.std.proofs.Common.{◌≡◌, ◌≢◌, inl, inr, ℕ, ◌+◌, ℤ, List, [], ◌∷◌, Option, None, Some, Bool, true, false, refl, sym, ap, ◌∙◌}
+use Rattle.std.proofs.Common.{◌≡◌, inl, inr, ℕ, ◌+◌, ℤ, List, ◌∷◌, Option, None, Some, Bool, true, false, refl, sym, ap, ◌∙◌}
 use Rattle.concrete_syntax.specs.declared.sign.Division.{Division}
 use Rattle.concrete_syntax.specs.declared.sign.Operator.{Operator}
-use Rattle.derivation.specs.declared.rule.Rule.TheVariants.{Expected}
 use Rattle.derivation.specs.declared.symbol.Symbol.TheVariants as Sym
-use Rattle.derivation.specs.Word.{Word, symbol, name as named, number as numbered}
-use Rattle.derivation.specs.Pieces.{token, look, first, Fits}
+use Rattle.derivation.specs.Word.{symbol, name as named, number as numbered}
+use Rattle.derivation.specs.Pieces.{token, first, Fits}
 use Rattle.source_syntax.specs.Language.{Token, Rest, link_opening, no_operator, IsQuiet}
 use Rattle.source_syntax.specs.declared.opening.LinkOpening.{LinkOpening}
 use Rattle.source_syntax.specs.declared.opening.LinkOpening.TheVariants as Link
 use Rattle.source_syntax.specs.Reads.{right_of, link_of}
 use Rattle.source_syntax.proofs.Words.{link_sign}
-use Rattle.source_syntax.specs.Pending.{Leads, Stops, Pending, exactly, a_name, bytes_of_a_name, a_size, an_end, a_number, a_place, a_divisor, an_operand, an_operand_kind, a_tail, an_expression, Trees, pieces, grammar}
-use Rattle.derivation.proofs.Grammars.{opens, becomes, sticks, Headed}
+use Rattle.source_syntax.specs.Pending.{Leads, Pending, exactly, a_name, bytes_of_a_name, a_size, an_end, a_number, a_place, a_divisor, an_operand, an_operand_kind, a_tail, an_expression, Trees, pieces, grammar}
+use Rattle.derivation.proofs.Grammars.{looks, becomes, Headed}
 use Rattle.concrete_syntax.specs.declared.sign.Prefix.{Prefix}
 use Rattle.source_syntax.specs.declared.opening.OperandOpening.{OperandOpening}
 use Rattle.source_syntax.specs.declared.opening.SizeOpening.{SizeOpening}
@@ -20,7 +19,7 @@ use Rattle.source_syntax.specs.Openings.{opening_of_operand, size_opening}
 use Rattle.concrete_syntax.specs.Trees.{Operand, operand_at, OperandKind, number, name, truth, unknown, call, signed, parentheses, range, operation, division, Tail, ended, further}
 use Rattle.source_syntax.specs.Spelling.{plain, sign, opening, counted, prefix_sign, truth_word}
 use Rattle.source_syntax.proofs.Completions.{lawful}
-use Rattle.derivation.proofs.Choices.{begins, Way, Choice, Sides, Fork, Held, not_next}
+use Rattle.derivation.proofs.Choices.{begins, Way, Choice, Sides, Fork, Held}
 
 abbrev pub Same : (all : List Pending) → Trees all → Trees all → Type 0
 Same all x y = x ≡ y
@@ -28,11 +27,6 @@ Same all x y = x ≡ y
 -- a token that has to stand here
 pub tokens : (t : Token) (quiet : IsQuiet (Some t.word)) (S : List Pending) → Headed grammar (exactly t quiet ∷ S) t S (λ g. (tt, g))
 tokens t quiet S = record { spells = λ g. refl; view = λ n f fits next. (f.1, refl) }
-
-pub token_missed : (c : ℕ) (t : Token) (quiet : IsQuiet (Some t.word)) (S : List Pending) (from : Rest) → ((to : List Word) → from.words ≢ t.word ∷ to)
-    → Stops c (exactly t quiet ∷ S) from Expected from
-token_missed c t quiet S from h =
-    sticks lawful (exactly t quiet ∷ S) c from (λ next. next ≢ Some t.word) (λ f fits other. other refl) (not_next t.word from.words h)
 
 -- the number of the next token
 pub places : (S : List Pending) → Held lawful (a_place ∷ S) (λ m. S) (λ m g. (m, g))
@@ -45,19 +39,9 @@ names S = record { spells = λ m g. refl; view = λ f. (f.0.at, (f.0.bytes, f.1)
 pub name_bytes : (x : List ℕ) (S : List Pending) → Headed grammar (bytes_of_a_name ∷ S) (plain (named x)) S (λ g. (x, g))
 name_bytes x S = record { spells = λ g. refl; view = λ n f fits next. (f.1, let same : f.0 ≡ x = cc in ap (λ y. (y, f.1)) same) }
 
-pub bytes_missed : (c : ℕ) (S : List Pending) (from : Rest) → ((x : List ℕ) (to : List Word) → from.words ≢ named x ∷ to) → Stops c (bytes_of_a_name ∷ S) from Expected from
-bytes_missed c S from h =
-    sticks lawful (bytes_of_a_name ∷ S) c from (λ next. (x : List ℕ) → next ≢ Some (named x)) (λ f fits other. other f.0 refl)
-    (λ x. not_next (named x) from.words (h x))
-
 -- numbers
 pub numbers : (z : ℤ) (S : List Pending) → Headed grammar (a_number ∷ S) (plain (numbered z)) S (λ g. (z, g))
 numbers z S = record { spells = λ g. refl; view = λ n f fits next. (f.1, let same : f.0 ≡ z = cc in ap (λ y. (y, f.1)) same) }
-
-pub number_missed : (c : ℕ) (S : List Pending) (from : Rest) → ((z : ℤ) (to : List Word) → from.words ≢ numbered z ∷ to) → Stops c (a_number ∷ S) from Expected from
-number_missed c S from h =
-    sticks lawful (a_number ∷ S) c from (λ next. (z : ℤ) → next ≢ Some (numbered z)) (λ f fits other. other f.0 refl)
-    (λ z. not_next (numbered z) from.words (h z))
 
 -- a divisor, with a `-` and without
 module _ (S : List Pending) where
@@ -92,9 +76,8 @@ module _ (S : List Pending) where
   sizes = record { spells = spells; view = view }
     where
       spells : (o : SizeOpening) → (g : Trees (size_rest o S)) → pieces (a_size ∷ S) (size_tree o S g) ≡ pieces (size_rest o S) g
-      spells (SizeOpening.Number z) g = refl
-      spells SizeOpening.Infinite g = refl
       spells SizeOpening.Nothing g = refl
+      spells _ g = refl
 
       view : (f : Trees (a_size ∷ S)) → Way grammar (a_size ∷ S) IsSize (λ o. size_rest o S) (λ o. size_tree o S) (size_opening (begins grammar (a_size ∷ S) f)) f
       view (Some z, rest) = (tt, (tt, rest), refl)
@@ -154,15 +137,8 @@ module _ (n : ℕ) where
     operands = record { spells = spells; view = view }
       where
         spells : (o : OperandOpening) → (g : Trees (operand_rest o S)) → pieces (an_operand_kind n ∷ S) (operand_tree o S g) ≡ pieces (operand_rest o S) g
-        spells (OperandOpening.Number z) g = refl
-        spells OperandOpening.Name g = refl
-        spells (OperandOpening.Truth b) g = refl
-        spells OperandOpening.Unknown g = refl
-        spells OperandOpening.Call g = refl
-        spells (OperandOpening.Signed prefix) g = refl
-        spells OperandOpening.Parenthesis g = refl
-        spells OperandOpening.Bracket g = refl
         spells OperandOpening.Nothing g = refl
+        spells _ g = refl
 
         view : (f : Trees (an_operand_kind n ∷ S))
             → Way grammar (an_operand_kind n ∷ S) IsOperand (λ o. operand_rest o S) (λ o. operand_tree o S) (opening_of_operand (begins grammar (an_operand_kind n ∷ S) f)) f
@@ -209,26 +185,16 @@ module _ (n : ℕ) where
 -- the links behind the first operand
 pub reads_back : (o : LinkOpening) → link_opening (Some (symbol (link_sign o))) ≡ Some o
 reads_back (Link.Operation Operator.Add) = refl
-reads_back (Link.Operation Operator.Subtract) = refl
-reads_back (Link.Operation Operator.Multiply) = refl
-reads_back (Link.Operation Operator.Less) = refl
-reads_back (Link.Operation Operator.LessEqual) = refl
-reads_back (Link.Operation Operator.Greater) = refl
-reads_back (Link.Operation Operator.GreaterEqual) = refl
-reads_back (Link.Operation Operator.Equal) = refl
-reads_back (Link.Operation Operator.NotEqual) = refl
-reads_back (Link.Operation Operator.And) = refl
-reads_back (Link.Operation Operator.Or) = refl
+reads_back (Link.Operation _) = refl
 reads_back (Link.Division Division.Quotient) = refl
-reads_back (Link.Division Division.Remainder) = refl
+reads_back (Link.Division _) = refl
 
 module _ (n c : ℕ) (S : List Pending) (from : Rest) where
   -- where no operator follows, the expression has ended
   pub tail_ends : None ≡ link_opening (first from.words)
       → Leads c ((a_tail n ∷ S)) from c S from (λ g. (ended, g))
   tail_ends e =
-      opens grammar (a_tail n ∷ S) S c from (λ next. link_opening next ≡ None) (look no_operator ∷ []) (λ g. (ended, g)) refl refl tt refl
-      (sym e, tt) (λ g. refl) (λ f fits none. view f.0 f.1 none) (sym e)
+      looks (λ next. link_opening next ≡ None) no_operator (sym e) (λ g. refl) (λ f fits none. view f.0 f.1 none) (sym e)
     where
       view : (t : Tail) (rest : Trees S) → link_opening (begins grammar (a_tail n ∷ S) (t, rest)) ≡ None
           → (g : Trees S) × Same (a_tail n ∷ S) (t, rest) (ended, g)
@@ -239,9 +205,7 @@ module _ (n c : ℕ) (S : List Pending) (from : Rest) where
   -- an expression is an operand and what stands behind it
   pub expression_goes : Leads c ((an_expression n ∷ S)) from c ((an_operand n ∷ a_tail n ∷ S)) from
       (λ g. (record { operand = g.0; tail = g.1.0 }, g.1.1))
-  expression_goes =
-      becomes grammar (an_expression n ∷ S) (an_operand n ∷ a_tail n ∷ S) c from (λ g. (record { operand = g.0; tail = g.1.0 }, g.1.1)) (λ g. refl)
-      (λ f. ((f.0.operand, (f.0.tail, f.1)), refl))
+  expression_goes = becomes (λ g. refl) (λ f. ((f.0.operand, (f.0.tail, f.1)), refl))
 
 -- a tail that begins with a link
 module _ (n : ℕ) (S : List Pending) where

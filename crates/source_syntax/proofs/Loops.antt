@@ -32,7 +32,7 @@ written from to e h = (e.0 ∙ ap (λ x. symbol x ∷ to.words) h, e.1)
 
 -- at the start, what is left is all
 pub continues_from : {p : Pending} {whole : TreeOf p → TreeOf p} (start : Rest) → ((t : TreeOf p) → t ≡ whole t) → Continues p whole start start
-continues_from {p} start same = record { comes = λ count behind. (count, refilled (λ g. ap (λ t. (t, g.1)) (same g.0)) (stay count (p ∷ behind) start)) }
+continues_from {p} start same = λ count behind. (count, refilled (λ g. ap (λ t. (t, g.1)) (same g.0)) (stay count (p ∷ behind) start))
 
 -- an element more in a list
 pub longer : {X Y : Type 0} (f : X → Y) (old new : List X) (last : X) → new ≡ old ++ last ∷ [] → (more : List Y) → map f old ++ f last ∷ more ≡ map f new ++ more
@@ -48,13 +48,11 @@ pub one_prelude_more : {functions : Bool} {start here to : Rest} (old new : List
     → Continues (a_program functions) (behind_preludes (map prelude old)) start here
     → Continues (a_program functions) (behind_preludes (prelude last ∷ [])) here to
     → Continues (a_program functions) (behind_preludes (map prelude new)) start to
-one_prelude_more old new last pushed h r = record {
-  comes = λ count behind. (
-    _,
-    refilled (λ g. ap (λ l. (record { preludes = l; functions = g.0.functions; void = g.0.void; items = g.0.items }, g.1)) (longer prelude old new last pushed g.0.preludes))
-        (over (h.comes count behind).1 (r.comes _ behind).1),
-  );
-}
+one_prelude_more old new last pushed h r = λ count behind. (
+  _,
+  refilled (λ g. ap (λ l. (record { preludes = l; functions = g.0.functions; void = g.0.void; items = g.0.items }, g.1)) (longer prelude old new last pushed g.0.preludes))
+      (over (h count behind).1 (r _ behind).1),
+)
 
 -- a function before other definitions, where what stands behind its type has been read
 pub one_function_more : {valued : Bool} {start here to : Rest} (old new : List RustFunction) (last : RustFunction) → new ≡ old ++ last ∷ [] → last.valued ≡ valued
@@ -62,14 +60,12 @@ pub one_function_more : {valued : Bool} {start here to : Rest} (old new : List R
     → ((count : ℕ) (behind : List Pending) → (now : ℕ) × Leads count (definitions true ∷ behind) here now (definitions true ∷ behind) to
     (λ g. (after_function (function_of valued (function last).name (function last).parameters (function last).items (function last).behind) g.0, g.1)))
     → Continues (definitions true) (behind_functions (functions new)) start to
-one_function_more {valued} old new last pushed typed h r = record {
-  comes = λ count behind. (
-    _,
-    refilled (λ g. ap (λ v. (behind_functions (functions old) (after_function (function_of v (function last).name (function last).parameters (function last).items (function last).behind) g.0), g.1)) (sym typed)
-        ∙ ap (λ l. (record { functions = l; void = g.0.void; items = g.0.items }, g.1)) (longer function old new last pushed g.0.functions))
-        (over (h.comes count behind).1 (r _ behind).1),
-  );
-}
+one_function_more {valued} old new last pushed typed h r = λ count behind. (
+  _,
+  refilled (λ g. ap (λ v. (behind_functions (functions old) (after_function (function_of v (function last).name (function last).parameters (function last).items (function last).behind) g.0), g.1)) (sym typed)
+      ∙ ap (λ l. (record { functions = l; void = g.0.void; items = g.0.items }, g.1)) (longer function old new last pushed g.0.functions))
+      (over (h count behind).1 (r _ behind).1),
+)
 
 -- the loop of a tail
 module _ (count levels : ℕ) (start : Rest) where
@@ -77,12 +73,10 @@ module _ (count levels : ℕ) (start : Rest) where
       → more ≡ links ++ one ∷ [] → ComesToTail count levels links start now here
       → ((behind : List Pending) → Leads now (a_tail levels ∷ behind) here (now + 1) (right_of levels o ∷ a_tail levels ∷ behind) inner (λ g. (further (link_of levels o g.0) g.1.0, g.1.1)))
       → ReadsRight (now + 1) levels o one inner next to → ComesToTail count levels more start next to
-  tail_over now next here inner to o one links more pushed h step r = record {
-    comes = λ behind.
-        refilled (λ trees. ap (λ t. (t, trees.1))
-        (sym (ap (λ l. tail_of l trees.0) pushed ∙ tail_of-append links (one ∷ []) trees.0 ∙ ap (λ l. tail_of links (further l trees.0)) r.made)))
-        (over (h.comes behind) (over (step behind) (r.reads.comes (a_tail levels ∷ behind))));
-  }
+  tail_over now next here inner to o one links more pushed h step r = λ behind.
+      refilled (λ trees. ap (λ t. (t, trees.1))
+      (sym (ap (λ l. tail_of l trees.0) pushed ∙ tail_of-append links (one ∷ []) trees.0 ∙ ap (λ l. tail_of links (further l trees.0)) r.made)))
+      (over (h behind) (over (step behind) (r.reads (a_tail levels ∷ behind))))
 
 -- a link more in a list
 pub one_link_more : (old new : List RustLink) (last : RustLink) → new ≡ old ++ last ∷ [] → links new ≡ links old ++ link last ∷ []

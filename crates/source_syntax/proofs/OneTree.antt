@@ -4,7 +4,7 @@ use Rattle.std.specs.Bool.{IsFalse}
 use Rattle.derivation.specs.Pieces.{spelling, Fits}
 use Rattle.derivation.proofs.Calculus.{first_spelling}
 use Rattle.derivation.proofs.OneTree.{IsOnly as IsOnlyIn, Next as NextIn, own, fitting, through, unique, by_token, by_number, by_way, by_its_opening, by_opening, by_side}
-use Rattle.concrete_syntax.specs.Trees.{OperandKind, number, name, truth, unknown, call, signed, parentheses, range, Tail, ended, further, operation, division, Value, evaluates, answers, Part, Otherwise, without, otherwise, Items, Function, Program}
+use Rattle.concrete_syntax.specs.Trees.{OperandKind, truth, signed, Tail, ended, further, operation, division, Value, evaluates, answers, Part, Otherwise, without, otherwise, Items, Function, Program}
 use Rattle.source_syntax.specs.declared.opening.ActionOpening.{ActionOpening}
 use Rattle.source_syntax.specs.declared.opening.EndOpening.{EndOpening}
 use Rattle.source_syntax.specs.declared.opening.ItemOpening.{ItemOpening}
@@ -101,13 +101,7 @@ module _ (S : List Pending) where
 operand_next : (n : ℕ) (kind : OperandKind) (S : List Pending) (rest : Trees S) → Next (an_operand_kind n ∷ S) (kind, rest)
 operand_next n (signed prefix e) S rest = by_token (prefixes n S prefix) (e, rest)
 operand_next n (truth true) S rest = by_its_opening (operands n S) (truth true, rest) (omega arith)
-operand_next n (truth false) S rest = by_its_opening (operands n S) (truth false, rest) (omega arith)
-operand_next n (number z) S rest = by_its_opening (operands n S) (number z, rest) (omega arith)
-operand_next n (name x) S rest = by_its_opening (operands n S) (name x, rest) (omega arith)
-operand_next n unknown S rest = by_its_opening (operands n S) (unknown, rest) (omega arith)
-operand_next n call S rest = by_its_opening (operands n S) (call, rest) (omega arith)
-operand_next n (parentheses e more) S rest = by_its_opening (operands n S) (parentheses e more, rest) (omega arith)
-operand_next n (range lo hi) S rest = by_its_opening (operands n S) (range lo hi, rest) (omega arith)
+operand_next n kind S rest = by_its_opening (operands n S) (kind, rest) (omega arith)
 
 -- what ends where no operator or no `else` follows
 tail_next : (n : ℕ) (t : Tail) (S : List Pending) (rest : Trees S) → Next (a_tail n ∷ S) (t, rest)

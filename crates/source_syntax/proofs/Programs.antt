@@ -3,7 +3,7 @@ use Rattle.std.proofs.Common.{◌≡◌, inl, inr, ℕ, List, [], ◌∷◌, Boo
 use Rattle.derivation.specs.declared.symbol.Symbol.{Symbol}
 use Rattle.derivation.specs.declared.symbol.Symbol.TheVariants as Sym
 use Rattle.derivation.specs.Pieces.{Fits}
-use Rattle.derivation.proofs.Grammars.{opens}
+use Rattle.derivation.proofs.Grammars.{turns}
 use Rattle.derivation.proofs.Choices.{begins, Way, Choice, Sides, Fork}
 use Rattle.source_syntax.specs.declared.opening.PreludeOpening.{PreludeOpening}
 use Rattle.source_syntax.specs.Openings.{opening_of_prelude}
@@ -90,8 +90,7 @@ only_main S g =
 pub no_functions : (c : ℕ) (S : List Pending) (from : Rest)
     → Leads c (definitions false ∷ S) from c (in_turn main_signs main_quiet (main_end false S)) from (only_main S)
 no_functions c S from =
-    opens grammar (definitions false ∷ S) (in_turn main_signs main_quiet (main_end false S)) c from (λ next. Unit {0}) [] (only_main S) refl refl tt refl tt (λ g. refl)
-    (λ f fits any. view f.0.functions f.0.void f.0.items f.1 fits) tt
+    turns (λ next. Unit {0}) (λ g. refl) (λ f fits any. view f.0.functions f.0.void f.0.items f.1 fits) tt
   where
     view : (before : List Function) (void : Bool) (all : Items) (rest : Trees S)
         → Fits from.number (pieces (definitions false ∷ S) (record { functions = before; void = void; items = all }, rest))
@@ -143,9 +142,8 @@ module _ (functions : Bool) where
   }
     where
       spells : (o : PreludeOpening) → (g : Trees (program_rest o S)) → pieces (a_program functions ∷ S) (program_tree o S g) ≡ pieces (program_rest o S) g
-      spells PreludeOpening.Extern g = refl
-      spells PreludeOpening.Typedef g = refl
       spells PreludeOpening.Main g = refl
+      spells _ g = refl
 
       by_type : (valued : Bool) (x : Name) (inner : Parameters) (all : Items) (at : ℕ) (others : Definitions) (rest : Trees S)
           → IsBegun S (whole S [] (after_function (function_of valued x inner all at) others) rest)

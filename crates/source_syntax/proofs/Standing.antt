@@ -25,7 +25,7 @@ module _ (text : List ℕ) (tokens : List Token) (lexemes : List Lexeme) (same :
       let there : ReadsCounting 0 (an_expression level) tree (left_from text tokens at) now (left_from text tokens next) =
       subst (λ to. ReadsCounting 0 (an_expression level) tree (left_from text tokens at) now to) (rest_is next)
       (subst (λ from. ReadsCounting 0 (an_expression level) tree from now (rest_from lexemes next)) (rest_is at) reads) in
-      let all = (there.comes []).comes in
+      let all = (there []).comes in
       let is : all.front ≡ expression_pieces level tree [] = sym (append-nil all.front) ∙ sym (all.spells tt) in
       record {
         spelled = subst (λ (front : List Piece). drop at (words text tokens) ≡ spelling front ++ drop next (words text tokens)) is all.parted;

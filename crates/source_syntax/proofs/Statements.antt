@@ -3,11 +3,11 @@ use Rattle.std.proofs.Common.{◌≡◌, ◌≢◌, inl, inr, ℕ, ◌+◌, List
 use Rattle.std.specs.Bool.{IsFalse}
 use Rattle.derivation.specs.declared.symbol.Symbol.{Symbol}
 use Rattle.derivation.specs.declared.symbol.Symbol.TheVariants as Sym
-use Rattle.derivation.specs.Word.{Word, symbol, name as named, number as numbered, unknown as unreadable}
-use Rattle.derivation.specs.Pieces.{look, first, Fits}
+use Rattle.derivation.specs.Word.{Word, symbol, name as named}
+use Rattle.derivation.specs.Pieces.{first, Fits}
 use Rattle.source_syntax.specs.Language.{Rest, is_else, no_else, IsQuiet}
 use Rattle.source_syntax.specs.Pending.{Leads, Pending, exactly, a_place, a_name, a_tail, an_expression, an_optional, a_test, an_action, a_simple, an_initialiser, a_part_end, parts, a_declaration, a_start, a_finish, a_statement_end, a_statement, a_statement_kind, an_otherwise, items, a_void, Trees, pieces, grammar}
-use Rattle.derivation.proofs.Grammars.{opens, becomes, Headed}
+use Rattle.derivation.proofs.Grammars.{turns, looks, becomes, Headed}
 use Rattle.concrete_syntax.specs.declared.sign.Assignment.{Assignment}
 use Rattle.concrete_syntax.specs.declared.sign.Step.{Step}
 use Rattle.source_syntax.specs.declared.opening.ActionOpening.{ActionOpening}
@@ -26,9 +26,7 @@ use Rattle.source_syntax.proofs.Expressions.{Same, IsOperand, operand_begins}
 
 pub assignment_quiet : (a : Assignment) → IsQuiet (Some (symbol (assignment_sign a)))
 assignment_quiet Assignment.Assign = (refl, refl)
-assignment_quiet Assignment.Add = (refl, refl)
-assignment_quiet Assignment.Subtract = (refl, refl)
-assignment_quiet Assignment.Multiply = (refl, refl)
+assignment_quiet _ = (refl, refl)
 
 pub step_quiet : (s : Step) → IsQuiet (Some (symbol (step_sign s)))
 step_quiet Step.Increment = (refl, refl)
@@ -54,16 +52,13 @@ module _ (n : ℕ) where
   actions S = record { spells = spells; view = view }
     where
       spells : (o : ActionOpening) → (g : Trees (action_rest o S)) → pieces (an_action n ∷ S) (action_tree o S g) ≡ pieces (action_rest o S) g
-      spells (ActionOpening.Assigns a) g = refl
-      spells (ActionOpening.Steps s) g = refl
       spells ActionOpening.Nothing g = refl
+      spells _ g = refl
 
       view : (f : Trees (an_action n ∷ S))
           → Way grammar (an_action n ∷ S) IsAction (λ o. action_rest o S) (λ o. action_tree o S) (opening_of_action (begins grammar (an_action n ∷ S) f)) f
       view (assigns Assignment.Assign x, rest) = (tt, (tt, (x, rest)), refl)
-      view (assigns Assignment.Add x, rest) = (tt, (tt, (x, rest)), refl)
-      view (assigns Assignment.Subtract x, rest) = (tt, (tt, (x, rest)), refl)
-      view (assigns Assignment.Multiply x, rest) = (tt, (tt, (x, rest)), refl)
+      view (assigns _ x, rest) = (tt, (tt, (x, rest)), refl)
       view (steps Step.Increment, rest) = (tt, (tt, rest), refl)
       view (steps Step.Decrement, rest) = (tt, (tt, rest), refl)
 
@@ -87,9 +82,8 @@ module _ (n : ℕ) where
   simples S = record { spells = spells; view = view }
     where
       spells : (o : SimpleOpening) → (g : Trees (simple_rest o S)) → pieces (a_simple n ∷ S) (simple_tree o S g) ≡ pieces (simple_rest o S) g
-      spells SimpleOpening.Name g = refl
-      spells (SimpleOpening.Steps s) g = refl
       spells SimpleOpening.Nothing g = refl
+      spells _ g = refl
 
       view : (f : Trees (a_simple n ∷ S))
           → Way grammar (a_simple n ∷ S) IsSimple (λ o. simple_rest o S) (λ o. simple_tree o S) (opening_of_simple (begins grammar (a_simple n ∷ S) f)) f
@@ -125,8 +119,7 @@ module _ (functions : Bool) (n : ℕ) (S : List Pending) where
 pub no_called_initialisers : (n c : ℕ) (S : List Pending) (from : Rest)
     → Leads c (an_initialiser false n ∷ S) from c (an_expression n ∷ parts false n ∷ S) from (λ g. ((evaluates g.0, g.1.0), g.1.1))
 no_called_initialisers n c S from =
-    opens grammar (an_initialiser false n ∷ S) (an_expression n ∷ parts false n ∷ S) c from (λ next. Unit {0}) []
-    (λ g. ((evaluates g.0, g.1.0), g.1.1)) refl refl tt refl tt (λ g. refl) (λ f fits any. view f.0.0 f.0.1 f.1 fits) tt
+    turns (λ next. Unit {0}) (λ g. refl) (λ f fits any. view f.0.0 f.0.1 f.1 fits) tt
   where
     view : (value : Value) (more : List Part) (rest : Trees S) → Fits from.number (pieces (an_initialiser false n ∷ S) ((value, more), rest))
         → (g : Trees (an_expression n ∷ parts false n ∷ S)) × Same (an_initialiser false n ∷ S) ((value, more), rest) ((evaluates g.0, g.1.0), g.1.1)
@@ -177,30 +170,21 @@ voids S = record { spells = λ g. refl; spells_other = λ g. refl; view = view }
 module _ (functions : Bool) (n c : ℕ) (S : List Pending) (from : Rest) where
   pub declaration_goes : Leads c ((a_declaration functions n ∷ S)) from c ((exactly (sign Sym.Int) (refl, refl) ∷ a_name ∷ a_part_end functions n ∷ S)) from
       (λ g. (record { part = record { declared = g.1.0; initialiser = g.1.1.0.0 }; more = g.1.1.0.1 }, g.1.1.1))
-  declaration_goes =
-      becomes grammar (a_declaration functions n ∷ S) (exactly (sign Sym.Int) (refl, refl) ∷ a_name ∷ a_part_end functions n ∷ S) c from
-      (λ g. (record { part = record { declared = g.1.0; initialiser = g.1.1.0.0 }; more = g.1.1.0.1 }, g.1.1.1)) (λ g. refl)
-      (λ f. ((tt, (f.0.part.declared, ((f.0.part.initialiser, f.0.more), f.1))), refl))
+  declaration_goes = becomes (λ g. refl) (λ f. ((tt, (f.0.part.declared, ((f.0.part.initialiser, f.0.more), f.1))), refl))
 
 -- the test of an `if` or a loop
 module _ (n c : ℕ) (S : List Pending) (from : Rest) where
   pub test_goes : Leads c ((a_test n ∷ S)) from c
       ((exactly (leading_opening Sym.OpenParenthesis (n + 1)) (refl, refl) ∷ an_expression (n + 1) ∷ exactly (sign Sym.CloseParenthesis) (refl, refl) ∷ S)) from
       (λ g. (g.1.0, g.1.1.1))
-  test_goes =
-      becomes grammar (a_test n ∷ S)
-      (exactly (leading_opening Sym.OpenParenthesis (n + 1)) (refl, refl) ∷ an_expression (n + 1) ∷ exactly (sign Sym.CloseParenthesis) (refl, refl) ∷ S)
-      c from (λ g. (g.1.0, g.1.1.1)) (λ g. refl) (λ f. ((tt, (f.0, (tt, f.1))), refl))
+  test_goes = becomes (λ g. refl) (λ f. ((tt, (f.0, (tt, f.1))), refl))
 
 -- how a `for` goes on that begins with a simple statement
 pub opens_simply : (next : Option Word) → IsSimple (opening_of_simple next) → opening_of_start next ≡ StartOpening.Simple
-opens_simply None h = absurd h
 opens_simply (Some (named x)) h = refl
-opens_simply (Some (numbered z)) h = absurd h
-opens_simply (Some unreadable) h = absurd h
 opens_simply (Some (symbol Sym.Increment)) h = refl
 opens_simply (Some (symbol Sym.Decrement)) h = refl
-opens_simply (Some (symbol _)) h = absurd h
+opens_simply _ h = absurd h
 
 pub simple_begins : (n : ℕ) (S : List Pending) (s : Simple) (rest : Trees S) → IsSimple (opening_of_simple (begins grammar (a_simple n ∷ S) (s, rest)))
 simple_begins n S s rest = ((simples n S).view (s, rest)).0
@@ -222,8 +206,7 @@ module _ (functions : Bool) (n : ℕ) where
     where
       spells : (o : StartOpening) → (g : Trees (start_rest o S)) → pieces (a_start functions n ∷ S) (start_tree o S g) ≡ pieces (start_rest o S) g
       spells StartOpening.Nothing g = refl
-      spells StartOpening.Declaration g = refl
-      spells StartOpening.Simple g = refl
+      spells _ g = refl
 
       view : (f : Trees (a_start functions n ∷ S))
           → Way grammar (a_start functions n ∷ S) (λ o. Unit {0}) (λ o. start_rest o S) (λ o. start_tree o S) (opening_of_start (begins grammar (a_start functions n ∷ S) f)) f
@@ -291,17 +274,7 @@ module _ (functions : Bool) (n : ℕ) where
 
       spells : (o : StatementOpening) → (g : Trees (statement_rest o S)) → pieces (a_statement_kind functions n ∷ S) (statement_tree o S g) ≡ pieces (statement_rest o S) g
       spells StatementOpening.Name g = named_spells g.0 g.1.0 g.1.1
-      spells StatementOpening.Steps g = refl
-      spells StatementOpening.Skip g = refl
-      spells StatementOpening.Braces g = refl
-      spells StatementOpening.If g = refl
-      spells StatementOpening.While g = refl
-      spells StatementOpening.Do g = refl
-      spells StatementOpening.For g = refl
-      spells StatementOpening.Return g = refl
-      spells StatementOpening.Break g = refl
-      spells StatementOpening.Continue g = refl
-      spells StatementOpening.Nothing g = refl
+      spells _ g = refl
 
       view : (f : Trees (a_statement_kind functions n ∷ S))
           → Way grammar (a_statement_kind functions n ∷ S) IsStatement (λ o. statement_rest o S) (λ o. statement_tree o S)
@@ -330,13 +303,9 @@ module _ (functions : Bool) (n : ℕ) where
 
 -- what begins with a statement among items
 pub is_statement : (next : Option Word) → IsStatement (opening_of_statement next) → opening_of_item next ≡ ItemOpening.Statement
-is_statement None h = refl
-is_statement (Some (named x)) h = refl
-is_statement (Some (numbered z)) h = refl
-is_statement (Some unreadable) h = refl
 is_statement (Some (symbol Sym.CloseBrace)) h = absurd h
 is_statement (Some (symbol Sym.Int)) h = absurd h
-is_statement (Some (symbol _)) h = refl
+is_statement _ h = refl
 
 -- items, and the `}` behind them
 module _ (functions : Bool) (n : ℕ) where
@@ -358,8 +327,7 @@ module _ (functions : Bool) (n : ℕ) where
     where
       spells : (o : ItemOpening) → (g : Trees (items_rest o S)) → pieces (items functions n ∷ S) (items_tree o S g) ≡ pieces (items_rest o S) g
       spells ItemOpening.Close g = refl
-      spells ItemOpening.Declaration g = refl
-      spells ItemOpening.Statement g = refl
+      spells _ g = refl
 
       view : (f : Trees (items functions n ∷ S))
           → Way grammar (items functions n ∷ S) (λ o. Unit {0}) (λ o. items_rest o S) (λ o. items_tree o S) (opening_of_item (begins grammar (items functions n ∷ S) f)) f
@@ -373,8 +341,7 @@ module _ (functions : Bool) (n : ℕ) where
 module _ (functions : Bool) (n c : ℕ) (S : List Pending) (from : Rest) where
   pub otherwise_ends : IsFalse (is_else (first from.words)) → Leads c (an_otherwise functions n ∷ S) from c S from (λ g. (without, g))
   otherwise_ends e =
-      opens grammar (an_otherwise functions n ∷ S) S c from (λ next. IsFalse (is_else next)) (look no_else ∷ []) (λ g. (without, g)) refl refl tt refl
-      (e, tt) (λ g. refl) (λ f fits missing. view f.0 f.1 missing) e
+      looks (λ next. IsFalse (is_else next)) no_else e (λ g. refl) (λ f fits missing. view f.0 f.1 missing) e
     where
       view : (t : Otherwise) (rest : Trees S) → IsFalse (is_else (begins grammar (an_otherwise functions n ∷ S) (t, rest)))
           → (g : Trees S) × Same (an_otherwise functions n ∷ S) (t, rest) (without, g)

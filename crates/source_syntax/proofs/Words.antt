@@ -24,40 +24,33 @@ module _ (lexemes : List Lexeme) (at : ℕ) {w : Word} (e : first (words_from le
   pub one_behind : IsBehind lexemes at (at + 1)
   one_behind = record { forward = omega arith; inside = omega (arith, room_at spelled lexemes at w e) }
 
--- the word that opens an operand so, where one alone does
+-- the word that opens an operand so, where one alone does; of others nothing is said
 abbrev WordFor : OperandOpening → Option Word → Type 0
 WordFor (OperandOpening.Number z) next = next ≡ Some (numbered z)
 WordFor (OperandOpening.Truth b) next = next ≡ Some (symbol (truth_word b))
 WordFor OperandOpening.Unknown next = next ≡ Some (symbol Sym.Question)
 WordFor (OperandOpening.Signed prefix) next = next ≡ Some (symbol (prefix_sign prefix))
-WordFor _ next = Unit {0}
+WordFor _ next = next ≡ next
 
 pub operand_word : (next : Option Word) (o : OperandOpening) → o ≡ opening_of_operand next → WordFor o next
 operand_word next o e = subst (λ o. WordFor o next) (sym e) (word next)
   where
     word : (next : Option Word) → WordFor (opening_of_operand next) next
-    word (Some (numbered z)) = refl
     word (Some (symbol Sym.True)) = refl
-    word (Some (symbol Sym.False)) = refl
-    word (Some (symbol Sym.Question)) = refl
-    word (Some (symbol Sym.Plus)) = refl
-    word (Some (symbol Sym.Minus)) = refl
-    word (Some (symbol Sym.Not)) = refl
-    word _ = tt
+    word _ = refl
 
 -- the end of a range
 abbrev WordForSize : SizeOpening → Option Word → Type 0
 WordForSize (SizeOpening.Number z) next = next ≡ Some (numbered z)
 WordForSize SizeOpening.Infinite next = next ≡ Some (symbol Sym.Infinite)
-WordForSize SizeOpening.Nothing next = Unit {0}
+WordForSize SizeOpening.Nothing next = next ≡ next
 
 pub size_word : (next : Option Word) (o : SizeOpening) → o ≡ size_opening next → WordForSize o next
 size_word next o e = subst (λ o. WordForSize o next) (sym e) (word next)
   where
     word : (next : Option Word) → WordForSize (size_opening next) next
-    word (Some (numbered z)) = refl
     word (Some (symbol Sym.Infinite)) = refl
-    word _ = tt
+    word _ = refl
 
 -- the sign that a link opens with
 abbrev pub link_sign : LinkOpening → Symbol
@@ -66,23 +59,11 @@ link_sign (Link.Division sign) = division_sign sign
 
 abbrev WordForLink : Option LinkOpening → Option Word → Type 0
 WordForLink (Some o) next = next ≡ Some (symbol (link_sign o))
-WordForLink None next = Unit {0}
+WordForLink None next = next ≡ next
 
 pub link_word : (next : Option Word) (o : LinkOpening) → Some o ≡ link_opening next → next ≡ Some (symbol (link_sign o))
 link_word next o e = subst (λ o. WordForLink o next) (sym e) (word next)
   where
     word : (next : Option Word) → WordForLink (link_opening next) next
     word (Some (symbol Sym.Plus)) = refl
-    word (Some (symbol Sym.Minus)) = refl
-    word (Some (symbol Sym.Times)) = refl
-    word (Some (symbol Sym.Divide)) = refl
-    word (Some (symbol Sym.Remainder)) = refl
-    word (Some (symbol Sym.Less)) = refl
-    word (Some (symbol Sym.LessEqual)) = refl
-    word (Some (symbol Sym.Greater)) = refl
-    word (Some (symbol Sym.GreaterEqual)) = refl
-    word (Some (symbol Sym.Equal)) = refl
-    word (Some (symbol Sym.NotEqual)) = refl
-    word (Some (symbol Sym.And)) = refl
-    word (Some (symbol Sym.Or)) = refl
-    word _ = tt
+    word _ = refl

@@ -1,11 +1,11 @@
 -- What the readers of the parser answer, for whatever is to be read behind.
-use Rattle.std.specs.Prelude.{◌≡◌, ◌≢◌, ◌⊎◌, refl, ℕ, ◌<◌, ℤ, Bool, true, Option, List, [], ◌∷◌, ◌++◌}
+use Rattle.std.specs.Prelude.{◌≡◌, ◌⊎◌, refl, ℕ, Bool, true, Option, List, [], ◌∷◌, ◌++◌}
 use Rattle.derivation.specs.declared.rule.Rule.{Rule}
-use Rattle.derivation.specs.declared.rule.Rule.TheVariants.{Expected, Nesting, Operators}
 use Rattle.derivation.specs.declared.symbol.Symbol.{Symbol}
 use Rattle.derivation.specs.declared.symbol.Symbol.TheVariants as S
-use Rattle.derivation.specs.Word.{Word, symbol, name as named, number as numbered}
+use Rattle.derivation.specs.Word.{symbol}
 use Rattle.derivation.specs.Comes.{IsNext}
+use Rattle.derivation.specs.Failures.{MissesWord}
 use Rattle.source_syntax.specs.Language.{Rest}
 use Rattle.concrete_syntax.specs.Trees.{Link, operation, division, Expression, Name, Simple, Value, Part, Start, StatementKind, Items, Prelude, named as named_parameters, Function, Program}
 use Rattle.concrete_syntax.specs.declared.program.Function.{Function as RustFunction}
@@ -14,38 +14,39 @@ use Rattle.concrete_syntax.specs.Mirror.{functions, items as items_tree}
 use Rattle.concrete_syntax.specs.Chains.{tail_of}
 use Rattle.source_syntax.specs.Spelling.{sign, opening}
 use Rattle.source_syntax.specs.Ends.{ValueEnd, value_of, StatementEnd, kind_of, Definitions}
-use Rattle.source_syntax.specs.Pending.{Pending, exactly, an_operand, a_divisor, a_tail, an_optional, a_test, a_name, an_initialiser, a_part_end, parts, a_declaration, a_start, a_finish, a_value, a_value_end, a_closing, arguments, further_arguments, a_statement_end, items, a_void, parameters, further_parameters, a_place, TreeOf, Leads, Stops}
+use Rattle.source_syntax.specs.Pending.{Pending, exactly, an_operand, a_divisor, a_tail, an_optional, a_test, a_name, an_initialiser, a_part_end, parts, a_declaration, a_start, a_finish, a_value, a_value_end, a_closing, arguments, further_arguments, a_statement_end, items, a_void, parameters, further_parameters, a_place, TreeOf, Trees, Leads, Stops}
 use Rattle.source_syntax.specs.declared.opening.LinkOpening.{LinkOpening}
 use Rattle.source_syntax.specs.declared.opening.LinkOpening.TheVariants.{Operation, Division}
 
 -- the words up to `to` are this tree of a `p`, and its operators raise the count of their expression from `count` to `now`
-pub record ReadsCounting (count : ℕ) (p : Pending) (tree : TreeOf p) (from : Rest) (now : ℕ) (to : Rest) : Type 0 where
-  pub comes : (behind : List Pending) → Leads count (p ∷ behind) from now behind to (λ trees. (tree, trees))
+abbrev pub ReadsCounting : ℕ → (p : Pending) → TreeOf p → Rest → ℕ → Rest → Type 0
+ReadsCounting count p tree from now to = (behind : List Pending) → Leads count (p ∷ behind) from now behind to (λ trees. (tree, trees))
 
 abbrev pub RefusesCounting : ℕ → Pending → Rest → Rule → Rest → Type 0
 RefusesCounting count p from rule to = (behind : List Pending) → Stops count (p ∷ behind) from rule to
 
 -- the same for a `p` whose expressions begin their counts anew
-pub record Reads (p : Pending) (tree : TreeOf p) (from to : Rest) : Type 0 where
-  pub comes : (count : ℕ) (behind : List Pending)
-      → (now : ℕ) × Leads count (p ∷ behind) from now behind to (λ trees. (tree, trees))
+abbrev pub Reads : (p : Pending) → TreeOf p → Rest → Rest → Type 0
+Reads p tree from to = (count : ℕ) (behind : List Pending) → (now : ℕ) × Leads count (p ∷ behind) from now behind to (λ trees. (tree, trees))
 
 abbrev pub Refuses : Pending → Rest → Rule → Rest → Type 0
 Refuses p from rule to = (count : ℕ) → RefusesCounting count p from rule to
 
 -- the same for a `p` that begins with an expression
-pub record ReadsAfresh (p : Pending) (tree : TreeOf p) (from to : Rest) : Type 0 where
-  pub comes : (behind : List Pending)
-      → (now : ℕ) × Leads 0 (p ∷ behind) from now behind to (λ trees. (tree, trees))
+abbrev pub ReadsAfresh : (p : Pending) → TreeOf p → Rest → Rest → Type 0
+ReadsAfresh p tree from to = (behind : List Pending) → (now : ℕ) × Leads 0 (p ∷ behind) from now behind to (λ trees. (tree, trees))
 
 -- the words up to `to` are this tree of a `p`, behind which an expression begins
-pub record ReadsLeading (p : Pending) (tree : TreeOf p) (from to : Rest) : Type 0 where
-  pub comes : (count : ℕ) (behind : List Pending) → Leads count (p ∷ behind) from 0 behind to (λ trees. (tree, trees))
+abbrev pub ReadsLeading : (p : Pending) → TreeOf p → Rest → Rest → Type 0
+ReadsLeading p tree from to = (count : ℕ) (behind : List Pending) → Leads count (p ∷ behind) from 0 behind to (λ trees. (tree, trees))
 
--- why a word isn't the one that has to stand here, or opens level 65
-abbrev pub MissesSign : Rest → Symbol → Rule → Type 0
-MissesSign from wanted Expected = (to : List Word) → from.words ≢ symbol wanted ∷ to
-MissesSign from wanted _ = ⊥
+-- Reading these from `from` has come to reading those from `to`, whatever is to be read behind: the trees of these are made so of those of the others.
+abbrev pub Goes : (these those : List Pending → List Pending) → ((behind : List Pending) → Trees (those behind) → Trees (these behind)) → Rest → Rest → Type 0
+Goes these those fill from to = (count : ℕ) (behind : List Pending) → (now : ℕ) × Leads count (these behind) from now (those behind) to (fill behind)
+
+-- or it breaks the rule at the first of `to`
+abbrev pub Halts : (List Pending → List Pending) → Rest → Rule → Rest → Type 0
+Halts these from rule to = (count : ℕ) (behind : List Pending) → Stops count (these behind) from rule to
 
 -- these signs stand one behind the other; and the first of them that doesn't, behind those that do
 abbrev pub AreNext : List Symbol → Rest → Rest → Type 0
@@ -55,20 +56,7 @@ AreNext (wanted ∷ more) from to = (behind : Rest) × IsNext (symbol wanted) fr
 abbrev pub MissesOne : List Symbol → Rest → Rule → Rest → Type 0
 MissesOne [] from rule to = ⊥
 MissesOne (wanted ∷ more) from rule to =
-    (MissesSign from wanted rule × (to ≡ from)) ⊎ ((behind : Rest) × IsNext (symbol wanted) from behind × MissesOne more behind rule to)
-
-abbrev pub MissesOpening : Rest → Symbol → ℕ → Rule → Type 0
-MissesOpening from wanted level Expected = (to : List Word) → from.words ≢ symbol wanted ∷ to
-MissesOpening from wanted level Nesting = ((to : Rest) × IsNext (symbol wanted) from to) × (64 < level)
-MissesOpening from wanted level Operators = ⊥
-
-abbrev pub MissesName : Rest → Rule → Type 0
-MissesName from Expected = (x : List ℕ) (to : List Word) → from.words ≢ named x ∷ to
-MissesName from _ = ⊥
-
-abbrev pub MissesNumber : Rest → Rule → Type 0
-MissesNumber from Expected = (z : ℤ) (to : List Word) → from.words ≢ numbered z ∷ to
-MissesNumber from _ = ⊥
+    (MissesWord from (symbol wanted) rule × (to ≡ from)) ⊎ ((behind : Rest) × IsNext (symbol wanted) from behind × MissesOne more behind rule to)
 
 -- what stands behind the sign of a link, and the link that it makes
 abbrev pub right_of : ℕ → LinkOpening → Pending
@@ -85,18 +73,16 @@ pub record ReadsRight (count levels : ℕ) (opening : LinkOpening) (link : Link)
   pub made : link ≡ link_of levels opening tree
   pub reads : ReadsCounting count (right_of levels opening) tree from now to
 
-abbrev pub RefusesRight : ℕ → ℕ → LinkOpening → Rest → Rule → Rest → Type 0
-RefusesRight count levels opening = RefusesCounting count (right_of levels opening)
-
 -- Reading a tail from `start` has read these links, and has come to reading what is left of it from `here`.
-pub record ComesToTail (count levels : ℕ) (links : List Link) (start : Rest) (now : ℕ) (here : Rest) : Type 0 where
-  pub comes : (behind : List Pending)
-      → Leads count (a_tail levels ∷ behind) start now (a_tail levels ∷ behind) here (λ trees. (tail_of links trees.0, trees.1))
+abbrev pub ComesToTail : ℕ → ℕ → List Link → Rest → ℕ → Rest → Type 0
+ComesToTail count levels links start now here =
+    (behind : List Pending) → Leads count (a_tail levels ∷ behind) start now (a_tail levels ∷ behind) here (λ trees. (tail_of links trees.0, trees.1))
 
 -- the words up to `to` are this value, before what stands behind it, in a declaration or not
-pub record ReadsValue (levels : ℕ) (value : Value) (from to : Rest) : Type 0 where
-  pub comes : (initialises : Bool) (behind : List Pending)
-      → (now : ℕ) × Leads 0 (a_value initialises levels ∷ behind) from now (a_closing initialises levels ∷ behind) to (λ trees. ((value, trees.0), trees.1))
+abbrev pub ReadsValue : ℕ → Value → Rest → Rest → Type 0
+ReadsValue levels value from to =
+    (initialises : Bool) (behind : List Pending)
+    → (now : ℕ) × Leads 0 (a_value initialises levels ∷ behind) from now (a_closing initialises levels ∷ behind) to (λ trees. ((value, trees.0), trees.1))
 
 abbrev pub RefusesValue : ℕ → Rest → Rule → Rest → Type 0
 RefusesValue levels from rule to = (initialises : Bool) → RefusesCounting 0 (a_value initialises levels) from rule to
@@ -118,14 +104,14 @@ pub record ReadsEnd (functions : Bool) (levels : ℕ) (name : Name) (kind : Stat
   pub reads : Reads (a_statement_end functions levels) end from to
 
 -- Reading arguments from `start` has read these, and has come to reading further ones from `here`.
-pub record ComesToArguments (levels : ℕ) (so_far : List Expression) (start here : Rest) : Type 0 where
-  pub comes : (behind : List Pending)
-      → (now : ℕ) × Leads 0 (arguments levels ∷ behind) start now (further_arguments levels ∷ behind) here (λ trees. (so_far ++ trees.0, trees.1))
+abbrev pub ComesToArguments : ℕ → List Expression → Rest → Rest → Type 0
+ComesToArguments levels so_far start here =
+    (behind : List Pending)
+    → (now : ℕ) × Leads 0 (arguments levels ∷ behind) start now (further_arguments levels ∷ behind) here (λ trees. (so_far ++ trees.0, trees.1))
 
 -- Reading a `p` from `from` has come to reading what is left of it from `to`: the whole is made so of what is left.
-pub record Continues (p : Pending) (whole : TreeOf p → TreeOf p) (from to : Rest) : Type 0 where
-  pub comes : (count : ℕ) (behind : List Pending)
-      → (now : ℕ) × Leads count (p ∷ behind) from now (p ∷ behind) to (λ trees. (whole trees.0, trees.1))
+abbrev pub Continues : (p : Pending) → (TreeOf p → TreeOf p) → Rest → Rest → Type 0
+Continues p whole from to = (count : ℕ) (behind : List Pending) → (now : ℕ) × Leads count (p ∷ behind) from now (p ∷ behind) to (λ trees. (whole trees.0, trees.1))
 
 -- a program, with these before what else stands before its functions
 abbrev pub behind_preludes : List Prelude → Program → Program
@@ -141,48 +127,42 @@ abbrev pub behind_functions : List Function → Definitions → Definitions
 behind_functions front all = record { functions = front ++ all.functions; void = all.void; items = all.items }
 
 -- the words up to `to` are this initialiser, before further parts of its declaration
-pub record ReadsInitialiser (functions : Bool) (levels : ℕ) (value : Value) (from to : Rest) : Type 0 where
-  pub comes : (behind : List Pending)
-      → (now : ℕ) × Leads 0 (an_initialiser functions levels ∷ behind) from now (parts functions levels ∷ behind) to (λ trees. ((value, trees.0), trees.1))
+abbrev pub ReadsInitialiser : Bool → ℕ → Value → Rest → Rest → Type 0
+ReadsInitialiser functions levels value from to =
+    (behind : List Pending)
+    → (now : ℕ) × Leads 0 (an_initialiser functions levels ∷ behind) from now (parts functions levels ∷ behind) to (λ trees. ((value, trees.0), trees.1))
+
+-- a declared name, and what stands behind it
+abbrev pub a_part : Bool → ℕ → List Pending → List Pending
+a_part functions levels behind = a_name ∷ a_part_end functions levels ∷ behind
 
 -- the words up to `to` are this part of a declaration, before further parts
-pub record ReadsPart (functions : Bool) (levels : ℕ) (part : Part) (from to : Rest) : Type 0 where
-  pub comes : (count : ℕ) (behind : List Pending)
-      → (now : ℕ) × Leads count (a_name ∷ a_part_end functions levels ∷ behind) from now (parts functions levels ∷ behind) to
-      (λ trees. (part.declared, ((part.initialiser, trees.0), trees.1)))
-
-abbrev pub RefusesPart : Bool → ℕ → Rest → Rule → Rest → Type 0
-RefusesPart functions levels from rule to = (count : ℕ) (behind : List Pending) → Stops count (a_name ∷ a_part_end functions levels ∷ behind) from rule to
+abbrev pub ReadsPart : Bool → ℕ → Part → Rest → Rest → Type 0
+ReadsPart functions levels part =
+    Goes (a_part functions levels) (λ behind. parts functions levels ∷ behind) (λ behind trees. (part.declared, ((part.initialiser, trees.0), trees.1)))
 
 -- Reading a declaration from `from` has read this part and these behind it, and has come to reading its further parts from `to`.
-pub record ComesToParts (functions : Bool) (levels : ℕ) (part : Part) (so_far : List Part) (from to : Rest) : Type 0 where
-  pub comes : (count : ℕ) (behind : List Pending)
-      → (now : ℕ) × Leads count (a_declaration functions levels ∷ behind) from now (parts functions levels ∷ behind) to
-      (λ trees. (record { part = part; more = so_far ++ trees.0 }, trees.1))
+abbrev pub ComesToParts : Bool → ℕ → Part → List Part → Rest → Rest → Type 0
+ComesToParts functions levels part so_far =
+    Goes (λ behind. a_declaration functions levels ∷ behind) (λ behind. parts functions levels ∷ behind)
+    (λ behind trees. (record { part = part; more = so_far ++ trees.0 }, trees.1))
 
 -- what stands behind the body of a `do`
 abbrev pub end_of_do : ℕ → List Pending → List Pending
 end_of_do levels behind = a_place ∷ exactly (sign S.While) (refl, refl) ∷ a_test levels ∷ exactly (sign S.Semicolon) (refl, refl) ∷ behind
 
 -- the words up to `to` are the end of a `do` with this test
-pub record ReadsEndOfDo (levels : ℕ) (test : Expression) (from to : Rest) : Type 0 where
-  pub comes : (count : ℕ) (behind : List Pending)
-      → (now : ℕ) × Leads count (end_of_do levels behind) from now behind to (λ trees. (from.number, (tt, (test, (tt, trees)))))
-
-abbrev pub RefusesEndOfDo : ℕ → Rest → Rule → Rest → Type 0
-RefusesEndOfDo levels from rule to = (count : ℕ) (behind : List Pending) → Stops count (end_of_do levels behind) from rule to
+abbrev pub ReadsEndOfDo : ℕ → Expression → Rest → Rest → Type 0
+ReadsEndOfDo levels test from to = Goes (end_of_do levels) (λ behind. behind) (λ behind trees. (from.number, (tt, (test, (tt, trees))))) from to
 
 -- what stands between a `for` and its body
 abbrev pub head_of_for : Bool → ℕ → List Pending → List Pending
 head_of_for functions levels behind = exactly (sign S.OpenParenthesis) (refl, refl) ∷ a_start functions levels ∷ an_optional levels ∷ a_finish levels ∷ behind
 
 -- the words up to `to` are these parts of a `for`, in its parentheses
-pub record ReadsHeadOfFor (functions : Bool) (levels : ℕ) (start : Start) (test : Option Expression) (step : Option Simple) (from to : Rest) : Type 0 where
-  pub comes : (count : ℕ) (behind : List Pending)
-      → (now : ℕ) × Leads count (head_of_for functions levels behind) from now behind to (λ trees. (tt, (start, (test, (step, trees)))))
-
-abbrev pub RefusesHeadOfFor : Bool → ℕ → Rest → Rule → Rest → Type 0
-RefusesHeadOfFor functions levels from rule to = (count : ℕ) (behind : List Pending) → Stops count (head_of_for functions levels behind) from rule to
+abbrev pub ReadsHeadOfFor : Bool → ℕ → Start → Option Expression → Option Simple → Rest → Rest → Type 0
+ReadsHeadOfFor functions levels start test step =
+    Goes (head_of_for functions levels) (λ behind. behind) (λ behind trees. (tt, (start, (test, (step, trees)))))
 
 -- what stands behind the name of `main`
 abbrev pub main_end : Bool → List Pending → List Pending
@@ -190,12 +170,8 @@ main_end functions behind =
     exactly (sign S.OpenParenthesis) (refl, refl) ∷ a_void ∷ exactly (opening S.OpenBrace 1) (refl, refl) ∷ items functions 1 ∷ behind
 
 -- the words up to `to` are that of a `main` with these items
-pub record ReadsMain (functions void : Bool) (all : Items) (from to : Rest) : Type 0 where
-  pub comes : (count : ℕ) (behind : List Pending)
-      → (now : ℕ) × Leads count (main_end functions behind) from now behind to (λ trees. (tt, (void, (tt, (all, trees)))))
-
-abbrev pub RefusesMain : Bool → Rest → Rule → Rest → Type 0
-RefusesMain functions from rule to = (count : ℕ) (behind : List Pending) → Stops count (main_end functions behind) from rule to
+abbrev pub ReadsMain : Bool → Bool → Items → Rest → Rest → Type 0
+ReadsMain functions void all = Goes (main_end functions) (λ behind. behind) (λ behind trees. (tt, (void, (tt, (all, trees)))))
 
 -- what stands behind the type of a function
 abbrev pub function_end : List Pending → List Pending
@@ -203,22 +179,18 @@ function_end behind =
     a_name ∷ exactly (sign S.OpenParenthesis) (refl, refl) ∷ parameters ∷ exactly (opening S.OpenBrace 1) (refl, refl) ∷ items true 1 ∷ a_place ∷ behind
 
 -- the words up to `to` are that of this function
-pub record ReadsFunction (f : Function) (from to : Rest) : Type 0 where
-  pub comes : (count : ℕ) (behind : List Pending)
-      → (now : ℕ) × Leads count (function_end behind) from now behind to (λ trees. (f.name, (tt, (f.parameters, (tt, (f.items, (f.behind, trees)))))))
-
-abbrev pub RefusesFunction : Rest → Rule → Rest → Type 0
-RefusesFunction from rule to = (count : ℕ) (behind : List Pending) → Stops count (function_end behind) from rule to
+abbrev pub ReadsFunction : Function → Rest → Rest → Type 0
+ReadsFunction f = Goes function_end (λ behind. behind) (λ behind trees. (f.name, (tt, (f.parameters, (tt, (f.items, (f.behind, trees)))))))
 
 -- Reading parameters from `start` has read these, and has come to reading further ones from `here`.
-pub record ComesToParameters (first : Name) (so_far : List Name) (start here : Rest) : Type 0 where
-  pub comes : (count : ℕ) (behind : List Pending)
-      → (now : ℕ) × Leads count (parameters ∷ behind) start now (further_parameters ∷ behind) here (λ trees. (named_parameters first (so_far ++ trees.0), trees.1))
+abbrev pub ComesToParameters : Name → List Name → Rest → Rest → Type 0
+ComesToParameters first so_far =
+    Goes (λ behind. parameters ∷ behind) (λ behind. further_parameters ∷ behind) (λ behind trees. (named_parameters first (so_far ++ trees.0), trees.1))
 
--- the words up to `to` are a further parameter
-pub record ReadsParameter (x : Name) (from to : Rest) : Type 0 where
-  pub comes : (count : ℕ) (behind : List Pending)
-      → (now : ℕ) × Leads count (exactly (sign S.Int) (refl, refl) ∷ a_name ∷ behind) from now behind to (λ trees. (tt, (x, trees)))
+-- a further parameter
+abbrev pub a_parameter : List Pending → List Pending
+a_parameter behind = exactly (sign S.Int) (refl, refl) ∷ a_name ∷ behind
 
-abbrev pub RefusesParameter : Rest → Rule → Rest → Type 0
-RefusesParameter from rule to = (count : ℕ) (behind : List Pending) → Stops count (exactly (sign S.Int) (refl, refl) ∷ a_name ∷ behind) from rule to
+-- the words up to `to` are one of this name
+abbrev pub ReadsParameter : Name → Rest → Rest → Type 0
+ReadsParameter x = Goes a_parameter (λ behind. behind) (λ behind trees. (tt, (x, trees)))

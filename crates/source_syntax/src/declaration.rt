@@ -7,7 +7,7 @@ ghost use Rattle.source_syntax.specs.Language.{rest_at};
 ghost use Rattle.concrete_syntax.specs.Mirror.{value as value_tree, part as part_tree, declaration as declaration_tree, start as start_tree};
 ghost use Rattle.derivation.specs.Failures.{IfFault};
 ghost use Rattle.source_syntax.specs.Pending.{an_initialiser, a_declaration, a_start};
-ghost use Rattle.source_syntax.specs.Reads.{ReadsLeading, Refuses, RefusesCounting, ReadsInitialiser, ReadsPart, RefusesPart};
+ghost use Rattle.source_syntax.specs.Reads.{ReadsLeading, Refuses, RefusesCounting, ReadsInitialiser, ReadsPart, Halts, a_part};
 
 use crate::call::value;
 use crate::expression::expression;
@@ -45,29 +45,23 @@ fn part(reader: Reader<'_>, at: usize, levels: u32, functions: bool) -> Read<Par
     requires shallow { levels ≤ 64 }
     ensures read { IfOk result (λ found. ReadsPart functions levels (part_tree found.0) (rest_at reader.entry at) (rest_at reader.entry found.1)) }
     ensures forward { IfOk result (λ found. IsBehind reader.entry.words.now at found.1) }
-    ensures refused { IfFault result (λ fault. RefusesPart functions levels (rest_at reader.entry at) fault.rule (rest_at reader.entry fault.at)) }
+    ensures refused { IfFault result (λ fault. Halts (a_part functions levels) (rest_at reader.entry at) fault.rule (rest_at reader.entry fault.at)) }
 {
     let (bytes, behind) = owned_name(reader, at)?;
     let declared = Name { at, bytes };
     if let Some(inner) = after(reader.words, behind, Symbol::Assign) {
         let (value, next) = initialiser(reader, inner, levels, functions)?;
-        let initialiser = Some(value);
-        return Ok((
-            Part {
-                declared,
-                initialiser,
-            },
-            next,
-        ));
-    }
-    let initialiser = None;
-    Ok((
-        Part {
+        let part = Part {
             declared,
-            initialiser,
-        },
-        behind,
-    ))
+            initialiser: Some(value),
+        };
+        return Ok((part, next));
+    }
+    let part = Part {
+        declared,
+        initialiser: None,
+    };
+    Ok((part, behind))
 }
 
 // Reads the initialiser of a declared name: an expression, or where functions are allowed a call.

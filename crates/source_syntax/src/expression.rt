@@ -10,7 +10,7 @@ ghost use Rattle.source_syntax.specs.Openings.{opening_of_operand};
 ghost use Rattle.source_syntax.specs.declared.opening.OperandOpening.TheVariants.{Call, Parenthesis, Bracket, Signed};
 ghost use Rattle.derivation.specs.Failures.{IfFault};
 ghost use Rattle.source_syntax.specs.Pending.{an_operand, an_operand_kind, an_expression, a_tail, a_divisor, an_end, a_size};
-ghost use Rattle.source_syntax.specs.Reads.{ReadsCounting, RefusesCounting, ReadsRight, RefusesRight};
+ghost use Rattle.source_syntax.specs.Reads.{ReadsCounting, RefusesCounting, ReadsRight, right_of};
 
 use crate::input::{Counted, Reader};
 use crate::opening::{
@@ -91,7 +91,7 @@ fn right(
     ensures read { IfOk result (λ found. ReadsRight operators levels link (link_tree found.0) (rest_at reader.entry at) found.2 (rest_at reader.entry found.1)) }
     ensures counted { IfOk result (λ found. found.2 ≤ 256) }
     ensures forward { IfOk result (λ found. IsBehind reader.entry.words.now at found.1) }
-    ensures refused { IfFault result (λ fault. RefusesRight operators levels link (rest_at reader.entry at) fault.rule (rest_at reader.entry fault.at)) }
+    ensures refused { IfFault result (λ fault. RefusesCounting operators (right_of levels link) (rest_at reader.entry at) fault.rule (rest_at reader.entry fault.at)) }
 {
     match link {
         LinkOpening::Operation(op) => {

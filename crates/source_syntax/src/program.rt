@@ -10,7 +10,7 @@ ghost use Rattle.derivation.specs.Failures.{IfFault};
 ghost use Rattle.source_syntax.specs.Openings.{opening_of_prelude};
 ghost use Rattle.source_syntax.specs.declared.opening.PreludeOpening.TheVariants as PreludeOpening;
 ghost use Rattle.source_syntax.specs.Pending.{a_program, definitions as pending_definitions, a_void, parameters as pending_parameters};
-ghost use Rattle.source_syntax.specs.Reads.{Reads, Refuses, Continues, behind_preludes, definitions_tree, ReadsMain, RefusesMain, ReadsFunction, RefusesFunction, ReadsParameter, RefusesParameter};
+ghost use Rattle.source_syntax.specs.Reads.{Reads, Refuses, Continues, behind_preludes, definitions_tree, Halts, ReadsMain, main_end, ReadsFunction, function_end, ReadsParameter, a_parameter};
 
 use crate::input::{Read, Reader};
 use crate::opening::{PreludeOpening, opening_of_prelude};
@@ -159,7 +159,7 @@ fn typedef_bool(reader: Reader<'_>, at: usize, functions: bool) -> Result<usize,
 fn main_end(reader: Reader<'_>, at: usize, functions: bool) -> Result<(bool, Items, usize), Failure>
     ensures read { IfOk result (λ found. ReadsMain functions found.0 (items_tree found.1) (rest_at reader.entry at) (rest_at reader.entry found.2)) }
     ensures forward { IfOk result (λ found. IsBehind reader.entry.words.now at found.2) }
-    ensures refused { IfFault result (λ fault. RefusesMain functions (rest_at reader.entry at) fault.rule (rest_at reader.entry fault.at)) }
+    ensures refused { IfFault result (λ fault. Halts (main_end functions) (rest_at reader.entry at) fault.rule (rest_at reader.entry fault.at)) }
 {
     let inner = sign(reader, at, Symbol::OpenParenthesis)?;
     let (written, brace) = void(reader, inner)?;
@@ -173,7 +173,7 @@ fn function(reader: Reader<'_>, at: usize, valued: bool) -> Read<Function>
     ensures read { IfOk result (λ found. ReadsFunction (function_tree found.0) (rest_at reader.entry at) (rest_at reader.entry found.1)) }
     ensures typed { IfOk result (λ found. found.0.valued ≡ valued) }
     ensures forward { IfOk result (λ found. IsBehind reader.entry.words.now at found.1) }
-    ensures refused { IfFault result (λ fault. RefusesFunction (rest_at reader.entry at) fault.rule (rest_at reader.entry fault.at)) }
+    ensures refused { IfFault result (λ fault. Halts function_end (rest_at reader.entry at) fault.rule (rest_at reader.entry fault.at)) }
 {
     let (bytes, open) = owned_name(reader, at)?;
     let inner = sign(reader, open, Symbol::OpenParenthesis)?;
@@ -219,7 +219,7 @@ fn parameters(reader: Reader<'_>, at: usize) -> Read<Parameters>
 fn parameter(reader: Reader<'_>, at: usize) -> Read<Name>
     ensures read { IfOk result (λ found. ReadsParameter (name_tree found.0) (rest_at reader.entry at) (rest_at reader.entry found.1)) }
     ensures forward { IfOk result (λ found. IsBehind reader.entry.words.now at found.1) }
-    ensures refused { IfFault result (λ fault. RefusesParameter (rest_at reader.entry at) fault.rule (rest_at reader.entry fault.at)) }
+    ensures refused { IfFault result (λ fault. Halts a_parameter (rest_at reader.entry at) fault.rule (rest_at reader.entry fault.at)) }
 {
     let inner = sign(reader, at, Symbol::Int)?;
     let (bytes, next) = owned_name(reader, inner)?;

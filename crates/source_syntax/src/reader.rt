@@ -5,8 +5,8 @@ ghost use Rattle.derivation.specs.Word.{symbol, name as named, number as numbere
 ghost use Rattle.source_syntax.specs.Language.{rest_at};
 ghost use Rattle.derivation.specs.Spelled.{IsBehind};
 ghost use Rattle.derivation.specs.Comes.{IsNext};
-ghost use Rattle.derivation.specs.Failures.{IfFault};
-ghost use Rattle.source_syntax.specs.Reads.{MissesSign, MissesOpening, MissesName, MissesNumber, AreNext, MissesOne};
+ghost use Rattle.derivation.specs.Failures.{IfFault, MissesWord, MissesOpening, MissesKind};
+ghost use Rattle.source_syntax.specs.Reads.{AreNext, MissesOne};
 
 use crate::input::{Read, Reader};
 use derivation::{Fault, Lexeme, MOST_LEVELS, Rule, Symbol, after};
@@ -15,7 +15,7 @@ use derivation::{Fault, Lexeme, MOST_LEVELS, Rule, Symbol, after};
 pub fn sign(reader: Reader<'_>, at: usize, wanted: Symbol) -> Result<usize, Fault>
     ensures read { IfOk result (λ next. IsNext (symbol wanted) (rest_at reader.entry at) (rest_at reader.entry next)) }
     ensures forward { IfOk result (IsBehind reader.entry.words.now at) }
-    ensures missed { IfErr result (λ fault. MissesSign (rest_at reader.entry at) wanted fault.rule × (fault.at ≡ at)) }
+    ensures missed { IfErr result (λ fault. MissesWord (rest_at reader.entry at) (symbol wanted) fault.rule × (fault.at ≡ at)) }
 {
     match after(reader.words, at, wanted) {
         Some(next) => Ok(next),
@@ -45,14 +45,11 @@ pub fn opening(reader: Reader<'_>, at: usize, wanted: Symbol, level: u32) -> Res
     ensures read { IfOk result (λ next. IsNext (symbol wanted) (rest_at reader.entry at) (rest_at reader.entry next)) }
     ensures shallow { IfOk result (λ _. level ≤ 64) }
     ensures forward { IfOk result (IsBehind reader.entry.words.now at) }
-    ensures missed { IfErr result (λ fault. MissesOpening (rest_at reader.entry at) wanted level fault.rule × (fault.at ≡ at)) }
+    ensures missed { IfErr result (λ fault. MissesOpening (rest_at reader.entry at) (symbol wanted) level fault.rule × (fault.at ≡ at)) }
 {
-    let next = match after(reader.words, at, wanted) {
-        Some(next) => next,
-        None => {
-            let rule = Rule::Expected;
-            return Err(Fault { rule, at });
-        }
+    let Some(next) = after(reader.words, at, wanted) else {
+        let rule = Rule::Expected;
+        return Err(Fault { rule, at });
     };
     if level > MOST_LEVELS {
         let rule = Rule::Nesting;
@@ -65,7 +62,7 @@ pub fn opening(reader: Reader<'_>, at: usize, wanted: Symbol, level: u32) -> Res
 pub fn name<'t>(reader: Reader<'t>, at: usize) -> Result<(&'t [u8], usize), Fault>
     ensures read { IfOk result (λ found. IsNext (named found.0.now) (rest_at reader.entry at) (rest_at reader.entry found.1)) }
     ensures forward { IfOk result (λ found. IsBehind reader.entry.words.now at found.1) }
-    ensures missed { IfErr result (λ fault. MissesName (rest_at reader.entry at) fault.rule × (fault.at ≡ at)) }
+    ensures missed { IfErr result (λ fault. MissesKind (rest_at reader.entry at) named fault.rule × (fault.at ≡ at)) }
 {
     let rule = Rule::Expected;
     let missing = Fault { rule, at };
@@ -82,7 +79,7 @@ pub fn name<'t>(reader: Reader<'t>, at: usize) -> Result<(&'t [u8], usize), Faul
 pub fn number(reader: Reader<'_>, at: usize) -> Result<(i64, usize), Fault>
     ensures read { IfOk result (λ found. IsNext (numbered found.0) (rest_at reader.entry at) (rest_at reader.entry found.1)) }
     ensures forward { IfOk result (λ found. IsBehind reader.entry.words.now at found.1) }
-    ensures missed { IfErr result (λ fault. MissesNumber (rest_at reader.entry at) fault.rule × (fault.at ≡ at)) }
+    ensures missed { IfErr result (λ fault. MissesKind (rest_at reader.entry at) numbered fault.rule × (fault.at ≡ at)) }
 {
     let rule = Rule::Expected;
     let missing = Fault { rule, at };
@@ -99,7 +96,7 @@ pub fn number(reader: Reader<'_>, at: usize) -> Result<(i64, usize), Fault>
 pub fn owned_name(reader: Reader<'_>, at: usize) -> Read<Vec<u8>>
     ensures read { IfOk result (λ found. IsNext (named found.0.items) (rest_at reader.entry at) (rest_at reader.entry found.1)) }
     ensures forward { IfOk result (λ found. IsBehind reader.entry.words.now at found.1) }
-    ensures missed { IfFault result (λ fault. MissesName (rest_at reader.entry at) fault.rule × (fault.at ≡ at)) }
+    ensures missed { IfFault result (λ fault. MissesKind (rest_at reader.entry at) named fault.rule × (fault.at ≡ at)) }
 {
     let (bytes, next) = name(reader, at)?;
     let owned = bytes.to_vec(reader.alloc)?;

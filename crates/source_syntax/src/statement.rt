@@ -9,7 +9,7 @@ ghost use Rattle.source_syntax.specs.Openings.{opening_of_statement};
 ghost use Rattle.source_syntax.specs.declared.opening.StatementOpening.TheVariants as StatementOpening;
 ghost use Rattle.derivation.specs.Failures.{IfFault};
 ghost use Rattle.source_syntax.specs.Pending.{a_statement_end, a_statement, a_statement_kind, an_otherwise, items as pending_items};
-ghost use Rattle.source_syntax.specs.Reads.{Reads, Refuses, ReadsEnd, ReadsEndOfDo, RefusesEndOfDo, ReadsHeadOfFor, RefusesHeadOfFor};
+ghost use Rattle.source_syntax.specs.Reads.{Reads, Refuses, Halts, ReadsEnd, ReadsEndOfDo, end_of_do, ReadsHeadOfFor, head_of_for};
 
 use crate::call::statement_end;
 use crate::declaration::{declaration, start};
@@ -199,14 +199,12 @@ fn conditional(reader: Reader<'_>, at: usize, levels: u32, functions: bool) -> R
     let (tested, inner) = test(reader, open, inner_levels)?;
     let (part, behind) = boxed(reader, inner, inner_levels, functions)?;
     let (other, next) = otherwise(reader, behind, inner_levels, functions)?;
-    Ok((
-        StatementKind::Conditional {
-            test: tested,
-            part,
-            other,
-        },
-        next,
-    ))
+    let kind = StatementKind::Conditional {
+        test: tested,
+        part,
+        other,
+    };
+    Ok((kind, next))
 }
 
 // Reads the second part of an `if`, where it has one.
@@ -268,7 +266,7 @@ fn end_of_do(reader: Reader<'_>, at: usize, levels: u32) -> Read<Expression>
     requires shallow { levels ≤ 64 }
     ensures read { IfOk result (λ found. ReadsEndOfDo levels (expression_tree found.0) (rest_at reader.entry at) (rest_at reader.entry found.1)) }
     ensures forward { IfOk result (λ found. IsBehind reader.entry.words.now at found.1) }
-    ensures refused { IfFault result (λ fault. RefusesEndOfDo levels (rest_at reader.entry at) fault.rule (rest_at reader.entry fault.at)) }
+    ensures refused { IfFault result (λ fault. Halts (end_of_do levels) (rest_at reader.entry at) fault.rule (rest_at reader.entry fault.at)) }
 {
     let open = sign(reader, at, Symbol::While)?;
     let (tested, behind) = test(reader, open, levels)?;
@@ -312,7 +310,7 @@ fn head_of_for(reader: Reader<'_>, at: usize, levels: u32, functions: bool) -> R
     requires shallow { levels ≤ 64 }
     ensures read { IfOk result (λ found. ReadsHeadOfFor functions levels (start_tree found.0.start) (optional_tree found.0.test) (step_tree found.0.step) (rest_at reader.entry at) (rest_at reader.entry found.1)) }
     ensures forward { IfOk result (λ found. IsBehind reader.entry.words.now at found.1) }
-    ensures refused { IfFault result (λ fault. RefusesHeadOfFor functions levels (rest_at reader.entry at) fault.rule (rest_at reader.entry fault.at)) }
+    ensures refused { IfFault result (λ fault. Halts (head_of_for functions levels) (rest_at reader.entry at) fault.rule (rest_at reader.entry fault.at)) }
 {
     let first = sign(reader, at, Symbol::OpenParenthesis)?;
     let (start, second) = start(reader, first, levels, functions)?;

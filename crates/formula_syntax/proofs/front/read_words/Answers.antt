@@ -13,10 +13,10 @@ returns-in_err-tree-clause-fault c =
 
 pub returns-then-end-words-clause-fault : goal.returns-then-end-words-clause-fault
 returns-then-end-words-clause-fault c =
-    whole_trails a_text (rest_from c.args.words.now 0) (rest_from c.args.words.now c.in_ok-tree.end) refl (c.in_ok-tree.ensures.read.comes _)
+    whole_trails a_text (rest_from c.args.words.now 0) (rest_from c.args.words.now c.in_ok-tree.end) refl (c.in_ok-tree.ensures.read _)
     (some_left spelled _ _ c.if-end-words.true)
 
 pub returns-clause-syntax : goal.returns-clause-syntax
 returns-clause-syntax c =
-    whole_read a_text (rest_from c.args.words.now 0) (rest_from c.args.words.now c.in_ok-tree.end) refl (c.in_ok-tree.ensures.read.comes _)
+    whole_read a_text (rest_from c.args.words.now 0) (rest_from c.args.words.now c.in_ok-tree.end) refl (c.in_ok-tree.ensures.read _)
     (none_left spelled _ _ c.if-end-words.false)

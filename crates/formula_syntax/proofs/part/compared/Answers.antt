@@ -11,10 +11,8 @@ returns-in_err-left-clause-refused c =
 pub returns-in_err-comparison-clause-refused : goal.returns-in_err-comparison-clause-refused
 returns-in_err-comparison-clause-refused c =
     passed_on _ _ _ _ c.from_residual-in_err-comparison.ensures c.in_err-comparison.ensures.refused
-    (λ fault refused behind. fails (goes (parts _ behind) _ _ Opening.Sum c.requires.opens) (fails (c.in_ok-left.ensures.read.comes _) (refused _)))
+    (λ fault refused behind. fails (goes (parts _ behind) _ _ Opening.Sum c.requires.opens) (fails (c.in_ok-left.ensures.read _) (refused _)))
 
 pub returns-clause-read : goal.returns-clause-read
-returns-clause-read c = record {
-  comes = λ behind. over (goes (parts _ behind) _ _ Opening.Sum c.requires.opens)
-      (over (c.in_ok-left.ensures.read.comes _) (c.in_ok-comparison.ensures.read.comes _));
-}
+returns-clause-read c = λ behind. over (goes (parts _ behind) _ _ Opening.Sum c.requires.opens)
+    (over (c.in_ok-left.ensures.read _) (c.in_ok-comparison.ensures.read _))

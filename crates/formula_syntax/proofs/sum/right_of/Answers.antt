@@ -16,8 +16,6 @@ returns-in_err-value-clause-refused c =
     fails (read (rights _ behind c.args.comparison) (next_word c.args.reader.words.now c.args.at (comparison_word _ c.args.comparison c.requires.opens)) (omega arith, c.if-more-gt-MOST_OPERATORS.false)) (refused _))
 
 pub returns-clause-read : goal.returns-clause-read
-returns-clause-read c = record {
-  comes = λ behind.
-      over (read (rights _ behind c.args.comparison) (next_word c.args.reader.words.now c.args.at (comparison_word _ c.args.comparison c.requires.opens)) (omega arith, c.if-more-gt-MOST_OPERATORS.false))
-      (c.in_ok-value.ensures.read.comes _);
-}
+returns-clause-read c = λ behind.
+    over (read (rights _ behind c.args.comparison) (next_word c.args.reader.words.now c.args.at (comparison_word _ c.args.comparison c.requires.opens)) (omega arith, c.if-more-gt-MOST_OPERATORS.false))
+    (c.in_ok-value.ensures.read _)

@@ -23,20 +23,18 @@ returns-in_err-next-in-Call-clause-refused c =
     failed_on _ _ _ c.from_residual-in_err-next-in-Call.ensures
     (λ count behind. fails (goes (statement_ends _ behind) count _ EndOpening.Call (sym c.in-Call.is ∙ c.opening_of_end.ensures))
     (fails (leading_reads Sym.OpenParenthesis (refl, refl) c.in_ok-inner-in-Call.ensures.read)
-    (fails (c.in_ok-arguments-in-Call.ensures.read.comes _).1 (sign_refused _ _ c.in_err-next-in-Call.field-0.0 Sym.Semicolon (refl, refl) c.in_err-next-in-Call.ensures.missed))))
+    (fails (c.in_ok-arguments-in-Call.ensures.read _).1 (sign_refused _ _ c.in_err-next-in-Call.field-0.0 Sym.Semicolon (refl, refl) c.in_err-next-in-Call.ensures.missed))))
 
 pub returns-in_ok-next-in-Call-clause-read : goal.returns-in_ok-next-in-Call-clause-read
 returns-in_ok-next-in-Call-clause-read c = record {
   end = applied _;
   made = refl;
-  reads = record {
-    comes = λ count behind. (
-      _,
-      over (goes (statement_ends _ behind) count _ EndOpening.Call (sym c.in-Call.is ∙ c.opening_of_end.ensures))
-          (over (leading_reads Sym.OpenParenthesis (refl, refl) c.in_ok-inner-in-Call.ensures.read)
-          (over (c.in_ok-arguments-in-Call.ensures.read.comes _).1 (sign_reads Sym.Semicolon (refl, refl) c.in_ok-next-in-Call.ensures.read))),
-    );
-  };
+  reads = λ count behind. (
+    _,
+    over (goes (statement_ends _ behind) count _ EndOpening.Call (sym c.in-Call.is ∙ c.opening_of_end.ensures))
+        (over (leading_reads Sym.OpenParenthesis (refl, refl) c.in_ok-inner-in-Call.ensures.read)
+        (over (c.in_ok-arguments-in-Call.ensures.read _).1 (sign_reads Sym.Semicolon (refl, refl) c.in_ok-next-in-Call.ensures.read))),
+  );
 }
 
 pub returns-in_err-inner-in-Value-clause-refused : goal.returns-in_err-inner-in-Value-clause-refused
@@ -56,22 +54,20 @@ returns-in_err-next-in-Value-clause-refused c =
     failed_on _ _ _ c.from_residual-in_err-next-in-Value.ensures
     (λ count behind. fails (goes (statement_ends _ behind) count _ EndOpening.Value (sym c.in-Value.is ∙ c.opening_of_end.ensures))
     (fails (leading_reads Sym.Assign (refl, refl) c.in_ok-inner-in-Value.ensures.read)
-    (fails (c.in_ok-value-in-Value.ensures.read.comes _ _).1 (fails (closes_statement _ _ _ _)
+    (fails (c.in_ok-value-in-Value.ensures.read _ _).1 (fails (closes_statement _ _ _ _)
     (sign_refused _ _ c.in_err-next-in-Value.field-0.0 Sym.Semicolon (refl, refl) c.in_err-next-in-Value.ensures.missed)))))
 
 pub returns-in_ok-next-in-Value-clause-read : goal.returns-in_ok-next-in-Value-clause-read
 returns-in_ok-next-in-Value-clause-read c = record {
   end = given_value _;
   made = c.given.ensures;
-  reads = record {
-    comes = λ count behind. (
-      _,
-      over (goes (statement_ends _ behind) count _ EndOpening.Value (sym c.in-Value.is ∙ c.opening_of_end.ensures))
-          (over (leading_reads Sym.Assign (refl, refl) c.in_ok-inner-in-Value.ensures.read)
-          (over (c.in_ok-value-in-Value.ensures.read.comes _ _).1
-          (over (closes_statement _ _ _ _) (sign_reads Sym.Semicolon (refl, refl) c.in_ok-next-in-Value.ensures.read)))),
-    );
-  };
+  reads = λ count behind. (
+    _,
+    over (goes (statement_ends _ behind) count _ EndOpening.Value (sym c.in-Value.is ∙ c.opening_of_end.ensures))
+        (over (leading_reads Sym.Assign (refl, refl) c.in_ok-inner-in-Value.ensures.read)
+        (over (c.in_ok-value-in-Value.ensures.read _ _).1
+        (over (closes_statement _ _ _ _) (sign_reads Sym.Semicolon (refl, refl) c.in_ok-next-in-Value.ensures.read)))),
+  );
 }
 
 pub returns-in_err-action-in-Action-clause-refused : goal.returns-in_err-action-in-Action-clause-refused
@@ -83,17 +79,15 @@ pub returns-in_err-next-in-Action-clause-refused : goal.returns-in_err-next-in-A
 returns-in_err-next-in-Action-clause-refused c =
     failed_on _ _ _ c.from_residual-in_err-next-in-Action.ensures
     (λ count behind. fails (goes (statement_ends _ behind) count _ EndOpening.Action (sym c.in-Action.is ∙ c.opening_of_end.ensures))
-    (fails (c.in_ok-action-in-Action.ensures.read.comes _ _).1 (sign_refused _ _ c.in_err-next-in-Action.field-0.0 Sym.Semicolon (refl, refl) c.in_err-next-in-Action.ensures.missed)))
+    (fails (c.in_ok-action-in-Action.ensures.read _ _).1 (sign_refused _ _ c.in_err-next-in-Action.field-0.0 Sym.Semicolon (refl, refl) c.in_err-next-in-Action.ensures.missed)))
 
 pub returns-in_ok-next-in-Action-clause-read : goal.returns-in_ok-next-in-Action-clause-read
 returns-in_ok-next-in-Action-clause-read c = record {
   end = does _;
   made = refl;
-  reads = record {
-    comes = λ count behind. (
-      _,
-      over (goes (statement_ends _ behind) count _ EndOpening.Action (sym c.in-Action.is ∙ c.opening_of_end.ensures))
-          (over (c.in_ok-action-in-Action.ensures.read.comes _ _).1 (sign_reads Sym.Semicolon (refl, refl) c.in_ok-next-in-Action.ensures.read)),
-    );
-  };
+  reads = λ count behind. (
+    _,
+    over (goes (statement_ends _ behind) count _ EndOpening.Action (sym c.in-Action.is ∙ c.opening_of_end.ensures))
+        (over (c.in_ok-action-in-Action.ensures.read _ _).1 (sign_reads Sym.Semicolon (refl, refl) c.in_ok-next-in-Action.ensures.read)),
+  );
 }

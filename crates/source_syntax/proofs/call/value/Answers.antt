@@ -17,12 +17,10 @@ returns-in_err-named-clause-refused c =
 pub returns-then-is_name-clause-read : goal.returns-then-is_name-clause-read
 returns-then-is_name-clause-read c =
     let r = c.in_ok-named.ensures.read in
-    told_value r.made (record {
-      comes = λ initialises behind. (
-        _,
-        over (goes (values initialises _ behind) 0 _ true c.if-is_name.ensures) (over (name_reads c.in_ok-bytes.ensures.read) (r.comes initialises _).1),
-      );
-    })
+    told_value r.made (λ initialises behind. (
+      _,
+      over (goes (values initialises _ behind) 0 _ true c.if-is_name.ensures) (over (name_reads c.in_ok-bytes.ensures.read) (r.comes initialises _).1),
+    ))
 
 pub returns-in_err-plain-clause-refused : goal.returns-in_err-plain-clause-refused
 returns-in_err-plain-clause-refused c =
@@ -30,6 +28,4 @@ returns-in_err-plain-clause-refused c =
     (λ fault refused initialises behind. fails (goes (values initialises _ behind) 0 _ false c.if-is_name.ensures) (refused _))
 
 pub returns-clause-read : goal.returns-clause-read
-returns-clause-read c = record {
-  comes = λ initialises behind. (_, over (goes (values initialises _ behind) 0 _ false c.if-is_name.ensures) (c.in_ok-plain.ensures.read.comes _));
-}
+returns-clause-read c = λ initialises behind. (_, over (goes (values initialises _ behind) 0 _ false c.if-is_name.ensures) (c.in_ok-plain.ensures.read _))

@@ -13,7 +13,7 @@ pub returns-in-Some-clause-read : goal.returns-in-Some-clause-read
 returns-in-Some-clause-read c = record {
   end = called _;
   made = refl;
-  comes = λ initialises behind. (_, over (taken (value_ends _ _ behind) c.in-Some.ensures.read (omega arith, tt)) (c.in_ok-arguments.ensures.read.comes _).1);
+  comes = λ initialises behind. (_, over (taken (value_ends _ _ behind) c.in-Some.ensures.read (omega arith, tt)) (c.in_ok-arguments.ensures.read _).1);
 }
 
 pub returns-in_err-tail-clause-refused : goal.returns-in_err-tail-clause-refused
@@ -25,5 +25,5 @@ pub returns-clause-read : goal.returns-clause-read
 returns-clause-read c = record {
   end = continues _;
   made = refl;
-  comes = λ initialises behind. (_, over (left_out (value_ends _ _ behind) (not_next _ _ c.in_default.ensures.read)) (c.in_ok-tail.ensures.read.comes _));
+  comes = λ initialises behind. (_, over (left_out (value_ends _ _ behind) (not_next _ _ c.in_default.ensures.read)) (c.in_ok-tail.ensures.read _));
 }

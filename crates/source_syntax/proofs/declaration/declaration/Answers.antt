@@ -21,44 +21,38 @@ pub parts-init : goal.parts-init
 parts-init c =
     let none : c.new-more.result.items ≡ [] = search rules in record {
       forward = omega (arith, c.in_ok-inner.ensures.forward.forward, c.in_ok-first.ensures.forward.forward);
-      comes = record {
-        comes = λ count behind. (
-          _,
-          refilled (λ g. ap (λ l. (record { part = part c.in_ok-first.first; more = map part l ++ g.0 }, g.1)) (sym none))
-              (over (declaration_goes _ _ count behind _) (over (sign_reads Sym.Int (refl, refl) c.in_ok-inner.ensures.read) (c.in_ok-first.ensures.read.comes _ behind).1)),
-        );
-      };
+      comes = λ count behind. (
+        _,
+        refilled (λ g. ap (λ l. (record { part = part c.in_ok-first.first; more = map part l ++ g.0 }, g.1)) (sym none))
+            (over (declaration_goes _ _ count behind _) (over (sign_reads Sym.Int (refl, refl) c.in_ok-inner.ensures.read) (c.in_ok-first.ensures.read _ behind).1)),
+      );
     }
 
 pub returns-in_err-further-clause-refused : goal.returns-in_err-further-clause-refused
 returns-in_err-further-clause-refused c =
     passed_on _ _ _ _ c.from_residual-in_err-further.ensures c.in_err-further.ensures.refused
-    (λ fault refused count behind. fails (c.parts.invariant.comes.comes count behind).1
+    (λ fault refused count behind. fails (c.parts.invariant.comes count behind).1
     (fails (taken (further_parts _ _ behind) c.in-Some.ensures.read (omega arith, tt)) (refused _ behind)))
 
 pub parts-preserved : goal.parts-preserved
 parts-preserved c =
     let pushed : c.push.new.self.items ≡ c.parts.more.items ++ c.in_ok-further.further ∷ [] = search rules in record {
       forward = omega (arith, c.parts.invariant.forward, c.in-Some.ensures.forward.forward, c.in_ok-further.ensures.forward.forward);
-      comes = record {
-        comes = λ count behind. (
-          _,
-          refilled (λ g. ap (λ l. (record { part = part c.in_ok-first.first; more = l }, g.1)) (longer part _ _ _ pushed g.0))
-              (over (c.parts.invariant.comes.comes count behind).1
-              (over (taken (further_parts _ _ behind) c.in-Some.ensures.read (omega arith, tt)) (c.in_ok-further.ensures.read.comes _ behind).1)),
-        );
-      };
+      comes = λ count behind. (
+        _,
+        refilled (λ g. ap (λ l. (record { part = part c.in_ok-first.first; more = l }, g.1)) (longer part _ _ _ pushed g.0))
+            (over (c.parts.invariant.comes count behind).1
+            (over (taken (further_parts _ _ behind) c.in-Some.ensures.read (omega arith, tt)) (c.in_ok-further.ensures.read _ behind).1)),
+      );
     }
 
 pub returns-in_err-next-clause-refused : goal.returns-in_err-next-clause-refused
 returns-in_err-next-clause-refused c =
     failed_on _ _ _ c.from_residual-in_err-next.ensures
-    (λ count behind. fails (c.parts.invariant.comes.comes count behind).1
+    (λ count behind. fails (c.parts.invariant.comes count behind).1
     (fails (left_out (further_parts _ _ behind) (not_next _ _ c.in_default.ensures.read)) (leading_refused _ _ c.in_err-next.field-0.0 Sym.Semicolon (refl, refl) c.in_err-next.ensures.missed)))
 
 pub returns-in_default-clause-read : goal.returns-in_default-clause-read
-returns-in_default-clause-read c = record {
-  comes = λ count behind.
-      refilled (λ g. ap (λ l. (record { part = part c.in_ok-first.first; more = l }, g)) (append-nil _)) (over (c.parts.invariant.comes.comes count behind).1
-      (over (left_out (further_parts _ _ behind) (not_next _ _ c.in_default.ensures.read)) (leading_reads Sym.Semicolon (refl, refl) c.in_ok-next.ensures.read)));
-}
+returns-in_default-clause-read c = λ count behind.
+    refilled (λ g. ap (λ l. (record { part = part c.in_ok-first.first; more = l }, g)) (append-nil _)) (over (c.parts.invariant.comes count behind).1
+    (over (left_out (further_parts _ _ behind) (not_next _ _ c.in_default.ensures.read)) (leading_reads Sym.Semicolon (refl, refl) c.in_ok-next.ensures.read)))

@@ -10,12 +10,10 @@ returns-in_err-value-clause-refused c =
 
 pub returns-then-functions-clause-read : goal.returns-then-functions-clause-read
 returns-then-functions-clause-read c =
-    rw c.if-functions.true (record {
-      comes = λ behind. (
-        _,
-        over (initialiser_goes _ 0 behind _) (over (c.in_ok-value.ensures.read.comes _ behind).1 (closes_part _ _ behind _)),
-      );
-    })
+    rw c.if-functions.true (λ behind. (
+      _,
+      over (initialiser_goes _ 0 behind _) (over (c.in_ok-value.ensures.read _ behind).1 (closes_part _ _ behind _)),
+    ))
 
 pub returns-in_err-plain-clause-refused : goal.returns-in_err-plain-clause-refused
 returns-in_err-plain-clause-refused c =
@@ -24,4 +22,4 @@ returns-in_err-plain-clause-refused c =
 
 pub returns-clause-read : goal.returns-clause-read
 returns-clause-read c =
-    rw c.if-functions.false (record { comes = λ behind. (_, over (no_called_initialisers _ 0 behind _) (c.in_ok-plain.ensures.read.comes _)) })
+    rw c.if-functions.false (λ behind. (_, over (no_called_initialisers _ 0 behind _) (c.in_ok-plain.ensures.read _)))

@@ -14,11 +14,8 @@ returns-in_err-value-clause-refused c =
     (λ fault refused count behind. fails (name_reads c.in_ok-bytes.ensures.read) (fails (taken (part_ends _ _ behind) c.in-Some.ensures.read (omega arith, tt)) (refused _)))
 
 pub returns-in-Some-clause-read : goal.returns-in-Some-clause-read
-returns-in-Some-clause-read c = record {
-  comes = λ count behind. (_, over (name_reads c.in_ok-bytes.ensures.read) (over (taken (part_ends _ _ behind) c.in-Some.ensures.read (omega arith, tt)) (c.in_ok-value.ensures.read.comes _).1));
-}
+returns-in-Some-clause-read c = λ count behind.
+    (_, over (name_reads c.in_ok-bytes.ensures.read) (over (taken (part_ends _ _ behind) c.in-Some.ensures.read (omega arith, tt)) (c.in_ok-value.ensures.read _).1))
 
 pub returns-clause-read : goal.returns-clause-read
-returns-clause-read c = record {
-  comes = λ count behind. (_, over (name_reads c.in_ok-bytes.ensures.read) (left_out (part_ends _ _ behind) (not_next _ _ c.in_default.ensures.read)));
-}
+returns-clause-read c = λ count behind. (_, over (name_reads c.in_ok-bytes.ensures.read) (left_out (part_ends _ _ behind) (not_next _ _ c.in_default.ensures.read)))

@@ -6,9 +6,8 @@ use Rattle.source_syntax.proofs.Statements.{starts}
 use Rattle.source_syntax.proofs.declaration.start.Goals as goal
 
 pub returns-in_ok-next-in-Nothing-clause-read : goal.returns-in_ok-next-in-Nothing-clause-read
-returns-in_ok-next-in-Nothing-clause-read c = record {
-  comes = λ count behind. over (goes (starts _ _ behind) count _ StartOpening.Nothing (sym c.in-Nothing.is ∙ c.opening_of_start.ensures)) (leading_reads Sym.Semicolon (refl, refl) c.in_ok-next-in-Nothing.ensures.read);
-}
+returns-in_ok-next-in-Nothing-clause-read c = λ count behind.
+    over (goes (starts _ _ behind) count _ StartOpening.Nothing (sym c.in-Nothing.is ∙ c.opening_of_start.ensures)) (leading_reads Sym.Semicolon (refl, refl) c.in_ok-next-in-Nothing.ensures.read)
 
 pub returns-in_err-declared-in-Declaration-clause-refused : goal.returns-in_err-declared-in-Declaration-clause-refused
 returns-in_err-declared-in-Declaration-clause-refused c =
@@ -16,9 +15,8 @@ returns-in_err-declared-in-Declaration-clause-refused c =
     (λ fault refused count behind. fails (goes (starts _ _ behind) count _ StartOpening.Declaration (sym c.in-Declaration.is ∙ c.opening_of_start.ensures)) (refused count behind))
 
 pub returns-in_ok-declared-in-Declaration-clause-read : goal.returns-in_ok-declared-in-Declaration-clause-read
-returns-in_ok-declared-in-Declaration-clause-read c = record {
-  comes = λ count behind. over (goes (starts _ _ behind) count _ StartOpening.Declaration (sym c.in-Declaration.is ∙ c.opening_of_start.ensures)) (c.in_ok-declared-in-Declaration.ensures.read.comes count behind);
-}
+returns-in_ok-declared-in-Declaration-clause-read c = λ count behind.
+    over (goes (starts _ _ behind) count _ StartOpening.Declaration (sym c.in-Declaration.is ∙ c.opening_of_start.ensures)) (c.in_ok-declared-in-Declaration.ensures.read count behind)
 
 pub returns-in_err-first-in-Simple-clause-refused : goal.returns-in_err-first-in-Simple-clause-refused
 returns-in_err-first-in-Simple-clause-refused c =
@@ -28,11 +26,10 @@ returns-in_err-first-in-Simple-clause-refused c =
 pub returns-in_err-next-in-Simple-clause-refused : goal.returns-in_err-next-in-Simple-clause-refused
 returns-in_err-next-in-Simple-clause-refused c =
     failed_on _ _ _ c.from_residual-in_err-next-in-Simple.ensures
-    (λ count behind. fails (goes (starts _ _ behind) count _ StartOpening.Simple (sym c.in-Simple.is ∙ c.opening_of_start.ensures)) (fails (c.in_ok-first-in-Simple.ensures.read.comes count _).1
+    (λ count behind. fails (goes (starts _ _ behind) count _ StartOpening.Simple (sym c.in-Simple.is ∙ c.opening_of_start.ensures)) (fails (c.in_ok-first-in-Simple.ensures.read count _).1
     (leading_refused _ _ c.in_err-next-in-Simple.field-0.0 Sym.Semicolon (refl, refl) c.in_err-next-in-Simple.ensures.missed)))
 
 pub returns-in_ok-next-in-Simple-clause-read : goal.returns-in_ok-next-in-Simple-clause-read
-returns-in_ok-next-in-Simple-clause-read c = record {
-  comes = λ count behind. over (goes (starts _ _ behind) count _ StartOpening.Simple (sym c.in-Simple.is ∙ c.opening_of_start.ensures)) (over (c.in_ok-first-in-Simple.ensures.read.comes count _).1
-      (leading_reads Sym.Semicolon (refl, refl) c.in_ok-next-in-Simple.ensures.read));
-}
+returns-in_ok-next-in-Simple-clause-read c = λ count behind.
+    over (goes (starts _ _ behind) count _ StartOpening.Simple (sym c.in-Simple.is ∙ c.opening_of_start.ensures)) (over (c.in_ok-first-in-Simple.ensures.read count _).1
+    (leading_reads Sym.Semicolon (refl, refl) c.in_ok-next-in-Simple.ensures.read))

@@ -21,9 +21,7 @@ returns-in_err-next-clause-refused c =
     (sign_refused _ _ c.in_err-next.field-0.0 Sym.CloseParenthesis (refl, refl) c.in_err-next.ensures.missed))))
 
 pub returns-clause-read : goal.returns-clause-read
-returns-clause-read c = λ count. record {
-  comes = λ behind. over (goes (operands _ behind) count _ Call c.requires.opens)
-      (over (sign_reads Sym.Nondeterministic (refl, refl) c.in_ok-open.ensures.read)
-      (over (opening_reads Sym.OpenParenthesis _ (refl, refl) c.in_ok-close.ensures.read c.in_ok-close.ensures.shallow)
-      (sign_reads Sym.CloseParenthesis (refl, refl) c.in_ok-next.ensures.read)));
-}
+returns-clause-read c = λ count behind. over (goes (operands _ behind) count _ Call c.requires.opens)
+    (over (sign_reads Sym.Nondeterministic (refl, refl) c.in_ok-open.ensures.read)
+    (over (opening_reads Sym.OpenParenthesis _ (refl, refl) c.in_ok-close.ensures.read c.in_ok-close.ensures.shallow)
+    (sign_reads Sym.CloseParenthesis (refl, refl) c.in_ok-next.ensures.read)))

@@ -16,9 +16,7 @@ pub returns-in-Some-clause-read : goal.returns-in-Some-clause-read
 returns-in-Some-clause-read c =
     let kept : to_z w64 (of_z w64 c.in_ok-size.size) ≡ c.in_ok-size.size = search rules in
     λ count. told (ap (λ z. record { negative = true; at = c.in-Some.at; size = z }) kept)
-    (record {
-      comes = λ behind. over (taken (divisors behind) c.in-Some.ensures.read (omega arith, tt)) (number_at_reads c.in_ok-size.ensures.read);
-    })
+    (λ behind. over (taken (divisors behind) c.in-Some.ensures.read (omega arith, tt)) (number_at_reads c.in_ok-size.ensures.read))
 
 pub returns-in_err-size-2-clause-refused : goal.returns-in_err-size-2-clause-refused
 returns-in_err-size-2-clause-refused c =
@@ -30,6 +28,4 @@ pub returns-clause-read : goal.returns-clause-read
 returns-clause-read c =
     let kept : to_z w64 (of_z w64 c.in_ok-size-2.size) ≡ c.in_ok-size-2.size = search rules in
     λ count. told (ap (λ z. record { negative = false; at = c.args.at; size = z }) kept)
-    (record {
-      comes = λ behind. over (left_out (divisors behind) (not_next _ _ c.in_default.ensures.read)) (number_at_reads c.in_ok-size-2.ensures.read);
-    })
+    (λ behind. over (left_out (divisors behind) (not_next _ _ c.in_default.ensures.read)) (number_at_reads c.in_ok-size-2.ensures.read))

@@ -9,9 +9,7 @@ returns-in_err-size-clause-refused c =
     (λ count behind. fails (taken (ends behind) c.in-Some.ensures.read (omega arith, tt)) (c.in_err-size.ensures.refused count behind))
 
 pub returns-in-Some-clause-read : goal.returns-in-Some-clause-read
-returns-in-Some-clause-read c = λ count. record {
-  comes = λ behind. over (taken (ends behind) c.in-Some.ensures.read (omega arith, tt)) ((c.in_ok-size.ensures.read count).comes behind);
-}
+returns-in-Some-clause-read c = λ count behind. over (taken (ends behind) c.in-Some.ensures.read (omega arith, tt)) (c.in_ok-size.ensures.read count behind)
 
 pub returns-in_err-size-2-clause-refused : goal.returns-in_err-size-2-clause-refused
 returns-in_err-size-2-clause-refused c =
@@ -19,6 +17,4 @@ returns-in_err-size-2-clause-refused c =
     (λ count behind. fails (left_out (ends behind) (not_next _ _ c.in_default.ensures.read)) (c.in_err-size-2.ensures.refused count behind))
 
 pub returns-clause-read : goal.returns-clause-read
-returns-clause-read c = λ count. record {
-  comes = λ behind. over (left_out (ends behind) (not_next _ _ c.in_default.ensures.read)) ((c.in_ok-size-2.ensures.read count).comes behind);
-}
+returns-clause-read c = λ count behind. over (left_out (ends behind) (not_next _ _ c.in_default.ensures.read)) (c.in_ok-size-2.ensures.read count behind)

@@ -16,18 +16,15 @@ returns-in-Number-clause-read c =
     let fits = rw c.in-Number.is at c.size_opening.type_inv in
     let kept : to_z w64 (of_z w64 c.in-Number.value) ≡ c.in-Number.value = to_z-of_z w64 c.in-Number.value (sfits_of fits.1.1.1.1.0.1) in
     let opens = sym c.in-Number.is ∙ c.size_opening.ensures in
-    λ count. told (ap Some kept) (record {
-      comes = λ behind. over (goes (sizes behind) count _ (SizeOpening.Number c.in-Number.value) opens)
-          (number_reads (next_word c.args.reader.words.now c.args.at (size_word _ (SizeOpening.Number c.in-Number.value) opens)));
-    })
+    λ count. told (ap Some kept) (λ behind. over (goes (sizes behind) count _ (SizeOpening.Number c.in-Number.value) opens)
+    (number_reads (next_word c.args.reader.words.now c.args.at (size_word _ (SizeOpening.Number c.in-Number.value) opens))))
 
 pub returns-in-Infinite : goal.returns-in-Infinite
 returns-in-Infinite c =
     let opens = sym c.in-Infinite.is ∙ c.size_opening.ensures in
     let word = size_word _ SizeOpening.Infinite opens in record {
-      read = λ count. record {
-        comes = λ behind. over (goes (sizes behind) count _ SizeOpening.Infinite opens) (sign_reads Sym.Infinite (refl, refl) (next_word c.args.reader.words.now c.args.at word));
-      };
+      read = λ count behind.
+          over (goes (sizes behind) count _ SizeOpening.Infinite opens) (sign_reads Sym.Infinite (refl, refl) (next_word c.args.reader.words.now c.args.at word));
       forward = one_behind c.args.reader.words.now c.args.at word;
       refused = tt;
     }

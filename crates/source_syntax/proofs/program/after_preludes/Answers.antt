@@ -25,10 +25,8 @@ returns-in_err-void-clause-refused c =
 pub returns-clause-read : goal.returns-clause-read
 returns-clause-read c =
     let none : c.new-functions.result.items ≡ [] = search rules in
-    rw c.if-functions.false (record {
-      comes = λ count behind. (
-        _,
-        refilled (λ g. ap (λ l. (record { functions = functions l; void = c.in_ok-void.void; items = items c.in_ok-void.items }, g)) (sym none))
-            (over (no_functions count behind _) (over (signs_read main_signs main_quiet c.in_ok-inner.ensures.read) (c.in_ok-void.ensures.read.comes count behind).1)),
-      );
-    })
+    rw c.if-functions.false (λ count behind. (
+      _,
+      refilled (λ g. ap (λ l. (record { functions = functions l; void = c.in_ok-void.void; items = items c.in_ok-void.items }, g)) (sym none))
+          (over (no_functions count behind _) (over (signs_read main_signs main_quiet c.in_ok-inner.ensures.read) (c.in_ok-void.ensures.read count behind).1)),
+    ))

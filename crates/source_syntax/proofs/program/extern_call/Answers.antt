@@ -18,9 +18,8 @@ returns-in_err-written-clause-refused c =
 pub returns-in_err-next-clause-refused : goal.returns-in_err-next-clause-refused
 returns-in_err-next-clause-refused c =
     handed_on _ _ _ c.from_residual-in_err-next.ensures
-    (λ count behind. fails (goes (beginnings _ behind) count _ PreludeOpening.Extern c.requires.opens) (fails (signs_read extern_signs extern_quiet c.in_ok-inner.ensures.read) (fails (c.in_ok-written.ensures.read.comes _ _).1 (sign_refused _ _ c.in_err-next.field-0.0 Sym.Semicolon (refl, refl) c.in_err-next.ensures.missed))))
+    (λ count behind. fails (goes (beginnings _ behind) count _ PreludeOpening.Extern c.requires.opens) (fails (signs_read extern_signs extern_quiet c.in_ok-inner.ensures.read) (fails (c.in_ok-written.ensures.read _ _).1 (sign_refused _ _ c.in_err-next.field-0.0 Sym.Semicolon (refl, refl) c.in_err-next.ensures.missed))))
 
 pub returns-clause-read : goal.returns-clause-read
-returns-clause-read c = record {
-  comes = λ count behind. (_, over (goes (beginnings _ behind) count _ PreludeOpening.Extern c.requires.opens) (over (signs_read extern_signs extern_quiet c.in_ok-inner.ensures.read) (over (c.in_ok-written.ensures.read.comes _ _).1 (sign_reads Sym.Semicolon (refl, refl) c.in_ok-next.ensures.read))));
-}
+returns-clause-read c = λ count behind.
+    (_, over (goes (beginnings _ behind) count _ PreludeOpening.Extern c.requires.opens) (over (signs_read extern_signs extern_quiet c.in_ok-inner.ensures.read) (over (c.in_ok-written.ensures.read _ _).1 (sign_reads Sym.Semicolon (refl, refl) c.in_ok-next.ensures.read))))

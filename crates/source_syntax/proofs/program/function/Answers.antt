@@ -23,22 +23,20 @@ pub returns-in_err-body-clause-refused : goal.returns-in_err-body-clause-refused
 returns-in_err-body-clause-refused c =
     failed_on _ _ _ c.from_residual-in_err-body.ensures
     (λ count behind. fails (name_reads c.in_ok-bytes.ensures.read) (fails (sign_reads Sym.OpenParenthesis (refl, refl) c.in_ok-inner.ensures.read)
-    (fails (c.in_ok-parameters.ensures.read.comes _ _).1 (opening_refused _ _ c.in_err-body.field-0.0 Sym.OpenBrace _ (refl, refl) c.in_err-body.ensures.missed))))
+    (fails (c.in_ok-parameters.ensures.read _ _).1 (opening_refused _ _ c.in_err-body.field-0.0 Sym.OpenBrace _ (refl, refl) c.in_err-body.ensures.missed))))
 
 pub returns-in_err-items-clause-refused : goal.returns-in_err-items-clause-refused
 returns-in_err-items-clause-refused c =
     passed_on _ _ _ _ c.from_residual-in_err-items.ensures c.in_err-items.ensures.refused
     (λ fault refused count behind. fails (name_reads c.in_ok-bytes.ensures.read) (fails (sign_reads Sym.OpenParenthesis (refl, refl) c.in_ok-inner.ensures.read)
-    (fails (c.in_ok-parameters.ensures.read.comes _ _).1
+    (fails (c.in_ok-parameters.ensures.read _ _).1
     (fails (opening_reads Sym.OpenBrace _ (refl, refl) c.in_ok-body.ensures.read c.in_ok-body.ensures.shallow) (refused _ _)))))
 
 pub returns-clause-read : goal.returns-clause-read
-returns-clause-read c = record {
-  comes = λ count behind. (
-    _,
-    over (name_reads c.in_ok-bytes.ensures.read) (over (sign_reads Sym.OpenParenthesis (refl, refl) c.in_ok-inner.ensures.read)
-        (over (c.in_ok-parameters.ensures.read.comes _ _).1
-        (over (opening_reads Sym.OpenBrace _ (refl, refl) c.in_ok-body.ensures.read c.in_ok-body.ensures.shallow)
-        (over (c.in_ok-items.ensures.read.comes _ _).1 (held (places behind) _ _))))),
-  );
-}
+returns-clause-read c = λ count behind. (
+  _,
+  over (name_reads c.in_ok-bytes.ensures.read) (over (sign_reads Sym.OpenParenthesis (refl, refl) c.in_ok-inner.ensures.read)
+      (over (c.in_ok-parameters.ensures.read _ _).1
+      (over (opening_reads Sym.OpenBrace _ (refl, refl) c.in_ok-body.ensures.read c.in_ok-body.ensures.shallow)
+      (over (c.in_ok-items.ensures.read _ _).1 (held (places behind) _ _))))),
+)

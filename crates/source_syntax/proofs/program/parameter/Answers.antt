@@ -14,6 +14,4 @@ returns-in_err-bytes-clause-refused c =
     (λ fault missed count behind. fails (sign_reads Sym.Int (refl, refl) c.in_ok-inner.ensures.read) (name_refused _ _ fault missed))
 
 pub returns-clause-read : goal.returns-clause-read
-returns-clause-read c = record {
-  comes = λ count behind. (_, over (sign_reads Sym.Int (refl, refl) c.in_ok-inner.ensures.read) (name_reads c.in_ok-bytes.ensures.read));
-}
+returns-clause-read c = λ count behind. (_, over (sign_reads Sym.Int (refl, refl) c.in_ok-inner.ensures.read) (name_reads c.in_ok-bytes.ensures.read))

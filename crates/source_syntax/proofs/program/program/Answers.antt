@@ -31,26 +31,25 @@ preludes-preserved c =
 pub returns-in_err-void-in-Extern-clause-refused : goal.returns-in_err-void-in-Extern-clause-refused
 returns-in_err-void-in-Extern-clause-refused c =
     failed_on _ _ _ c.from_residual.ensures
-    (λ count behind. fails (c.preludes.invariant.comes.comes count behind).1 (c.in_err-void-in-Extern.ensures.refused _ behind))
+    (λ count behind. fails (c.preludes.invariant.comes count behind).1 (c.in_err-void-in-Extern.ensures.refused _ behind))
 
 pub returns-in_err-next-in-Typedef-clause-refused : goal.returns-in_err-next-in-Typedef-clause-refused
 returns-in_err-next-in-Typedef-clause-refused c =
     failed_on _ _ _ c.from_residual-in_err-next-in-Typedef.ensures
-    (λ count behind. fails (c.preludes.invariant.comes.comes count behind).1 (c.in_err-next-in-Typedef.ensures.refused _ behind))
+    (λ count behind. fails (c.preludes.invariant.comes count behind).1 (c.in_err-next-in-Typedef.ensures.refused _ behind))
 
 pub returns-in_err-all-in-Main-clause-refused : goal.returns-in_err-all-in-Main-clause-refused
 returns-in_err-all-in-Main-clause-refused c =
     passed_on _ _ _ _ c.from_residual-in_err-all-in-Main.ensures c.in_err-all-in-Main.ensures.refused
-    (λ fault refused count behind. fails (c.preludes.invariant.comes.comes count behind).1
+    (λ fault refused count behind. fails (c.preludes.invariant.comes count behind).1
     (fails (goes (beginnings _ behind) _ _ PreludeOpening.Main (sym c.in-Main.is ∙ c.opening_of_prelude.ensures)) (refused _ behind)))
 
 pub returns-in-Main-clause-read : goal.returns-in-Main-clause-read
 returns-in-Main-clause-read c =
-    let all = c.in_ok-all-in-Main.all in record {
-      comes = λ count behind. (
-        _,
-        refilled (λ g. ap (λ l. (record { preludes = l; functions = functions all.functions.items; void = all.void; items = items all.items }, g)) (append-nil _))
-            (over (c.preludes.invariant.comes.comes count behind).1
-            (over (goes (beginnings _ behind) _ _ PreludeOpening.Main (sym c.in-Main.is ∙ c.opening_of_prelude.ensures)) (c.in_ok-all-in-Main.ensures.read.comes _ behind).1)),
-      );
-    }
+    let all = c.in_ok-all-in-Main.all in
+    λ count behind. (
+      _,
+      refilled (λ g. ap (λ l. (record { preludes = l; functions = functions all.functions.items; void = all.void; items = items all.items }, g)) (append-nil _))
+          (over (c.preludes.invariant.comes count behind).1
+          (over (goes (beginnings _ behind) _ _ PreludeOpening.Main (sym c.in-Main.is ∙ c.opening_of_prelude.ensures)) (c.in_ok-all-in-Main.ensures.read _ behind).1)),
+    )

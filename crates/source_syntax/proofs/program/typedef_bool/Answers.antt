@@ -9,6 +9,5 @@ returns-in_err-next-clause-refused c =
     (λ count behind. fails (goes (beginnings _ behind) count _ PreludeOpening.Typedef c.requires.opens) (signs_refused _ typedef_signs typedef_quiet c.in_err-next.ensures.missed))
 
 pub returns-clause-read : goal.returns-clause-read
-returns-clause-read c = record {
-  comes = λ count behind. (_, over (goes (beginnings _ behind) count _ PreludeOpening.Typedef c.requires.opens) (signs_read typedef_signs typedef_quiet c.in_ok-next.ensures.read));
-}
+returns-clause-read c = λ count behind.
+    (_, over (goes (beginnings _ behind) count _ PreludeOpening.Typedef c.requires.opens) (signs_read typedef_signs typedef_quiet c.in_ok-next.ensures.read))

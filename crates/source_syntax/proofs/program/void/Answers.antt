@@ -10,9 +10,8 @@ returns-in_err-end-clause-refused c =
     (λ count behind. fails (taken (voids behind) c.in-Some.ensures.read (omega arith, tt)) (sign_refused _ _ c.in_err-end.field-0.0 Sym.CloseParenthesis (refl, refl) c.in_err-end.ensures.missed))
 
 pub returns-in-Some-clause-read : goal.returns-in-Some-clause-read
-returns-in-Some-clause-read c = record {
-  comes = λ count behind. (_, over (taken (voids behind) c.in-Some.ensures.read (omega arith, tt)) (sign_reads Sym.CloseParenthesis (refl, refl) c.in_ok-end.ensures.read));
-}
+returns-in-Some-clause-read c = λ count behind.
+    (_, over (taken (voids behind) c.in-Some.ensures.read (omega arith, tt)) (sign_reads Sym.CloseParenthesis (refl, refl) c.in_ok-end.ensures.read))
 
 pub returns-in_err-next-clause-refused : goal.returns-in_err-next-clause-refused
 returns-in_err-next-clause-refused c =
@@ -20,6 +19,5 @@ returns-in_err-next-clause-refused c =
     (λ count behind. fails (left_out (voids behind) (not_next _ _ c.in_default.ensures.read)) (sign_refused _ _ c.in_err-next.field-0.0 Sym.CloseParenthesis (refl, refl) c.in_err-next.ensures.missed))
 
 pub returns-clause-read : goal.returns-clause-read
-returns-clause-read c = record {
-  comes = λ count behind. (_, over (left_out (voids behind) (not_next _ _ c.in_default.ensures.read)) (sign_reads Sym.CloseParenthesis (refl, refl) c.in_ok-next.ensures.read));
-}
+returns-clause-read c = λ count behind.
+    (_, over (left_out (voids behind) (not_next _ _ c.in_default.ensures.read)) (sign_reads Sym.CloseParenthesis (refl, refl) c.in_ok-next.ensures.read))

@@ -5,9 +5,7 @@ use Rattle.source_syntax.proofs.Statements.{optionals}
 use Rattle.source_syntax.proofs.simple.optional.Goals as goal
 
 pub returns-in-Some-clause-read : goal.returns-in-Some-clause-read
-returns-in-Some-clause-read c = record {
-  comes = λ behind. (_, taken (optionals _ behind) c.in-Some.ensures.read (omega arith, tt));
-}
+returns-in-Some-clause-read c = λ behind. (_, taken (optionals _ behind) c.in-Some.ensures.read (omega arith, tt))
 
 pub returns-in_err-value-clause-refused : goal.returns-in_err-value-clause-refused
 returns-in_err-value-clause-refused c =
@@ -17,9 +15,8 @@ returns-in_err-value-clause-refused c =
 pub returns-in_err-next-clause-refused : goal.returns-in_err-next-clause-refused
 returns-in_err-next-clause-refused c =
     failed_on _ _ _ c.from_residual-in_err-next.ensures
-    (λ behind. fails (left_out (optionals _ behind) (not_next _ _ c.in_default.ensures.read)) (fails (c.in_ok-value.ensures.read.comes _) (sign_refused _ _ c.in_err-next.field-0.0 Sym.Semicolon (refl, refl) c.in_err-next.ensures.missed)))
+    (λ behind. fails (left_out (optionals _ behind) (not_next _ _ c.in_default.ensures.read)) (fails (c.in_ok-value.ensures.read _) (sign_refused _ _ c.in_err-next.field-0.0 Sym.Semicolon (refl, refl) c.in_err-next.ensures.missed)))
 
 pub returns-clause-read : goal.returns-clause-read
-returns-clause-read c = record {
-  comes = λ behind. (_, over (left_out (optionals _ behind) (not_next _ _ c.in_default.ensures.read)) (over (c.in_ok-value.ensures.read.comes _) (sign_reads Sym.Semicolon (refl, refl) c.in_ok-next.ensures.read)));
-}
+returns-clause-read c = λ behind.
+    (_, over (left_out (optionals _ behind) (not_next _ _ c.in_default.ensures.read)) (over (c.in_ok-value.ensures.read _) (sign_reads Sym.Semicolon (refl, refl) c.in_ok-next.ensures.read)))

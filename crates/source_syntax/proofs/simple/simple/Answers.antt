@@ -17,9 +17,8 @@ returns-in_err-action-in-Name-clause-refused c =
     (λ fault refused count behind. fails (goes (simples _ behind) count _ SimpleOpening.Name (sym c.in-Name.is ∙ c.opening_of_simple.ensures)) (fails (name_reads c.in_ok-bytes-in-Name.ensures.read) (refused _ _)))
 
 pub returns-in_ok-action-in-Name-clause-read : goal.returns-in_ok-action-in-Name-clause-read
-returns-in_ok-action-in-Name-clause-read c = record {
-  comes = λ count behind. (_, over (goes (simples _ behind) count _ SimpleOpening.Name (sym c.in-Name.is ∙ c.opening_of_simple.ensures)) (over (name_reads c.in_ok-bytes-in-Name.ensures.read) (c.in_ok-action-in-Name.ensures.read.comes _ _).1));
-}
+returns-in_ok-action-in-Name-clause-read c = λ count behind.
+    (_, over (goes (simples _ behind) count _ SimpleOpening.Name (sym c.in-Name.is ∙ c.opening_of_simple.ensures)) (over (name_reads c.in_ok-bytes-in-Name.ensures.read) (c.in_ok-action-in-Name.ensures.read _ _).1))
 
 pub returns-in_err-bytes-in-Steps-clause-refused : goal.returns-in_err-bytes-in-Steps-clause-refused
 returns-in_err-bytes-in-Steps-clause-refused c =
@@ -27,9 +26,8 @@ returns-in_err-bytes-in-Steps-clause-refused c =
     (λ fault missed count behind. fails (goes (simples _ behind) count _ (SimpleOpening.Steps c.in-Steps.step) (sym c.in-Steps.is ∙ c.opening_of_simple.ensures)) (fails (sign_at_reads (step_sign c.in-Steps.step) (step_quiet c.in-Steps.step) (written _ _ c.in_ok-behind-in-Steps.ensures.read c.step_symbol.ensures)) (name_refused _ _ fault missed)))
 
 pub returns-in_ok-bytes-in-Steps-clause-read : goal.returns-in_ok-bytes-in-Steps-clause-read
-returns-in_ok-bytes-in-Steps-clause-read c = record {
-  comes = λ count behind. (_, over (goes (simples _ behind) count _ (SimpleOpening.Steps c.in-Steps.step) (sym c.in-Steps.is ∙ c.opening_of_simple.ensures)) (over (sign_at_reads (step_sign c.in-Steps.step) (step_quiet c.in-Steps.step) (written _ _ c.in_ok-behind-in-Steps.ensures.read c.step_symbol.ensures)) (name_reads c.in_ok-bytes-in-Steps.ensures.read)));
-}
+returns-in_ok-bytes-in-Steps-clause-read c = λ count behind.
+    (_, over (goes (simples _ behind) count _ (SimpleOpening.Steps c.in-Steps.step) (sym c.in-Steps.is ∙ c.opening_of_simple.ensures)) (over (sign_at_reads (step_sign c.in-Steps.step) (step_quiet c.in-Steps.step) (written _ _ c.in_ok-behind-in-Steps.ensures.read c.step_symbol.ensures)) (name_reads c.in_ok-bytes-in-Steps.ensures.read)))
 
 pub returns-in-Nothing-clause-refused : goal.returns-in-Nothing-clause-refused
 returns-in-Nothing-clause-refused c = λ count behind. stuck (simples _ behind) lawful count _ _ (λ shut. shut) (sym c.in-Nothing.is ∙ c.opening_of_simple.ensures)

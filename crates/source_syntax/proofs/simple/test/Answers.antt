@@ -17,9 +17,8 @@ returns-in_err-tested-clause-refused c =
 pub returns-in_err-next-clause-refused : goal.returns-in_err-next-clause-refused
 returns-in_err-next-clause-refused c =
     failed_on _ _ _ c.from_residual-in_err-next.ensures
-    (λ count behind. fails (test_goes _ count behind _) (fails (leading_opening_reads Sym.OpenParenthesis _ (refl, refl) c.in_ok-inner.ensures.read c.in_ok-inner.ensures.shallow) (fails (c.in_ok-tested.ensures.read.comes _) (sign_refused _ _ c.in_err-next.field-0.0 Sym.CloseParenthesis (refl, refl) c.in_err-next.ensures.missed))))
+    (λ count behind. fails (test_goes _ count behind _) (fails (leading_opening_reads Sym.OpenParenthesis _ (refl, refl) c.in_ok-inner.ensures.read c.in_ok-inner.ensures.shallow) (fails (c.in_ok-tested.ensures.read _) (sign_refused _ _ c.in_err-next.field-0.0 Sym.CloseParenthesis (refl, refl) c.in_err-next.ensures.missed))))
 
 pub returns-clause-read : goal.returns-clause-read
-returns-clause-read c = record {
-  comes = λ count behind. (_, over (test_goes _ count behind _) (over (leading_opening_reads Sym.OpenParenthesis _ (refl, refl) c.in_ok-inner.ensures.read c.in_ok-inner.ensures.shallow) (over (c.in_ok-tested.ensures.read.comes _) (sign_reads Sym.CloseParenthesis (refl, refl) c.in_ok-next.ensures.read))));
-}
+returns-clause-read c = λ count behind.
+    (_, over (test_goes _ count behind _) (over (leading_opening_reads Sym.OpenParenthesis _ (refl, refl) c.in_ok-inner.ensures.read c.in_ok-inner.ensures.shallow) (over (c.in_ok-tested.ensures.read _) (sign_reads Sym.CloseParenthesis (refl, refl) c.in_ok-next.ensures.read))))

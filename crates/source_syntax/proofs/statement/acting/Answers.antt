@@ -13,13 +13,12 @@ returns-in_err-action-clause-refused c =
 pub returns-in_err-next-clause-refused : goal.returns-in_err-next-clause-refused
 returns-in_err-next-clause-refused c =
     failed_on _ _ _ c.from_residual-in_err-next.ensures
-    (λ count behind. fails (no_calls _ count behind _) (fails (c.in_ok-action.ensures.read.comes _ _).1 (sign_refused _ _ c.in_err-next.field-0.0 Sym.Semicolon (refl, refl) c.in_err-next.ensures.missed)))
+    (λ count behind. fails (no_calls _ count behind _) (fails (c.in_ok-action.ensures.read _ _).1 (sign_refused _ _ c.in_err-next.field-0.0 Sym.Semicolon (refl, refl) c.in_err-next.ensures.missed)))
 
 pub returns-clause-read : goal.returns-clause-read
 returns-clause-read c = record {
   end = does _;
   made = refl;
-  reads = record {
-    comes = λ count behind. (_, over (no_calls _ count behind _) (over (c.in_ok-action.ensures.read.comes _ _).1 (sign_reads Sym.Semicolon (refl, refl) c.in_ok-next.ensures.read)));
-  };
+  reads = λ count behind.
+      (_, over (no_calls _ count behind _) (over (c.in_ok-action.ensures.read _ _).1 (sign_reads Sym.Semicolon (refl, refl) c.in_ok-next.ensures.read)));
 }

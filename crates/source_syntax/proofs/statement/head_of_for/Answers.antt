@@ -16,14 +16,13 @@ returns-in_err-start-clause-refused c =
 pub returns-in_err-test-clause-refused : goal.returns-in_err-test-clause-refused
 returns-in_err-test-clause-refused c =
     passed_on _ _ _ _ c.from_residual-in_err-test.ensures c.in_err-test.ensures.refused
-    (λ fault refused count behind. fails (sign_reads Sym.OpenParenthesis (refl, refl) c.in_ok-first.ensures.read) (fails (c.in_ok-start.ensures.read.comes _ _) (refused _)))
+    (λ fault refused count behind. fails (sign_reads Sym.OpenParenthesis (refl, refl) c.in_ok-first.ensures.read) (fails (c.in_ok-start.ensures.read _ _) (refused _)))
 
 pub returns-in_err-step-clause-refused : goal.returns-in_err-step-clause-refused
 returns-in_err-step-clause-refused c =
     passed_on _ _ _ _ c.from_residual-in_err-step.ensures c.in_err-step.ensures.refused
-    (λ fault refused count behind. fails (sign_reads Sym.OpenParenthesis (refl, refl) c.in_ok-first.ensures.read) (fails (c.in_ok-start.ensures.read.comes _ _) (fails (c.in_ok-test.ensures.read.comes _).1 (refused _ _))))
+    (λ fault refused count behind. fails (sign_reads Sym.OpenParenthesis (refl, refl) c.in_ok-first.ensures.read) (fails (c.in_ok-start.ensures.read _ _) (fails (c.in_ok-test.ensures.read _).1 (refused _ _))))
 
 pub returns-clause-read : goal.returns-clause-read
-returns-clause-read c = record {
-  comes = λ count behind. (_, over (sign_reads Sym.OpenParenthesis (refl, refl) c.in_ok-first.ensures.read) (over (c.in_ok-start.ensures.read.comes _ _) (over (c.in_ok-test.ensures.read.comes _).1 (c.in_ok-step.ensures.read.comes _ _).1)));
-}
+returns-clause-read c = λ count behind.
+    (_, over (sign_reads Sym.OpenParenthesis (refl, refl) c.in_ok-first.ensures.read) (over (c.in_ok-start.ensures.read _ _) (over (c.in_ok-test.ensures.read _).1 (c.in_ok-step.ensures.read _ _).1)))

@@ -18,9 +18,8 @@ returns-in_err-kind-clause-refused c =
 pub returns-then-functions-clause-read : goal.returns-then-functions-clause-read
 returns-then-functions-clause-read c =
     let r = c.in_ok-kind.ensures.read in
-    rw c.if-functions.true (told_reads r.made (record {
-      comes = λ count behind. (_, over (goes (statements _ _ behind) count _ StatementOpening.Name c.requires.opens) (over (name_reads c.in_ok-bytes.ensures.read) (r.reads.comes _ _).1));
-    }))
+    rw c.if-functions.true (told_reads r.made (λ count behind.
+    (_, over (goes (statements _ _ behind) count _ StatementOpening.Name c.requires.opens) (over (name_reads c.in_ok-bytes.ensures.read) (r.reads _ _).1))))
 
 pub returns-in_err-acting-clause-refused : goal.returns-in_err-acting-clause-refused
 returns-in_err-acting-clause-refused c =
@@ -31,6 +30,5 @@ returns-in_err-acting-clause-refused c =
 pub returns-clause-read : goal.returns-clause-read
 returns-clause-read c =
     let r = c.in_ok-acting.ensures.read in
-    rw c.if-functions.false (told_reads r.made (record {
-      comes = λ count behind. (_, over (goes (statements _ _ behind) count _ StatementOpening.Name c.requires.opens) (over (name_reads c.in_ok-bytes.ensures.read) (r.reads.comes _ _).1));
-    }))
+    rw c.if-functions.false (told_reads r.made (λ count behind.
+    (_, over (goes (statements _ _ behind) count _ StatementOpening.Name c.requires.opens) (over (name_reads c.in_ok-bytes.ensures.read) (r.reads _ _).1))))

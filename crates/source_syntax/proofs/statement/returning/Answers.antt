@@ -16,6 +16,5 @@ returns-in_err-value-clause-refused c =
     (λ fault refused count behind. fails (goes (statements _ _ behind) count _ StatementOpening.Return c.requires.opens) (fails (leading_reads Sym.Return (refl, refl) c.in_ok-behind.ensures.read) (refused _)))
 
 pub returns-clause-read : goal.returns-clause-read
-returns-clause-read c = record {
-  comes = λ count behind. (_, over (goes (statements _ _ behind) count _ StatementOpening.Return c.requires.opens) (over (leading_reads Sym.Return (refl, refl) c.in_ok-behind.ensures.read) (c.in_ok-value.ensures.read.comes _).1));
-}
+returns-clause-read c = λ count behind.
+    (_, over (goes (statements _ _ behind) count _ StatementOpening.Return c.requires.opens) (over (leading_reads Sym.Return (refl, refl) c.in_ok-behind.ensures.read) (c.in_ok-value.ensures.read _).1))

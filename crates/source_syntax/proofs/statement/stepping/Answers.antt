@@ -13,9 +13,8 @@ returns-in_err-inner-clause-refused c =
 pub returns-in_err-next-clause-refused : goal.returns-in_err-next-clause-refused
 returns-in_err-next-clause-refused c =
     failed_on _ _ _ c.from_residual-in_err-next.ensures
-    (λ count behind. fails (goes (statements _ _ behind) count _ StatementOpening.Steps c.requires.opens) (fails (c.in_ok-inner.ensures.read.comes _ _).1 (sign_refused _ _ c.in_err-next.field-0.0 Sym.Semicolon (refl, refl) c.in_err-next.ensures.missed)))
+    (λ count behind. fails (goes (statements _ _ behind) count _ StatementOpening.Steps c.requires.opens) (fails (c.in_ok-inner.ensures.read _ _).1 (sign_refused _ _ c.in_err-next.field-0.0 Sym.Semicolon (refl, refl) c.in_err-next.ensures.missed)))
 
 pub returns-clause-read : goal.returns-clause-read
-returns-clause-read c = record {
-  comes = λ count behind. (_, over (goes (statements _ _ behind) count _ StatementOpening.Steps c.requires.opens) (over (c.in_ok-inner.ensures.read.comes _ _).1 (sign_reads Sym.Semicolon (refl, refl) c.in_ok-next.ensures.read)));
-}
+returns-clause-read c = λ count behind.
+    (_, over (goes (statements _ _ behind) count _ StatementOpening.Steps c.requires.opens) (over (c.in_ok-inner.ensures.read _ _).1 (sign_reads Sym.Semicolon (refl, refl) c.in_ok-next.ensures.read)))
