@@ -6,7 +6,7 @@ use crate::cells::{Cell, Link};
 use crate::synthesis::Synthesis;
 use linear_cons::{Affine, PLACES, Row, common_divisor, floor_quotient};
 use linear_program::{Program, Solution, Term, minimised};
-use loop_moves::{Head, Move, Search, Stop, through, unchanged};
+use loop_moves::{Head, Loops, Move, Search, Stop, through, unchanged};
 use std::alloc::{AllocError, Global};
 
 /// The most links of a component.
@@ -95,41 +95,75 @@ impl Synthesis {
         if asked.len() > MOST_LINKS {
             return Ok(None);
         }
-        let mut ranks = Ranks {
-            alloc: search.alloc,
-            program: Program::new(search.alloc),
-            costs: Vec::new(search.alloc),
-            variables: self.loops.variables,
-            factors: self.loops.factors.to_vec(search.alloc)?,
-            first: vec![in search.alloc; None; cells.len()]?,
-            falls: Vec::new(search.alloc),
-        };
-        for index in component {
-            let first = ranks.add_function()?;
-            if let Some(place) = ranks.first.get_mut(*index) {
-                *place = Some(first);
+        let ranks = self.columns(search.alloc, cells, component, asked)?;
+        match ranks.solution(search, exchanges)? {
+            Some(solution) => {
+                let solved = ranks.read(component, &solution)?;
+                Ok(Some(solved))
             }
+            None => Ok(None),
         }
+    }
+
+    /// Columns for the ranks of the component's cells, with what is asked of them.
+    fn columns(
+        &self,
+        alloc: Global,
+        cells: &[Cell],
+        component: &[usize],
+        asked: &[Along<'_>],
+    ) -> Result<Ranks, Stop> {
+        let mut ranks = Ranks::none(alloc, &self.loops, cells.len())?;
+        ranks.add_functions(component)?;
         for index in component {
             if let Some(cell) = cells.get(*index) {
                 if let Some(head) = self.loops.heads.get(cell.head) {
                     ranks.add_cell(*index, cell, head)?;
                 }
             }
-            for along in asked {
-                if along.cell == *index {
-                    ranks.add_along(along)?;
-                }
-            }
+            ranks.add_asked(*index, asked)?;
         }
-        match ranks.solution(search, exchanges)? {
-            Some(solution) => Ok(Some(ranks.read(component, &solution)?)),
-            None => Ok(None),
-        }
+        Ok(ranks)
     }
 }
 
 impl Ranks {
+    /// Those of so many cells, without columns.
+    fn none(alloc: Global, loops: &Loops, cells: usize) -> Result<Ranks, AllocError> {
+        let factors = loops.factors.to_vec(alloc)?;
+        let first = vec![in alloc; None; cells]?;
+        Ok(Ranks {
+            alloc,
+            program: Program::new(alloc),
+            costs: Vec::new(alloc),
+            variables: loops.variables,
+            factors,
+            first,
+            falls: Vec::new(alloc),
+        })
+    }
+
+    /// Adds the columns of a function for each cell of the component.
+    fn add_functions(&mut self, component: &[usize]) -> Result<(), AllocError> {
+        for index in component {
+            let first = self.add_function()?;
+            if let Some(place) = self.first.get_mut(*index) {
+                *place = Some(first);
+            }
+        }
+        Ok(())
+    }
+
+    /// Adds what is asked along links of the cell with the index.
+    fn add_asked(&mut self, index: usize, asked: &[Along<'_>]) -> Result<(), Stop> {
+        for along in asked {
+            if along.cell == index {
+                self.add_along(along)?;
+            }
+        }
+        Ok(())
+    }
+
     /// The first column of a function more.
     fn add_function(&mut self) -> Result<usize, AllocError> {
         let first = self.program.columns();

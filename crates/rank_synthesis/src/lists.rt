@@ -253,10 +253,7 @@ impl Synthesis {
         if parts <= 1 {
             return self.one_part(search, cells, among, ways);
         }
-        let mut asked = Vec::with_capacity(search.alloc, ways.len())?;
-        for way in ways {
-            asked.push(way.first(parts))?;
-        }
+        let asked = first_ones(search.alloc, ways, parts)?;
         let Some(firsts) = self.solved(search, cells, among, &asked, MANY_EXCHANGES)? else {
             return Ok(Listed::Never);
         };
@@ -266,11 +263,7 @@ impl Synthesis {
         let Some(rest) = self.parted_anew(search, cells, among, &staying, parts - 1)? else {
             return Ok(Listed::Nothing);
         };
-        let mut found = Vec::with_capacity(search.alloc, among.len())?;
-        for (first, rest) in firsts.ranks.iter().zip(rest) {
-            let first = first.scale(times)?;
-            found.push(with_part(rest, parts, first))?;
-        }
+        let found = multiplied(search.alloc, times, &firsts.ranks, &rest, parts)?;
         Ok(Listed::Found(found))
     }
 
@@ -284,14 +277,8 @@ impl Synthesis {
         ways: &[Way<'_>],
         parts: usize,
     ) -> Result<Option<Vec<Parts>>, Stop> {
-        let mut arrows = Arrows::none(search.alloc, cells.len())?;
-        for way in ways {
-            if let To::Inner(to) = way.to {
-                arrows.add(way.cell, to)?;
-            }
-        }
         let mut ranks: Ranks = vec![in search.alloc; None; cells.len()]?;
-        for component in components_of(search.alloc, cells.len(), &arrows)? {
+        for component in joined_by(search.alloc, cells.len(), ways)? {
             if component.iter().all(|index| among.contains(index)) {
                 let own = ways_of(search.alloc, ways, &component, &ranks)?;
                 match self.list(search, cells, &component, &own, parts)? {
@@ -300,14 +287,8 @@ impl Synthesis {
                 }
             }
         }
-        let mut found = Vec::with_capacity(search.alloc, among.len())?;
-        for index in among {
-            match ranks.get(*index).copied().flatten() {
-                Some(rank) => found.push(rank)?,
-                None => return Ok(None),
-            }
-        }
-        Ok(Some(found))
+        let found = all_of(search.alloc, &ranks, among)?;
+        Ok(found)
     }
 
     /// Ranks of one part, which falls along all ways by the steps. Nothing where a number is chosen without a bound on a way between the cells.
@@ -336,8 +317,65 @@ impl Synthesis {
     }
 }
 
+/// What is asked of the first of so many parts.
+fn first_ones<'a>(
+    alloc: Global,
+    ways: &[Way<'a>],
+    parts: usize,
+) -> Result<Vec<Along<'a>>, AllocError> {
+    let mut asked = Vec::with_capacity(alloc, ways.len())?;
+    for way in ways {
+        asked.push(way.first(parts))?;
+    }
+    Ok(asked)
+}
+
+/// Ranks of so many parts, whose first is so many times one of these.
+fn multiplied(
+    alloc: Global,
+    times: i128,
+    firsts: &[Affine],
+    rest: &[Parts],
+    parts: usize,
+) -> Result<Vec<Parts>, Stop> {
+    let mut found = Vec::with_capacity(alloc, rest.len())?;
+    for (first, rest) in firsts.iter().zip(rest) {
+        let first = first.scale(times)?;
+        found.push(with_part(*rest, parts, first))?;
+    }
+    Ok(found)
+}
+
+/// The components into which the ways between cells join so many cells.
+fn joined_by(alloc: Global, cells: usize, ways: &[Way<'_>]) -> Result<Vec<Vec<usize>>, AllocError> {
+    let mut arrows = Arrows::none(alloc, cells)?;
+    for way in ways {
+        if let To::Inner(to) = way.to {
+            arrows.add(way.cell, to)?;
+        }
+    }
+    let joined = components_of(alloc, cells, &arrows)?;
+    Ok(joined)
+}
+
+/// The ranks of the cells with the indices. None where one has none.
+fn all_of(
+    alloc: Global,
+    ranks: &[Option<Parts>],
+    indices: &[usize],
+) -> Result<Option<Vec<Parts>>, AllocError> {
+    let mut found = Vec::with_capacity(alloc, indices.len())?;
+    for index in indices {
+        match ranks.get(*index).copied().flatten() {
+            Some(rank) => found.push(rank)?,
+            None => return Ok(None),
+        }
+    }
+    Ok(Some(found))
+}
+
 /// Notes the ranks of the cells with the indices.
-fn put_ranks(ranks: &mut Ranks, indices: &[usize], found: &[Parts]) {
+pub(crate) fn put_ranks<T: Copy>(ranks: &mut [Option<T>], indices: &[usize], found: &[T]) {
     for (index, rank) in indices.iter().zip(found) {
         if let Some(place) = ranks.get_mut(*index) {
             *place = Some(*rank);

@@ -2,7 +2,7 @@
 use crate::cells::{Cell, End, Link};
 use crate::components::components;
 use crate::farkas::{Along, Behind, Change, FEW_EXCHANGES, Solved};
-use crate::lists::{RankedCell, of_two};
+use crate::lists::{RankedCell, of_two, put_ranks};
 use crate::synthesis::{Kept, Synthesis};
 use linear_cons::{Affine, floor_quotient};
 use loop_moves::{Move, Parting, Search, Stop, unless_given_up};
@@ -109,25 +109,31 @@ impl Synthesis {
         let Some(cells) = unless_given_up(self.parted(search, parting))?.flatten() else {
             return Ok(None);
         };
-        let mut pairs: Vec<Option<Pair>> = vec![in search.alloc; None; cells.len()]?;
-        for component in components(search.alloc, &cells)? {
-            let found = unless_given_up(self.pairs(search, &cells, &component, &pairs))?;
-            if let Some(found) = found.flatten() {
-                for (index, pair) in component.iter().zip(found) {
-                    if let Some(place) = pairs.get_mut(*index) {
-                        *place = Some(pair);
-                    }
-                }
-            }
-        }
-        let ranks = self.with_parts(search.alloc, &cells, &pairs)?;
+        let ranks = self.paired_cells(search, &cells)?;
+        let claimed = if self.jumps { 0 } else { ranks.len() };
         self.kept.push(Kept {
             parting,
             cells,
-            claimed: if self.jumps { 0 } else { ranks.len() },
+            claimed,
             is_settled: false,
         })?;
         Ok(Some(ranks))
+    }
+
+    /// Those of the cells that have ranks of two parts, component after component.
+    fn paired_cells(
+        &self,
+        search: &mut Search,
+        cells: &[Cell],
+    ) -> Result<Vec<RankedCell>, AllocError> {
+        let mut pairs: Vec<Option<Pair>> = vec![in search.alloc; None; cells.len()]?;
+        for component in components(search.alloc, cells)? {
+            let found = unless_given_up(self.pairs(search, cells, &component, &pairs))?;
+            if let Some(found) = found.flatten() {
+                put_ranks(&mut pairs, &component, &found);
+            }
+        }
+        self.with_parts(search.alloc, cells, &pairs)
     }
 
     /// The cells with their ranks, where they have one.
@@ -202,25 +208,11 @@ impl Synthesis {
         component: &[usize],
         leads: &[Lead<'_>],
     ) -> Result<Option<Vec<Pair>>, Stop> {
-        let mut level = 0i128;
-        for lead in leads {
-            if !lead.is_inner() {
-                level = level.max(lead.level());
-            }
-        }
-        for (more, leaves) in [(0i128, true), (1, false)] {
-            let mut asked = Vec::new(search.alloc);
-            for lead in leads {
-                if lead.is_inner() || leaves && lead.level() == level {
-                    asked.push(lead.low())?;
-                }
-            }
+        let level = level_of(leads);
+        for (high, leaving) in [(level, Some(level)), (level.saturating_add(1), None)] {
+            let asked = low_ones(search.alloc, leads, leaving)?;
             if let Some(solved) = self.solved(search, cells, component, &asked, FEW_EXCHANGES)? {
-                let high = Affine::constant(level.saturating_add(more));
-                let mut pairs = Vec::with_capacity(search.alloc, component.len())?;
-                for low in solved.ranks {
-                    pairs.push(Pair { high, low })?;
-                }
+                let pairs = with_high(search.alloc, Affine::constant(high), &solved.ranks)?;
                 return Ok(Some(pairs));
             }
         }
@@ -235,28 +227,94 @@ impl Synthesis {
         component: &[usize],
         leads: &[Lead<'_>],
     ) -> Result<Option<Vec<Pair>>, Stop> {
-        let mut asked = Vec::new(search.alloc);
-        for lead in leads {
-            if let Some(along) = lead.high() {
-                asked.push(along)?;
-            }
+        let asked = high_ones(search.alloc, leads)?;
+        match self.solved(search, cells, component, &asked, FEW_EXCHANGES)? {
+            Some(highs) => self.with_lows(search, cells, component, leads, &highs),
+            None => Ok(None),
         }
-        let Some(highs) = self.solved(search, cells, component, &asked, FEW_EXCHANGES)? else {
-            return Ok(None);
-        };
-        let Some((times, staying)) = staying(search.alloc, leads, &highs)? else {
-            return Ok(None);
-        };
-        let Some(lows) = self.solved(search, cells, component, &staying, FEW_EXCHANGES)? else {
-            return Ok(None);
-        };
-        let mut pairs = Vec::with_capacity(search.alloc, component.len())?;
-        for (high, low) in highs.ranks.iter().zip(lows.ranks) {
-            let high = high.scale(times)?;
-            pairs.push(Pair { high, low })?;
-        }
-        Ok(Some(pairs))
     }
+
+    /// Ranks with these higher parts, whose lower one falls along the links where they stay.
+    fn with_lows(
+        &self,
+        search: &mut Search,
+        cells: &[Cell],
+        component: &[usize],
+        leads: &[Lead<'_>],
+        highs: &Solved,
+    ) -> Result<Option<Vec<Pair>>, Stop> {
+        let Some((times, staying)) = staying(search.alloc, leads, highs)? else {
+            return Ok(None);
+        };
+        match self.solved(search, cells, component, &staying, FEW_EXCHANGES)? {
+            Some(lows) => {
+                let pairs = multiplied(search.alloc, times, &highs.ranks, &lows.ranks)?;
+                Ok(Some(pairs))
+            }
+            None => Ok(None),
+        }
+    }
+}
+
+/// The greatest higher part for which a link out of the component asks.
+fn level_of(leads: &[Lead<'_>]) -> i128 {
+    let mut level = 0i128;
+    for lead in leads {
+        if !lead.is_inner() {
+            level = level.max(lead.level());
+        }
+    }
+    level
+}
+
+/// That the lower part falls along the links within the component, and along those out of it that ask for this higher part, where one is given.
+fn low_ones<'a>(
+    alloc: Global,
+    leads: &[Lead<'a>],
+    level: Option<i128>,
+) -> Result<Vec<Along<'a>>, AllocError> {
+    let mut asked = Vec::new(alloc);
+    for lead in leads {
+        if lead.is_inner() || level == Some(lead.level()) {
+            asked.push(lead.low())?;
+        }
+    }
+    Ok(asked)
+}
+
+/// What is asked of the higher part.
+fn high_ones<'a>(alloc: Global, leads: &[Lead<'a>]) -> Result<Vec<Along<'a>>, AllocError> {
+    let mut asked = Vec::new(alloc);
+    for lead in leads {
+        if let Some(along) = lead.high() {
+            asked.push(along)?;
+        }
+    }
+    Ok(asked)
+}
+
+/// Ranks of this higher part.
+fn with_high(alloc: Global, high: Affine, lows: &[Affine]) -> Result<Vec<Pair>, AllocError> {
+    let mut pairs = Vec::with_capacity(alloc, lows.len())?;
+    for low in lows {
+        pairs.push(Pair { high, low: *low })?;
+    }
+    Ok(pairs)
+}
+
+/// Ranks of the higher parts, so many times each, and the lower ones.
+fn multiplied(
+    alloc: Global,
+    times: i128,
+    highs: &[Affine],
+    lows: &[Affine],
+) -> Result<Vec<Pair>, Stop> {
+    let mut pairs = Vec::with_capacity(alloc, highs.len())?;
+    for (high, low) in highs.iter().zip(lows) {
+        let high = high.scale(times)?;
+        pairs.push(Pair { high, low: *low })?;
+    }
+    Ok(pairs)
 }
 
 /// By what the higher parts are to be multiplied, so that each fall is greater than the number of choices without a bound; and that the lower part falls along the links where
