@@ -25,27 +25,11 @@ pub(crate) struct Fork {
     pub(crate) no: usize,
 }
 
-/// What an assignment makes of a row.
-#[derive(Clone, Copy)]
-pub(crate) enum Moved {
-    Always,
-    Never,
-    Row(usize),
-}
-
-/// A row and the label of an assignment, by their numbers.
-#[derive(Clone, Copy, PartialEq, Eq, Hash)]
-pub(crate) struct MoveKey {
-    pub(crate) row: usize,
-    pub(crate) label: u32,
-}
-
 /// Trees with shared nodes. A tree is its number, which it keeps. A number that none of its trees has stands for no claim.
 #[derive(Drop)]
 pub struct Forest<R: Rank> {
     pub(crate) alloc: Global,
     pub(crate) rows: RowTable,
-    pub(crate) moved: IndexMap<MoveKey, Moved>,
     pub(crate) stepped: IndexMap<usize, usize>,
     pub(crate) fault: TreeFault,
     causes: IndexSet<Cause>,
@@ -61,7 +45,6 @@ impl<R: Rank> Forest<R> {
         Forest {
             alloc,
             rows: RowTable::new(alloc),
-            moved: IndexMap::new(alloc),
             stepped: IndexMap::new(alloc),
             fault: TreeFault::Memory(AllocError),
             causes: IndexSet::new(alloc),
@@ -279,8 +262,16 @@ impl<R: Rank> Forest<R> {
                 way.up();
                 self.down(way, complement)
             }
-            Err(RowFault::Wide(wide)) => Err(self.stop(TreeFault::Wide(wide))),
-            Err(RowFault::Memory(error)) => Err(self.stop(TreeFault::Memory(error))),
+            Err(fault) => Err(self.stop_without_row(fault)),
+        }
+    }
+
+    /// Stops a walk for which a row can't be formed.
+    #[inline(never)]
+    pub(crate) fn stop_without_row(&mut self, fault: RowFault) -> Stopped {
+        match fault {
+            RowFault::Wide(wide) => self.stop(TreeFault::Wide(wide)),
+            RowFault::Memory(error) => self.stop(TreeFault::Memory(error)),
         }
     }
 

@@ -1,5 +1,5 @@
 //! Trees trimmed, and two trees joined leaf by leaf.
-use crate::forest::Forest;
+use crate::forest::{Forest, Fork};
 use crate::way::Way;
 use decision_tree::Rank;
 use tree_unify::{Join, Stopped, TreeFault, later};
@@ -47,9 +47,21 @@ impl<R: Rank> Forest<R> {
         let yes = self.graft(way, join, fork.yes, second)?;
         self.turn(way)?;
         let no = self.graft(way, join, fork.no, second)?;
+        self.rejoined(way, first, &fork, yes, no)
+    }
+
+    /// The tree that the walk goes up from, with other sides: where these are its own it is the tree itself.
+    fn rejoined(
+        &mut self,
+        way: &mut Way,
+        tree: usize,
+        fork: &Fork,
+        yes: usize,
+        no: usize,
+    ) -> Result<usize, Stopped> {
         way.up();
         if yes == fork.yes && no == fork.no {
-            return Ok(first);
+            return Ok(tree);
         }
         self.join_sides(fork.row, yes, no)
     }
@@ -93,11 +105,7 @@ impl<R: Rank> Forest<R> {
                 let yes = self.lay(way, join, leaf, fork.yes)?;
                 self.turn(way)?;
                 let no = self.lay(way, join, leaf, fork.no)?;
-                way.up();
-                if yes == fork.yes && no == fork.no {
-                    return Ok(second);
-                }
-                self.join_sides(fork.row, yes, no)
+                self.rejoined(way, second, &fork, yes, no)
             }
         }
     }

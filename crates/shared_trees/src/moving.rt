@@ -1,19 +1,11 @@
 //! Trees moved backward over a step that changes nothing, and over an assignment.
 ghost use Rattle.std.specs.Prelude.{◌<◌};
 
-use crate::forest::{Forest, MoveKey, Moved};
+use crate::forest::Forest;
+use crate::rows::{Assignment, Moved};
 use decision_tree::{Pick, Rank, Why};
-use linear_cons::{Affine, Row, RowKind};
+use linear_cons::Affine;
 use tree_unify::{Stopped, TreeFault};
-
-/// An assignment: the place, below 16, the value, and the label, by which what it makes of rows is remembered.
-#[derive(Clone, Copy)]
-struct Assignment<'a> {
-    place: u8,
-    value: &'a Affine,
-    label: u32,
-    ghost low: { place < 16 },
-}
 
 impl<R: Rank> Forest<R> {
     /// The tree before a step that changes nothing, as `back_skip` makes it.
@@ -114,46 +106,12 @@ impl<R: Rank> Forest<R> {
         }
     }
 
-    /// What the row becomes with the function put in. It is remembered.
+    /// What the assignment makes of the row.
     #[inline(never)]
     fn moved_row(&mut self, assignment: &Assignment<'_>, row: usize) -> Result<Moved, Stopped> {
-        let key = MoveKey {
-            row,
-            label: assignment.label,
-        };
-        if let Some(moved) = self.moved.get(&key) {
-            return Ok(*moved);
-        }
-        let moved = self.move_row(assignment, row)?;
-        match self.moved.insert_full(key, moved) {
-            Ok(_) => Ok(moved),
-            Err(error) => Err(self.stop(TreeFault::Memory(error.into()))),
-        }
-    }
-
-    /// The same, formed anew.
-    #[inline(never)]
-    fn move_row(&mut self, assignment: &Assignment<'_>, row: usize) -> Result<Moved, Stopped> {
-        let moved = match self.rows.row(row) {
-            Some(known) => known.affine.subst(assignment.place, assignment.value),
-            None => return Ok(Moved::Row(row)),
-        };
-        match moved {
-            Ok(moved) => self.kind_of(&moved),
-            Err(wide) => Err(self.stop(TreeFault::Wide(wide))),
-        }
-    }
-
-    /// The constraint that the function isn't negative.
-    #[inline(never)]
-    fn kind_of(&mut self, function: &Affine) -> Result<Moved, Stopped> {
-        match Row::of(*function) {
-            RowKind::Always => Ok(Moved::Always),
-            RowKind::Never => Ok(Moved::Never),
-            RowKind::Row(row) => match self.rows.number(&row) {
-                Ok(number) => Ok(Moved::Row(number)),
-                Err(error) => Err(self.stop(TreeFault::Memory(error))),
-            },
+        match self.rows.moved(assignment, row) {
+            Ok(moved) => Ok(moved),
+            Err(fault) => Err(self.stop_without_row(fault)),
         }
     }
 }

@@ -1,6 +1,8 @@
 //! Rows by their numbers.
+ghost use Rattle.std.specs.Prelude.{◌<◌};
+
 use indexmap::{IndexMap, IndexSet};
-use linear_cons::{Row, Wide};
+use linear_cons::{Affine, Row, RowKind, Wide};
 use std::alloc::{AllocError, Global};
 
 /// The coefficients of rows.
@@ -18,14 +20,39 @@ pub(crate) struct RowFacts {
     complement: Option<usize>,
 }
 
-/// Rows, each once, and their linear parts, each once.
+/// An assignment: the place, below 16, the value, and the label, by which what it makes of rows is remembered.
+#[derive(Clone, Copy)]
+pub(crate) struct Assignment<'a> {
+    pub(crate) place: u8,
+    pub(crate) value: &'a Affine,
+    pub(crate) label: u32,
+    ghost low: { place < 16 },
+}
+
+/// What an assignment makes of a row.
+#[derive(Clone, Copy)]
+pub(crate) enum Moved {
+    Always,
+    Never,
+    Row(usize),
+}
+
+/// A row and the label of an assignment, by their numbers.
+#[derive(Clone, Copy, PartialEq, Eq, Hash)]
+struct MoveKey {
+    row: usize,
+    label: u32,
+}
+
+/// Rows, each once, their linear parts, each once, and what assignments make of rows.
 #[derive(Drop)]
 pub(crate) struct RowTable {
     rows: IndexMap<Row, RowFacts>,
     parts: IndexSet<Part>,
+    moved: IndexMap<MoveKey, Moved>,
 }
 
-/// Why a row has no complement.
+/// Why no row is formed of another.
 pub(crate) enum RowFault {
     Wide(Wide),
     Memory(AllocError),
@@ -37,6 +64,7 @@ impl RowTable {
         RowTable {
             rows: IndexMap::new(alloc),
             parts: IndexSet::new(alloc),
+            moved: IndexMap::new(alloc),
         }
     }
 
@@ -128,6 +156,53 @@ impl RowTable {
                 Ok(other)
             }
             Err(error) => Err(RowFault::Memory(error)),
+        }
+    }
+
+    /// What the row becomes with the value put in for the variable. It is formed once for a label.
+    #[inline(never)]
+    pub(crate) fn moved(
+        &mut self,
+        assignment: &Assignment<'_>,
+        row: usize,
+    ) -> Result<Moved, RowFault> {
+        let key = MoveKey {
+            row,
+            label: assignment.label,
+        };
+        if let Some(moved) = self.moved.get(&key) {
+            return Ok(*moved);
+        }
+        let moved = self.form_moved(assignment, row)?;
+        match self.moved.insert_full(key, moved) {
+            Ok(_) => Ok(moved),
+            Err(error) => Err(RowFault::Memory(error.into())),
+        }
+    }
+
+    /// The same, formed anew.
+    #[inline(never)]
+    fn form_moved(&mut self, assignment: &Assignment<'_>, row: usize) -> Result<Moved, RowFault> {
+        let moved = match self.row(row) {
+            Some(known) => known.affine.subst(assignment.place, assignment.value),
+            None => return Ok(Moved::Row(row)),
+        };
+        match moved {
+            Ok(moved) => self.kind_of(&moved),
+            Err(wide) => Err(RowFault::Wide(wide)),
+        }
+    }
+
+    /// The constraint that the function isn't negative.
+    #[inline(never)]
+    fn kind_of(&mut self, function: &Affine) -> Result<Moved, RowFault> {
+        match Row::of(*function) {
+            RowKind::Always => Ok(Moved::Always),
+            RowKind::Never => Ok(Moved::Never),
+            RowKind::Row(row) => match self.number(&row) {
+                Ok(number) => Ok(Moved::Row(number)),
+                Err(error) => Err(RowFault::Memory(error)),
+            },
         }
     }
 }
