@@ -2,7 +2,7 @@
 ghost use Rattle.std.specs.Prelude.{◌≡◌, ◌&&◌, suc, ◌<◌, ◌≤◌, Bool, false, true, IfOk, OnOk, length};
 ghost use Rattle.decision_tree.specs.Plans.{plan_of};
 ghost use Rattle.backward_transfer.specs.AffineShapes.{plans, tree_at};
-ghost use Rattle.control_flow.specs.Transitions.{AreOnward, transition_in, is_given, is_idle};
+ghost use Rattle.control_flow.specs.Transitions.{AreOnward, HasNoHead, transition_in, is_given, is_head, is_idle};
 ghost use Rattle.backward_sweeps.specs.Remaking.{AreGiven, AreKept, AreRemadeFrom, given_for, goal_at, parts_of};
 
 use crate::moving::at_once;
@@ -138,5 +138,22 @@ pub(crate) fn is_idle(transition: &Transition) -> bool
         | Transition::Assign { .. }
         | Transition::Choose { .. }
         | Transition::Test { .. } => false,
+    }
+}
+
+/// Whether some label is that of a loop's test.
+pub fn has_head(transitions: &[Transition]) -> bool
+    ensures { HasNoHead transitions.now → result ≡ false }
+{
+    transitions.iter().any(is_head)
+}
+
+/// Whether the label is that of a loop's test.
+pub(crate) fn is_head(transition: &Transition) -> bool
+    ensures { result ≡ is_head transition.now }
+{
+    match transition {
+        Transition::Test { is_head, .. } => *is_head,
+        _ => false,
     }
 }

@@ -1,11 +1,11 @@
 //! Sweeps over the labels.
 ghost use Rattle.std.specs.Prelude.{◌≡◌, ◌<◌, ◌≤◌, false, IfOk, OnOk, length};
 ghost use Rattle.backward_transfer.specs.AffineShapes.{plans};
-ghost use Rattle.control_flow.specs.Transitions.{AreOnward, HasNoHead, is_head, is_idle};
+ghost use Rattle.control_flow.specs.Transitions.{AreOnward, HasNoHead, is_idle};
 ghost use Rattle.backward_sweeps.specs.Remaking.{AreEndsGiven, AreEndsStarted, AreKept, AreRemadeFrom, parts_of};
 
 use crate::operands::Operands;
-use crate::pass::{begun, follow, is_idle};
+use crate::pass::{begun, follow, has_head, is_idle};
 use crate::shared::SharedTrees;
 use crate::starting::started;
 use control_flow::Transition;
@@ -114,9 +114,12 @@ impl<'a, D: NumDomain> Sweeps<'a, D> {
         ensures trees { length trees.new ≡ length trees.old }
         ensures ends { OnOk result (AreKept is_idle self.now.transitions.now (plans trees.old) (plans trees.new)) }
     {
-        let mut shared = SharedTrees::of(self.alloc, trees, self.operands)?;
+        let mut shared = SharedTrees::of(self.alloc, self.transitions, trees, self.operands)?;
         for number in 1..=self.count {
-            if !self.sweep(number, &mut shared)? {
+            if self.widened_from == Some(number) {
+                shared.labels.begin_widening(self.transitions);
+            }
+            if !self.sweep(&mut shared)? {
                 break;
             }
         }
@@ -155,73 +158,37 @@ impl<'a, D: NumDomain> Sweeps<'a, D> {
         if is_idle(&self.transitions[label as usize]) {
             return Ok(());
         }
-        let made = shared.take(label)?;
+        let made = shared.labels.take(label)?;
         trees[label as usize] = made;
         Ok(())
     }
 
-    /// Makes the trees anew, the greatest label first; true where one differs from what it was.
-    fn sweep(&self, number: u32, shared: &mut SharedTrees) -> Result<bool, AllocError>
+    /// Makes the trees anew that are due, the greatest label first; true where one differs from what it was.
+    fn sweep(&self, shared: &mut SharedTrees) -> Result<bool, AllocError>
         requires states { length self.now.inv.now ≡ length self.now.transitions.now }
         requires few { length self.now.transitions.now ≤ 1024 }
     {
         let mut any = false;
         for label in (0..self.transitions.len() as u32).rev() {
-            let differs = self.is_due(number, label, shared) && self.remake(number, label, shared)?;
-            shared.note(label, differs);
-            any = any || differs;
-            if differs {
-                shared.give_up_greatest(self.transitions)?;
+            if shared.labels.take_due(label) {
+                let made = self.remade(label, shared)?;
+                any = shared.labels.set(self.transitions, label, made)? || any;
             }
         }
         Ok(any)
     }
 
-    /// Whether the tree of the label may differ from what it was: that of a successor did, or it was or begins to be widened.
-    fn is_due(&self, number: u32, label: u32, shared: &SharedTrees) -> bool
-        requires { label < length self.now.transitions.now }
-    {
-        match &self.transitions[label as usize] {
-            Transition::End | Transition::Dead => false,
-            Transition::Pass { to } => number == 1 || shared.is_changed(*to),
-            Transition::Assign { to, .. } | Transition::Choose { to, .. } => {
-                number == 1 || shared.is_changed(*to)
-            }
-            Transition::Test {
-                is_head,
-                yes,
-                no,
-                ..
-            } => {
-                number == 1
-                    || shared.is_changed(*yes)
-                    || shared.is_changed(*no)
-                    || *is_head && self.is_widening(number, shared.is_changed(label))
-            }
-        }
-    }
-
-    /// Whether the tree of a loop's head may differ since it is widened, where it was changed when it was made last or not.
-    fn is_widening(&self, number: u32, was_changed: bool) -> bool {
-        match self.widened_from {
-            Some(first) => was_changed || number == first,
-            None => false,
-        }
-    }
-
-    /// Makes the tree of the label anew, where something is done there; true where it differs from what it was.
-    fn remake(&self, number: u32, label: u32, shared: &mut SharedTrees) -> Result<bool, AllocError>
+    /// The number of the label's new tree.
+    fn remade(&self, label: u32, shared: &mut SharedTrees) -> Result<usize, AllocError>
         requires label { label < length self.now.transitions.now }
         requires states { length self.now.inv.now ≡ length self.now.transitions.now }
     {
         let transition = &self.transitions[label as usize];
         let made = shared.remade(label, transition)?;
-        match self.widened_from {
-            Some(first) if is_head(transition) && number >= first => {
-                let widened = self.widened(label, shared, made)?;
-                Ok(shared.set(label, widened))
-            }
-            _ => Ok(shared.set(label, made)),
+        if shared.labels.is_widened(transition) {
+            self.widened(label, shared, made)
+        } else {
+            Ok(made)
         }
     }
 
@@ -235,26 +202,11 @@ impl<'a, D: NumDomain> Sweeps<'a, D> {
         requires label { label < length self.now.transitions.now }
         requires states { length self.now.inv.now ≡ length self.now.transitions.now }
     {
-        let old = shared.take(label)?;
-        let new = shared.taken(made)?;
-        shared.put(widened(self.alloc, &old, &new, self.inv.at(label)))
-    }
-}
-
-/// Whether some label is that of a loop's test.
-fn has_head(transitions: &[Transition]) -> bool
-    ensures { HasNoHead transitions.now → result ≡ false }
-{
-    transitions.iter().any(is_head)
-}
-
-/// Whether the label is that of a loop's test.
-fn is_head(transition: &Transition) -> bool
-    ensures { result ≡ is_head transition.now }
-{
-    match transition {
-        Transition::Test { is_head, .. } => *is_head,
-        _ => false,
+        let old = shared.labels.take(label)?;
+        let new = shared.labels.taken(made)?;
+        shared
+            .labels
+            .put(widened(self.alloc, &old, &new, self.inv.at(label)))
     }
 }
 

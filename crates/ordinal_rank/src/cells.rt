@@ -3,8 +3,9 @@ ghost use Rattle.std.specs.Prelude.{◌≡◌, ◌≤◌, IfOk, length};
 ghost use Rattle.control_flow.specs.Transitions.{AreOnward, LeadsWithin};
 
 use crate::jump::Power;
-use crate::ordinal::OrdinalRank;
-use crate::sweeps::{before, begun_at, or_given_up};
+use crate::ordinal::{OrdinalRank, at_once};
+use crate::sweeps::{before_choice, begun_at, or_given_up};
+use backward_transfer::{back_assign, back_skip, back_test};
 use control_flow::Transition;
 use decision_tree::{Pick, Tree, Why};
 use linear_cons::Wide;
@@ -32,7 +33,7 @@ pub(crate) fn follow(
     for label in (0..transitions.len() as u32).rev() {
         let transition = &transitions[label as usize];
         if !is_given(transition) && front.get(label as usize) == Some(&is_in_front) {
-            let made = or_given_up(before_cases(alloc, transition, trees, highest))?;
+            let made = or_given_up(before(alloc, transition, trees, highest))?;
             trees[label as usize] = made;
         }
     }
@@ -64,8 +65,9 @@ pub(crate) fn front(
     arrows.reached(alloc, entry as usize, 0)
 }
 
-/// The tree before what is done, where a value that has cases goes by these.
-fn before_cases(
+/// The tree before what is done, for every next state: a value that has cases goes by these, and before one of a range without an end a run may begin anew, with one more
+/// of a power that isn't above the highest.
+fn before(
     alloc: Global,
     transition: &Transition,
     trees: &[Tree<OrdinalRank>],
@@ -74,13 +76,45 @@ fn before_cases(
     requires { LeadsWithin (length trees.now) transition.now }
 {
     match transition {
+        Transition::End => Ok(Tree::Bottom),
+        Transition::Dead => Ok(at_once(Why::Dead)),
+        Transition::Pass { to } => back_skip(alloc, &trees[*to as usize]),
+        Transition::Assign { place, value, to } => {
+            back_assign(alloc, &trees[*to as usize], place.number, value)
+        }
         Transition::Choose {
             place,
             cases,
             to,
             ..
         } if have_rows(cases) => back_cases(alloc, &trees[*to as usize], place.number, cases),
-        _ => before(alloc, transition, trees, highest),
+        Transition::Choose {
+            place,
+            range,
+            choice,
+            cases: _,
+            to,
+        } => before_choice(
+            alloc,
+            &trees[*to as usize],
+            place.number,
+            range,
+            choice,
+            highest,
+        ),
+        Transition::Test {
+            holds,
+            fails,
+            yes,
+            no,
+            ..
+        } => back_test(
+            alloc,
+            &trees[*yes as usize],
+            &trees[*no as usize],
+            holds,
+            fails,
+        ),
     }
 }
 

@@ -1,14 +1,14 @@
 //! Sweeps backward over the labels of a program, which propose a tree of ordinal ranks for each.
 ghost use Rattle.std.specs.Prelude.{◌≡◌, ◌<◌, ◌≤◌, IfOk, length};
-ghost use Rattle.control_flow.specs.Transitions.{AreOnward, LeadsWithin};
 
 use crate::jump::{Power, back_jump};
 use crate::ordinal::{OrdinalRank, at_once};
-use backward_sweeps::FamilySize;
-use backward_transfer::{back_assign, back_range, back_skip, back_test};
+use backward_sweeps::LabelTrees;
+use backward_transfer::back_range;
 use control_flow::{Choice, Transition};
 use decision_tree::{Cause, Tree, Why};
 use forward_inv::Inv;
+use linear_cons::Linear;
 use num_domain::NumDomain;
 use std::alloc::{AllocError, Global};
 use tree_unify::{TreeFault, either, prune};
@@ -33,25 +33,40 @@ pub(crate) fn swept<D: NumDomain>(
 ) -> Result<Vec<Tree<OrdinalRank>>, AllocError>
     requires states { length inv.now ≡ length transitions.now }
     requires few { length transitions.now ≤ 1024 }
-    requires onward { AreOnward transitions.now }
     ensures labels { IfOk result (λ trees. length trees.items ≡ length transitions.now) }
 {
-    let mut trees = begun(alloc, transitions)?;
-    let mut size = FamilySize::of(alloc, &trees, most_nodes(transitions))?;
-    let mut due = vec![in alloc; true; transitions.len()]?;
+    let begun = begun(alloc, transitions)?;
+    let mut labels = LabelTrees::of(alloc, transitions, &begun, most_nodes(transitions))?;
+    let sweeps = Sweeps {
+        alloc,
+        inv,
+        transitions,
+    };
     let first = delay.max(1).saturating_add(1);
     for number in 1..=SWEEPS {
-        if !sweep(
-            alloc,
-            inv,
-            transitions,
-            number >= first,
-            &mut trees,
-            &mut size,
-            &mut due,
-        )? {
+        if number == first {
+            labels.begin_widening(transitions);
+        }
+        if !sweeps.sweep(&mut labels)? {
             break;
         }
+    }
+    all_taken(alloc, transitions, &labels)
+}
+
+/// The trees of the labels, in boxes.
+fn all_taken(
+    alloc: Global,
+    transitions: &[Transition],
+    labels: &LabelTrees<OrdinalRank>,
+) -> Result<Vec<Tree<OrdinalRank>>, AllocError>
+    requires few { length transitions.now ≤ 1024 }
+    ensures { IfOk result (λ trees. length trees.items ≡ length transitions.now) }
+{
+    let mut trees = Vec::with_capacity(alloc, transitions.len())?;
+    for label in 0..transitions.len() as u32 {
+        let tree = labels.take(label)?;
+        trees.push(tree)?;
     }
     Ok(trees)
 }
@@ -78,165 +93,110 @@ pub(crate) fn begun_at(transition: &Transition) -> Tree<OrdinalRank> {
     }
 }
 
-/// Makes the trees anew that may differ from what they were, the greatest label first; true where one does. The flags say which labels are due: where a successor's tree
-/// differs from what it was, or the own tree was given up. The head of a loop always is.
-fn sweep<D: NumDomain>(
+/// Sweeps over the labels.
+#[derive(Drop)]
+struct Sweeps<'a, D: NumDomain> {
     alloc: Global,
-    inv: &Inv<D>,
-    transitions: &[Transition],
-    widening: bool,
-    trees: &mut [Tree<OrdinalRank>],
-    size: &mut FamilySize,
-    due: &mut [bool],
-) -> Result<bool, AllocError>
-    requires states { length inv.now ≡ length transitions.now }
-    requires few { length transitions.now ≤ 1024 }
-    requires onward { AreOnward transitions.now }
-    requires trees { length trees.old ≡ length transitions.now }
-    requires flags { length due.old ≡ length transitions.now }
-    ensures trees { length trees.new ≡ length trees.old }
-    ensures flags { length due.new ≡ length due.old }
-{
-    let mut any = false;
-    for label in (0..transitions.len() as u32).rev() {
-        if is_head(&transitions[label as usize]) || due[label as usize] {
-            due[label as usize] = false;
-            if remake(alloc, inv, transitions, widening, label, trees)? {
-                any = true;
-                note_before(transitions, label, due);
-                size.note(label, &trees[label as usize]);
-                give_up_greatest(transitions, trees, size, due);
+    inv: &'a Inv<D>,
+    transitions: &'a [Transition],
+}
+
+impl<'a, D: NumDomain> Sweeps<'a, D> {
+    /// Makes the trees anew that are due, the greatest label first; true where one differs from what it was.
+    fn sweep(&self, labels: &mut LabelTrees<OrdinalRank>) -> Result<bool, AllocError>
+        requires states { length self.now.inv.now ≡ length self.now.transitions.now }
+        requires few { length self.now.transitions.now ≤ 1024 }
+    {
+        let mut any = false;
+        for label in (0..self.transitions.len() as u32).rev() {
+            if labels.take_due(label) {
+                let made = self.remade(label, labels)?;
+                any = labels.set(self.transitions, label, made)? || any;
             }
         }
+        Ok(any)
     }
-    Ok(any)
-}
 
-/// Gives up the greatest trees until all have no more nodes together than they may, or no more can be given up.
-fn give_up_greatest(
-    transitions: &[Transition],
-    trees: &mut [Tree<OrdinalRank>],
-    size: &mut FamilySize,
-    due: &mut [bool],
-)
-    requires few { length transitions.now ≤ 1024 }
-    requires trees { length trees.old ≡ length transitions.now }
-    requires flags { length due.old ≡ length transitions.now }
-    ensures trees { length trees.new ≡ length trees.old }
-    ensures flags { length due.new ≡ length due.old }
-{
-    for _ in 0..transitions.len() {
-        let Some(label) = size.give_up_greatest(transitions, trees) else {
-            return;
-        };
-        due[label as usize] = true;
-        note_before(transitions, label, due);
-    }
-}
-
-/// Notes that each label is due from which a step leads to this one.
-fn note_before(transitions: &[Transition], label: u32, due: &mut [bool])
-    requires { length due.old ≡ length transitions.now }
-    ensures { length due.new ≡ length due.old }
-{
-    for before in 0..transitions.len() {
-        if leads_to(&transitions[before], label) {
-            due[before] = true;
+    /// The number of the label's new tree.
+    fn remade(&self, label: u32, labels: &mut LabelTrees<OrdinalRank>) -> Result<usize, AllocError>
+        requires label { label < length self.now.transitions.now }
+        requires states { length self.now.inv.now ≡ length self.now.transitions.now }
+    {
+        let transition = &self.transitions[label as usize];
+        let made = moved_back(self.alloc, label, transition, labels)?;
+        if labels.is_widened(transition) {
+            self.widened(label, labels, made)
+        } else {
+            Ok(made)
         }
     }
-}
 
-/// Whether a step leads to the label.
-fn leads_to(transition: &Transition, label: u32) -> bool {
-    match transition {
-        Transition::End | Transition::Dead => false,
-        Transition::Pass { to } | Transition::Assign { to, .. } | Transition::Choose { to, .. } =>
-            *to == label,
-        Transition::Test { yes, no, .. } => *yes == label || *no == label,
+    /// The number of the label's tree widened by the new one. It is widened in boxes.
+    fn widened(
+        &self,
+        label: u32,
+        labels: &mut LabelTrees<OrdinalRank>,
+        made: usize,
+    ) -> Result<usize, AllocError>
+        requires label { label < length self.now.transitions.now }
+        requires states { length self.now.inv.now ≡ length self.now.transitions.now }
+    {
+        let old = labels.take(label)?;
+        let new = labels.taken(made)?;
+        labels.put(widened(self.alloc, &old, &new, self.inv.at(label)))
     }
 }
 
-/// Makes the tree of the label anew, where something is done there; true where it differs from what it was.
-fn remake<D: NumDomain>(
+/// The number of the tree before what is done at the label, for every next state, or of what the label has for one that can't be made. A value that is chosen is moved
+/// in boxes. The only error is want of memory.
+fn moved_back(
     alloc: Global,
-    inv: &Inv<D>,
-    transitions: &[Transition],
-    widening: bool,
     label: u32,
-    trees: &mut [Tree<OrdinalRank>],
-) -> Result<bool, AllocError>
-    requires label { label < length transitions.now }
-    requires states { length inv.now ≡ length transitions.now }
-    requires onward { AreOnward transitions.now }
-    requires trees { length trees.old ≡ length transitions.now }
-    ensures trees { length trees.new ≡ length trees.old }
-{
-    let transition = &transitions[label as usize];
-    if matches!(transition, Transition::End | Transition::Dead) {
-        return Ok(false);
-    }
-    let made = or_given_up(before(alloc, transition, trees, Power::First))?;
-    let made = if widening && is_head(transition) {
-        or_given_up(widened(alloc, &trees[label as usize], &made, inv.at(label)))?
-    } else {
-        made
-    };
-    let differs = made != trees[label as usize];
-    trees[label as usize] = made;
-    Ok(differs)
-}
-
-/// The tree before what is done, for every next state. Before the assignment of a value that is chosen from a range without an end a run may
-/// begin anew, with one more of a power that isn't above the highest.
-pub(crate) fn before(
-    alloc: Global,
     transition: &Transition,
-    trees: &[Tree<OrdinalRank>],
-    highest: Power,
-) -> Result<Tree<OrdinalRank>, TreeFault>
-    requires { LeadsWithin (length trees.now) transition.now }
-{
+    labels: &mut LabelTrees<OrdinalRank>,
+) -> Result<usize, AllocError> {
     match transition {
-        Transition::End => Ok(Tree::Bottom),
-        Transition::Dead => Ok(at_once(Why::Dead)),
-        Transition::Pass { to } => back_skip(alloc, &trees[*to as usize]),
-        Transition::Assign { place, value, to } => {
-            back_assign(alloc, &trees[*to as usize], place.number, value)
-        }
         Transition::Choose {
             place,
             range,
             choice,
-            cases: _,
             to,
-        } => {
-            let bounded = back_range(alloc, &trees[*to as usize], place.number, range)?;
-            if is_bounded(choice) {
-                return Ok(bounded);
-            }
-            let anew = back_jump(alloc, &trees[*to as usize], place.number, range, highest)?;
-            either(alloc, &bounded, &anew)
-        }
-        Transition::Test {
-            holds,
-            fails,
-            yes,
-            no,
             ..
-        } => back_test(
-            alloc,
-            &trees[*yes as usize],
-            &trees[*no as usize],
-            holds,
-            fails,
-        ),
+        } => {
+            let tree = labels.take(*to)?;
+            labels.put(before_choice(alloc, &tree, place.number, range, choice, Power::First))
+        }
+        _ => {
+            let made = labels.moved_back(label, transition);
+            labels.noted(made)
+        }
     }
+}
+
+/// The tree before a value of the range is assigned to the variable at the place, with the tree behind it given: where the range has no end a run may begin anew,
+/// with one more of a power that isn't above the highest.
+pub(crate) fn before_choice(
+    alloc: Global,
+    tree: &Tree<OrdinalRank>,
+    place: u8,
+    range: &Linear,
+    choice: &Choice,
+    highest: Power,
+) -> Result<Tree<OrdinalRank>, TreeFault>
+    requires { place < 16 }
+{
+    let bounded = back_range(alloc, tree, place, range)?;
+    if is_bounded(choice) {
+        return Ok(bounded);
+    }
+    let anew = back_jump(alloc, tree, place, range, highest)?;
+    either(alloc, &bounded, &anew)
 }
 
 /// How many nodes the trees of all labels may have together.
 fn most_nodes(transitions: &[Transition]) -> u64 {
     if transitions.iter().any(begins_anew) {
-        FamilySize::MOST
+        LabelTrees::<OrdinalRank>::MOST
     } else {
         MOST_WITHOUT_JUMP
     }
@@ -285,13 +245,5 @@ pub(crate) fn or_given_up(
         })),
         Err(TreeFault::Wide(wide)) => Ok(Tree::Top(Cause::Wide(wide))),
         Err(TreeFault::Memory(error)) => Err(error),
-    }
-}
-
-/// Whether the label is that of a loop's test.
-fn is_head(transition: &Transition) -> bool {
-    match transition {
-        Transition::Test { is_head, .. } => *is_head,
-        _ => false,
     }
 }

@@ -1,7 +1,6 @@
 //! What is known of a program, and the check of a family over it.
 ghost use Rattle.std.specs.Prelude.{◌≡◌, ℕ, false, List, All, IfOk, length};
 ghost use Rattle.step_meaning.specs.Syntax.{statements};
-ghost use Rattle.control_flow.specs.Transitions.{HasNoHead, is_head};
 ghost use Rattle.ctl_formula.specs.Mirror.{ctl};
 ghost use Rattle.tree_check.specs.Checking.{families_of};
 ghost use Rattle.tree_support.specs.Certificates.{affine_ranks};
@@ -17,6 +16,7 @@ ghost use Rattle.exact_families.specs.Narrowness.{IsNarrowAndComplete};
 
 use crate::fitting::fitted;
 use crate::smaller::SmallerParts;
+use backward_sweeps::has_head;
 use control_flow::{Graph, Transition};
 use ctl_formula::Formula;
 use decision_tree::{AffineRank, Family, TreeList};
@@ -166,21 +166,4 @@ impl<'a, D: NumDomain> Premises<'a, D> {
 /// The first of the leaves that were given up; nothing is said of it, since nothing rests on it.
 fn first_of(dropped: &[Dropped]) -> Option<Dropped> {
     Some(*dropped.first()?)
-}
-
-/// Whether some label is that of a loop's head.
-fn has_head(transitions: &[Transition]) -> bool
-    ensures { HasNoHead transitions.now → result ≡ false }
-{
-    transitions.iter().any(is_head)
-}
-
-/// Whether it is what is done at the head of a loop.
-fn is_head(transition: &Transition) -> bool
-    ensures { result ≡ is_head transition.now }
-{
-    match transition {
-        Transition::Test { is_head, .. } => *is_head,
-        _ => false,
-    }
 }

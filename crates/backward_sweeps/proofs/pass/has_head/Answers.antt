@@ -1,6 +1,6 @@
 use Rattle.std.proofs.Common.{arith}
 use Rattle.std.proofs.lemmas.Grind.{elements}
-use Rattle.part_families.proofs.premises.has_head.Goals as goal
+use Rattle.backward_sweeps.proofs.pass.has_head.Goals as goal
 
 pub returns : goal.returns
 returns c = grind (arith, elements)

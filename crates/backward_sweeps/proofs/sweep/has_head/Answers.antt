@@ -1,6 +1,0 @@
-use Rattle.std.proofs.Common.{arith}
-use Rattle.std.proofs.lemmas.Grind.{elements}
-use Rattle.backward_sweeps.proofs.sweep.has_head.Goals as goal
-
-pub returns : goal.returns
-returns c = grind (arith, elements)
