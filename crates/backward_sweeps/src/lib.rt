@@ -22,6 +22,6 @@ pub use claiming::taken_over;
 pub use label_trees::LabelTrees;
 pub use moving::{at_once, moved_back};
 pub use operands::Operands;
-pub use pass::{begun, follow, has_head};
-pub use remaking::{given_up, tree_at};
+pub use pass::{begun, follow, has_head, is_given};
+pub use remaking::{given_up, stays, tree_at};
 pub use sweep::{kept, swept};

@@ -119,7 +119,7 @@ fn remake(
 }
 
 /// Whether the tree of the label isn't made of those of its successors: nothing is done there, or it is the test of a loop.
-fn is_given(transition: &Transition) -> bool
+pub fn is_given(transition: &Transition) -> bool
     ensures { result ≡ is_given transition.now }
 {
     match transition {

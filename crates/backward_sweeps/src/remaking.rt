@@ -46,8 +46,9 @@ pub(crate) fn remade(
     made(alloc, goal, keep, &moved)
 }
 
-/// Whether it is seen that the step's tree is what is made: nothing is claimed now, one leaf keeps everywhere, and no leaf of the tree has a cause, which would be lost.
-fn stays(now: &Tree<AffineRank>, keep: &Tree<AffineRank>, step: &Tree<AffineRank>) -> bool
+/// Whether it is seen that a step's tree, once trimmed, is all that is made of it, what is claimed now and what is to be kept: nothing is claimed now, one leaf keeps
+/// everywhere, and no leaf of the tree has a cause, which would be lost.
+pub fn stays(now: &Tree<AffineRank>, keep: &Tree<AffineRank>, step: &Tree<AffineRank>) -> bool
     ensures { result ≡ true → cut (plan_of step.now) ≡ plan_of step.now → made (plan_of now.now) (plan_of keep.now) (plan_of step.now) ≡ plan_of step.now }
 {
     if let Tree::Bottom = now {

@@ -96,12 +96,14 @@ impl<'a, D: NumDomain> Inquiry<'a, D> {
         ensures exact { BeginsExactly self.now found.old.tops.items → OnOk result (BeginsExactly self.now found.new.tops.items) }
         ensures turns { found.new.turns ≡ found.old.turns }
     {
-        let Some(trees) = synthesis.proposed(search, question, parting)? else {
+        let entry = self.premises.graph.entry();
+        let Some(proposal) = synthesis.proposed(search, question, parting, entry)? else {
             return Ok(());
         };
-        if !self.may_add(trees.items(), found)? {
+        if !self.may_add(&proposal.trees, found)? {
             return Ok(());
         }
+        let trees = proposal.whole(self.premises.alloc, question)?;
         let family = self.premises.left_of(self.formula, self.smaller, trees)?;
         self.keep_if_it_adds(family, found)?;
         Ok(())

@@ -5,7 +5,8 @@ ghost use Rattle.control_flow.specs.Transitions.{AreOnward, LeadsWithin};
 use crate::bounding::back_bounded;
 use crate::cases::{back_cases, have_rows};
 use crate::loops::Question;
-use backward_sweeps::{given_up, moved_back, tree_at};
+use crate::reach::Arrows;
+use backward_sweeps::{given_up, is_given, moved_back, stays, tree_at};
 use backward_transfer::{back_pick, back_some};
 use control_flow::Transition;
 use decision_tree::{AffineRank, Pick, Tree, Why};
@@ -13,9 +14,15 @@ use std::alloc::{AllocError, Global};
 use tree_unify::{TreeFault, both, either};
 
 impl<'a> Question<'a> {
-    /// Makes the trees of the labels anew but those of heads and where nothing is done, the greatest label first, by the choices of the plan. One that
-    /// can't be made claims nothing. The only error is want of memory.
-    pub fn follow(&self, alloc: Global, trees: &mut Vec<Tree<AffineRank>>) -> Result<(), AllocError>
+    /// Makes the trees of the labels in front anew, or those of the others, but not of heads and where nothing is done: the greatest label first, by the choices of
+    /// the plan. One that can't be made claims nothing. The only error is want of memory.
+    pub fn follow(
+        &self,
+        alloc: Global,
+        front: &[bool],
+        is_in_front: bool,
+        trees: &mut Vec<Tree<AffineRank>>,
+    ) -> Result<(), AllocError>
         requires few { length self.now.transitions.now ≤ 1024 }
         requires onward { AreOnward self.now.transitions.now }
         requires labels { length trees.old.items ≡ length self.now.transitions.now }
@@ -23,7 +30,7 @@ impl<'a> Question<'a> {
     {
         for label in (0..self.transitions.len() as u32).rev() {
             let transition = &self.transitions[label as usize];
-            if !is_given(transition) {
+            if !is_given(transition) && front.get(label as usize) == Some(&is_in_front) {
                 let tree = match self.before(alloc, label, transition, trees) {
                     Ok(tree) => tree,
                     Err(fault) => given_up(fault)?,
@@ -45,9 +52,14 @@ impl<'a> Question<'a> {
         requires { LeadsWithin (length trees.now) transition.now }
     {
         let none = Tree::Bottom;
+        let goal = tree_at(self.operands.goal, label, &none);
+        let keep = tree_at(self.operands.keep, label, &none);
         let step = self.picked(alloc, transition, trees)?;
-        let kept = both(alloc, tree_at(self.operands.keep, label, &none), &step)?;
-        either(alloc, tree_at(self.operands.goal, label, &none), &kept)
+        if stays(goal, keep, &step) {
+            return Ok(step);
+        }
+        let kept = both(alloc, keep, &step)?;
+        either(alloc, goal, &kept)
     }
 
     /// What is claimed behind the step, before it.
@@ -111,10 +123,27 @@ impl<'a> Question<'a> {
     }
 }
 
-/// Whether the tree isn't made of those behind it: nothing is done, or it is the head of a loop.
-fn is_given(transition: &Transition) -> bool {
-    matches!(
-        transition,
-        Transition::End | Transition::Dead | Transition::Test { is_head: true, .. }
-    )
+/// For each label whether it is in front: the tree at the entry is made of its tree, since a path leads from there to it through no head. The only error is
+/// want of memory.
+pub fn front(
+    alloc: Global,
+    transitions: &[Transition],
+    entry: u32,
+) -> Result<Vec<bool>, AllocError> {
+    let mut arrows = Arrows::none(alloc, transitions.len())?;
+    for (from, transition) in transitions.iter().enumerate() {
+        if !is_given(transition) {
+            match transition {
+                Transition::Pass { to }
+                | Transition::Assign { to, .. }
+                | Transition::Choose { to, .. } => arrows.add(from, *to as usize)?,
+                Transition::Test { yes, no, .. } => {
+                    arrows.add(from, *yes as usize)?;
+                    arrows.add(from, *no as usize)?;
+                }
+                Transition::End | Transition::Dead => {}
+            }
+        }
+    }
+    arrows.reached(alloc, entry as usize, 0)
 }

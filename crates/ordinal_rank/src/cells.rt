@@ -5,11 +5,12 @@ ghost use Rattle.control_flow.specs.Transitions.{AreOnward, LeadsWithin};
 use crate::jump::Power;
 use crate::ordinal::{OrdinalRank, at_once};
 use crate::sweeps::{before_choice, begun_at, or_given_up};
+use backward_sweeps::is_given;
 use backward_transfer::{back_assign, back_skip, back_test};
 use control_flow::Transition;
 use decision_tree::{Pick, Tree, Why};
 use linear_cons::Wide;
-use loop_moves::{Arrows, Rescaled, back_cases, function_of_multiple, have_rows};
+use loop_moves::{Rescaled, back_cases, function_of_multiple, have_rows};
 use rank_synthesis::RankedCell;
 use std::alloc::{AllocError, Global};
 use tree_unify::{TreeFault, either, trim};
@@ -38,31 +39,6 @@ pub(crate) fn follow(
         }
     }
     Ok(())
-}
-
-/// For each label whether it is in front: the tree at the entry is made of its tree, since a path leads from there to it through no head. The only error is
-/// want of memory.
-pub(crate) fn front(
-    alloc: Global,
-    transitions: &[Transition],
-    entry: u32,
-) -> Result<Vec<bool>, AllocError> {
-    let mut arrows = Arrows::none(alloc, transitions.len())?;
-    for (from, transition) in transitions.iter().enumerate() {
-        if !is_given(transition) {
-            match transition {
-                Transition::Pass { to }
-                | Transition::Assign { to, .. }
-                | Transition::Choose { to, .. } => arrows.add(from, *to as usize)?,
-                Transition::Test { yes, no, .. } => {
-                    arrows.add(from, *yes as usize)?;
-                    arrows.add(from, *no as usize)?;
-                }
-                Transition::End | Transition::Dead => {}
-            }
-        }
-    }
-    arrows.reached(alloc, entry as usize, 0)
 }
 
 /// The tree before what is done, for every next state: a value that has cases goes by these, and before one of a range without an end a run may begin anew, with one more
@@ -163,14 +139,6 @@ fn given_at(
         Transition::Test { is_head: true, .. } => or_given_up(at_head(alloc, label, cells)),
         _ => Ok(begun_at(transition)),
     }
-}
-
-/// Whether the tree isn't made of those behind it: nothing is done, or it is the head of a loop.
-fn is_given(transition: &Transition) -> bool {
-    matches!(
-        transition,
-        Transition::End | Transition::Dead | Transition::Test { is_head: true, .. }
-    )
 }
 
 /// What the cells of the head at the label claim.

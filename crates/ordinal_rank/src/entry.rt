@@ -9,7 +9,7 @@ ghost use Rattle.decision_tree.specs.Evaluation.{eval};
 ghost use Rattle.decision_tree.specs.Plans.{plan_of};
 ghost use Rattle.ordinal_rank.specs.Families.{BoundsEnds, IsFit};
 
-use crate::cells::{follow, front, given};
+use crate::cells::{follow, given};
 use crate::family::left_of;
 use crate::fitting::fit_or_given_up;
 use crate::jump::Power;
@@ -20,7 +20,7 @@ use backward_sweeps::{Operands, at_once};
 use control_flow::{Graph, Transition};
 use decision_tree::{AffineRank, Tree, Why};
 use forward_inv::{Inv, transitions_of};
-use loop_moves::{Parting, Question, Search};
+use loop_moves::{Parting, Question, Search, front};
 use num_domain::NumDomain;
 use rank_synthesis::{ORDER, RankedCell, Synthesis};
 use std::alloc::{AllocError, Global};

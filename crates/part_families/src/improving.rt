@@ -128,9 +128,10 @@ impl<'a, D: NumDomain> Premises<'a, D> {
             under: family.trees.items(),
             ..*question
         };
-        let Some(trees) = synthesis.proposed(search, &over, parting)? else {
+        let Some(proposal) = synthesis.proposed(search, &over, parting, self.graph.entry())? else {
             return Ok(family);
         };
+        let trees = proposal.whole(self.alloc, &over)?;
         let next = self.left_of(formula, smaller, trees)?;
         let variables = question.variables;
         if claims_more(

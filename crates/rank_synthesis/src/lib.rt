@@ -5,7 +5,8 @@
 //! Sipma, TACAS 2001; over the locations of a program Alias and others, SAS 2010). Ranks of two parts are found by two such programs, the second for the
 //! moves along which the higher part stays (Alias and others), and ranks of up to five parts by one for each part. For a weak until the cells are kept that no move leads out of
 //! (closed recurrent sets, Gupta and others, POPL 2008). Nothing of this is believed: it only proposes, and what is claimed is what the check
-//! leaves. It stands on `loop_moves` for the loops and their moves, on `backward_sweeps` for the pass over the other labels, and on `linear_program`. The front door: `Synthesis` with `Synthesis::proposed`, `Synthesis::paired` and `Synthesis::listed`.
+//! leaves. It stands on `loop_moves` for the loops and their moves, on `backward_sweeps` for the pass over the other labels, and on `linear_program`.
+//! The front door: `Synthesis` with `Synthesis::proposed`, whose `Proposal` is made whole where it may add a claim, `Synthesis::paired` and `Synthesis::listed`.
 #![tactic(auto)]
 
 mod cells;
@@ -18,4 +19,4 @@ mod ranking;
 mod synthesis;
 
 pub use lists::{ORDER, RankedCell};
-pub use synthesis::Synthesis;
+pub use synthesis::{Proposal, Synthesis};

@@ -10,7 +10,7 @@ use control_flow::{Choice, Transition};
 use decision_tree::{AffineRank, Pick, Tree, TreeList, Why};
 use forward_inv::Inv;
 use linear_cons::Row;
-use loop_moves::{Loops, Move, Parting, Question, Search, Stop, unless_given_up};
+use loop_moves::{Loops, Move, Parting, Question, Search, Stop, front, unless_given_up};
 use num_domain::NumDomain;
 use std::alloc::{AllocError, Global};
 use tree_unify::{TreeFault, both, either, trim};
@@ -38,6 +38,34 @@ pub(crate) struct Kept {
     pub(crate) is_settled: bool,
 }
 
+/// Trees that are proposed, one for each label. Those of which the tree at the entry isn't made, behind the first heads, are made by `whole`: they are needed only
+/// where the one at the entry may add a claim.
+#[derive(Drop)]
+pub struct Proposal {
+    /// The trees as far as they are made: those of heads, and those of which the tree at the entry is made.
+    pub trees: Vec<Tree<AffineRank>>,
+    /// For each label whether the tree at the entry is made of its tree.
+    front: Vec<bool>,
+}
+
+impl Proposal {
+    /// All trees, with the question for which they are proposed. The only error is want of memory.
+    pub fn whole(
+        self,
+        alloc: Global,
+        question: &Question<'_>,
+    ) -> Result<TreeList<AffineRank>, AllocError>
+        requires few { length question.now.transitions.now ≤ 1024 }
+        requires onward { AreOnward question.now.transitions.now }
+        requires labels { length self.trees.items ≡ length question.now.transitions.now }
+        ensures { IfOk result (λ made. length made ≡ length question.now.transitions.now) }
+    {
+        let Proposal { mut trees, front } = self;
+        question.follow(alloc, &front, false, &mut trees)?;
+        Ok(TreeList::of(trees))
+    }
+}
+
 impl Synthesis {
     /// That of the question's loops. The only error is want of memory.
     pub fn of<D: NumDomain>(
@@ -57,23 +85,24 @@ impl Synthesis {
         })
     }
 
-    /// The trees that are proposed for the question, one for each label: at the heads ranks of the cells of the parting, and elsewhere what
-    /// follows from these; a label whose tree can't be made claims nothing. None where there is no loop, the parting's rows are those of one that was tried, a number lies outside `i128`, or
-    /// no work is left to the search. The only error is want of memory.
+    /// What is proposed for the question of a program with that entry, a tree for each label: at the heads ranks of the cells of the parting, and elsewhere what
+    /// follows from these; a label whose tree can't be made claims nothing. None where there is no loop, the parting's rows are those of one that was tried, a
+    /// number lies outside `i128`, or no work is left to the search. The only error is want of memory.
     pub fn proposed(
         &mut self,
         search: &mut Search,
         question: &Question<'_>,
         parting: Parting,
-    ) -> Result<Option<TreeList<AffineRank>>, AllocError>
+        entry: u32,
+    ) -> Result<Option<Proposal>, AllocError>
         requires few { length question.now.transitions.now ≤ 1024 }
         requires onward { AreOnward question.now.transitions.now }
-        ensures { IfOk result (λ found. IfSome found (λ made. length made ≡ length question.now.transitions.now)) }
+        ensures { IfOk result (λ found. IfSome found (λ made. length made.trees.items ≡ length question.now.transitions.now)) }
     {
         match unless_given_up(self.ranked(search, parting))?.flatten() {
             Some(cells) => {
-                let trees = self.followed(search.alloc, question, &cells)?;
-                Ok(Some(trees))
+                let proposal = self.followed(search.alloc, question, entry, &cells)?;
+                Ok(Some(proposal))
             }
             None => Ok(None),
         }
@@ -117,24 +146,26 @@ impl Synthesis {
         }
     }
 
-    /// The trees that follow from the cells' ranks.
+    /// The trees that follow from the cells' ranks, as far as the one at the entry is made of them.
     fn followed(
         &self,
         alloc: Global,
         question: &Question<'_>,
+        entry: u32,
         cells: &[Cell],
-    ) -> Result<TreeList<AffineRank>, AllocError>
+    ) -> Result<Proposal, AllocError>
         requires few { length question.now.transitions.now ≤ 1024 }
         requires onward { AreOnward question.now.transitions.now }
-        ensures { IfOk result (λ made. length made ≡ length question.now.transitions.now) }
+        ensures { IfOk result (λ made. length made.trees.items ≡ length question.now.transitions.now) }
     {
         let heads = self.trees(alloc, question, cells)?;
         let mut trees = begun(alloc, question.transitions, question.operands, &heads)?;
         if question.is_weak {
             keep_ends(alloc, question, &mut trees)?;
         }
-        question.follow(alloc, &mut trees)?;
-        Ok(TreeList::of(trees))
+        let front = front(alloc, question.transitions, entry)?;
+        question.follow(alloc, &front, true, &mut trees)?;
+        Ok(Proposal { trees, front })
     }
 
     /// The trees at the heads, and none elsewhere.
