@@ -5,7 +5,7 @@ use Rattle.std.proofs.Math.Seq.{get_or-append_seam, take-append_seam}
 use Rattle.std.proofs.lemmas.Int.{ints}
 use Rattle.std.proofs.lemmas.Bool.{false≢true}
 use Rattle.std.proofs.lemmas.Bool.Decides.{Decides-int_eq, not_from_Decides}
-use Rattle.std.proofs.lemmas.List.{length-append, length-map, length-reverse, map-append, reverse-append, reverse-reverse, set-get_or, set-set}
+use Rattle.std.proofs.lemmas.List.{length-append, length-map, length-reverse, map-append, reverse-append, reverse-reverse}
 use Rattle.std.proofs.lemmas.Option.{get_or_from_slice_get, slice_get_within}
 use Rattle.std.specs.List.{slice_get}
 use Rattle.std.proofs.lemmas.List.Elements.{All-cons, All-contains_itself, All-map, All-weaker, Contains-append_left, Contains-append_right}
@@ -18,9 +18,11 @@ use Rattle.linear_cons.specs.declared.affine.Affine.{Affine}
 use Rattle.linear_cons.specs.declared.row.Row.{Row}
 use Rattle.linear_cons.specs.Numbers.{number_at}
 use Rattle.linear_cons.specs.Tightest.{AreTightest, IsCovered}
+use Rattle.linear_cons.proofs.Forms.{affine_of_parts}
 use Rattle.linear_cons.proofs.Places.{places-ext}
+use Rattle.linear_cons.proofs.RowLaws.{row_same}
 use Rattle.linear_cons.proofs.Telling.{settled_by, tells-Decides}
-use Rattle.decision_tree.specs.Trails.{AreTightestOf, HaveLed, IsEntered, IsLeft, IsShortened, IsTurned, same_part, tightened, undone, way_of}
+use Rattle.decision_tree.specs.Trails.{AreTightestOf, HaveLed, IsEntered, IsLeft, IsShortened, IsTurned, same_part, tightened, undone, way_of, with_constant, with_constant_at}
 use Rattle.decision_tree.specs.declared.trail.Change.TheVariants.{Added, Tightened}
 use Rattle.decision_tree.specs.declared.trail.Step.{Step}
 
@@ -149,9 +151,37 @@ back_added rows row =
     let long : length (rows ++ row ∷ []) - 1 ≡ length rows = let sum = length-append rows (row ∷ []) in omega arith in
     ap (λ n. take n (rows ++ row ∷ [])) long ∙ take-append_seam rows (row ∷ [])
 
-pub back_tightened : (rows : List Row) (row looser : Row) (place : ℕ) → looser ≡ get_or rows place looser → undone (Tightened place looser) (set rows place row) ≡ rows
-back_tightened rows row looser place is =
-    set-set rows place row looser ∙ ap (λ t. set rows place t) is ∙ set-get_or rows place looser
+-- putting a row with the same coefficients at the place is giving the one there another constant
+pub set_moved : (rows : List Row) (place : ℕ) (held moved : Row) (constant : ℤ) → held ≡ get_or rows place held → moved.affine.coef ≡ held.affine.coef → moved.affine.constant ≡ constant
+    → set rows place moved ≡ with_constant_at rows place constant
+set_moved [] place held moved constant is coef same = refl
+set_moved (row ∷ rest) zero held moved constant is coef same =
+    ap (λ t. t ∷ rest) (row_same moved (with_constant row constant) (affine_of_parts moved.affine (with_constant row constant).affine (coef ∙ ap (λ (r : Row). r.affine.coef) is) same))
+set_moved (row ∷ rest) (suc place) held moved constant is coef same = ap (λ t. row ∷ t) (set_moved rest place held moved constant is coef same)
+
+-- past the end there is none
+pub none_moved : (rows : List Row) (place : ℕ) (constant : ℤ) → length rows ≤ place → rows ≡ with_constant_at rows place constant
+none_moved [] place constant past = refl
+none_moved (row ∷ rest) zero constant past = absurd (omega arith)
+none_moved (row ∷ rest) (suc place) constant past = ap (λ t. row ∷ t) (none_moved rest place constant (omega arith))
+
+constant_back : (row : Row) (constant : ℤ) → with_constant (with_constant row constant) row.affine.constant ≡ row
+constant_back row constant = row_same _ row refl
+
+pub back_tightened : (rows : List Row) (place : ℕ) (constant looser : ℤ) (d : Row) → looser ≡ (get_or rows place d).affine.constant
+    → undone (Tightened place looser) (with_constant_at rows place constant) ≡ rows
+back_tightened [] place constant looser d is = refl
+back_tightened (row ∷ rest) zero constant looser d is = ap (λ n. with_constant (with_constant row constant) n ∷ rest) is ∙ ap (λ t. t ∷ rest) (constant_back row constant)
+back_tightened (row ∷ rest) (suc place) constant looser d is = ap (λ t. row ∷ t) (back_tightened rest place constant looser d is)
+
+-- a row of the same part with the constant of another is the other
+moved_part : (held row : Row) → same_part held row ≡ true → with_constant held row.affine.constant ≡ row
+moved_part held row same = row_same _ row (ap (λ (coef : List ℤ). let moved : Affine = record { coef = coef; constant = row.affine.constant } in moved) ((part_Decides held row).0 same))
+
+moved_to : (rows : List Row) (row : Row) (place : ℕ) → ((d : Row) → same_part (get_or rows place d) row ≡ true) → with_constant_at rows place row.affine.constant ≡ set rows place row
+moved_to [] row place same = refl
+moved_to (held ∷ rest) row zero same = ap (λ t. t ∷ rest) (moved_part held row (same held))
+moved_to (held ∷ rest) row (suc place) same = ap (λ t. held ∷ t) (moved_to rest row place same)
 
 -- ---- the steps have led to the tightest rows
 
@@ -328,11 +358,12 @@ way_left old new steps earlier left front row ends = by_last (reverse steps) (sy
 
 -- ---- the row took the place of a looser one
 
-pub took_place : (rows : List Row) (row looser : Row) (place : ℕ) → looser ≡ get_or rows place looser → int_le looser.affine.constant row.affine.constant ≡ false
-    → tightened rows row ≡ cond (int_le (get_or rows place looser).affine.constant row.affine.constant) rows (set rows place row) → set rows place row ≡ tightened rows row
-took_place rows row looser place is more found =
-    let test : int_le (get_or rows place looser).affine.constant row.affine.constant ≡ false = ap (λ (r : Row). int_le r.affine.constant row.affine.constant) (sym is) ∙ more in
-    sym (found ∙ ap (λ t. cond t rows (set rows place row)) test)
+pub took_place : (rows : List Row) (row : Row) (looser : ℤ) (place : ℕ) (d : Row) → looser ≡ (get_or rows place d).affine.constant → int_le looser row.affine.constant ≡ false
+    → ((e : Row) → same_part (get_or rows place e) row ≡ true)
+    → tightened rows row ≡ cond (int_le (get_or rows place d).affine.constant row.affine.constant) rows (set rows place row) → with_constant_at rows place row.affine.constant ≡ tightened rows row
+took_place rows row looser place d is more same found =
+    let test : int_le (get_or rows place d).affine.constant row.affine.constant ≡ false = ap (λ n. int_le n row.affine.constant) (sym is) ∙ more in
+    moved_to rows row place same ∙ sym (found ∙ ap (λ t. cond t rows (set rows place row)) test)
 
 -- ---- over to the other side
 

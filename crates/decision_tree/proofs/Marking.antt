@@ -1,5 +1,5 @@
 -- Rows with the same linear part, or with each other's negatives, have the same mark.
-use Rattle.std.proofs.Common.{◌≡◌, ℕ, zero, suc, ◌<◌, ℤ, pos, negsuc, ◌-ℤ◌, Bool, true, false, List, [], ◌∷◌, map, length, get_or, set, unsigned_abs, nat_eq, refl, sym, ap, ◌∙◌, arith}
+use Rattle.std.proofs.Common.{◌≡◌, ℕ, zero, suc, ◌<◌, ℤ, pos, negsuc, ◌-ℤ◌, Bool, true, false, List, [], ◌∷◌, map, length, get_or, unsigned_abs, nat_eq, refl, sym, ap, ◌∙◌, arith}
 use Rattle.std.proofs.lemmas.Bool.Decides.{nat_tests}
 use Rattle.std.proofs.lemmas.Int.{ints}
 use Rattle.linear_cons.specs.Functions.{coefficient, complement_of, constant_of}
@@ -10,7 +10,7 @@ use Rattle.linear_cons.specs.declared.row.Row.{Row}
 use Rattle.linear_cons.proofs.Places.{number_at_places}
 use Rattle.linear_cons.proofs.Telling.{tells-Decides}
 use Rattle.decision_tree.specs.Marks.{mark_before, mark_of}
-use Rattle.decision_tree.specs.Trails.{same_part}
+use Rattle.decision_tree.specs.Trails.{same_part, with_constant, with_constant_at}
 use Rattle.decision_tree.proofs.Gathering.{item_any, part_Decides}
 
 mark_same : (n : ℕ) (a b : Affine) → ((i : ℕ) → i < n → unsigned_abs (coefficient a i) ≡ unsigned_abs (coefficient b i)) → mark_before a n ≡ mark_before b n
@@ -81,10 +81,10 @@ pub told_at : (rows : List Row) (a : Affine) (place : ℕ) (given : Row) → pla
     → tells given.affine a ≡ tells (get_or rows place d).affine a
 told_at rows a place given low is d = ap (λ (r : Row). tells r.affine a) (is ∙ item_any rows place given d low)
 
--- ---- a row in place of another
+-- ---- a row with another constant
 
-pub marks_set : (rows : List Row) (place : ℕ) (row : Row)
-    → set (map (λ (row : Row). mark_of row.affine) rows) place (mark_of row.affine) ≡ map (λ (row : Row). mark_of row.affine) (set rows place row)
-marks_set [] place row = refl
-marks_set (first ∷ rows) zero row = refl
-marks_set (first ∷ rows) (suc place) row = ap (λ list. mark_of first.affine ∷ list) (marks_set rows place row)
+pub marks_kept : (rows : List Row) (place : ℕ) (constant : ℤ) → map (λ (row : Row). mark_of row.affine) (with_constant_at rows place constant) ≡ map (λ (row : Row). mark_of row.affine) rows
+marks_kept [] place constant = refl
+marks_kept (row ∷ rest) zero constant =
+    ap (λ mark. mark ∷ map (λ (row : Row). mark_of row.affine) rest) (same_marks (with_constant row constant).affine row.affine refl)
+marks_kept (row ∷ rest) (suc place) constant = ap (λ list. mark_of row.affine ∷ list) (marks_kept rest place constant)

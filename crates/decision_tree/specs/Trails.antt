@@ -1,5 +1,5 @@
 -- The rows on the way down a tree, and the tightest of them.
-use Rattle.std.specs.Prelude.{◌≡◌, ℕ, ◌-◌, ◌<◌, ◌≤◌, Bool, int_le, List, [], ◌∷◌, ◌++◌, length, map, take, slice_index_or, slice_set, All}
+use Rattle.std.specs.Prelude.{◌≡◌, ℕ, zero, suc, ◌-◌, ◌<◌, ◌≤◌, ℤ, Bool, true, int_le, List, [], ◌∷◌, ◌++◌, length, map, take, slice_index_or, slice_set, All}
 use Rattle.std.specs.Prelude.{Contains, Option, None, Some, if◌then◌else◌}
 use Rattle.std.specs.Ordering.{int_eq}
 use Rattle.std.specs.Cmp.Lexicographic.{pointwise}
@@ -41,11 +41,21 @@ tightened (held ∷ rest) row =
     if same_part held row then (if int_le held.affine.constant row.affine.constant then held ∷ rest else row ∷ rest)
     else held ∷ tightened rest row
 
+-- the row with another constant
+abbrev pub with_constant : Row → ℤ → Row
+with_constant row constant = record { affine = record { coef = row.affine.coef; constant = constant }; primitive = row.primitive }
+
+-- the rows, of which the one at the place has another constant
+abbrev pub with_constant_at : List Row → ℕ → ℤ → List Row
+with_constant_at [] place constant = []
+with_constant_at (row ∷ rest) zero constant = with_constant row constant ∷ rest
+with_constant_at (row ∷ rest) (suc place) constant = row ∷ with_constant_at rest place constant
+
 -- the rows before the change
 abbrev pub undone : Change → List Row → List Row
 undone Added rows = take (length rows - 1) rows
 undone Kept rows = rows
-undone (Tightened place looser) rows = slice_set rows place looser
+undone (Tightened place looser) rows = with_constant_at rows place looser
 
 -- The steps, the newest first, have led to the rows that are held, and lead back from them.
 abbrev pub HaveLed : List Step → List Row → Type 0
@@ -61,7 +71,7 @@ way_of steps = map (λ (step : Step). step.row) steps
 abbrev pub IsPlaceOf : List Row → Row → Option ℕ → Type 0
 IsPlaceOf rows row None = tightened rows row ≡ rows ++ row ∷ []
 IsPlaceOf rows row (Some place) =
-    (place < length rows) × ((d : Row) → tightened rows row ≡
+    (place < length rows) × ((d : Row) → same_part (slice_index_or rows place d) row ≡ true) × ((d : Row) → tightened rows row ≡
     (if int_le (slice_index_or rows place d).affine.constant row.affine.constant then rows else slice_set rows place row))
 
 -- the row is among the tightest, and the change leads back

@@ -1,10 +1,10 @@
 //! Rows, found by their linear parts.
-ghost use Rattle.std.specs.Prelude.{◌≡◌, ◌<◌, ◌++◌, ◌∷◌, ◌-◌, List, [], OnOk, OnErr, length, slice_index_or, slice_set, take};
+ghost use Rattle.std.specs.Prelude.{◌≡◌, ◌<◌, ◌++◌, ◌∷◌, ◌-◌, List, [], OnOk, OnErr, length, slice_index_or, take};
 ghost use Rattle.linear_cons.specs.Functions.{complement_of};
 ghost use Rattle.linear_cons.specs.declared.row.Row.{Row};
 ghost use Rattle.linear_cons.specs.Settling.{functions_of_rows, settled, settles, tells};
 ghost use Rattle.decision_tree.specs.Marks.{mark_of};
-ghost use Rattle.decision_tree.specs.Trails.{IsPlaceOf, same_part};
+ghost use Rattle.decision_tree.specs.Trails.{IsPlaceOf, same_part, with_constant_at};
 
 use linear_cons::Row;
 use std::alloc::{AllocError, Global};
@@ -53,12 +53,13 @@ impl HeldRows {
         &self.rows
     }
 
-    /// Adds the row behind the others. After want of memory they are as before.
-    pub(crate) fn push(&mut self, row: &Row) -> Result<(), AllocError>
+    /// Adds the row, whose mark is told, behind the others. After want of memory they are as before.
+    pub(crate) fn push(&mut self, mark: u64, row: &Row) -> Result<(), AllocError>
+        requires { mark ≡ mark_of row.now.affine }
         ensures pushed { OnOk result (self.new ≡ self.old ++ row.now ∷ []) }
         ensures stays { OnErr result (self.new ≡ self.old) }
     {
-        self.marks.push(mark_of(row))?;
+        self.marks.push(mark)?;
         if let Err(error) = self.rows.push(*row) {
             let _ = self.marks.pop();
             return Err(error.into());
@@ -74,21 +75,20 @@ impl HeldRows {
         let _ = self.rows.pop();
     }
 
-    /// Puts the row in place of another, where there is one at the place.
-    pub(crate) fn set(&mut self, place: usize, row: &Row)
-        ensures { self.new ≡ slice_set self.old place row.now }
+    /// Gives the row at the place another constant, where there is one.
+    pub(crate) fn set_constant(&mut self, place: usize, constant: i128)
+        ensures { self.new ≡ with_constant_at self.old place constant }
     {
         if place < self.rows.len() {
-            self.rows[place] = *row;
-            self.marks[place] = mark_of(row);
+            self.rows[place].affine.constant = constant;
         }
     }
 
-    /// Where the row with the same coefficients stands, if there is one.
-    pub(crate) fn place_of(&self, row: &Row) -> Option<usize>
+    /// Where the row with the same coefficients as that with the mark stands, if there is one.
+    pub(crate) fn place_of(&self, mark: u64, row: &Row) -> Option<usize>
+        requires { mark ≡ mark_of row.now.affine }
         ensures { IsPlaceOf self.now row.now result }
     {
-        let mark = mark_of(row);
         for place in 0..self.rows().len() {
             if self.has_part(place, mark, row) {
                 return Some(place);
@@ -166,7 +166,7 @@ impl HeldRows {
 }
 
 /// The mark of a row. Those of the same coefficients and of their negatives have the same.
-fn mark_of(row: &Row) -> u64
+pub(crate) fn mark_of(row: &Row) -> u64
     ensures { result ≡ mark_of row.now.affine }
 {
     let mut mark = 0u64;

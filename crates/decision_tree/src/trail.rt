@@ -7,7 +7,7 @@ ghost use Rattle.linear_cons.specs.declared.exact.Wide.{Wide};
 ghost use Rattle.linear_cons.specs.declared.row.Row.{Row};
 ghost use Rattle.decision_tree.specs.Trails.{IsEntered, IsLeft, IsTightening, undone};
 
-use crate::held::HeldRows;
+use crate::held::{HeldRows, mark_of};
 use crate::path::PathFault;
 use linear_cons::Row;
 use std::alloc::{AllocError, Global};
@@ -40,8 +40,8 @@ pub(crate) enum Change {
     Added,
     /// Nothing, since one of them tells it.
     Kept,
-    /// It took the place of a looser one.
-    Tightened { place: usize, looser: Row },
+    /// It took the place of a looser one, which had the constant.
+    Tightened { place: usize, looser: i128 },
 }
 
 impl Model for Trail {
@@ -166,15 +166,16 @@ fn tighten(held: &mut HeldRows, row: &Row) -> Result<Change, AllocError>
     ensures tightened { IfOk result (λ change. IsTightening held.old row.now change held.new) }
     ensures stays { OnErr result (held.new ≡ held.old) }
 {
-    let Some(place) = held.place_of(row) else {
-        held.push(row)?;
+    let mark = mark_of(row);
+    let Some(place) = held.place_of(mark, row) else {
+        held.push(mark, row)?;
         return Ok(Change::Added);
     };
-    let looser = held.rows()[place];
-    if looser.affine.constant <= row.affine.constant {
+    let looser = held.rows()[place].affine.constant;
+    if looser <= row.affine.constant {
         return Ok(Change::Kept);
     }
-    held.set(place, row);
+    held.set_constant(place, row.affine.constant);
     Ok(Change::Tightened { place, looser })
 }
 
@@ -188,7 +189,7 @@ fn undo(held: &mut HeldRows, change: Change)
         }
         Change::Kept => {}
         Change::Tightened { place, looser } => {
-            held.set(place, &looser);
+            held.set_constant(place, looser);
         }
     }
 }

@@ -107,8 +107,8 @@ impl Affine {
         }
         let mut rest = *self;
         rest.coef[place as usize] = 0;
-        let products = by.scale(self.coef[place as usize])?;
-        rest.add(&products)
+        rest.numbers_fit();
+        rest.mixed(1, by, self.coef[place as usize])
     }
 
     /// The value at a store. `Wide` comes exactly where a product, a sum of the products from place

@@ -21,6 +21,7 @@ pub struct Wide {
 
 impl Op {
     /// The exact result, or the operands exactly where it lies outside `i128`.
+    #[inline(always)]
     pub fn exact(self, left: i128, right: i128) -> Result<i128, Wide>
         ensures value { OkIff result (Fits128 (exact_result self left right)) (exact_result self left right) }
         ensures operands { IfErr result (λ wide. wide ≡ record { left = left; right = right; op = self }) }

@@ -6,6 +6,7 @@ pub returns-then-has_part : goal.returns-then-has_part
 returns-then-has_part c =
     let low : c.loop-place.place < length c.args.self.now = (let same = ap length c.rows-place-end.ensures in omega (arith, same)) in (
       low,
+      λ d. sym (c.has_part.ensures d) ∙ c.if-has_part.true,
       λ d. place_found c.args.self.now c.args.row.now c.loop-place.place d low c.loop-place.invariant (sym (c.has_part.ensures d) ∙ c.if-has_part.true),
     )
 
