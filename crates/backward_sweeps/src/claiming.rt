@@ -4,7 +4,7 @@ ghost use Rattle.decision_tree.specs.Plans.{plan_of};
 ghost use Rattle.backward_sweeps.specs.Claiming.{taken_over};
 ghost use Rattle.backward_sweeps.specs.Moving.{at_once};
 
-use decision_tree::{AffineRank, Tree, Why};
+use decision_tree::{AffineRank, HeldWhy, Tree, Why};
 use linear_cons::Affine;
 use std::alloc::{AllocError, Global};
 
@@ -34,12 +34,12 @@ fn boxed(
         Tree::Top(cause) => Tree::boxed_top(alloc, cause),
         Tree::Leaf { why: own, rank: _ } => match why {
             Some(given) => nought(alloc, given),
-            None => nought(alloc, own),
+            None => nought_held(alloc, own),
         },
         Tree::Node { row, yes, no } => {
             let yes = boxed(alloc, yes, why)?;
             match boxed(alloc, no, why) {
-                Ok(no) => Tree::boxed_node(alloc, row, yes, no),
+                Ok(no) => Tree::shared_node(alloc, row, yes, no),
                 Err(error) => {
                     Tree::discard(yes);
                     Err(error)
@@ -47,6 +47,14 @@ fn boxed(
             }
         }
     }
+}
+
+/// A claim of rank 0 for a reason that a tree holds.
+#[inline(never)]
+fn nought_held(alloc: Global, why: &HeldWhy) -> Result<Box<Tree<AffineRank>>, AllocError>
+    ensures { IfOk result (λ made. plan_of made.value ≡ at_once why.now) }
+{
+    nought(alloc, &why.why())
 }
 
 /// A claim of rank 0 for the reason.

@@ -15,7 +15,7 @@ use backward_transfer::{back_assign, back_pick, back_range, back_skip, back_some
 use control_flow::{Choice, Transition};
 use decision_tree::{AffineRank, Tree, Why};
 use linear_cons::Affine;
-use std::alloc::Global;
+use std::alloc::{AllocError, Global};
 use tree_unify::TreeFault;
 
 /// The tree before what is done at a label, with the trees of all labels given, for all next states or, where `all` is false, for some: then
@@ -65,7 +65,10 @@ fn for_all(
 {
     match transition {
         Transition::End => Ok(Tree::Bottom),
-        Transition::Dead => Ok(at_once(Why::Dead)),
+        Transition::Dead => {
+            let tree = at_once(alloc, Why::Dead)?;
+            Ok(tree)
+        }
         Transition::Pass { to } => back_skip(alloc, &trees[*to as usize]),
         Transition::Assign { place, value, to } => {
             back_assign(alloc, &trees[*to as usize], place.number, value)
@@ -180,11 +183,11 @@ fn with_value(
 }
 
 /// A claim of rank 0 for the reason.
-pub fn at_once(why: Why) -> Tree<AffineRank>
-    ensures { plan_of result ≡ at_once why }
+pub fn at_once(alloc: Global, why: Why) -> Result<Tree<AffineRank>, AllocError>
+    ensures { IfOk result (λ tree. plan_of tree ≡ at_once why) }
 {
     let rank = AffineRank {
         value: Affine::constant(0),
     };
-    Tree::Leaf { why, rank }
+    Tree::claim(alloc, &why, &rank)
 }

@@ -44,7 +44,7 @@ fn given(
 {
     match transition {
         Transition::End => copied(alloc, operands.goal, label),
-        Transition::Dead => Ok(at_once(Why::Dead)),
+        Transition::Dead => at_once(alloc, Why::Dead),
         Transition::Test { is_head: true, .. } => copied(alloc, heads, label),
         _ => Ok(Tree::Bottom),
     }
@@ -112,7 +112,7 @@ fn remake(
             Ok(true)
         }
         Err(fault) => {
-            trees[place] = given_up(fault)?;
+            trees[place] = given_up(alloc, fault)?;
             Ok(false)
         }
     }

@@ -107,16 +107,21 @@ pub fn tree_at<'a>(
 }
 
 /// What a label has for a tree that can't be made: no claim, with the cause. The only error is want of memory.
-pub fn given_up(fault: TreeFault) -> Result<Tree<AffineRank>, AllocError>
+pub fn given_up(alloc: Global, fault: TreeFault) -> Result<Tree<AffineRank>, AllocError>
     ensures full { (count : ℕ) → fault ≡ TooFull count → IfOk result (λ tree. (n : ℕ) × (plan_of tree ≡ top (Nodes n))) }
     ensures wide { (w : Wide) → fault ≡ TooWide w → IfOk result (λ tree. plan_of tree ≡ top (WideNumber w)) }
     ensures memory { (error : AllocError) → fault ≡ Memory error → IfOk result (λ tree. ⊥) }
 {
     match fault {
-        TreeFault::Full { count } => Ok(Tree::Top(Cause::Nodes {
-            count: u32::try_from(count).unwrap_or(u32::MAX),
-        })),
-        TreeFault::Wide(wide) => Ok(Tree::Top(Cause::Wide(wide))),
+        TreeFault::Full { count } => {
+            let count = u32::try_from(count).unwrap_or(u32::MAX);
+            let tree = Tree::given_up(alloc, &Cause::Nodes { count })?;
+            Ok(tree)
+        }
+        TreeFault::Wide(wide) => {
+            let tree = Tree::given_up(alloc, &Cause::Wide(wide))?;
+            Ok(tree)
+        }
         TreeFault::Memory(error) => Err(error),
     }
 }

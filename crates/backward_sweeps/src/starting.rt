@@ -42,7 +42,7 @@ fn start(
     ensures { IfOk result (λ tree. IsStarted (parts_of operands.now) label transition.now (plan_of tree)) }
 {
     match transition {
-        Transition::Dead => Ok(at_once(Why::Dead)),
+        Transition::Dead => at_once(alloc, Why::Dead),
         _ => now_or_kept(alloc, operands, label),
     }
 }
@@ -60,6 +60,6 @@ fn now_or_kept(
     let keep = taken_over(alloc, tree_at(operands.keep, label, &none), why)?;
     match either(alloc, tree_at(operands.goal, label, &none), &keep) {
         Ok(tree) => Ok(tree),
-        Err(fault) => given_up(fault),
+        Err(fault) => given_up(alloc, fault),
     }
 }

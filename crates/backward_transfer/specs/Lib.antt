@@ -1,5 +1,6 @@
 pub mod Mentions
 pub mod Ranges
+pub mod Moved
 pub mod Steps
 pub mod Tests
 pub mod AffineShapes

@@ -8,12 +8,14 @@ ghost use Rattle.decision_tree.specs.Plans.{plan_of, size_of};
 ghost use Rattle.tree_unify.specs.Builds.{Builds, formed};
 ghost use Rattle.tree_unify.specs.Shapes.{TrimFits, trimmed};
 ghost use Rattle.tree_unify.specs.declared.fault.TreeFault.TheVariants.{Full as TooFull, Wide as TooWide};
+ghost use Rattle.backward_transfer.specs.Moved.{kind_of};
 ghost use Rattle.backward_transfer.specs.Steps.{AssignFits, assigned, assigning, step_by};
 
 use crate::stepping::step_leaf;
-use decision_tree::{Pick, Rank, Tree};
+use decision_tree::laws::equality_is_identity;
+use decision_tree::{AffineRank, Pick, Rank, Shared, Tree};
 use linear_cons::{Affine, Row, RowKind};
-use std::alloc::Global;
+use std::alloc::{AllocError, Global};
 use tree_unify::{Stopped, TreeFault, Walk, trim};
 
 /// The tree before the value is assigned to the variable at the place, with the tree behind it given: the
@@ -67,14 +69,14 @@ pub(crate) fn put<R: Rank>(
         Tree::Leaf { why: _, rank } => put_leaf(alloc, walk, pick, rank, place, by),
         Tree::Node { row, yes, no } => {
             let kind = put_row(alloc, walk, row, place, by)?;
-            match &*kind {
-                RowKind::Always => put(alloc, walk, pick, yes, place, by),
-                RowKind::Never => put(alloc, walk, pick, no, place, by),
-                RowKind::Row(row) => {
+            match kind {
+                MovedRow::Always => put(alloc, walk, pick, yes, place, by),
+                MovedRow::Never => put(alloc, walk, pick, no, place, by),
+                MovedRow::Row(moved) => {
                     let first = put(alloc, walk, pick, yes, place, by)?;
                     let size = walk.size;
                     match put(alloc, walk, pick, no, place, by) {
-                        Ok(other) => walk.join_sides(alloc, row, first, other, size),
+                        Ok(other) => walk.join_sides(alloc, &moved, first, other, size),
                         Err(stopped) => {
                             Tree::discard(first);
                             Err(stopped)
@@ -86,17 +88,25 @@ pub(crate) fn put<R: Rank>(
     }
 }
 
-/// What the row becomes with the function put in, in a box of its own.
+/// What a row becomes with a function put in, as a tree holds it.
+#[derive(Drop)]
+pub(crate) enum MovedRow {
+    Always,
+    Never,
+    Row(Shared<Row>),
+}
+
+/// What the row becomes with the function put in. It is held once more where it stays as it is.
 #[inline(never)]
 fn put_row(
     alloc: Global,
     walk: &mut Walk,
-    row: &Row,
+    row: &Shared<Row>,
     place: u8,
     by: &Affine,
-) -> Result<Box<RowKind>, Stopped>
+) -> Result<MovedRow, Stopped>
     requires { place < 16 }
-    ensures kind { IfOk result (λ kind. kind.value ≡ row_kind_of (substituted row.now.affine place by.now)) }
+    ensures kind { IfOk result (λ moved. kind_of moved ≡ row_kind_of (substituted row.now.affine place by.now)) }
     ensures trail { OnOk result (walk.new.trail ≡ walk.old.trail) }
     ensures fits { OnOk result (SubstitutionFits row.now.affine place by.now) }
     ensures full { OnErr result ((count : ℕ) → walk.new.fault ≡ TooFull count → ⊥) }
@@ -107,9 +117,25 @@ fn put_row(
         Ok(moved) => moved,
         Err(wide) => return Err(walk.stop(TreeFault::Wide(wide))),
     };
-    match Box::new(alloc, Row::of(moved)) {
-        Ok(kind) => Ok(kind),
-        Err(error) => Err(walk.stop(TreeFault::Memory(error.into()))),
+    match Row::of(moved) {
+        RowKind::Always => Ok(MovedRow::Always),
+        RowKind::Never => Ok(MovedRow::Never),
+        RowKind::Row(moved) => match held(alloc, row, &moved) {
+            Ok(held) => Ok(MovedRow::Row(held)),
+            Err(error) => Err(walk.stop(TreeFault::Memory(error))),
+        },
+    }
+}
+
+/// The second row, as a tree holds it: the first one once more, where they are the same.
+fn held(alloc: Global, row: &Shared<Row>, moved: &Row) -> Result<Shared<Row>, AllocError>
+    ensures { IfOk result (λ held. held ≡ moved.now) }
+{
+    equality_is_identity::<AffineRank>();
+    if **row == *moved {
+        row.share()
+    } else {
+        Shared::new(alloc, *moved)
     }
 }
 
@@ -120,7 +146,7 @@ fn put_leaf<R: Rank>(
     alloc: Global,
     walk: &mut Walk,
     pick: &Pick,
-    rank: &R,
+    rank: &Shared<R>,
     place: u8,
     by: &Affine,
 ) -> Result<Box<Tree<R>>, Stopped>

@@ -88,7 +88,11 @@ fn only_where<R: Rank>(
     ensures { Builds (given (node R.eq row.now (plan_of tree.value) bottom)) walk.old walk.new result }
 {
     match Tree::boxed_bottom(alloc) {
-        Ok(none) => walk.join_last(alloc, row, tree, none, 1),
+        Ok(none) => {
+            let size = walk.size;
+            walk.size = 1;
+            walk.join_by(alloc, row, tree, none, size)
+        }
         Err(error) => Err(walk.stop(TreeFault::Memory(error))),
     }
 }

@@ -14,7 +14,7 @@ ghost use Rattle.backward_transfer.specs.Ranges.{RowAtFits, asking_both, asking_
 ghost use Rattle.backward_transfer.specs.Ranges.{holds_throughout, negated, ranged, ranging, row_at, spreading};
 
 use crate::stepping::{none, step_leaf};
-use decision_tree::{Pick, Rank, Tree};
+use decision_tree::{Pick, Rank, Shared, Tree};
 use linear_cons::{Linear, Row, RowKind, Wide};
 use std::alloc::Global;
 use tree_unify::{Stopped, TreeFault, Walk, later, trim};
@@ -116,7 +116,7 @@ fn ask<R: Rank>(
     let no_size = walk.size;
     let rest = ask_second(alloc, walk, fails, &yes, no)?;
     match holds {
-        RowKind::Row(row) => walk.join_sides(alloc, row, yes, rest, yes_size),
+        RowKind::Row(row) => walk.join_by(alloc, row, yes, rest, yes_size),
         RowKind::Always => Ok(yes),
         RowKind::Never => Ok(rest),
     }
@@ -140,7 +140,7 @@ fn ask_second<R: Rank>(
         RowKind::Never => join_later(alloc, walk, yes, &no),
         RowKind::Row(row) => {
             let both = join_later(alloc, walk, yes, &no)?;
-            walk.join_sides(alloc, row, no, both, no_size)
+            walk.join_by(alloc, row, no, both, no_size)
         }
     }
 }
@@ -169,7 +169,7 @@ pub(crate) fn join_later<R: Rank>(
 fn spread_leaf<R: Rank>(
     alloc: Global,
     walk: &mut Walk,
-    rank: &R,
+    rank: &Shared<R>,
     place: u8,
     range: &Linear,
 ) -> Result<Box<Tree<R>>, Stopped>
@@ -208,7 +208,7 @@ fn is_never(kind: &RowKind) -> bool
 fn holds_throughout(
     alloc: Global,
     walk: &mut Walk,
-    row: &Row,
+    row: &Shared<Row>,
     place: u8,
     range: &Linear,
 ) -> Result<Box<RowKind>, Stopped>
@@ -229,7 +229,7 @@ fn holds_throughout(
 fn fails_throughout(
     alloc: Global,
     walk: &mut Walk,
-    row: &Row,
+    row: &Shared<Row>,
     place: u8,
     range: &Linear,
 ) -> Result<Box<RowKind>, Stopped>

@@ -8,7 +8,7 @@ ghost use Rattle.tree_unify.specs.Shapes.{TrimFits, trimmed};
 ghost use Rattle.tree_unify.specs.declared.fault.TreeFault.TheVariants.{Full as TooFull, Wide as TooWide};
 ghost use Rattle.backward_transfer.specs.Steps.{StepFits, step_by, stepped, stepping};
 
-use decision_tree::{Pick, Rank, Tree, Why};
+use decision_tree::{Pick, Rank, Shared, Tree, Why};
 use std::alloc::Global;
 use tree_unify::{Stopped, TreeFault, Walk, trim};
 
@@ -48,7 +48,7 @@ pub(crate) fn step<R: Rank>(
     match tree {
         Tree::Bottom => walk.copied(alloc, tree),
         Tree::Top(_) => walk.copied(alloc, tree),
-        Tree::Leaf { why: _, rank } => step_leaf(alloc, walk, pick, rank),
+        Tree::Leaf { why: _, rank } => step_held(alloc, walk, pick, rank),
         Tree::Node { row, yes, no } => {
             let first = step(alloc, walk, pick, yes)?;
             let size = walk.size;
@@ -61,6 +61,20 @@ pub(crate) fn step<R: Rank>(
             }
         }
     }
+}
+
+/// The same of a leaf.
+#[inline(never)]
+fn step_held<R: Rank>(
+    alloc: Global,
+    walk: &mut Walk,
+    pick: &Pick,
+    rank: &Shared<R>,
+) -> Result<Box<Tree<R>>, Stopped>
+    ensures { Builds (formed (step_by pick.now (R.one_more rank.now)) (R.add_one_fits rank.now)) walk.old walk.new result }
+{
+    let rank: &R = rank;
+    step_leaf(alloc, walk, pick, rank)
 }
 
 /// A leaf of the rank with one more, for the next states that are picked; its size is known.

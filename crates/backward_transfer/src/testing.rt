@@ -92,7 +92,7 @@ impl<'a, R: Rank> Test<'a, R> {
             Some(true) => self.ask_rows(alloc, walk, others, rest, holds),
             Some(false) => self.ask_next(alloc, walk, rest, holds),
             None => {
-                walk.down(row)?;
+                walk.down_by(row)?;
                 let first = self.ask_rows(alloc, walk, others, rest, holds)?;
                 let size = walk.size;
                 if let Err(stopped) = walk.turn() {
@@ -102,7 +102,7 @@ impl<'a, R: Rank> Test<'a, R> {
                 match self.ask_next(alloc, walk, rest, holds) {
                     Ok(other) => {
                         walk.trail.up();
-                        walk.join_sides(alloc, row, first, other, size)
+                        walk.join_by(alloc, row, first, other, size)
                     }
                     Err(stopped) => {
                         Tree::discard(first);

@@ -9,8 +9,8 @@ ghost use Rattle.decision_tree.specs.Plans.{plan_of};
 ghost use Rattle.tree_unify.specs.declared.fault.TreeFault.TheVariants.{Full as TooFull, Wide as TooWide};
 ghost use Rattle.backward_transfer.specs.Values.{RootFits, RootsFit, same_function, with_end, with_one, with_root, with_roots};
 
-use decision_tree::{Rank, Tree};
-use linear_cons::{Affine, Wide};
+use decision_tree::{Rank, Shared, Tree};
+use linear_cons::{Affine, Row, Wide};
 use std::alloc::{AllocError, Global};
 use tree_unify::{Stopped, TreeFault, Walk};
 
@@ -65,7 +65,7 @@ pub(crate) fn add_roots<R: Rank>(
 {
     match tree {
         Tree::Node { row, yes, no } => {
-            add_root(walk, &row.affine, place, values)?;
+            add_root_of(walk, row, place, values)?;
             add_roots(alloc, walk, yes, place, values)?;
             add_roots(alloc, walk, no, place, values)
         }
@@ -73,6 +73,26 @@ pub(crate) fn add_roots<R: Rank>(
         Tree::Top(_) => Ok(()),
         Tree::Leaf { .. } => Ok(()),
     }
+}
+
+/// Adds the value of the place at which the row is 0, where its coefficient there is 1 or -1.
+#[inline(never)]
+fn add_root_of(
+    walk: &mut Walk,
+    row: &Shared<Row>,
+    place: u8,
+    values: &mut Vec<Affine>,
+) -> Result<(), Stopped>
+    requires { place < 16 }
+    ensures values { OnOk result (values.new.items ≡ with_root place row.now.affine values.old.items) }
+    ensures fits { OnOk result (RootFits place row.now.affine) }
+    ensures full { OnErr result ((count : ℕ) → walk.new.fault ≡ TooFull count → ⊥) }
+    ensures wide { OnErr result ((w : Wide) → walk.new.fault ≡ TooWide w → RootFits place row.now.affine → ⊥) }
+    ensures operands { OnErr result ((w : Wide) → walk.new.fault ≡ TooWide w → IsOutside w) }
+{
+    let row: &Row = row;
+    add_root(walk, &row.affine, place, values)?;
+    Ok(())
 }
 
 /// Adds the value of the place at which the function is 0, where its coefficient there is 1 or -1.

@@ -157,12 +157,8 @@ impl Answer {
     pub fn push_tree(&mut self, tree: &Tree<AffineRank>) {
         match tree {
             Tree::Bottom => self.push("nothing"),
-            Tree::Top(cause) => self.push_cause(cause),
-            Tree::Leaf { why, rank } => {
-                self.push(word_of(why));
-                self.push_put(why);
-                self.push_function(&rank.value);
-            }
+            Tree::Top(cause) => self.push_cause(&cause.cause()),
+            Tree::Leaf { why, rank } => self.push_leaf(&why.why(), rank),
             Tree::Node { row, yes, no } => {
                 let is_leaf = !matches!(&**yes, Tree::Node { .. });
                 self.push_row(row);
@@ -172,6 +168,13 @@ impl Answer {
                 self.push_tree(no);
             }
         }
+    }
+
+    /// Adds the leaf.
+    fn push_leaf(&mut self, why: &Why, rank: &AffineRank) {
+        self.push(word_of(why));
+        self.push_put(why);
+        self.push_function(&rank.value);
     }
 
     /// Adds the function whose value is put, where the reason is such a step.

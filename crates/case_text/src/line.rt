@@ -22,7 +22,7 @@ pub struct Line {
 
 impl Line {
     /// Reads a line up to what stands at its end.
-    pub fn read(words: &mut Words<'_>) -> Line {
+    pub fn read(alloc: Global, words: &mut Words<'_>) -> Result<Line, AllocError> {
         let is_yes = words.takes("yes");
         if !is_yes {
             words.expect("no");
@@ -32,14 +32,14 @@ impl Line {
         words.expect(">=");
         words.expect("0");
         words.expect("beside");
-        let beside = read_leaf(words);
+        let beside = read_leaf(alloc, words)?;
         words.expect("then");
-        Line {
+        Ok(Line {
             count,
             is_yes,
             asked,
             beside: beside.unwrap_or(Tree::Bottom),
-        }
+        })
     }
 
     /// The line with the tree at its end.
@@ -73,7 +73,7 @@ impl Line {
             words.fail("a line of what is no row");
             return Ok(tree);
         };
-        let beside = self.beside(number);
+        let beside = self.beside(alloc, number)?;
         if self.is_yes {
             Tree::branch(alloc, row, tree, beside)
         } else {
@@ -82,16 +82,13 @@ impl Line {
     }
 
     /// The leaf beside the row with the number.
-    fn beside(&self, number: u32) -> Tree<AffineRank> {
+    fn beside(&self, alloc: Global, number: u32) -> Result<Tree<AffineRank>, AllocError> {
         match &self.beside {
-            Tree::Leaf { why, rank } => Tree::Leaf {
-                why: *why,
-                rank: AffineRank {
-                    value: numbered(&rank.value, number),
-                },
-            },
-            Tree::Top(cause) => Tree::Top(*cause),
-            _ => Tree::Bottom,
+            Tree::Leaf { why, rank } => {
+                let value = numbered(&rank.value, number);
+                Tree::claim(alloc, &why.why(), &AffineRank { value })
+            }
+            beside => beside.copy(alloc),
         }
     }
 }

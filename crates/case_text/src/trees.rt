@@ -2,7 +2,7 @@
 use crate::functions::{read_function, read_row};
 use crate::line::Line;
 use crate::words::Words;
-use decision_tree::{AffineRank, Cause, Pick, Tree, Why};
+use decision_tree::{AffineRank, Cause, HeldCause, Pick, Tree, Why};
 use std::alloc::{AllocError, Global};
 
 /// How deep a tree may stand in a line.
@@ -36,7 +36,7 @@ fn read_part(
         return Ok(tree);
     }
     if words.takes("line") {
-        let line = Line::read(words);
+        let line = Line::read(alloc, words)?;
         let last = read_part(alloc, words, below)?;
         return line.before(alloc, last, words);
     }
@@ -45,10 +45,11 @@ fn read_part(
         words.expect("for");
         let cause = read_cause(words);
         let mut tree = read_part(alloc, words, below)?;
-        undefine(&mut tree, u64::from(leaf), &cause, words);
+        let cause = HeldCause::of(alloc, &cause)?;
+        undefine(&mut tree, u64::from(leaf), cause, words);
         return Ok(tree);
     }
-    if let Some(leaf) = read_leaf(words) {
+    if let Some(leaf) = read_leaf(alloc, words)? {
         return Ok(leaf);
     }
     let row = read_row(words);
@@ -63,7 +64,7 @@ fn read_part(
 }
 
 /// Gives up the leaf of the number for the cause, where the tree has it.
-fn undefine(tree: &mut Tree<AffineRank>, leaf: u64, cause: &Cause, words: &mut Words<'_>) {
+fn undefine(tree: &mut Tree<AffineRank>, leaf: u64, cause: HeldCause, words: &mut Words<'_>) {
     if leaf < tree.leaves() {
         tree.undefine(leaf, cause);
     } else {
@@ -72,21 +73,27 @@ fn undefine(tree: &mut Tree<AffineRank>, leaf: u64, cause: &Cause, words: &mut W
 }
 
 /// Reads a leaf, where one begins here.
-pub fn read_leaf(words: &mut Words<'_>) -> Option<Tree<AffineRank>> {
-    let word = words.peek()?;
+pub fn read_leaf(
+    alloc: Global,
+    words: &mut Words<'_>,
+) -> Result<Option<Tree<AffineRank>>, AllocError> {
+    let Some(word) = words.peek() else {
+        return Ok(None);
+    };
     if word == "nothing" {
         words.take();
-        return Some(Tree::Bottom);
+        return Ok(Some(Tree::Bottom));
     }
     if matches!(word, "given" | "nodes" | "rows") {
-        return Some(Tree::Top(read_cause(words)));
+        let tree = Tree::given_up(alloc, &read_cause(words))?;
+        return Ok(Some(tree));
     }
-    let why = read_why(word, words)?;
+    let Some(why) = read_why(word, words) else {
+        return Ok(None);
+    };
     let value = read_function(words);
-    Some(Tree::Leaf {
-        why,
-        rank: AffineRank { value },
-    })
+    let tree = Tree::claim(alloc, &why, &AffineRank { value })?;
+    Ok(Some(tree))
 }
 
 /// Reads the cause for which a leaf is given up.

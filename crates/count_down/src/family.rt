@@ -64,7 +64,8 @@ fn trees(
 {
     let mut list = Vec::with_capacity(alloc, labels as usize)?;
     add_trees(alloc, program, countdown, &mut list)?;
-    list.push(ended())?;
+    let end = ended(alloc)?;
+    list.push(end)?;
     list.reverse();
     Ok(list)
 }

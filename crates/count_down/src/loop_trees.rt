@@ -47,16 +47,21 @@ pub(crate) fn add_behind(
 {
     let mut counts = Vec::new(alloc);
     let first = add_counts(block, &Affine::constant(0), nothing(), &mut counts)?;
-    add_steps(&counts, list)?;
+    add_steps(alloc, &counts, list)?;
     Ok(first.most)
 }
 
 // Adds for each count the tree of its steps.
-fn add_steps(counts: &[Count], list: &mut Vec<Tree<AffineRank>>) -> Result<(), AllocError>
+fn add_steps(
+    alloc: Global,
+    counts: &[Count],
+    list: &mut Vec<Tree<AffineRank>>,
+) -> Result<(), AllocError>
     ensures { OnOk result (building.plans list.new.items ≡ building.plans list.old.items ++ map candidates.most_within counts.now) }
 {
     for count in counts {
-        list.push(within(Affine::constant(count.most as i128)))?;
+        let tree = within(alloc, Affine::constant(count.most as i128))?;
+        list.push(tree)?;
     }
     Ok(())
 }
@@ -232,11 +237,14 @@ fn count_tree(
     ensures { IfOk result (λ tree. plan_of tree ≡ trees.count_tree lengths.turn lengths.last function.now steps) }
 {
     let rest = (steps + 1 + lengths.last) as i128;
-    let again = within(bound(lengths.turn, function, rest));
+    let again = within(alloc, bound(lengths.turn, function, rest))?;
     match Row::of(*function) {
         RowKind::Always => Ok(again),
-        RowKind::Never => Ok(within(Affine::constant(rest))),
-        RowKind::Row(row) => Tree::branch(alloc, row, again, within(Affine::constant(rest))),
+        RowKind::Never => within(alloc, Affine::constant(rest)),
+        RowKind::Row(row) => {
+            let elsewhere = within(alloc, Affine::constant(rest))?;
+            Tree::branch(alloc, row, again, elsewhere)
+        }
     }
 }
 
@@ -251,23 +259,22 @@ fn bound(turn: u64, function: &Affine, rest: i128) -> Affine
 }
 
 // The leaf that promises the end within the function's value.
-fn within(function: Affine) -> Tree<AffineRank>
-    ensures { plan_of result ≡ trees.within function }
+fn within(alloc: Global, function: Affine) -> Result<Tree<AffineRank>, AllocError>
+    ensures { IfOk result (λ tree. plan_of tree ≡ trees.within function) }
 {
-    Tree::Leaf {
-        why: Why::Step(Pick::All),
-        rank: AffineRank { value: function },
-    }
+    Tree::claim(
+        alloc,
+        &Why::Step(Pick::All),
+        &AffineRank { value: function },
+    )
 }
 
 /// The leaf of the end.
-pub(crate) fn ended() -> Tree<AffineRank>
-    ensures { plan_of result ≡ trees.ended }
+pub(crate) fn ended(alloc: Global) -> Result<Tree<AffineRank>, AllocError>
+    ensures { IfOk result (λ tree. plan_of tree ≡ trees.ended) }
 {
-    Tree::Leaf {
-        why: Why::End,
-        rank: AffineRank {
-            value: Affine::constant(0),
-        },
-    }
+    let rank = AffineRank {
+        value: Affine::constant(0),
+    };
+    Tree::claim(alloc, &Why::End, &rank)
 }

@@ -37,8 +37,8 @@ no_turns (Node' row p this q that) none = absurd (none row (record { ptr = p.ptr
 extended : (κ l : List ℕ) → κ ⊑ l → κ ⊑ (l ++ [])
 extended κ l within = ⊑_meet κ l [] within (⊑_static κ)
 
-pub parts_within : (κ l : List ℕ) → κ ⊑ l → κ ⊑ ((l ++ []) ++ ((l ++ []) ++ (((((l ++ []) ++ []) ++ []) ++ ((((l ++ []) ++ []) ++ []) ++ [])) ++ [])))
+pub parts_within : (κ l : List ℕ) → κ ⊑ l → κ ⊑ ((l ++ []) ++ ((((l ++ []) ++ (((l ++ []) ++ []) ++ [])) ++ []) ++ (((((l ++ []) ++ []) ++ []) ++ ((((l ++ []) ++ []) ++ []) ++ [])) ++ [])))
 parts_within κ l within =
     let once = extended κ l within in
     let thrice = extended κ _ (extended κ _ once) in
-    ⊑_meet κ _ _ once (⊑_meet κ _ _ once (extended κ _ (⊑_meet κ _ _ thrice (extended κ _ thrice))))
+    ⊑_meet κ _ _ once (⊑_meet κ _ _ (extended κ _ (⊑_meet κ _ _ once thrice)) (extended κ _ (⊑_meet κ _ _ thrice (extended κ _ thrice))))

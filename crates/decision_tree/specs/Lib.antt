@@ -1,6 +1,7 @@
 pub mod Trend
 pub mod Alternatives
 pub mod AffineRanks
+pub mod Reasons
 pub mod Plans
 pub mod Extent
 pub mod Equality

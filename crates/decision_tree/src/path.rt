@@ -107,7 +107,7 @@ impl<R: Rank> Tree<R> {
             if let Tree::Node { row, yes, no } = at {
                 match side {
                     Side::Yes => {
-                        append(&mut rows, *row)?;
+                        append(&mut rows, **row)?;
                         at = yes;
                     }
                     Side::No => {

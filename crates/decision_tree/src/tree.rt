@@ -1,5 +1,5 @@
 //! Trees of rows with ranks at their leaves.
-ghost use Rattle.std.specs.Prelude.{◌≡◌, ◌<◌, ◌-◌, ◌^◌, ◌↔◌, min, IsTrue, IsOk, IfOk, IfErr};
+ghost use Rattle.std.specs.Prelude.{◌≡◌, ◌<◌, ◌-◌, ◌^◌, ◌↔◌, false, min, IsTrue, IsOk, IfOk, IfErr};
 ghost use Rattle.linear_cons.specs.Exact.{IsOutside};
 ghost use Rattle.decision_tree.specs.Equality.{same_plan};
 ghost use Rattle.decision_tree.specs.Evaluation.{WayFits, eval};
@@ -8,8 +8,10 @@ ghost use Rattle.decision_tree.specs.Paths.{with_leaf};
 ghost use Rattle.decision_tree.specs.Plans.{bottom, branch, leaf, leaves_of, plan_of, size_of, top};
 ghost use Rattle.decision_tree.specs.Seeking.{IsReplaced};
 
+use crate::held_reason::{HeldCause, HeldWhy};
 use crate::rank::Rank;
 use crate::reason::{Cause, Why};
+use crate::shared::Shared;
 use linear_cons::{Row, Wide};
 use std::alloc::{AllocError, Global};
 use std::mem;
@@ -17,20 +19,21 @@ use std::mem;
 /// The most nodes of a tree that is made or widened, leaves included.
 pub const MOST_NODES: u64 = 65_536;
 
-/// A tree that divides the stores by the sides of its rows.
+/// A tree that divides the stores by the sides of its rows. What is longer than a few words stands elsewhere, and a copy of a tree
+/// holds the same rows and ranks once more.
 pub enum Tree<R: Rank> {
     /// No claim.
     Bottom,
     /// No claim, and what it was given up for.
-    Top(Cause),
+    Top(HeldCause),
     /// A claim, with its reason and its rank.
     Leaf {
-        why: Why,
-        rank: R,
+        why: HeldWhy,
+        rank: Shared<R>,
     },
     /// The side `yes` holds where the row's value is at least 0, `no` where it is below.
     Node {
-        row: Row,
+        row: Shared<Row>,
         yes: Box<Tree<R>>,
         no: Box<Tree<R>>,
     },
@@ -131,14 +134,14 @@ impl<R: Rank> Tree<R> {
     {
         match (self, other) {
             (Tree::Bottom, Tree::Bottom) => true,
-            (Tree::Top(cause), Tree::Top(given)) => cause == given,
+            (Tree::Top(cause), Tree::Top(given)) => cause.is_same(given),
             (
                 Tree::Leaf { why, rank },
                 Tree::Leaf {
                     why: reason,
                     rank: second,
                 },
-            ) => why == reason && rank == second,
+            ) => why.is_same(reason) && **rank == **second,
             (
                 Tree::Node { row, yes, no },
                 Tree::Node {
@@ -146,7 +149,7 @@ impl<R: Rank> Tree<R> {
                     yes: first,
                     no: second,
                 },
-            ) => row == given && yes.is_same(first) && no.is_same(second),
+            ) => **row == **given && yes.is_same(first) && no.is_same(second),
             _ => false,
         }
     }
@@ -161,39 +164,51 @@ impl<R: Rank> Tree<R> {
 
     /// Puts `Top` with the cause in place of the leaf with the number; all else stays. Leaves are numbered
     /// from 0, yes sides first. It takes no memory.
-    pub fn undefine(&mut self, leaf: u64, cause: &Cause)
+    pub fn undefine(&mut self, leaf: u64, cause: HeldCause)
         requires { leaf < leaves_of (plan_of self.old) }
-        ensures { plan_of self.new ≡ with_leaf (plan_of self.old) leaf (top cause.now) }
+        ensures { plan_of self.new ≡ with_leaf (plan_of self.old) leaf (top cause) }
     {
         let mut left = leaf;
-        let _ = self.undefine_after(&mut left, cause);
+        let mut given = Tree::Top(cause);
+        let _ = self.replace_after(&mut left, &mut given);
     }
 
-    /// Undefines the leaf that `left` others come before, and counts `left` down by each that it passes.
+    /// Swaps the leaf that `left` others come before with the given one, and counts `left` down by each that it passes.
     /// True where it was found.
-    fn undefine_after(&mut self, left: &mut u64, cause: &Cause) -> bool
-        ensures { IsReplaced (plan_of self.old) left.old left.new (top cause.now) (plan_of self.new) result }
+    fn replace_after(&mut self, left: &mut u64, given: &mut Tree<R>) -> bool
+        ensures replaced { IsReplaced (plan_of self.old) left.old left.new (plan_of given.old) (plan_of self.new) result }
+        ensures stays { result ≡ false → given.new ≡ given.old }
     {
         match self {
             Tree::Bottom | Tree::Top(_) | Tree::Leaf { .. } => {
                 if *left == 0 {
-                    self.become_top(cause);
+                    mem::swap(self, given);
                     return true;
                 }
                 *left -= 1;
                 false
             }
             Tree::Node { row: _, yes, no } => {
-                yes.undefine_after(left, cause) || no.undefine_after(left, cause)
+                yes.replace_after(left, given) || no.replace_after(left, given)
             }
         }
     }
 
-    #[inline(never)]
-    fn become_top(&mut self, cause: &Cause)
-        ensures { plan_of self.new ≡ top cause.now }
+    /// A claim, with its reason and its rank.
+    pub fn claim(alloc: Global, why: &Why, rank: &R) -> Result<Tree<R>, AllocError>
+        ensures { IfOk result (λ tree. plan_of tree ≡ leaf why.now rank.now) }
     {
-        *self = Tree::Top(*cause);
+        let why = HeldWhy::of(alloc, why)?;
+        let rank = Shared::new(alloc, *rank)?;
+        Ok(Tree::Leaf { why, rank })
+    }
+
+    /// No claim, given up for the cause.
+    pub fn given_up(alloc: Global, cause: &Cause) -> Result<Tree<R>, AllocError>
+        ensures { IfOk result (λ tree. plan_of tree ≡ top cause.now) }
+    {
+        let cause = HeldCause::of(alloc, cause)?;
+        Ok(Tree::Top(cause))
     }
 
     /// The tree with the row at its root and the two sides.
@@ -202,6 +217,7 @@ impl<R: Rank> Tree<R> {
     {
         let yes = Box::new(alloc, yes)?;
         let no = Box::new(alloc, no)?;
+        let row = Shared::new(alloc, row)?;
         Ok(Tree::Node { row, yes, no })
     }
 
@@ -227,11 +243,11 @@ impl<R: Rank> Tree<R> {
         match self {
             Tree::Bottom => Tree::boxed_bottom(alloc),
             Tree::Top(cause) => Tree::boxed_top(alloc, cause),
-            Tree::Leaf { why, rank } => Tree::boxed_leaf(alloc, why, rank),
+            Tree::Leaf { why, rank } => Tree::shared_leaf(alloc, why, rank),
             Tree::Node { row, yes, no } => {
                 let yes = yes.boxed(alloc)?;
                 match no.boxed(alloc) {
-                    Ok(no) => Tree::boxed_branch(alloc, row, yes, no),
+                    Ok(no) => Tree::shared_branch(alloc, row, yes, no),
                     Err(error) => {
                         Tree::discard(yes);
                         Err(error)
@@ -256,10 +272,10 @@ impl<R: Rank> Tree<R> {
 
     /// No claim, given up for the cause.
     #[inline(never)]
-    pub fn boxed_top(alloc: Global, cause: &Cause) -> Result<Box<Tree<R>>, AllocError>
+    pub fn boxed_top(alloc: Global, cause: &HeldCause) -> Result<Box<Tree<R>>, AllocError>
         ensures { IfOk result (λ tree. plan_of tree.value ≡ top cause.now) }
     {
-        let tree = Box::new(alloc, Tree::Top(*cause))?;
+        let tree = Box::new(alloc, Tree::Top(cause.share()?))?;
         Ok(tree)
     }
 
@@ -268,11 +284,23 @@ impl<R: Rank> Tree<R> {
     pub fn boxed_leaf(alloc: Global, why: &Why, rank: &R) -> Result<Box<Tree<R>>, AllocError>
         ensures { IfOk result (λ tree. plan_of tree.value ≡ leaf why.now rank.now) }
     {
-        let tree = Tree::Leaf {
-            why: *why,
-            rank: *rank,
-        };
+        let tree = Tree::claim(alloc, why, rank)?;
         let tree = Box::new(alloc, tree)?;
+        Ok(tree)
+    }
+
+    /// A claim, with a reason and a rank that another tree holds.
+    #[inline(never)]
+    pub fn shared_leaf(
+        alloc: Global,
+        why: &HeldWhy,
+        rank: &Shared<R>,
+    ) -> Result<Box<Tree<R>>, AllocError>
+        ensures { IfOk result (λ tree. plan_of tree.value ≡ leaf why.now rank.now) }
+    {
+        let why = why.share()?;
+        let rank = rank.share()?;
+        let tree = Box::new(alloc, Tree::Leaf { why, rank })?;
         Ok(tree)
     }
 
@@ -286,7 +314,22 @@ impl<R: Rank> Tree<R> {
     ) -> Result<Box<Tree<R>>, AllocError>
         ensures { IfOk result (λ tree. plan_of tree.value ≡ branch row.now (plan_of yes.value) (plan_of no.value)) }
     {
-        let row = *row;
+        let row = Shared::new(alloc, *row)?;
+        let tree = Box::new(alloc, Tree::Node { row, yes, no })?;
+        Ok(tree)
+    }
+
+    /// The same, with a row that another tree holds.
+    #[inline(never)]
+    pub fn shared_branch(
+        alloc: Global,
+        row: &Shared<Row>,
+        yes: Box<Tree<R>>,
+        no: Box<Tree<R>>,
+    ) -> Result<Box<Tree<R>>, AllocError>
+        ensures { IfOk result (λ tree. plan_of tree.value ≡ branch row.now (plan_of yes.value) (plan_of no.value)) }
+    {
+        let row = row.share()?;
         let tree = Box::new(alloc, Tree::Node { row, yes, no })?;
         Ok(tree)
     }
@@ -305,5 +348,21 @@ impl<R: Rank> Tree<R> {
             return Ok(yes);
         }
         Tree::boxed_branch(alloc, row, yes, no)
+    }
+
+    /// The same, with a row that another tree holds.
+    #[inline(never)]
+    pub fn shared_node(
+        alloc: Global,
+        row: &Shared<Row>,
+        yes: Box<Tree<R>>,
+        no: Box<Tree<R>>,
+    ) -> Result<Box<Tree<R>>, AllocError>
+        ensures { IfOk result (λ tree. plan_of tree.value ≡ node R.eq row.now (plan_of yes.value) (plan_of no.value)) }
+    {
+        if yes.is_same(&no) {
+            return Ok(yes);
+        }
+        Tree::shared_branch(alloc, row, yes, no)
     }
 }

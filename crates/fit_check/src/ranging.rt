@@ -253,7 +253,8 @@ pub fn safe_tree(
     let mut kinds = Vec::new(alloc);
     add_variables(graph.program().vars(), &mut kinds)?;
     add_action(graph.action(label), bounds, &mut kinds)?;
-    let tree = nest(alloc, kinds, whole())?;
+    let whole = whole(alloc)?;
+    let tree = nest(alloc, kinds, whole)?;
     let tree = trim(alloc, &tree, &[])?;
     Ok(tree)
 }
@@ -276,15 +277,13 @@ pub fn safe_at<D: NumDomain>(
 }
 
 /// The leaf behind all rows.
-fn whole() -> Tree<AffineRank>
-    ensures { plan_of result ≡ whole }
+fn whole(alloc: Global) -> Result<Tree<AffineRank>, AllocError>
+    ensures { IfOk result (λ tree. plan_of tree ≡ whole) }
 {
-    Tree::Leaf {
-        why: Why::Atom,
-        rank: AffineRank {
-            value: Affine::constant(0),
-        },
-    }
+    let rank = AffineRank {
+        value: Affine::constant(0),
+    };
+    Tree::claim(alloc, &Why::Atom, &rank)
 }
 
 /// The tree that asks the rows in their order.

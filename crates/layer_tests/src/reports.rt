@@ -8,7 +8,7 @@ ghost use Rattle.report_text.specs.Printed.{IsLineOver};
 use Leaf::*;
 use Said::*;
 use Side::*;
-use decision_tree::{AffineRank, Cause, Tree, Why};
+use decision_tree::{AffineRank, HeldCause, Tree, Why};
 use line_text::{Claim, are_over, is_claim_over};
 use linear_cons::{Affine, Row, RowKind, Rows};
 use report_text::{Counts, Explain, Header, Line, Lines, Report, Stop, Top, lines, print};
@@ -128,26 +128,25 @@ fn row(numbers: Numbers) -> Result<Row, &'static str> {
 }
 
 /// A leaf whose rank is a constant.
-fn claimed(steps: i128) -> Tree<AffineRank>
-    ensures fits { ComplementsFit (plan_of result) }
-    ensures constant { HasConstantRanks (plan_of result) }
+fn claimed(alloc: Global, steps: i128) -> Result<Tree<AffineRank>, AllocError>
+    ensures fits { IfOk result (λ tree. ComplementsFit (plan_of tree)) }
+    ensures constant { IfOk result (λ tree. HasConstantRanks (plan_of tree)) }
 {
-    Tree::Leaf {
-        why: Why::End,
-        rank: AffineRank {
-            value: Affine::constant(steps),
-        },
-    }
+    let rank = AffineRank {
+        value: Affine::constant(steps),
+    };
+    let tree = Tree::claim(alloc, &Why::End, &rank)?;
+    Ok(tree)
 }
 
-fn leaf_of(leaf: &Leaf) -> Tree<AffineRank>
-    ensures fits { ComplementsFit (plan_of result) }
-    ensures constant { HasConstantRanks (plan_of result) }
+fn leaf_of(alloc: Global, leaf: &Leaf) -> Result<Tree<AffineRank>, AllocError>
+    ensures fits { IfOk result (λ tree. ComplementsFit (plan_of tree)) }
+    ensures constant { IfOk result (λ tree. HasConstantRanks (plan_of tree)) }
 {
     match *leaf {
-        Steps(steps) => claimed(steps),
-        Nothing => Tree::Bottom,
-        Given => Tree::Top(Cause::Given),
+        Steps(steps) => claimed(alloc, steps),
+        Nothing => Ok(Tree::Bottom),
+        Given => Ok(Tree::Top(HeldCause::given())),
     }
 }
 
@@ -180,8 +179,15 @@ fn side_of(alloc: Global, side: &Side) -> Result<Tree<AffineRank>, Fail>
     ensures constant { IfOk result (λ tree. HasConstantRanks (plan_of tree)) }
 {
     match side {
-        Only(leaf) => Ok(leaf_of(leaf)),
-        Split(numbers, yes, no) => node(alloc, *numbers, leaf_of(yes), leaf_of(no)),
+        Only(leaf) => {
+            let tree = leaf_of(alloc, leaf)?;
+            Ok(tree)
+        }
+        Split(numbers, yes, no) => {
+            let yes = leaf_of(alloc, yes)?;
+            let no = leaf_of(alloc, no)?;
+            node(alloc, *numbers, yes, no)
+        }
     }
 }
 
@@ -265,9 +271,9 @@ fn long_line(alloc: Global, nodes: u32) -> Result<Tree<AffineRank>, Fail>
     ensures fits { IfOk result (λ tree. ComplementsFit (plan_of tree)) }
     ensures constant { IfOk result (λ tree. HasConstantRanks (plan_of tree)) }
 {
-    let mut tree = claimed(2);
+    let mut tree = claimed(alloc, 2)?;
     for _ in 0..nodes {
-        tree = node(alloc, [1, 0, -1], claimed(1), tree)?;
+        tree = node(alloc, [1, 0, -1], claimed(alloc, 1)?, tree)?;
     }
     Ok(tree)
 }

@@ -11,7 +11,7 @@ ghost use Rattle.constraint_stack.specs.Searches.{Holds, IsLonger, IsSame, IsSea
 ghost use Rattle.leaf_search.specs.Walks.{IsKept, IsSettled, LeadsTo, WhereAmong, ending, side_of, systems_behind};
 
 use constraint_stack::{Asked, ConstraintStack, Finding, try_claim, try_unformed};
-use decision_tree::{Rank, Tree};
+use decision_tree::{Rank, Shared, Tree};
 use linear_cons::{Affine, Row, RowKind, Wide};
 use std::alloc::AllocError;
 
@@ -99,7 +99,7 @@ impl<R: Rank> Way<R> {
     #[cycle(walk)]
     fn refute_behind(
         &self,
-        row: &Row,
+        row: &Shared<Row>,
         holds: bool,
         side: &Tree<R>,
         stack: &mut ConstraintStack,
@@ -125,7 +125,7 @@ impl<R: Rank> Way<R> {
     #[inline(never)]
     pub fn enter(
         &self,
-        row: &Row,
+        row: &Shared<Row>,
         holds: bool,
         stack: &mut ConstraintStack,
     ) -> Result<bool, AllocError>
@@ -137,6 +137,7 @@ impl<R: Rank> Way<R> {
         ensures nowhere { IfOk result (λ entered. entered ≡ false → WhereAsked stack.old (λ asks.
             IsMetNowhere (all_asked (asks ++ moved_by self.now.sets (side_of row.now.affine holds) ∷ [])))) }
     {
+        let row: &Row = row;
         if self.keeps(row) {
             let added = self.enter_kept(row, holds, stack)?;
             return Ok(added);
@@ -232,10 +233,11 @@ impl<R: Rank> Way<R> {
 
     /// The side of a row, moved back, which the rows on the stack imply, where they exclude the other.
     #[inline(never)]
-    fn settled(&self, row: &Row, stack: &ConstraintStack) -> Option<bool>
+    fn settled(&self, row: &Shared<Row>, stack: &ConstraintStack) -> Option<bool>
         requires { IfSome self.now.sets (λ s. s.0 < 16) }
         ensures { IfSome result (λ holds. IsSettled stack.now.rows self.now.sets row.now.affine holds) }
     {
+        let row: &Row = row;
         if self.keeps(row) {
             return stack.settles(row);
         }
@@ -286,7 +288,7 @@ impl<R: Rank> Way<R> {
     #[inline(never)]
     fn refute_less(
         &self,
-        rank: &R,
+        rank: &Shared<R>,
         stack: &mut ConstraintStack,
         found: &mut Option<Finding>,
     ) -> Result<bool, AllocError>
@@ -295,6 +297,7 @@ impl<R: Rank> Way<R> {
         ensures searched { IfOk result (λ refuted. (why : Why) → WhereAsked stack.old (λ asks.
             IsSearched R.Rank.own (ending self.now.edge self.now.sets self.now.limit (leaf why rank.now) asks) refuted found.new)) }
     {
+        let rank: &R = rank;
         match &self.limit {
             None => Ok(false),
             Some(limit) => {

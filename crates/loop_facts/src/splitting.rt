@@ -44,7 +44,7 @@ pub fn split(
     let refuted = Refuted {
         transition,
         edge: fallen.edge,
-        rank: *rank,
+        rank: **rank,
         point: fallen.point,
     };
     let Some(found) = refuted.rows(alloc, trees)? else {
@@ -132,7 +132,7 @@ fn boxed(
         Tree::Node { row, yes, no } => {
             let yes = boxed(alloc, yes, left, part)?;
             match boxed(alloc, no, left, part) {
-                Ok(no) => Tree::boxed_branch(alloc, row, yes, no),
+                Ok(no) => Tree::shared_branch(alloc, row, yes, no),
                 Err(error) => {
                     Tree::discard(yes);
                     Err(error)

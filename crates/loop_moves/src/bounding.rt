@@ -2,9 +2,9 @@
 ghost use Rattle.std.specs.Prelude.{◌<◌};
 
 use backward_transfer::back_range;
-use decision_tree::{AffineRank, Rank, Trail, Tree};
+use decision_tree::{AffineRank, Rank, Shared, Trail, Tree};
 use linear_cons::{Affine, Linear, Row};
-use std::alloc::Global;
+use std::alloc::{AllocError, Global};
 use tree_unify::{Stopped, TreeFault, Walk};
 
 /// The tree before a value of the range is assigned to the variable at the place, with the tree behind it given: as by `back_range`, but where a rank has no greatest
@@ -20,7 +20,7 @@ pub(crate) fn back_bounded(
 {
     let mut bounded = tree.copy(alloc)?;
     let mut walk = Walk::new(alloc);
-    match bound_ranks(&mut walk, &mut bounded, place, range) {
+    match bound_ranks(alloc, &mut walk, &mut bounded, place, range) {
         Ok(()) => back_range(alloc, &bounded, place, range),
         Err(Stopped) => Err(walk.fault),
     }
@@ -28,6 +28,7 @@ pub(crate) fn back_bounded(
 
 /// Bounds the ranks without a greatest over the range, where rows on the way do.
 fn bound_ranks(
+    alloc: Global,
     walk: &mut Walk,
     tree: &mut Tree<AffineRank>,
     place: u8,
@@ -38,14 +39,16 @@ fn bound_ranks(
     match tree {
         Tree::Bottom | Tree::Top(_) => Ok(()),
         Tree::Leaf { why: _, rank } => {
-            bound_rank(&walk.trail, rank, place, range);
-            Ok(())
+            match bound_rank(alloc, &walk.trail, rank, place, range) {
+                Ok(()) => Ok(()),
+                Err(error) => Err(walk.stop(TreeFault::Memory(error))),
+            }
         }
         Tree::Node { row, yes, no } => {
             walk.down(row)?;
-            bound_ranks(walk, yes, place, range)?;
+            bound_ranks(alloc, walk, yes, place, range)?;
             walk.turn()?;
-            bound_ranks(walk, no, place, range)?;
+            bound_ranks(alloc, walk, no, place, range)?;
             walk.trail.up();
             Ok(())
         }
@@ -54,14 +57,21 @@ fn bound_ranks(
 
 /// The same of the rank of a leaf. It stands apart, since `bound_ranks` recurs along a tree.
 #[inline(never)]
-fn bound_rank(way: &Trail, rank: &mut AffineRank, place: u8, range: &Linear)
+fn bound_rank(
+    alloc: Global,
+    way: &Trail,
+    rank: &mut Shared<AffineRank>,
+    place: u8,
+    range: &Linear,
+) -> Result<(), AllocError>
     requires { place < 16 }
 {
     if let Ok(None) = rank.greatest(place, range) {
         if let Some(value) = bounded(&rank.value, place, way.rows()) {
-            rank.value = value;
+            *rank = Shared::new(alloc, AffineRank { value })?;
         }
     }
+    Ok(())
 }
 
 /// A function without the place that is at least this one where the rows are met: by the last row that bounds it.

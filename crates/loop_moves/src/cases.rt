@@ -3,7 +3,7 @@ ghost use Rattle.std.specs.Prelude.{◌<◌};
 
 use backward_transfer::{back_assign, back_range};
 use control_flow::CHOSEN_PLACE;
-use decision_tree::{AffineRank, Rank, Tree, Why};
+use decision_tree::{AffineRank, HeldWhy, Rank, Tree};
 use linear_cons::{
     Affine, Linear, Row, RowKind, Rows, Wide, common_divisor, floor_quotient, settles,
 };
@@ -255,7 +255,7 @@ fn tree_of_multiple<R: Rescaled>(
 #[inline(never)]
 fn leaf_of_multiple<R: Rescaled>(
     alloc: Global,
-    why: &Why,
+    why: &HeldWhy,
     rank: &R,
     place: u8,
     times: i128,
@@ -263,7 +263,7 @@ fn leaf_of_multiple<R: Rescaled>(
     requires { place < 16 }
 {
     match rank.of_multiple(place, times) {
-        Ok(rank) => Ok(Tree::boxed_leaf(alloc, why, &rank)?),
+        Ok(rank) => Ok(Tree::boxed_leaf(alloc, &why.why(), &rank)?),
         Err(wide) => Err(TreeFault::Wide(wide)),
     }
 }

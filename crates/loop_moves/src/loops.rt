@@ -251,7 +251,7 @@ const MOST_GOAL_ROWS: usize = 64;
 fn add_rows(tree: &Tree<AffineRank>, rows: &mut Vec<Row>) -> Result<(), AllocError> {
     if let Tree::Node { row, yes, no } = tree {
         if rows.len() < MOST_GOAL_ROWS {
-            rows.push(*row)?;
+            rows.push(**row)?;
             add_rows(yes, rows)?;
             add_rows(no, rows)?;
         }

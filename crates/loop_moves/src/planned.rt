@@ -33,7 +33,7 @@ impl<'a> Question<'a> {
             if !is_given(transition) && front.get(label as usize) == Some(&is_in_front) {
                 let tree = match self.before(alloc, label, transition, trees) {
                     Ok(tree) => tree,
-                    Err(fault) => given_up(fault)?,
+                    Err(fault) => given_up(alloc, fault)?,
                 };
                 trees[label as usize] = tree;
             }

@@ -34,7 +34,7 @@ pub(crate) fn follow(
     for label in (0..transitions.len() as u32).rev() {
         let transition = &transitions[label as usize];
         if !is_given(transition) && front.get(label as usize) == Some(&is_in_front) {
-            let made = or_given_up(before(alloc, transition, trees, highest))?;
+            let made = or_given_up(alloc, before(alloc, transition, trees, highest))?;
             trees[label as usize] = made;
         }
     }
@@ -53,7 +53,10 @@ fn before(
 {
     match transition {
         Transition::End => Ok(Tree::Bottom),
-        Transition::Dead => Ok(at_once(Why::Dead)),
+        Transition::Dead => {
+            let tree = at_once(alloc, Why::Dead)?;
+            Ok(tree)
+        }
         Transition::Pass { to } => back_skip(alloc, &trees[*to as usize]),
         Transition::Assign { place, value, to } => {
             back_assign(alloc, &trees[*to as usize], place.number, value)
@@ -136,8 +139,8 @@ fn given_at(
     cells: &[RankedCell],
 ) -> Result<Tree<OrdinalRank>, AllocError> {
     match transition {
-        Transition::Test { is_head: true, .. } => or_given_up(at_head(alloc, label, cells)),
-        _ => Ok(begun_at(transition)),
+        Transition::Test { is_head: true, .. } => or_given_up(alloc, at_head(alloc, label, cells)),
+        _ => begun_at(alloc, transition),
     }
 }
 

@@ -245,10 +245,12 @@ fn operands(
 ) -> Result<(Vec<Tree<AffineRank>>, Vec<Tree<AffineRank>>), AllocError> {
     let mut keep = Vec::with_capacity(alloc, labels)?;
     for _ in 0..labels {
-        keep.push(at_once(Why::Atom))?;
+        let claim = at_once(alloc, Why::Atom)?;
+        keep.push(claim)?;
     }
     let mut goal = Vec::with_capacity(alloc, 1)?;
-    goal.push(at_once(Why::Now))?;
+    let claim = at_once(alloc, Why::Now)?;
+    goal.push(claim)?;
     Ok((keep, goal))
 }
 

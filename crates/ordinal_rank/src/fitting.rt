@@ -8,7 +8,7 @@ ghost use Rattle.ordinal_rank.specs.Families.{IsFit, IsTreeOver};
 ghost use Rattle.ordinal_rank.specs.Ordinals.{functions_of};
 
 use crate::ordinal::OrdinalRank;
-use decision_tree::{Cause, Pick, Tree, TreeList, Why};
+use decision_tree::{HeldCause, HeldWhy, Pick, Shared, Tree, TreeList, Why};
 use line_text::is_over;
 use linear_cons::Row;
 use std::alloc::{AllocError, Global};
@@ -45,7 +45,7 @@ pub(crate) fn fit_or_given_up(
         let copy = tree.copy(alloc)?;
         Ok(copy)
     } else {
-        Ok(Tree::Top(Cause::Given))
+        Ok(Tree::Top(HeldCause::given()))
     }
 }
 
@@ -65,7 +65,7 @@ fn is_fit(tree: &Tree<OrdinalRank>, names: &Names) -> bool
 
 /// True only where the row's function is over the names, and its complement fits 128 bits.
 #[inline(never)]
-fn is_row_fit(row: &Row, names: &Names) -> bool
+fn is_row_fit(row: &Shared<Row>, names: &Names) -> bool
     ensures over { IsTrue result → IsOver (length names.now) row.now.affine }
     ensures complement { IsTrue result → NumbersFit (complement_of row.now.affine) }
 {
@@ -74,7 +74,7 @@ fn is_row_fit(row: &Row, names: &Names) -> bool
 
 /// True only where all functions of the rank are over the names.
 #[inline(never)]
-fn is_rank_over(rank: &OrdinalRank, names: &Names) -> bool
+fn is_rank_over(rank: &Shared<OrdinalRank>, names: &Names) -> bool
     ensures { IsTrue result → All (IsOver (length names.now)) (functions_of rank.now) }
 {
     is_over(&rank.fourth, names)
@@ -85,10 +85,12 @@ fn is_rank_over(rank: &OrdinalRank, names: &Names) -> bool
 }
 
 /// True only where the function whose value the leaf picks, if it picks one, is over the names.
-fn is_pick_over(why: &Why, names: &Names) -> bool
+#[inline(never)]
+fn is_pick_over(why: &HeldWhy, names: &Names) -> bool
     ensures { IsTrue result → PickIs (IsOver (length names.now)) why.now }
 {
-    match why {
+    let reason = why.why();
+    match &reason {
         Why::Step(Pick::Value(value)) => is_over(value, names),
         _ => true,
     }

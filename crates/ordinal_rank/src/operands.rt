@@ -25,7 +25,8 @@ pub(crate) fn operands(alloc: Global, labels: u32) -> Result<Vec<Family<OrdinalR
 fn truth(alloc: Global, labels: u32) -> Result<Family<OrdinalRank>, AllocError> {
     let mut trees = Vec::with_capacity(alloc, labels as usize)?;
     for _ in 0..labels {
-        trees.push(at_once(Why::Atom))?;
+        let claim = at_once(alloc, Why::Atom)?;
+        trees.push(claim)?;
     }
     Ok(Family {
         part: 0,
@@ -38,7 +39,8 @@ fn end(alloc: Global, labels: u32) -> Result<Family<OrdinalRank>, AllocError>
     ensures { IfOk result (λ family. (label : ℕ) → trees_in family.trees (suc label) ≡ bottom) }
 {
     let mut trees = Vec::with_capacity(alloc, labels as usize)?;
-    trees.push(at_once(Why::End))?;
+    let claim = at_once(alloc, Why::End)?;
+    trees.push(claim)?;
     for _ in 1..labels {
         trees.push(Tree::Bottom)?;
     }

@@ -9,6 +9,7 @@ ghost use Rattle.ordinal_rank.specs.Parts.{AreNatural, Exceeds, ExcessesFit, Neg
 
 use decision_tree::{Comparison, Rank, Tree, Why};
 use linear_cons::{Affine, Linear, Row, RowKind, Wide};
+use std::alloc::{AllocError, Global};
 
 /// Five affine functions as a rank below ω^5: ω^4 times `fourth`, plus ω^3 times `third`, and so on to ω times `first`, plus `finite`. It exceeds
 /// another by the first function in this order in which they differ; it is a natural where all are at least 0. A rank of fewer parts has the function 0 in front.
@@ -287,8 +288,8 @@ impl OrdinalRank {
 }
 
 /// A claim of rank 0 for the reason.
-pub(crate) fn at_once(why: Why) -> Tree<OrdinalRank> {
+pub(crate) fn at_once(alloc: Global, why: Why) -> Result<Tree<OrdinalRank>, AllocError> {
     let nought = Affine::constant(0);
     let rank = OrdinalRank::of(&[nought; 5]);
-    Tree::Leaf { why, rank }
+    Tree::claim(alloc, &why, &rank)
 }

@@ -78,18 +78,21 @@ fn begun(alloc: Global, transitions: &[Transition]) -> Result<Vec<Tree<OrdinalRa
 {
     let mut trees = Vec::with_capacity(alloc, transitions.len())?;
     for label in 0..transitions.len() as u32 {
-        let tree = begun_at(&transitions[label as usize]);
+        let tree = begun_at(alloc, &transitions[label as usize])?;
         trees.push(tree)?;
     }
     Ok(trees)
 }
 
 /// The tree of a label at which this is done, before the first sweep.
-pub(crate) fn begun_at(transition: &Transition) -> Tree<OrdinalRank> {
+pub(crate) fn begun_at(
+    alloc: Global,
+    transition: &Transition,
+) -> Result<Tree<OrdinalRank>, AllocError> {
     match transition {
-        Transition::End => at_once(Why::Now),
-        Transition::Dead => at_once(Why::Dead),
-        _ => Tree::Bottom,
+        Transition::End => at_once(alloc, Why::Now),
+        Transition::Dead => at_once(alloc, Why::Dead),
+        _ => Ok(Tree::Bottom),
     }
 }
 
@@ -236,14 +239,16 @@ fn widened<D: NumDomain>(
 
 /// The tree, or what the label has for one that can't be made. The only error is want of memory.
 pub(crate) fn or_given_up(
+    alloc: Global,
     made: Result<Tree<OrdinalRank>, TreeFault>,
 ) -> Result<Tree<OrdinalRank>, AllocError> {
     match made {
         Ok(tree) => Ok(tree),
-        Err(TreeFault::Full { count }) => Ok(Tree::Top(Cause::Nodes {
-            count: u32::try_from(count).unwrap_or(u32::MAX),
-        })),
-        Err(TreeFault::Wide(wide)) => Ok(Tree::Top(Cause::Wide(wide))),
+        Err(TreeFault::Full { count }) => {
+            let count = u32::try_from(count).unwrap_or(u32::MAX);
+            Tree::given_up(alloc, &Cause::Nodes { count })
+        }
+        Err(TreeFault::Wide(wide)) => Tree::given_up(alloc, &Cause::Wide(wide)),
         Err(TreeFault::Memory(error)) => Err(error),
     }
 }

@@ -6,7 +6,7 @@ ghost use Rattle.decision_tree.specs.Plans.{plan_of};
 ghost use Rattle.part_families.specs.Fitting.{IsFit};
 ghost use Rattle.exact_families.specs.Completeness.{AreKept};
 
-use decision_tree::{AffineRank, Cause, Pick, Tree, TreeList, Why};
+use decision_tree::{AffineRank, HeldCause, HeldWhy, Pick, Shared, Tree, TreeList, Why};
 use line_text::is_over;
 use linear_cons::Row;
 use step_meaning::Names;
@@ -22,7 +22,7 @@ pub fn fitted(trees: TreeList<AffineRank>, names: &Names) -> TreeList<AffineRank
     let mut trees = trees.into_vec();
     for label in 0..trees.len() {
         if !(is_fit(&trees[label], names) && trees[label].leaves() < u64::MAX) {
-            trees[label] = Tree::Top(Cause::Given);
+            trees[label] = Tree::Top(HeldCause::given());
         }
     }
     TreeList::of(trees)
@@ -36,9 +36,13 @@ pub(crate) fn is_fit(tree: &Tree<AffineRank>, names: &Names) -> bool
 {
     match tree {
         Tree::Bottom | Tree::Top(_) => true,
-        Tree::Leaf { why, rank } => is_over(&rank.value, names) && is_pick_over(why, names),
+        Tree::Leaf { why, rank } => {
+            let rank: &AffineRank = rank;
+            is_over(&rank.value, names) && is_pick_over(why, names)
+        }
         Tree::Node { row, yes, no } => {
-            is_over(&row.affine, names)
+            let function: &Row = row;
+            is_over(&function.affine, names)
                 && has_complement(row)
                 && is_fit(yes, names)
                 && is_fit(no, names)
@@ -48,18 +52,20 @@ pub(crate) fn is_fit(tree: &Tree<AffineRank>, names: &Names) -> bool
 
 /// True exactly where the row's complement fits 128 bits. It stands apart, since `is_fit` recurs along a tree.
 #[inline(never)]
-fn has_complement(row: &Row) -> bool
+fn has_complement(row: &Shared<Row>) -> bool
     ensures { IsTrue result ↔ NumbersFit (complement_of row.now.affine) }
 {
     row.not().is_ok()
 }
 
 /// True exactly where the function whose value the leaf picks, if it picks one, is over the names.
-fn is_pick_over(why: &Why, names: &Names) -> bool
+#[inline(never)]
+fn is_pick_over(why: &HeldWhy, names: &Names) -> bool
     ensures over { IsTrue result → PickIs (IsOver (length names.now)) why.now }
     ensures fit { length names.now ≤ 16 → PickIs (IsOver (length names.now)) why.now → IsTrue result }
 {
-    match why {
+    let reason = why.why();
+    match &reason {
         Why::Step(Pick::Value(value)) => is_over(value, names),
         _ => true,
     }

@@ -17,7 +17,8 @@ pub(crate) fn truth(
     ensures trees { IfOk result (λ family. family.trees ≡ truth_trees labels) }
 {
     let mut trees = Vec::with_capacity(alloc, labels as usize)?;
-    add_copies(alloc, &at_once(Why::Atom), labels, &mut trees)?;
+    let claim = at_once(alloc, Why::Atom)?;
+    add_copies(alloc, &claim, labels, &mut trees)?;
     Ok(Family {
         part: number,
         trees: TreeList::of(trees),
@@ -31,7 +32,8 @@ pub(crate) fn end(alloc: Global, labels: u32, number: u32) -> Result<Family<Affi
     ensures trees { IfOk result (λ family. family.trees ≡ end_trees labels) }
 {
     let mut trees = Vec::with_capacity(alloc, labels as usize)?;
-    trees.push(at_once(Why::End))?;
+    let claim = at_once(alloc, Why::End)?;
+    trees.push(claim)?;
     add_copies(alloc, &Tree::Bottom, labels - 1, &mut trees)?;
     Ok(Family {
         part: number,

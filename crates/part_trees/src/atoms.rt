@@ -13,8 +13,11 @@ pub(crate) fn of_kind(alloc: Global, kind: &RowKind) -> Result<Tree<AffineRank>,
     ensures { IfOk result (λ tree. plan_of tree ≡ kind_tree kind.now) }
 {
     match kind {
-        RowKind::Always => Ok(at_once(Why::Atom)),
+        RowKind::Always => at_once(alloc, Why::Atom),
         RowKind::Never => Ok(Tree::Bottom),
-        RowKind::Row(row) => Tree::branch(alloc, *row, at_once(Why::Atom), Tree::Bottom),
+        RowKind::Row(row) => {
+            let claim = at_once(alloc, Why::Atom)?;
+            Tree::branch(alloc, *row, claim, Tree::Bottom)
+        }
     }
 }

@@ -20,7 +20,7 @@ pub(crate) fn conjunction(
     let second = taken_over(alloc, second, None)?;
     match both(alloc, &first, &second) {
         Ok(tree) => taken_over(alloc, &tree, Some(Why::Both)),
-        Err(fault) => given_up(fault),
+        Err(fault) => given_up(alloc, fault),
     }
 }
 
@@ -36,6 +36,6 @@ pub(crate) fn disjunction(
     let right = taken_over(alloc, second, Some(Why::Right))?;
     match either(alloc, &left, &right) {
         Ok(tree) => Ok(tree),
-        Err(fault) => given_up(fault),
+        Err(fault) => given_up(alloc, fault),
     }
 }

@@ -47,7 +47,7 @@ fn local(
     ensures { IfOk result (λ tree. IsLocal formula.now transition.now (plan_of first.now) (plan_of second.now) (plan_of tree)) }
 {
     match transition {
-        Transition::Dead => Ok(at_once(Why::Dead)),
+        Transition::Dead => at_once(alloc, Why::Dead),
         Transition::End => reached(alloc, true, formula, first, second),
         _ => reached(alloc, false, formula, first, second),
     }
@@ -64,9 +64,9 @@ fn reached(
     ensures { IfOk result (λ tree. IsReached formula.now is_end (plan_of first.now) (plan_of second.now) (plan_of tree)) }
 {
     match formula {
-        Formula::True => Ok(at_once(Why::Atom)),
-        Formula::Exit if is_end => Ok(at_once(Why::End)),
-        Formula::NotExit if !is_end => Ok(at_once(Why::Atom)),
+        Formula::True => at_once(alloc, Why::Atom),
+        Formula::Exit if is_end => at_once(alloc, Why::End),
+        Formula::NotExit if !is_end => at_once(alloc, Why::Atom),
         Formula::Holds(kind) => of_kind(alloc, kind),
         Formula::And(..) => conjunction(alloc, first, second),
         Formula::Or(..) => disjunction(alloc, first, second),

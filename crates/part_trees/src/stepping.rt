@@ -84,6 +84,6 @@ fn step(
 {
     match moved_back(alloc, all, transition, behind) {
         Ok(tree) => Ok(tree),
-        Err(fault) => given_up(fault),
+        Err(fault) => given_up(alloc, fault),
     }
 }

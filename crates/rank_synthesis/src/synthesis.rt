@@ -182,7 +182,7 @@ impl Synthesis {
             let tree = match self.loops.index(label) {
                 Some(index) => match at_head(alloc, question, cells, index, label) {
                     Ok(tree) => tree,
-                    Err(fault) => given_up(fault)?,
+                    Err(fault) => given_up(alloc, fault)?,
                 },
                 None => Tree::Bottom,
             };
@@ -228,7 +228,7 @@ fn keep_ends(
             let keep = taken_over(alloc, tree_at(question.operands.keep, label, &none), why)?;
             let made = match either(alloc, tree_at(question.operands.goal, label, &none), &keep) {
                 Ok(tree) => tree,
-                Err(fault) => given_up(fault)?,
+                Err(fault) => given_up(alloc, fault)?,
             };
             if let Some(tree) = trees.get_mut(label as usize) {
                 *tree = made;

@@ -4,7 +4,9 @@ ghost use Rattle.linear_cons.specs.Functions.{value_at};
 ghost use Rattle.linear_cons.specs.Numbers.{number_at};
 ghost use Rattle.linear_cons.specs.Rows.{MeetsAll};
 ghost use Rattle.decision_tree.specs.Extent.{ComplementsFit};
-ghost use Rattle.decision_tree.specs.Plans.{plan_of};
+ghost use Rattle.decision_tree.specs.Plans.{leaf, plan_of};
+ghost use Rattle.decision_tree.specs.declared.affine_rank.AffineRank.{AffineRank};
+ghost use Rattle.decision_tree.specs.declared.reason.Why.{Why};
 ghost use Rattle.int_fit.specs.Fitting.{AreInts, FitsInt};
 ghost use Rattle.report_text.specs.Fitting.{AreFitLines, AreLeft, IsAddedIfMet, IsMadeOf, ListsFit, plain};
 
@@ -43,7 +45,7 @@ fn merged(alloc: Global, tree: Tree<AffineRank>) -> Result<Tree<AffineRank>, All
 {
     trimming_keeps_the_leaves_on_the_path::<AffineRank>();
     let mut tree = tree;
-    make_plain(&mut tree);
+    make_plain(alloc, &mut tree)?;
     match trim(alloc, &tree, &[]) {
         Ok(trimmed) => Ok(trimmed),
         Err(TreeFault::Memory(error)) => Err(error),
@@ -64,25 +66,36 @@ fn listed(alloc: Global, tree: &Tree<AffineRank>, vars: u8) -> Result<(Lines, Li
 }
 
 /// Puts one and the same claim in place of each, and takes the causes away where nothing is claimed.
-fn make_plain(tree: &mut Tree<AffineRank>)
-    ensures { plan_of tree.new ≡ plain (plan_of tree.old) }
+fn make_plain(alloc: Global, tree: &mut Tree<AffineRank>) -> Result<(), AllocError>
+    ensures { OnOk result (plan_of tree.new ≡ plain (plan_of tree.old)) }
 {
     match tree {
-        Tree::Bottom => {}
-        Tree::Top(_) => *tree = Tree::Bottom,
+        Tree::Bottom => Ok(()),
+        Tree::Top(_) => {
+            *tree = Tree::Bottom;
+            Ok(())
+        }
         Tree::Leaf { .. } => {
-            *tree = Tree::Leaf {
-                why: Why::Atom,
-                rank: AffineRank {
-                    value: Affine::constant(0),
-                },
-            }
+            become_plain(alloc, tree)?;
+            Ok(())
         }
         Tree::Node { row: _, yes, no } => {
-            make_plain(yes);
-            make_plain(no);
+            make_plain(alloc, yes)?;
+            make_plain(alloc, no)
         }
     }
+}
+
+/// Puts the claim in place of another.
+#[inline(never)]
+fn become_plain(alloc: Global, tree: &mut Tree<AffineRank>) -> Result<(), AllocError>
+    ensures { OnOk result ((why : Why) (rank : AffineRank) → plan_of tree.new ≡ plain (leaf why rank)) }
+{
+    let rank = AffineRank {
+        value: Affine::constant(0),
+    };
+    *tree = Tree::claim(alloc, &Why::Atom, &rank)?;
+    Ok(())
 }
 
 /// Of the lines those that an input of 32-bit numbers may meet.

@@ -15,7 +15,7 @@ ghost use Rattle.linear_cons.specs.declared.row.Row.{Row};
 use crate::claims::Claims;
 use crate::line::{Line, Top};
 use crate::line_list::Lines;
-use decision_tree::{AffineRank, PathFault, Trail, Tree};
+use decision_tree::{AffineRank, PathFault, Shared, Trail, Tree};
 use integer_point::has_no_store;
 use line_text::Claim;
 use linear_cons::{Row, Rows};
@@ -54,7 +54,7 @@ pub(crate) fn add_lines<R: Claims>(
         Tree::Bottom | Tree::Top(_) => add_undefined(alloc, trail, lines),
         Tree::Leaf { why: _, rank } => add_defined(alloc, trail, rank, top, lines),
         Tree::Node { row, yes, no } => {
-            trail.down(row)?;
+            down(trail, row)?;
             add_lines(alloc, yes, top, trail, lines)?;
             turn(trail)?;
             add_lines(alloc, no, top, trail, lines)?;
@@ -62,6 +62,15 @@ pub(crate) fn add_lines<R: Claims>(
             Ok(())
         }
     }
+}
+
+/// Goes down to the yes side of a node with the row.
+#[inline(never)]
+fn down(trail: &mut Trail, row: &Shared<Row>) -> Result<(), AllocError>
+    ensures down { OnOk result (trail.new ≡ trail.old ++ row.now ∷ []) }
+{
+    trail.down(row)?;
+    Ok(())
 }
 
 /// Goes over to the no side of the last node, where the complement of its row fits.
@@ -83,7 +92,7 @@ fn turn(trail: &mut Trail) -> Result<(), AllocError>
 fn add_defined<R: Claims>(
     alloc: Global,
     trail: &Trail,
-    rank: &R,
+    rank: &Shared<R>,
     top: &Top,
     lines: &mut Vec<Line>,
 ) -> Result<(), AllocError>

@@ -1,9 +1,10 @@
 //! A table of nodes, and trees as numbers into it.
 ghost use Rattle.std.specs.Prelude.{◌<◌, IfSome};
+ghost use Rattle.decision_tree.specs.Plans.{IsEnd, plan_of};
 
 use crate::rows::{RowFault, RowTable};
 use crate::way::Way;
-use decision_tree::{Cause, MOST_NODES, Rank, Tree, Why};
+use decision_tree::{Cause, HeldCause, HeldWhy, MOST_NODES, Rank, Shared, Tree, Why};
 use indexmap::{IndexMap, IndexSet};
 use std::alloc::{AllocError, Global};
 use tree_unify::{Stopped, TreeFault};
@@ -35,6 +36,8 @@ pub struct Forest<R: Rank> {
     causes: IndexSet<Cause>,
     reasons: IndexSet<Why>,
     ranks: IndexSet<R>,
+    /// The ranks by their numbers, as trees hold them.
+    held: Vec<Shared<R>>,
     /// Beside each node stands how many nodes its tree has where nothing is shared.
     nodes: IndexMap<Node, u64>,
 }
@@ -50,6 +53,7 @@ impl<R: Rank> Forest<R> {
             causes: IndexSet::new(alloc),
             reasons: IndexSet::new(alloc),
             ranks: IndexSet::new(alloc),
+            held: Vec::new(alloc),
             nodes: IndexMap::new(alloc),
         }
     }
@@ -138,8 +142,24 @@ impl<R: Rank> Forest<R> {
     #[inline(never)]
     pub(crate) fn leaf(&mut self, why: &Why, rank: &R) -> Result<usize, AllocError> {
         let (why, _) = self.reasons.insert_full(*why)?;
-        let (rank, _) = self.ranks.insert_full(*rank)?;
+        let rank = self.rank_number(rank)?;
         self.noted(Node::Leaf { why, rank }, 1)
+    }
+
+    /// The number of the rank, which is noted where it wasn't.
+    fn rank_number(&mut self, rank: &R) -> Result<usize, AllocError> {
+        if let Some(number) = self.ranks.get_index_of(rank) {
+            return Ok(number);
+        }
+        let held = Shared::new(self.alloc, *rank)?;
+        self.held.push(held)?;
+        match self.ranks.insert_full(*rank) {
+            Ok((number, _)) => Ok(number),
+            Err(error) => {
+                let _ = self.held.pop();
+                Err(error.into())
+            }
+        }
     }
 
     /// The yes side where both sides are one, else the node of the row with these sides.
@@ -169,9 +189,9 @@ impl<R: Rank> Forest<R> {
     /// The number of a tree equal to this one. The only error is want of memory.
     pub fn put(&mut self, tree: &Tree<R>) -> Result<usize, AllocError> {
         match tree {
-            Tree::Bottom => self.bottom(),
-            Tree::Top(cause) => self.top(cause),
-            Tree::Leaf { why, rank } => self.leaf(why, rank),
+            Tree::Bottom => self.put_end(tree),
+            Tree::Top(_) => self.put_end(tree),
+            Tree::Leaf { .. } => self.put_end(tree),
             Tree::Node { row, yes, no } => {
                 let yes = self.put(yes)?;
                 let no = self.put(no)?;
@@ -185,9 +205,25 @@ impl<R: Rank> Forest<R> {
         }
     }
 
+    /// The same of a tree without sides. It stands apart, and is called from some places so that it does in any build, since `put` recurs along a tree.
+    #[inline(never)]
+    fn put_end(&mut self, end: &Tree<R>) -> Result<usize, AllocError>
+        requires { IsEnd (plan_of end.now) }
+    {
+        match end {
+            Tree::Bottom => self.bottom(),
+            Tree::Top(cause) => self.top(&cause.cause()),
+            Tree::Leaf { why, rank } => self.leaf(&why.why(), rank),
+            Tree::Node { .. } => unreachable!(),
+        }
+    }
+
     /// An equal tree in boxes. The only error is want of memory.
     pub fn take(&self, alloc: Global, tree: usize) -> Result<Tree<R>, AllocError> {
-        let made = self.boxed(alloc, tree)?;
+        let made = match self.fork(tree) {
+            Some(_) => self.boxed(alloc, tree)?,
+            None => self.boxed_leaf(alloc, tree)?,
+        };
         Ok(Box::into_inner(made))
     }
 
@@ -215,8 +251,8 @@ impl<R: Rank> Forest<R> {
         yes: Box<Tree<R>>,
         no: Box<Tree<R>>,
     ) -> Result<Box<Tree<R>>, AllocError> {
-        match self.rows.row(row) {
-            Some(row) => Tree::boxed_branch(alloc, row, yes, no),
+        match self.rows.held(row) {
+            Some(row) => Tree::shared_branch(alloc, row, yes, no),
             None => Ok(yes),
         }
     }
@@ -226,12 +262,14 @@ impl<R: Rank> Forest<R> {
     fn boxed_leaf(&self, alloc: Global, tree: usize) -> Result<Box<Tree<R>>, AllocError> {
         match self.nodes.get_index(tree) {
             Some((Node::Top(cause), _)) => match self.causes.get_index(*cause) {
-                Some(cause) => Tree::boxed_top(alloc, cause),
+                Some(cause) => Tree::boxed_top(alloc, &HeldCause::of(alloc, cause)?),
                 None => Tree::boxed_bottom(alloc),
             },
             Some((Node::Leaf { why, rank }, _)) => {
-                match (self.reasons.get_index(*why), self.ranks.get_index(*rank)) {
-                    (Some(why), Some(rank)) => Tree::boxed_leaf(alloc, why, rank),
+                match (self.reasons.get_index(*why), self.held.get(*rank)) {
+                    (Some(why), Some(rank)) => {
+                        Tree::shared_leaf(alloc, &HeldWhy::of(alloc, why)?, rank)
+                    }
                     _ => Tree::boxed_bottom(alloc),
                 }
             }

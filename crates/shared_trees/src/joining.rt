@@ -79,10 +79,12 @@ impl<R: Rank> Forest<R> {
             Join::Either => !self.is_claim(leaf),
             Join::Both | Join::Later => self.is_claim(leaf),
         };
-        if asks {
-            self.lay(way, join, leaf, second)
-        } else {
-            Ok(leaf)
+        if !asks {
+            return Ok(leaf);
+        }
+        match self.fork(second) {
+            Some(_) => self.lay(way, join, leaf, second),
+            None => self.meet(join, leaf, second),
         }
     }
 

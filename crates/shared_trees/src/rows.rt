@@ -1,6 +1,7 @@
 //! Rows by their numbers.
 ghost use Rattle.std.specs.Prelude.{◌<◌};
 
+use decision_tree::Shared;
 use indexmap::{IndexMap, IndexSet};
 use linear_cons::{Affine, Row, RowKind, Wide};
 use std::alloc::{AllocError, Global};
@@ -48,6 +49,9 @@ struct MoveKey {
 #[derive(Drop)]
 pub(crate) struct RowTable {
     rows: IndexMap<Row, RowFacts>,
+    /// The rows by their numbers, as trees hold them.
+    held: Vec<Shared<Row>>,
+    alloc: Global,
     parts: IndexSet<Part>,
     moved: IndexMap<MoveKey, Moved>,
 }
@@ -63,6 +67,8 @@ impl RowTable {
     pub(crate) fn new(alloc: Global) -> RowTable {
         RowTable {
             rows: IndexMap::new(alloc),
+            held: Vec::new(alloc),
+            alloc,
             parts: IndexSet::new(alloc),
             moved: IndexMap::new(alloc),
         }
@@ -74,6 +80,11 @@ impl RowTable {
             Some((row, _)) => Some(row),
             None => None,
         }
+    }
+
+    /// The row with the number, as trees hold it.
+    pub(crate) fn held(&self, number: usize) -> Option<&Shared<Row>> {
+        self.held.get(number)
     }
 
     /// What is known of it.
@@ -99,8 +110,15 @@ impl RowTable {
             opposed,
             complement: None,
         };
-        let (number, _) = self.rows.insert_full(*row, facts)?;
-        Ok(number)
+        let held = Shared::new(self.alloc, *row)?;
+        self.held.push(held)?;
+        match self.rows.insert_full(*row, facts) {
+            Ok((number, _)) => Ok(number),
+            Err(error) => {
+                let _ = self.held.pop();
+                Err(error.into())
+            }
+        }
     }
 
     /// The number of the linear part.

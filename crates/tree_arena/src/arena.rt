@@ -1,12 +1,12 @@
 //! Trees in one table of distinct nodes.
 ghost use Rattle.std.specs.Prelude.{◌≡◌, ◌<◌, ◌≤◌, [], IfOk, OnErr, length};
-ghost use Rattle.decision_tree.specs.Plans.{IsEnd, branch, plan_of, size_of};
+ghost use Rattle.decision_tree.specs.Plans.{IsEnd, branch, plan_of, size_of, top};
 ghost use Rattle.tree_arena.specs.Table.{plan_of_end};
 ghost use Rattle.tree_arena.specs.Trees.{AreClosed, AreDistinct, Extends, IsAt, IsThere, Shows, capped_size, tree_at};
 
 use crate::node::{End, Entry, NodeView, RowKey, TreeRef};
 use crate::numbering::{end_number, place_of, row_number};
-use decision_tree::{Rank, Tree};
+use decision_tree::{Cause, HeldCause, Rank, Tree};
 use indexmap::{IndexMap, IndexSet};
 use linear_cons::Row;
 use std::alloc::{AllocError, Global};
@@ -116,10 +116,10 @@ impl<R: Rank> Arena<R> {
     {
         match leaf {
             Tree::Bottom => self.end(End::Bottom),
-            Tree::Top(cause) => self.end(End::Top(*cause)),
+            Tree::Top(cause) => self.end(End::Top(cause.cause())),
             Tree::Leaf { why, rank } => self.end(End::Leaf {
-                why: *why,
-                rank: *rank,
+                why: why.why(),
+                rank: **rank,
             }),
             Tree::Node { .. } => unreachable!(),
         }
@@ -213,7 +213,7 @@ impl<R: Rank> Arena<R> {
     {
         match self.view(TreeRef { place }) {
             NodeView::Bottom => Tree::boxed_bottom(alloc),
-            NodeView::Top(cause) => Tree::boxed_top(alloc, cause),
+            NodeView::Top(cause) => boxed_top(alloc, cause),
             NodeView::Leaf { why, rank } => Tree::boxed_leaf(alloc, why, rank),
             NodeView::Node { row, yes, no } => {
                 let first = self.boxed(alloc, yes.place)?;
@@ -227,4 +227,14 @@ impl<R: Rank> Arena<R> {
             }
         }
     }
+}
+
+/// No claim, given up for the cause, in a box.
+#[inline(never)]
+fn boxed_top<R: Rank>(alloc: Global, cause: &Cause) -> Result<Box<Tree<R>>, AllocError>
+    ensures { IfOk result (λ made. plan_of made.value ≡ top cause.now) }
+{
+    let held = HeldCause::of(alloc, cause)?;
+    let made = Tree::boxed_top(alloc, &held)?;
+    Ok(made)
 }

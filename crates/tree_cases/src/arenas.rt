@@ -79,7 +79,7 @@ fn push_entered(
     words: &mut Words<'_>,
     answer: &mut Answer,
 ) -> Result<(), AllocError> {
-    if let Some(leaf) = read_leaf(words) {
+    if let Some(leaf) = read_leaf(alloc, words)? {
         return push_leaf(alloc, arena, &leaf, words, answer);
     }
     push_node(alloc, arena, words, answer)

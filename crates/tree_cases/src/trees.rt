@@ -5,7 +5,7 @@
 //! - `trail` with steps `down R`, `turn` and `up`, for the tightest rows on the way, and `settles R` behind them for what these say of a row;
 //! - `trees T ; T ..` for a list whose trees change, and `family N of T ; T ..` for a list of one family.
 use case_text::{Answer, Words, read_row, read_tree};
-use decision_tree::{AffineRank, Cause, Family, FamilyList, PathFault, Trail, Tree, TreeList};
+use decision_tree::{AffineRank, Family, FamilyList, HeldCause, PathFault, Trail, Tree, TreeList};
 use linear_cons::{PLACES, Row};
 use std::alloc::{AllocError, Global};
 
@@ -201,7 +201,7 @@ fn push_changed_list(
     let mut list = TreeList::of(read_trees(alloc, words)?);
     for tree in list.items_mut().iter_mut() {
         if tree.leaves() > 0 {
-            tree.undefine(0, &Cause::Given);
+            tree.undefine(0, HeldCause::given());
         }
     }
     if let Some(tree) = list.items_mut().last_mut() {

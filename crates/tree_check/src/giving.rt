@@ -6,7 +6,7 @@ ghost use Rattle.tree_check.specs.Surveys.{AreApart};
 
 use crate::survey::Refuted;
 use decision_tree::{Rank, Tree};
-use std::alloc::AllocError;
+use std::alloc::{AllocError, Global};
 use tree_support::Dropped;
 
 /// How far a walk over a tree came: how many leaves it passed, and the number of the found leaf that is next.
@@ -20,6 +20,7 @@ pub(crate) struct Place {
 /// are given up that are listed.
 #[cycle(giving)]
 pub(crate) fn give_up_within<R: Rank>(
+    alloc: Global,
     tree: &mut Tree<R>,
     label: u32,
     found: &[Refuted],
@@ -35,21 +36,22 @@ pub(crate) fn give_up_within<R: Rank>(
 {
     match tree {
         Tree::Node { row: _, yes, no } => {
-            give_up_within(yes, label, found, at, drops)?;
+            give_up_within(alloc, yes, label, found, at, drops)?;
             if at.next < found.len() {
-                give_up_within(no, label, found, at, drops)?;
+                give_up_within(alloc, no, label, found, at, drops)?;
             }
             Ok(())
         }
-        Tree::Bottom | Tree::Top(_) | Tree::Leaf { .. } => give_up_end(
-            tree, label, found, at, drops,
-        ),
+        Tree::Bottom => give_up_end(alloc, tree, label, found, at, drops),
+        Tree::Top(_) => give_up_end(alloc, tree, label, found, at, drops),
+        Tree::Leaf { .. } => give_up_end(alloc, tree, label, found, at, drops),
     }
 }
 
 /// Passes the leaf, and gives it up if it is the next that was found.
 #[inline(never)]
 fn give_up_end<R: Rank>(
+    alloc: Global,
     end: &mut Tree<R>,
     label: u32,
     found: &[Refuted],
@@ -72,8 +74,9 @@ fn give_up_end<R: Rank>(
         at.passed += 1;
         return Ok(());
     }
+    let cause = refuted.held_cause(alloc)?;
     drops.push(refuted.dropped(label))?;
-    end.undefine(0, &refuted.cause());
+    end.undefine(0, cause);
     at.passed += 1;
     at.next += 1;
     Ok(())

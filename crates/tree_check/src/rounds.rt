@@ -404,7 +404,7 @@ impl<'a, D: NumDomain, R: Rank> Premises<'a, D, R> {
     {
         let mut first = 0;
         while let Some(refuted) = self.first_refuted(label, first, rows, trees)? {
-            give_up(trees, label, &refuted, drops)?;
+            give_up(self.alloc, trees, label, &refuted, drops)?;
             first = refuted.leaf + 1;
         }
         Ok(first == 0)
@@ -465,7 +465,14 @@ impl<'a, D: NumDomain, R: Rank> Premises<'a, D, R> {
             return Ok(());
         }
         let mut at = Place { passed: 0, next: 0 };
-        give_up_within(&mut trees[label as usize], label, found, &mut at, drops)?;
+        give_up_within(
+            self.alloc,
+            &mut trees[label as usize],
+            label,
+            found,
+            &mut at,
+            drops,
+        )?;
         Ok(())
     }
 
@@ -597,6 +604,7 @@ fn is_existential(formula: &Formula) -> bool
 
 /// Gives up the leaf and lists it. After want of memory nothing has changed.
 fn give_up<R: Rank>(
+    alloc: Global,
     trees: &mut [Tree<R>],
     label: u32,
     refuted: &Refuted,
@@ -609,7 +617,8 @@ fn give_up<R: Rank>(
     ensures listed { OnErr result (drops.new.items ≡ drops.old.items) }
     ensures same { OnErr result (map plan_of trees.new ≡ map plan_of trees.old) }
 {
+    let cause = refuted.held_cause(alloc)?;
     drops.push(refuted.dropped(label))?;
-    trees[label as usize].undefine(refuted.leaf, &refuted.cause());
+    trees[label as usize].undefine(refuted.leaf, cause);
     Ok(())
 }

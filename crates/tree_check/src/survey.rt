@@ -13,7 +13,7 @@ ghost use Rattle.tree_check.specs.Surveys.{IsReviewed, IsSurveyed, LooksOn};
 ghost use Rattle.leaf_search.specs.Walks.{side_of};
 
 use constraint_stack::{ConstraintStack, Finding, Reason};
-use decision_tree::{Cause, Rank, Tree, Why};
+use decision_tree::{Cause, HeldCause, HeldWhy, Rank, Shared, Tree};
 use leaf_search::{Ahead, Stand, UNEDGED, Way, add_rows};
 use linear_cons::Row;
 use std::alloc::{AllocError, Global};
@@ -39,8 +39,17 @@ impl Refuted {
         }
     }
 
-    /// The cause that the leaf has once it is given up.
-    pub(crate) fn cause(&self) -> Cause
+    /// The cause that the leaf has once it is given up, as it holds it. The only error is want of memory.
+    pub(crate) fn held_cause(&self, alloc: Global) -> Result<HeldCause, AllocError>
+        ensures { IfOk result (λ cause. cause ≡ cause_of self.now.finding.reason) }
+    {
+        let cause = self.cause();
+        let held = HeldCause::of(alloc, &cause)?;
+        Ok(held)
+    }
+
+    /// The cause.
+    fn cause(&self) -> Cause
         ensures { result ≡ cause_of self.now.finding.reason }
     {
         match &self.finding.reason {
@@ -156,8 +165,8 @@ impl<'a, R: Rank> Survey<'a, R> {
     #[inline(never)]
     fn refute_leaf(
         &self,
-        why: &Why,
-        rank: &R,
+        why: &HeldWhy,
+        rank: &Shared<R>,
         progress: &mut Progress<'a, R>,
     ) -> Result<(), AllocError>
         requires { IsAhead self.now.stand progress.old.stack.rows progress.old.ahead }
@@ -175,11 +184,13 @@ impl<'a, R: Rank> Survey<'a, R> {
         if self.is_done(&progress.refuted) {
             return Ok(());
         }
+        let reason = why.why();
+        let rank: &R = rank;
         let mut found = None;
         let ahead = progress.ahead;
         if !self
             .stand
-            .refute_leaf(why, rank, &ahead, &mut progress.stack, &mut found)?
+            .refute_leaf(&reason, rank, &ahead, &mut progress.stack, &mut found)?
         {
             return Ok(());
         }
@@ -222,7 +233,7 @@ impl<'a, R: Rank> Survey<'a, R> {
     #[cycle(survey)]
     fn refute_behind(
         &self,
-        row: &Row,
+        row: &Shared<Row>,
         holds: bool,
         side: &Tree<R>,
         progress: &mut Progress<'a, R>,
@@ -264,7 +275,7 @@ impl<'a, R: Rank> Survey<'a, R> {
     #[cycle(survey)]
     fn refute_within(
         &self,
-        row: &Row,
+        row: &Shared<Row>,
         holds: bool,
         side: &Tree<R>,
         progress: &mut Progress<'a, R>,
@@ -297,7 +308,12 @@ impl<'a, R: Rank> Survey<'a, R> {
 
     /// Adds the row of a side.
     #[inline(never)]
-    fn enter(&self, row: &Row, holds: bool, stack: &mut ConstraintStack) -> Result<bool, AllocError>
+    fn enter(
+        &self,
+        row: &Shared<Row>,
+        holds: bool,
+        stack: &mut ConstraintStack,
+    ) -> Result<bool, AllocError>
         ensures same { IfOk result (λ entered. entered ≡ false → IsSame stack.old stack.new) }
         ensures longer { IfOk result (λ entered. IsLonger stack.old stack.new) }
         ensures held { IfOk result (λ entered. entered ≡ true → WhereAsked stack.old (λ asks.

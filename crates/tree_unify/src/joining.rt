@@ -13,7 +13,7 @@ use crate::join::Join;
 use crate::sizes::is_smaller;
 use crate::trimming::{is_leaf, lay};
 use crate::walk::{Stopped, Walk};
-use decision_tree::{Rank, Tree};
+use decision_tree::{Rank, Shared, Tree};
 use linear_cons::Row;
 use std::alloc::Global;
 
@@ -161,7 +161,7 @@ fn graft_beside<R: Rank>(
     alloc: Global,
     walk: &mut Walk,
     join: Join,
-    row: &Row,
+    row: &Shared<Row>,
     leaf: &Tree<R>,
     no: Box<Tree<R>>,
     second: &Tree<R>,
@@ -184,7 +184,7 @@ fn graft_below<R: Rank>(
     alloc: Global,
     walk: &mut Walk,
     join: Join,
-    row: &Row,
+    row: &Shared<Row>,
     leaf: &Tree<R>,
     second: &Tree<R>,
 ) -> Result<Box<Tree<R>>, Stopped>

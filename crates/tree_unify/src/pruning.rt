@@ -13,7 +13,7 @@ ghost use Rattle.tree_unify.specs.declared.fault.TreeFault.TheVariants.{Full as 
 use crate::fault::TreeFault;
 use crate::trimming::is_leaf;
 use crate::walk::{Stopped, Walk};
-use decision_tree::{PathFault, Rank, Tree};
+use decision_tree::{PathFault, Rank, Shared, Tree};
 use linear_cons::Row;
 use num_domain::NumDomain;
 use std::alloc::{AllocError, Global};
@@ -106,7 +106,7 @@ fn cut<R: Rank, D: NumDomain>(
 fn divide<D: NumDomain>(
     alloc: Global,
     walk: &mut Walk,
-    row: &Row,
+    row: &Shared<Row>,
     yes_ends: bool,
     no_ends: bool,
     at: Box<D>,

@@ -12,7 +12,7 @@ use crate::choosing::choose;
 use crate::fault::TreeFault;
 use crate::join::Join;
 use crate::walk::{Stopped, Walk};
-use decision_tree::{PathFault, Rank, Tree};
+use decision_tree::{PathFault, Rank, Shared, Tree};
 use linear_cons::Row;
 use std::alloc::{AllocError, Global};
 
@@ -65,7 +65,7 @@ pub(crate) fn lay<R: Rank>(
     let Tree::Node { row, yes, no } = second else {
         return meet(alloc, walk, join, leaf, second);
     };
-    match walk.trail.settles(row) {
+    match walk.settles(row) {
         Some(true) => lay(alloc, walk, join, leaf, yes),
         Some(false) => lay(alloc, walk, join, leaf, no),
         None => {
@@ -104,7 +104,7 @@ fn lay_beside<R: Rank>(
     walk: &mut Walk,
     join: Join,
     leaf: &Tree<R>,
-    row: &Row,
+    row: &Shared<Row>,
     second: &Tree<R>,
     no: Box<Tree<R>>,
 ) -> Result<Box<Tree<R>>, Stopped>
@@ -165,7 +165,7 @@ fn met<R: Rank>(
         (Join::Either, _, _) => leaf.boxed(alloc)?,
         (Join::Both, _, _) => second.boxed(alloc)?,
         (Join::Later, Tree::Leaf { rank, .. }, Tree::Leaf { rank: other, .. }) => {
-            choose(alloc, other, rank, second, leaf)?
+            choose::<R>(alloc, other, rank, second, leaf)?
         }
         (Join::Later, _, _) => second.boxed(alloc)?,
     };

@@ -3,6 +3,7 @@ ghost use Rattle.std.specs.Prelude.{◌≡◌, ℕ, ◌<◌, ◌≤◌, List, []
 ghost use Rattle.linear_cons.specs.Exact.{IsOutside};
 ghost use Rattle.linear_cons.specs.Functions.{NumbersFit, complement_of};
 ghost use Rattle.linear_cons.specs.Rows.{complement};
+ghost use Rattle.linear_cons.specs.Settling.{settles};
 ghost use Rattle.linear_cons.specs.declared.exact.Wide.{Wide};
 ghost use Rattle.linear_cons.specs.declared.row.Row.{Row};
 ghost use Rattle.decision_tree.specs.Equality.{same_plan};
@@ -12,7 +13,7 @@ ghost use Rattle.tree_unify.specs.Builds.{Builds, given};
 ghost use Rattle.tree_unify.specs.declared.fault.TreeFault.TheVariants.{Full, Wide as TooWide};
 
 use crate::fault::TreeFault;
-use decision_tree::{MOST_NODES, PathFault, Rank, Trail, Tree};
+use decision_tree::{MOST_NODES, PathFault, Rank, Shared, Trail, Tree};
 use linear_cons::Row;
 use std::alloc::{AllocError, Global};
 
@@ -64,9 +65,28 @@ impl Walk {
         })
     }
 
+    /// Whether the rows of the way settle the row of a node.
+    #[inline(never)]
+    pub fn settles(&self, row: &Shared<Row>) -> Option<bool>
+        ensures { result ≡ settles self.now.trail row.now }
+    {
+        self.trail.settles(row)
+    }
+
     /// Goes down to the yes side of a node with the row.
     #[inline(never)]
-    pub fn down(&mut self, row: &Row) -> Result<(), Stopped>
+    pub fn down(&mut self, row: &Shared<Row>) -> Result<(), Stopped>
+        ensures down { OnOk result (self.new.trail ≡ self.old.trail ++ row.now ∷ []) }
+        ensures full { OnErr result ((count : ℕ) → self.new.fault ≡ Full count → ⊥) }
+        ensures wide { OnErr result ((w : Wide) → self.new.fault ≡ TooWide w → ⊥) }
+    {
+        self.down_by(row)?;
+        Ok(())
+    }
+
+    /// The same, with a row that no tree holds.
+    #[inline(never)]
+    pub fn down_by(&mut self, row: &Row) -> Result<(), Stopped>
         ensures down { OnOk result (self.new.trail ≡ self.old.trail ++ row.now ∷ []) }
         ensures full { OnErr result ((count : ℕ) → self.new.fault ≡ Full count → ⊥) }
         ensures wide { OnErr result ((w : Wide) → self.new.fault ≡ TooWide w → ⊥) }
@@ -79,7 +99,7 @@ impl Walk {
 
     /// Goes down to the no side of a node with the row.
     #[inline(never)]
-    pub fn down_no(&mut self, row: &Row) -> Result<(), Stopped>
+    pub fn down_no(&mut self, row: &Shared<Row>) -> Result<(), Stopped>
         ensures down { OnOk result (self.new.trail ≡ self.old.trail ++ complement row.now ∷ []) }
         ensures fits { OnOk result (NumbersFit (complement_of row.now.affine)) }
         ensures wide { OnErr result ((w : Wide) → self.new.fault ≡ TooWide w → NumbersFit (complement_of row.now.affine) → ⊥) }
@@ -88,7 +108,7 @@ impl Walk {
     {
         match row.not() {
             Ok(complement) => {
-                self.down(&complement)?;
+                self.down_by(&complement)?;
                 Ok(())
             }
             Err(wide) => Err(self.stop(TreeFault::Wide(wide))),
@@ -119,7 +139,7 @@ impl Walk {
     #[inline(never)]
     pub fn turn_back<R: Rank>(
         &mut self,
-        row: &Row,
+        row: &Shared<Row>,
         made: Box<Tree<R>>,
     ) -> Result<Box<Tree<R>>, Stopped>
         ensures tree { IfOk result (λ kept. plan_of kept.value ≡ plan_of made.value) }
@@ -167,7 +187,7 @@ impl Walk {
     pub fn join_sides<R: Rank>(
         &mut self,
         alloc: Global,
-        row: &Row,
+        row: &Shared<Row>,
         yes: Box<Tree<R>>,
         no: Box<Tree<R>>,
         yes_size: u64,
@@ -185,8 +205,28 @@ impl Walk {
             return Err(self.too_many());
         }
         self.size = size;
-        match Tree::boxed_branch(alloc, row, yes, no) {
+        match Tree::shared_branch(alloc, row, yes, no) {
             Ok(tree) => Ok(tree),
+            Err(error) => Err(self.stop(TreeFault::Memory(error))),
+        }
+    }
+
+    /// The same, with a row that is new.
+    #[inline(never)]
+    pub fn join_by<R: Rank>(
+        &mut self,
+        alloc: Global,
+        row: &Row,
+        yes: Box<Tree<R>>,
+        no: Box<Tree<R>>,
+        yes_size: u64,
+    ) -> Result<Box<Tree<R>>, Stopped>
+        requires yes { (yes_size ≡ size_of (plan_of yes.value)) × (yes_size ≤ 65536) }
+        requires no { (self.old.size ≡ size_of (plan_of no.value)) × (self.old.size ≤ 65536) }
+        ensures { Builds (given (node R.eq row.now (plan_of yes.value) (plan_of no.value))) self.old self.new result }
+    {
+        match Shared::new(alloc, *row) {
+            Ok(row) => self.join_sides(alloc, &row, yes, no, yes_size),
             Err(error) => Err(self.stop(TreeFault::Memory(error))),
         }
     }
@@ -196,7 +236,7 @@ impl Walk {
     pub fn join_last<R: Rank>(
         &mut self,
         alloc: Global,
-        row: &Row,
+        row: &Shared<Row>,
         yes: Box<Tree<R>>,
         no: Box<Tree<R>>,
         no_size: u64,

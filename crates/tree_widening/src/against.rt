@@ -10,7 +10,7 @@ ghost use Rattle.tree_widening.specs.Judging.{IsBehindDecided, IsDecided, IsJudg
 ghost use Rattle.tree_widening.specs.Widening.{ExceedFits};
 
 use crate::walk::{Stopped, Walk};
-use decision_tree::{Comparison, PathFault, Rank, Trail, Tree};
+use decision_tree::{Comparison, PathFault, Rank, Shared, Trail, Tree};
 use linear_cons::{MOST_ROWS, RowKind};
 use linear_solve::{Answer, decide_tightest};
 use std::alloc::{AllocError, Global};
@@ -33,7 +33,7 @@ pub(crate) fn tells_against<R: Rank>(
     match new {
         Tree::Bottom | Tree::Top(_) => Ok(true),
         Tree::Leaf { why: _, rank: next } => exceeds(alloc, walk, next, rank),
-        Tree::Node { row, yes, no } => match walk.trail.settles(row) {
+        Tree::Node { row, yes, no } => match walk.settles(row) {
             Some(true) => tells_against(alloc, walk, rank, yes),
             Some(false) => tells_against(alloc, walk, rank, no),
             None => {
@@ -53,12 +53,18 @@ pub(crate) fn tells_against<R: Rank>(
 
 /// Whether the newer rank may exceed the rank at a point on the way of the walk. The walk is where it was.
 #[inline(never)]
-fn exceeds<R: Rank>(alloc: Global, walk: &mut Walk, next: &R, rank: &R) -> Result<bool, Stopped>
+fn exceeds<R: Rank>(
+    alloc: Global,
+    walk: &mut Walk,
+    next: &Shared<R>,
+    rank: &R,
+) -> Result<bool, Stopped>
     ensures judged { IfOk result (λ exceeds. IsLeafJudged R.Rank.own rank.now walk.old.trail next.now exceeds) }
     ensures trail { OnOk result (walk.new.trail ≡ walk.old.trail) }
     ensures wide { OnErr result ((w : Wide) → walk.new.fault ≡ TooWide w → R.greater_fits next.now rank.now → ⊥) }
     ensures operands { OnErr result ((w : Wide) → walk.new.fault ≡ TooWide w → IsOutside w) }
 {
+    let next: &R = next;
     match next.greater(rank, 0) {
         Ok(first) => exceeds_from(alloc, walk, next, rank, 0, &first),
         Err(wide) => Err(walk.stop(PathFault::Wide(wide))),
@@ -127,7 +133,7 @@ fn exceeds_behind<R: Rank>(
             if let Some(false) = walk.trail.settles(row) {
                 return Ok(false);
             }
-            walk.down(row)?;
+            walk.down_by(row)?;
             let met = exceeds_behind(alloc, walk, next, rank, number, rest)?;
             walk.trail.up();
             Ok(met)
@@ -149,7 +155,7 @@ fn may_meet(alloc: Global, walk: &mut Walk, kind: &RowKind) -> Result<bool, Stop
             if let Some(false) = walk.trail.settles(row) {
                 return Ok(false);
             }
-            walk.down(row)?;
+            walk.down_by(row)?;
             let met = walk.may_be_met(alloc)?;
             walk.trail.up();
             Ok(met)

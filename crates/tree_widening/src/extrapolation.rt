@@ -10,15 +10,15 @@ ghost use Rattle.tree_widening.specs.Widening.{BesideFits, ExtrapolatedFits, Gro
 
 use crate::extrapolates::Extrapolates;
 use crate::walk::{Stopped, Walk};
-use decision_tree::{PathFault, Rank, Tree, Why};
+use decision_tree::{HeldWhy, PathFault, Rank, Shared, Tree};
 use linear_cons::{Row, Wide};
 use std::alloc::Global;
 
 /// What a leaf claims, with its reason.
 #[derive(Clone, Copy)]
 pub(crate) struct Claim<'a, R: Rank> {
-    pub(crate) why: &'a Why,
-    pub(crate) rank: &'a R,
+    pub(crate) why: &'a HeldWhy,
+    pub(crate) rank: &'a Shared<R>,
 }
 
 /// What stands in place of a leaf without a claim on the side of the node above it, or where the whole
@@ -41,6 +41,7 @@ pub(crate) fn grow<R: Extrapolates>(
         Tree::Bottom | Tree::Top(_) | Tree::Leaf { .. } => walk.nothing(alloc),
         Tree::Node { row, yes, no } => {
             let first = first_left(walk, new)?;
+            let row: &Row = row;
             if holds {
                 extrapolate(alloc, walk, row, no, first)
             } else {
@@ -66,7 +67,7 @@ fn first_left<'a, R: Rank>(
     match new {
         Tree::Bottom | Tree::Top(_) => Ok(None),
         Tree::Leaf { why, rank } => Ok(Some(Claim { why, rank })),
-        Tree::Node { row, yes, no } => match walk.trail.settles(row) {
+        Tree::Node { row, yes, no } => match walk.settles(row) {
             Some(true) => first_left(walk, yes),
             Some(false) => first_left(walk, no),
             None => {
@@ -117,7 +118,7 @@ fn extrapolate<R: Extrapolates>(
         return walk.nothing(alloc);
     };
     match raised_beside(row, first_claim(beside), claim.rank) {
-        Ok(raised) => walk.claim(alloc, claim.why, &raised),
+        Ok(raised) => walk.claim_of(alloc, claim.why, &raised),
         Err(wide) => Err(walk.stop(PathFault::Wide(wide))),
     }
 }

@@ -3,13 +3,14 @@ ghost use Rattle.std.specs.Prelude.{◌≡◌, List, [], ◌∷◌, ◌++◌, If
 ghost use Rattle.linear_cons.specs.Exact.{IsOutside};
 ghost use Rattle.linear_cons.specs.Functions.{NumbersFit, complement_of};
 ghost use Rattle.linear_cons.specs.Rows.{complement};
+ghost use Rattle.linear_cons.specs.Settling.{settles};
 ghost use Rattle.linear_cons.specs.declared.exact.Wide.{Wide};
 ghost use Rattle.linear_cons.specs.declared.row.Row.{Row};
 ghost use Rattle.decision_tree.specs.Nodes.{node};
 ghost use Rattle.decision_tree.specs.Plans.{bottom, leaf, plan_of, top};
 ghost use Rattle.decision_tree.specs.declared.path.PathFault.TheVariants.{Wide as TooWide};
 
-use decision_tree::{Cause, PathFault, Rank, Trail, Tree, Why};
+use decision_tree::{HeldCause, HeldWhy, PathFault, Rank, Shared, Trail, Tree};
 use linear_cons::Row;
 use std::alloc::{AllocError, Global};
 
@@ -46,9 +47,27 @@ impl Walk {
         Stopped
     }
 
+    /// Whether the rows of the way settle the row of a node.
+    #[inline(never)]
+    pub(crate) fn settles(&self, row: &Shared<Row>) -> Option<bool>
+        ensures { result ≡ settles self.now.trail row.now }
+    {
+        self.trail.settles(row)
+    }
+
     /// Goes down to the yes side of a node with the row.
     #[inline(never)]
-    pub(crate) fn down(&mut self, row: &Row) -> Result<(), Stopped>
+    pub(crate) fn down(&mut self, row: &Shared<Row>) -> Result<(), Stopped>
+        ensures down { OnOk result (self.new.trail ≡ self.old.trail ++ row.now ∷ []) }
+        ensures wide { OnErr result ((w : Wide) → self.new.fault ≡ TooWide w → ⊥) }
+    {
+        self.down_by(row)?;
+        Ok(())
+    }
+
+    /// The same, with a row that no tree holds.
+    #[inline(never)]
+    pub(crate) fn down_by(&mut self, row: &Row) -> Result<(), Stopped>
         ensures down { OnOk result (self.new.trail ≡ self.old.trail ++ row.now ∷ []) }
         ensures wide { OnErr result ((w : Wide) → self.new.fault ≡ TooWide w → ⊥) }
     {
@@ -78,14 +97,14 @@ impl Walk {
     pub(crate) fn claim<R: Rank>(
         &mut self,
         alloc: Global,
-        why: &Why,
-        rank: &R,
+        why: &HeldWhy,
+        rank: &Shared<R>,
     ) -> Result<Box<Tree<R>>, Stopped>
         ensures tree { IfOk result (λ made. plan_of made.value ≡ leaf why.now rank.now) }
         ensures trail { self.new.trail ≡ self.old.trail }
         ensures wide { OnErr result ((w : Wide) → self.new.fault ≡ TooWide w → ⊥) }
     {
-        match Tree::boxed_leaf(alloc, why, rank) {
+        match Tree::shared_leaf(alloc, why, rank) {
             Ok(made) => Ok(made),
             Err(error) => Err(self.stop(PathFault::Memory(error))),
         }
@@ -109,7 +128,7 @@ impl Walk {
     pub(crate) fn given_up<R: Rank>(
         &mut self,
         alloc: Global,
-        cause: &Cause,
+        cause: &HeldCause,
     ) -> Result<Box<Tree<R>>, Stopped>
         ensures tree { IfOk result (λ made. plan_of made.value ≡ top cause.now) }
         ensures trail { self.new.trail ≡ self.old.trail }
@@ -121,12 +140,30 @@ impl Walk {
         }
     }
 
+    /// A claim of a rank that no tree holds, for a reason that one holds.
+    #[inline(never)]
+    pub(crate) fn claim_of<R: Rank>(
+        &mut self,
+        alloc: Global,
+        why: &HeldWhy,
+        rank: &R,
+    ) -> Result<Box<Tree<R>>, Stopped>
+        ensures tree { IfOk result (λ made. plan_of made.value ≡ leaf why.now rank.now) }
+        ensures trail { self.new.trail ≡ self.old.trail }
+        ensures wide { OnErr result ((w : Wide) → self.new.fault ≡ TooWide w → ⊥) }
+    {
+        match Shared::new(alloc, *rank) {
+            Ok(rank) => self.claim(alloc, why, &rank),
+            Err(error) => Err(self.stop(PathFault::Memory(error))),
+        }
+    }
+
     /// The yes side where both sides are equal, else the tree with the row at its root.
     #[inline(never)]
     pub(crate) fn join_sides<R: Rank>(
         &mut self,
         alloc: Global,
-        row: &Row,
+        row: &Shared<Row>,
         yes: Box<Tree<R>>,
         no: Box<Tree<R>>,
     ) -> Result<Box<Tree<R>>, Stopped>
@@ -134,7 +171,7 @@ impl Walk {
         ensures trail { self.new.trail ≡ self.old.trail }
         ensures wide { OnErr result ((w : Wide) → self.new.fault ≡ TooWide w → ⊥) }
     {
-        match Tree::boxed_node(alloc, row, yes, no) {
+        match Tree::shared_node(alloc, row, yes, no) {
             Ok(made) => Ok(made),
             Err(error) => Err(self.stop(PathFault::Memory(error))),
         }

@@ -16,7 +16,7 @@ use crate::extrapolates::Extrapolates;
 use crate::extrapolation::grow;
 use crate::newer::beginnings;
 use crate::walk::{Stopped, Walk};
-use decision_tree::{Cause, MOST_NODES, PathFault, Rank, Tree, Why};
+use decision_tree::{HeldCause, HeldWhy, MOST_NODES, PathFault, Rank, Shared, Tree};
 use std::alloc::Global;
 use tree_unify::TreeFault;
 
@@ -107,8 +107,8 @@ fn weave<R: Extrapolates>(
 fn hold<R: Rank>(
     alloc: Global,
     walk: &mut Walk,
-    why: &Why,
-    rank: &R,
+    why: &HeldWhy,
+    rank: &Shared<R>,
     new: &Tree<R>,
 ) -> Result<Box<Tree<R>>, Stopped>
     ensures tree { IfOk result (λ made. IsHeld R.Rank.own why.now rank.now walk.old.trail (plan_of new.now) (plan_of made.value)) }
@@ -117,8 +117,8 @@ fn hold<R: Rank>(
         → TrimWithFits R.eq (ExceedFits R.greater_fits rank.now) walk.old.trail (plan_of new.now) → ⊥) }
     ensures operands { OnErr result ((w : Wide) → walk.new.fault ≡ TooWide w → IsOutside w) }
 {
-    if tells_against(alloc, walk, rank, new)? {
-        return walk.given_up(alloc, &Cause::Given);
+    if tells_against::<R>(alloc, walk, rank, new)? {
+        return walk.given_up(alloc, &HeldCause::given());
     }
     walk.claim(alloc, why, rank)
 }

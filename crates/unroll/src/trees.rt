@@ -75,7 +75,8 @@ fn unclaimed(alloc: Global, graph: &Graph) -> Result<Vec<Tree<AffineRank>>, Allo
     ensures count { IfOk result (λ trees. length trees.items ≡ length (all_labels (statements graph.now.body))) }
 {
     let mut trees = Vec::with_capacity(alloc, graph.labels() as usize)?;
-    trees.push(ended())?;
+    let end = ended(alloc)?;
+    trees.push(end)?;
     for _ in 1..graph.labels() {
         trees.push(Tree::Bottom)?;
     }
@@ -254,18 +255,19 @@ fn tree(
             )?;
             Ok(tree)
         }
-        Transition::End | Transition::Dead | Transition::Choose { .. } => Ok(ended()),
+        Transition::End | Transition::Dead | Transition::Choose { .. } => {
+            let tree = ended(alloc)?;
+            Ok(tree)
+        }
     }
 }
 
 /// The tree of label 0.
-fn ended() -> Tree<AffineRank>
-    ensures { plan_of result ≡ leaf End (counted 0) }
+fn ended(alloc: Global) -> Result<Tree<AffineRank>, AllocError>
+    ensures { IfOk result (λ tree. plan_of tree ≡ leaf End (counted 0)) }
 {
-    Tree::Leaf {
-        why: Why::End,
-        rank: AffineRank {
-            value: Affine::constant(0),
-        },
-    }
+    let rank = AffineRank {
+        value: Affine::constant(0),
+    };
+    Tree::claim(alloc, &Why::End, &rank)
 }

@@ -56,9 +56,9 @@ pub fn value_trees(alloc: Global, leaves: u32) -> Result<Vec<Tree<AffineRank>>, 
 /// The rank at a leaf for each value of `x` from 1 on, and no step at the last one, where `x` is at most 0.
 fn by_value(alloc: Global, leaves: u32, rank: &Affine) -> Result<Tree<AffineRank>, AllocError> {
     let step = Why::Step(Pick::All);
-    let mut tree = leaf(step, &Affine::constant(0));
+    let mut tree = leaf(alloc, step, &Affine::constant(0))?;
     for value in 1..leaves {
-        tree = from(alloc, value, leaf(step, rank), tree)?;
+        tree = from(alloc, value, leaf(alloc, step, rank)?, tree)?;
     }
     Ok(tree)
 }
@@ -79,7 +79,7 @@ fn from(
 /// A list with the tree of label 0, where the goal holds now.
 fn trees_with_end(alloc: Global) -> Result<Vec<Tree<AffineRank>>, AllocError> {
     let mut trees = Vec::new(alloc);
-    trees.push(leaf(Why::Now, &Affine::constant(0)))?;
+    trees.push(leaf(alloc, Why::Now, &Affine::constant(0))?)?;
     Ok(trees)
 }
 
@@ -95,8 +95,8 @@ fn split(
         _ => steps,
     };
     let step = Why::Step(Pick::All);
-    let yes = leaf(step, rank);
-    let no = leaf(step, &Affine::constant(steps));
+    let yes = leaf(alloc, step, rank)?;
+    let no = leaf(alloc, step, &Affine::constant(steps))?;
     match Row::of(line(1, -1)) {
         RowKind::Row(row) => Tree::branch(alloc, row, yes, no),
         RowKind::Always | RowKind::Never => Ok(yes),
@@ -110,11 +110,8 @@ fn line(factor: i128, constant: i128) -> Affine {
     function
 }
 
-fn leaf(why: Why, rank: &Affine) -> Tree<AffineRank> {
-    Tree::Leaf {
-        why,
-        rank: AffineRank { value: *rank },
-    }
+fn leaf(alloc: Global, why: Why, rank: &Affine) -> Result<Tree<AffineRank>, AllocError> {
+    Tree::claim(alloc, &why, &AffineRank { value: *rank })
 }
 
 /// The families of the parts of `AF exit` for so many labels: the truth holds everywhere, and the end is at label 0.
@@ -123,9 +120,9 @@ pub fn parts(alloc: Global, labels: u32) -> Result<Vec<Family<AffineRank>>, Allo
     let mut truth = Vec::new(alloc);
     let mut end = Vec::new(alloc);
     for label in 0..labels {
-        truth.push(leaf(Why::Atom, &none))?;
+        truth.push(leaf(alloc, Why::Atom, &none)?)?;
         end.push(if label == 0 {
-            leaf(Why::End, &none)
+            leaf(alloc, Why::End, &none)?
         } else {
             Tree::Bottom
         })?;

@@ -32,7 +32,7 @@ pub fn broad_trees(
     rows: u32,
 ) -> Result<(Tree<AffineRank>, Tree<AffineRank>), Fault> {
     let (_, second) = two_trees(alloc, rows)?;
-    let mut tree = leaf(&Affine::constant(0));
+    let mut tree = leaf(alloc, &Affine::constant(0))?;
     for number in 0..rows {
         let yes = line_of(alloc, 1, 1, &Affine::var(0), number as i128)?;
         if let RowKind::Row(row) = row_of(0, number) {
@@ -49,7 +49,7 @@ pub fn descending_line(alloc: Global, rows: u32) -> Result<Tree<AffineRank>, Fau
     for above in 0..rows {
         let number = rows.saturating_sub(above);
         if let RowKind::Row(row) = row_of(0, number) {
-            tree = Tree::branch(alloc, row, tree, leaf(&Affine::constant(0)))?;
+            tree = Tree::branch(alloc, row, tree, leaf(alloc, &Affine::constant(0))?)?;
         }
     }
     Ok(tree)
@@ -68,7 +68,7 @@ fn line_of(
     for number in 0..rows {
         rank.constant = rank.constant.saturating_add(rise);
         if let RowKind::Row(row) = row_of(from, number) {
-            tree = Tree::branch(alloc, row, leaf(&rank), tree)?;
+            tree = Tree::branch(alloc, row, leaf(alloc, &rank)?, tree)?;
         }
     }
     Ok(tree)
@@ -82,11 +82,8 @@ fn row_of(from: u8, number: u32) -> RowKind {
     Row::of(function)
 }
 
-fn leaf(rank: &Affine) -> Tree<AffineRank> {
-    Tree::Leaf {
-        why: Why::End,
-        rank: AffineRank { value: *rank },
-    }
+fn leaf(alloc: Global, rank: &Affine) -> Result<Tree<AffineRank>, AllocError> {
+    Tree::claim(alloc, &Why::End, &AffineRank { value: *rank })
 }
 
 /// A path of that many rows, no two of one linear part, and none of one that a line has.

@@ -8,8 +8,8 @@ use Rattle.backward_sweeps.specs.Moving.{AllFit, AreAllSmall, AreTestsSmall, Tes
 use Rattle.backward_sweeps.proofs.Reading.{one_carries, two_carry}
 use Rattle.backward_sweeps.proofs.moving.for_all.Goals as goal
 
-pub returns-in-Dead-clause-tree : goal.returns-in-Dead-clause-tree
-returns-in-Dead-clause-tree c = rw c.in-Dead.is c.at_once.ensures
+pub returns-in_ok-tree-in-Dead-clause-tree : goal.returns-in_ok-tree-in-Dead-clause-tree
+returns-in_ok-tree-in-Dead-clause-tree c = rw c.in-Dead.is c.in_ok-tree-in-Dead.ensures
 
 pub returns-in-Pass-clause-tree : goal.returns-in-Pass-clause-tree
 returns-in-Pass-clause-tree c =

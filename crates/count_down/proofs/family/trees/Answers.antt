@@ -14,9 +14,9 @@ returns c =
     let others = trees_by c.args.countdown.now body in
     let added = rw c.in_ok-list.ensures.items at c.in_ok-add_trees.ensures in
     let pushed = ap plans c.in_ok-push.ensures.items
-    ∙ map-append plan_of c.add_trees.new.list.items (c.ended.result ∷ [])
-    ∙ ap (λ t. t ++ plan_of c.ended.result ∷ []) added
-    ∙ ap (λ t. reverse others ++ t ∷ []) c.ended.ensures in
+    ∙ map-append plan_of c.add_trees.new.list.items (c.in_ok-end.end ∷ [])
+    ∙ ap (λ t. t ++ plan_of c.in_ok-end.end ∷ []) added
+    ∙ ap (λ t. reverse others ++ t ∷ []) c.in_ok-end.ensures in
     ap plans c.reverse.ensures.items
     ∙ map_reverse plan_of c.push.new.self.items
     ∙ ap reverse pushed

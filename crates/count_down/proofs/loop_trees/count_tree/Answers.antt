@@ -8,5 +8,5 @@ returns-in-Always c = grind (arith, common_steps)
 pub returns-in-Never : goal.returns-in-Never
 returns-in-Never c = grind (arith, common_steps)
 
-pub returns-in-Row : goal.returns-in-Row
-returns-in-Row c = grind (arith, common_steps)
+pub returns-in_ok-elsewhere-in-Row : goal.returns-in_ok-elsewhere-in-Row
+returns-in_ok-elsewhere-in-Row c = grind (arith, common_steps)

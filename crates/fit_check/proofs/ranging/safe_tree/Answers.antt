@@ -19,7 +19,7 @@ returns c =
     let all : c.add_action.new.kinds.items ≡ variable_rows (length program.names) ++ rows_at c.args.bounds.now action =
     both ∙ ap (λ (kinds : List RowKind). kinds ++ rows_at c.args.bounds.now action) first in
     let tree : plan_of c.in_ok-tree.tree ≡ nested (variable_rows (length program.names) ++ rows_at c.args.bounds.now action) whole =
-    c.in_ok-tree.ensures ∙ ap (nested c.add_action.new.kinds.items) c.whole.ensures ∙ ap (λ (kinds : List RowKind). nested kinds whole) all in
+    c.in_ok-tree.ensures ∙ ap (nested c.add_action.new.kinds.items) c.in_ok-whole.ensures ∙ ap (λ (kinds : List RowKind). nested kinds whole) all in
     same_is_safe (length program.names) c.args.bounds.now action (nested (variable_rows (length program.names) ++ rows_at c.args.bounds.now action) whole) (plan_of c.in_ok-tree-2.tree)
     (λ store. ap (λ (plan : Plan AffineRank). eval plan store) c.in_ok-tree-2.ensures.tree
     ∙ c.trimming_keeps_the_leaves_on_the_path.ensures [] (plan_of c.in_ok-tree.tree) store (all_none _)

@@ -11,7 +11,7 @@ pub returns-else-is_over-clause-fit : goal.returns-else-is_over-clause-fit
 returns-else-is_over-clause-fit t c few over complements =
     let names = c.args.names.now in
     let own = subst (λ (tree : Tree AffineRank). IsTreeOver (length names) (plan_of tree)) c.in-Leaf.is over in
-    c.is_over.ensures.1 (over_names names c.in-Leaf.rank.value few own.0)
+    c.is_over.ensures.1 (rw c.deref-rank.ensures (over_names names c.in-Leaf.rank.value few own.0))
 
 pub returns-else-is_fit-clause-fit : goal.returns-else-is_fit-clause-fit
 returns-else-is_fit-clause-fit t c few over complements =
@@ -22,6 +22,6 @@ returns-else-is_fit-clause-fit t c few over complements =
       | then-has_complement w ↦ w.value-is ∙ w.is_fit.ensures.fit few (rw w.deref.ensures own.1) (rw w.deref.ensures turned.1)
       | else-has_complement w ↦ w.value-is ∙ (elim c.if-is_over-2.branch [
         | then-is_over-2 u ↦ u.value-is ∙ u.has_complement.ensures.1 turned.0
-        | else-is_over-2 u ↦ u.value-is ∙ c.is_over-in-Node.ensures.1 (over_names names c.in-Node.row.affine few own.0)
+        | else-is_over-2 u ↦ u.value-is ∙ c.is_over-in-Node.ensures.1 (rw c.deref-function.ensures (over_names names c.in-Node.row.affine few own.0))
       ])
     ]

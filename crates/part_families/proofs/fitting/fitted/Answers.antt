@@ -22,7 +22,7 @@ loop-label-preserved c =
     let same = c.loop-label.invariant.2 in
     let low : l < length c.loop-label.trees.items = omega (arith, same, c.loop-label-test.true, c.len-label-end.ensures, c.loop-label.auto.label-end) in
     elim c.if-not-leaves.branch [
-      | then-not-leaves w ↦ rw w.trees-is (
+      | then-not-leaves w ↦ rw (w.trees-is, w.given.ensures) (
         put_fit items l Given low names fit,
         put_kept items l Given low (plans c.into_vec-trees.result.items) kept,
         length-set items l (Top Given) ∙ same,

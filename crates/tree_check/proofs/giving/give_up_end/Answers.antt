@@ -14,7 +14,7 @@ returns-clause-walked g c =
     let is : c.in-Some.refuted.now ≡ slice_index_or c.args.found.now c.args.at.now.next c.in-Some.refuted.now = c.in-Some.ensures.lookup.1 in
     let here : c.in-Some.refuted.now.leaf ≡ c.args.at.now.passed = grind (arith, common_steps) in
     let given : plan_of c.undefine.new.self ≡ with_leaf (plan_of c.args.end.now) 0 (top (cause_of c.in-Some.refuted.now.finding.reason)) =
-    c.undefine.ensures ∙ ap (λ cause. with_leaf (plan_of c.args.end.now) 0 (top cause)) c.cause.ensures in
+    c.undefine.ensures ∙ ap (λ cause. with_leaf (plan_of c.args.end.now) 0 (top cause)) c.in_ok-cause.ensures in
     let listed : c.push.new.self.items ≡ c.args.drops.now.items ++ dropped_by c.args.label c.in-Some.refuted.now ∷ [] =
     c.in_ok-push.ensures.items ∙ ap (λ dropped. c.args.drops.now.items ++ dropped ∷ []) c.dropped.ensures in
     walked_found c.args.label c.args.found.now c.args.at.now.passed (plan_of c.args.end.now) (plan_of c.undefine.new.self) c.args.at.now.next c.in-Some.refuted.now

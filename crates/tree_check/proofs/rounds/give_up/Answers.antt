@@ -5,7 +5,7 @@ use Rattle.tree_check.proofs.rounds.give_up.Goals as goal
 
 pub returns-clause-given : goal.returns-clause-given
 returns-clause-given g c =
-    plans_given c.args.trees.now c.args.label c.args.refuted.now c.index-trees-label.result c.undefine.new.self c.cause.result c.requires.label c.cause.ensures c.undefine.ensures
+    plans_given c.args.trees.now c.args.label c.args.refuted.now c.index-trees-label.result c.undefine.new.self c.in_ok-cause.cause c.requires.label c.in_ok-cause.ensures c.undefine.ensures
 
 pub returns-clause-dropped : goal.returns-clause-dropped
 returns-clause-dropped g c = grind (arith, common_steps)

@@ -110,6 +110,6 @@ exceeds_behind-returns-in_ok-met-in-Row-clause-decided g t c =
     let way = c.args.walk.now.trail in
     let rest = c.in-Some.rest.now in
     let list : c.args.same.now ≡ Kept c.in-Row.row ∷ rest = c.in-Some.ensures.cases.0 ∙ ap (λ kind. kind ∷ rest) c.in-Row.is in
-    let decided = rw c.in_ok-down-in-Row.ensures.down at c.in_ok-met-in-Row.ensures.decided in
+    let decided = rw c.in_ok-down_by-in-Row.ensures.down at c.in_ok-met-in-Row.ensures.decided in
     subst (λ kinds. IsBehindDecided way kinds left c.in_ok-met-in-Row.met) (sym list)
     (row_pushed way c.in-Row.row rest left c.in_ok-met-in-Row.met decided)

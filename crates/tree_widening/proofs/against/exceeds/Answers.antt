@@ -9,6 +9,6 @@ exceeds_from-requires-clause-number g c =
 
 pub returns-in-Ok-clause-judged : goal.returns-in-Ok-clause-judged
 returns-in-Ok-clause-judged g c =
-    IfOk-weaker c.exceeds_from.result _ _
-    (λ met decided. leaf_judged g.R.Rank g.met.R.Rank.greater_law c.args.rank.now c.args.next.now c.args.walk.now.trail met decided)
-    c.exceeds_from.ensures.decided
+    rw (← c.deref-next.ensures) (IfOk-weaker c.exceeds_from.result _ _
+    (λ met decided. leaf_judged g.R.Rank g.met.R.Rank.greater_law c.args.rank.now c.deref-next.result.now c.args.walk.now.trail met decided)
+    c.exceeds_from.ensures.decided)

@@ -12,6 +12,6 @@ returns-in-Some-false-clause-decided c =
 
 pub returns-in_ok-met-in-Row-clause-decided : goal.returns-in_ok-met-in-Row-clause-decided
 returns-in_ok-met-in-Row-clause-decided c =
-    let decided = rw c.in_ok-down-in-Row.ensures.down at c.in_ok-met-in-Row.ensures.decided in
+    let decided = rw c.in_ok-down_by-in-Row.ensures.down at c.in_ok-met-in-Row.ensures.decided in
     subst (λ kind. IsKindDecided c.args.walk.now.trail kind c.in_ok-met-in-Row.met) (sym c.in-Row.is)
     (row_decided c.args.walk.now.trail c.in-Row.row c.in_ok-met-in-Row.met decided)

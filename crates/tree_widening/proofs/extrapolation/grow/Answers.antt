@@ -15,7 +15,8 @@ pub returns-in-Ok-clause-tree : goal.returns-in-Ok-clause-tree
 returns-in-Ok-clause-tree g c =
     let raised = g.R.Extrapolates.raised in
     let this = plan_of c.deref-in-Ok.result.now in
-    let turned : c.in-Ok.complement ≡ complement c.in-Node.row = row_same c.in-Ok.complement (complement c.in-Node.row) c.in-Ok.ensures.complement in
+    let is = rw c.deref-row.ensures at c.in-Ok.ensures.complement in
+    let turned : c.in-Ok.complement ≡ complement c.in-Node.row = row_same c.in-Ok.complement (complement c.in-Node.row) is in
     IfOk-weaker c.extrapolate-in-Ok.result _ _
     (λ made is. is
     ∙ ap (λ (row : Row). extrapolated raised row (first_claim this) (claim_of c.in_ok-first-in-Node.first)) turned
@@ -29,7 +30,8 @@ pub returns-in-Ok-clause-wide : goal.returns-in-Ok-clause-wide
 returns-in-Ok-clause-wide g c =
     let fits = g.R.Extrapolates.raised_fits in
     let this = plan_of c.deref-in-Ok.result.now in
-    let turned : c.in-Ok.complement ≡ complement c.in-Node.row = row_same c.in-Ok.complement (complement c.in-Node.row) c.in-Ok.ensures.complement in
+    let is = rw c.deref-row.ensures at c.in-Ok.ensures.complement in
+    let turned : c.in-Ok.complement ≡ complement c.in-Node.row = row_same c.in-Ok.complement (complement c.in-Node.row) is in
     on_err_weaker c.extrapolate-in-Ok.result
     (λ wide w is fit. wide w is
     (subst (λ (row : Row). ExtrapolatedFits fits row (first_claim this) (claim_of c.in_ok-first-in-Node.first)) (sym turned)

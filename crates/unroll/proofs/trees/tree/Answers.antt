@@ -297,8 +297,8 @@ returns-in_err-tree-in-Test-clause-full c limit left number allows behind is siz
     (c.in_err-tree-in-Test.ensures.full done.test number of fits (subst RanksCount (sym then_at) two.0) (subst RanksCount (sym else_at) two.1)
     (ap Err (same_error _ _ _ c.from_residual-in_err-tree-in-Test.ensures.1 is))))) sizes are
 
-pub returns-in-End-clause-tells : goal.returns-in-End-clause-tells
-returns-in-End-clause-tells c limit left allows behind =
+pub returns-in_ok-tree-in-End-clause-tells : goal.returns-in_ok-tree-in-End-clause-tells
+returns-in_ok-tree-in-End-clause-tells c limit left allows behind =
     let valid = c.args.graph.now.valid in
     let body = statements c.args.graph.now.body in
     let vars = length c.args.graph.now.names in

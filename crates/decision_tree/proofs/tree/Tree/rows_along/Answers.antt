@@ -10,21 +10,22 @@ pub loop-side-preserved-in-Yes : goal.loop-side-preserved-in-Yes
 loop-side-preserved-in-Yes g c =
     let going = rw c.in-Node.is at c.loop-side.invariant in
     let popped : c.loop-side.sides.items ≡ c.pop.new.self.items ++ Yes ∷ [] = rw (← c.in-Yes.is) (search rules) in
-    rw (c.deref-at.ensures, c.in_ok-append-in-Yes.ensures) (going_yes c.loop-side.rows.items c.in-Node.row (plan_of c.in-Node.yes.value) (plan_of c.in-Node.no.value) c.loop-side.sides.items c.pop.new.self.items _ _ popped going)
+    rw (c.deref-at.ensures, c.in_ok-append-in-Yes.ensures, c.deref.ensures) (going_yes c.loop-side.rows.items c.in-Node.row (plan_of c.in-Node.yes.value) (plan_of c.in-Node.no.value) c.loop-side.sides.items c.pop.new.self.items _ _ popped going)
 
 pub returns-in_err-complement-in-No-clause-wide : goal.returns-in_err-complement-in-No-clause-wide
 returns-in_err-complement-in-No-clause-wide g c w is all =
     let going = rw c.in-Node.is at c.loop-side.invariant in
     let popped : c.loop-side.sides.items ≡ c.pop.new.self.items ++ No ∷ [] = rw (← c.in-No.is) (search rules) in
-    let wide : NumbersFit (complement_of c.in-Node.row.affine) → ⊥ = λ fits. let impossible = c.in_err-complement-in-No.ensures.fits.1 fits in absurd (cc) in
+    let wide : NumbersFit (complement_of c.in-Node.row.affine) → ⊥ = λ fits. let impossible = c.in_err-complement-in-No.ensures.fits.1 (rw c.deref-in-No.ensures fits) in absurd (cc) in
     going_wide c.loop-side.rows.items c.in-Node.row (plan_of c.in-Node.yes.value) (plan_of c.in-Node.no.value) c.loop-side.sides.items c.pop.new.self.items _ _ popped wide going all
 
 pub loop-side-preserved-in-No : goal.loop-side-preserved-in-No
 loop-side-preserved-in-No g c =
     let going = rw c.in-Node.is at c.loop-side.invariant in
     let popped : c.loop-side.sides.items ≡ c.pop.new.self.items ++ No ∷ [] = rw (← c.in-No.is) (search rules) in
-    let fits : NumbersFit (complement_of c.in-Node.row.affine) = c.in_ok-complement-in-No.ensures.fits.0 refl in
-    rw (c.deref-at-in-No.ensures, c.in_ok-append-in-No.ensures) (going_no c.loop-side.rows.items c.in-Node.row c.in_ok-complement-in-No.complement (plan_of c.in-Node.yes.value) (plan_of c.in-Node.no.value) c.loop-side.sides.items c.pop.new.self.items _ _ popped c.in_ok-complement-in-No.ensures.complement fits going)
+    let fits : NumbersFit (complement_of c.in-Node.row.affine) = rw (← c.deref-in-No.ensures) (c.in_ok-complement-in-No.ensures.fits.0 refl) in
+    let complement = rw c.deref-in-No.ensures at c.in_ok-complement-in-No.ensures.complement in
+    rw (c.deref-at-in-No.ensures, c.in_ok-append-in-No.ensures) (going_no c.loop-side.rows.items c.in-Node.row c.in_ok-complement-in-No.complement (plan_of c.in-Node.yes.value) (plan_of c.in-Node.no.value) c.loop-side.sides.items c.pop.new.self.items _ _ popped complement fits going)
 
 pub returns-clause-rows : goal.returns-clause-rows
 returns-clause-rows g c =

@@ -15,7 +15,7 @@ returns-in_ok-no-in-Node-clause-tree g t c =
     let yes : IsAt c.put.new.self c.in_ok-yes-in-Node.yes (plan_of c.in-Node.yes.value) = rw (← c.deref.ensures) c.in_ok-yes-in-Node.ensures.tree in
     let no : IsAt c.put-in-Node.new.self c.in_ok-no-in-Node.no (plan_of c.in-Node.no.value) = rw (← c.deref-in-Node.ensures) c.in_ok-no-in-Node.ensures.tree in
     let later = at_kept c.put.new.self c.put-in-Node.new.self c.in_ok-yes-in-Node.yes (plan_of c.in-Node.yes.value) c.put-in-Node.ensures.kept yes in
-    rw (c.in-Node.is, ← later.tree, ← no.tree) c.node.ensures.tree
+    rw (c.in-Node.is, ← c.deref-in-Node-2.ensures, ← later.tree, ← no.tree) c.node.ensures.tree
 
 pub returns-in_ok-no-in-Node-clause-there : goal.returns-in_ok-no-in-Node-clause-there
 returns-in_ok-no-in-Node-clause-there g t c there =
@@ -26,4 +26,4 @@ returns-in_ok-no-in-Node-clause-there g t c there =
     let no : IsAt c.put-in-Node.new.self c.in_ok-no-in-Node.no (plan_of c.in-Node.no.value) = rw (← c.deref-in-Node.ensures) c.in_ok-no-in-Node.ensures.tree in
     let later = at_kept c.put.new.self c.put-in-Node.new.self c.in_ok-yes-in-Node.yes (plan_of c.in-Node.yes.value) c.put-in-Node.ensures.kept yes in
     let whole : IsThere c.put-in-Node.new.self (branch c.in-Node.row (plan_of c.in-Node.yes.value) (plan_of c.in-Node.no.value)) = rw second (rw c.in-Node.is at there) in
-    c.node.ensures.there (rw (later.tree, no.tree) whole) ∙ second
+    c.node.ensures.there (rw (c.deref-in-Node-2.ensures, later.tree, no.tree) whole) ∙ second
