@@ -38,13 +38,23 @@ use Rattle.exact_families.proofs.StoreJudges.{judged_eval, store_says, stores_ju
 use Rattle.part_families.specs.Families.{IsExact, IsFamilyFor, IsNarrowFor, IsWithin}
 use Rattle.ctl_rounds.specs.Bounds.{CoversInputs, FindsInputs}
 use Rattle.ctl_rounds.specs.Covers.{Covers, Extends, IsFitToBegin, at_entry, claims_of, either_of}
-use Rattle.ctl_rounds.specs.Finding.{FirstIs}
+use Rattle.ctl_rounds.specs.Finding.{BeginsExactly, FirstIs, body_of, formula_of, vars_of}
+use Rattle.ctl_rounds.specs.declared.inquiry.Inquiry.{Inquiry}
 
 -- ---- the first of more families
 
 pub first_more : (IsSuch : Family AffineRank → Type 0) (tops more : List (Family AffineRank)) → FirstIs IsSuch tops → FirstIs IsSuch (tops ++ more)
 first_more IsSuch [] more first = absurd first
 first_more IsSuch (family ∷ rest) more first = first
+
+-- what is said of the first of some, where there may be more behind them
+module _ {D : Type 0} (inquiry : Inquiry D) where
+  pub begins_more : (tops more : List (Family AffineRank)) → BeginsExactly inquiry tops → BeginsExactly inquiry (tops ++ more)
+  begins_more tops more begins loopless free =
+      let first = begins loopless free in (
+        (λ uncut. first_more (IsExact (body_of inquiry) (formula_of inquiry)) tops more (first.0 uncut)),
+        (λ within. first_more (IsNarrowFor (vars_of inquiry) (body_of inquiry) (formula_of inquiry)) tops more (first.1 within)),
+      )
 
 pub some_more : (tops : List (Family AffineRank)) (family : Family AffineRank) → 0 < length (tops ++ family ∷ [])
 some_more [] family = omega arith

@@ -15,7 +15,7 @@ use tree_support::tree_at_entry;
 use tree_unify::{TreeFault, either};
 
 /// The most nodes of a cover, leaves included.
-const MOST_NODES: u64 = 4_096;
+pub(crate) const MOST_NODES: u64 = 4_096;
 
 /// The first claim for each input of the certificate's families of the whole formula: their trees at the entry, joined in their order by
 /// `either`. It begins with the first tree of at most 4,096 nodes whose rows can be turned, and where there is none it claims nothing; a later

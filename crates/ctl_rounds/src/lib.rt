@@ -9,10 +9,13 @@
 
 mod analysis;
 mod certificate;
+mod coarse;
 mod covering;
+mod hints;
 mod inquiry;
 pub mod laws;
 mod rounds;
+mod settling;
 mod synthesis;
 mod tops;
 

@@ -1,5 +1,5 @@
 //! Turns of advice.
-ghost use Rattle.std.specs.Prelude.{◌≡◌, ◌↔◌, ◌<◌, ◌≤◌, ◌^◌, ◌⊎◌, [], ◌∷◌, ◌++◌, All, IfOk, IfSome, IsTrue, OnOk, length, option_map};
+ghost use Rattle.std.specs.Prelude.{◌≡◌, ◌↔◌, ◌<◌, ◌≤◌, ◌^◌, ◌⊎◌, [], ◌∷◌, ◌++◌, All, IfOk, IsTrue, OnOk, length, option_map};
 ghost use Rattle.ctl_formula.specs.Mirror.{ctl};
 ghost use Rattle.decision_tree.specs.Extent.{IsWhole};
 ghost use Rattle.decision_tree.specs.Plans.{plan_of};
@@ -12,11 +12,10 @@ ghost use Rattle.ctl_rounds.specs.Finding.{AreFoundSoFar, BeginsExactly, IsInqui
 use crate::covering::extended;
 use crate::inquiry::Inquiry;
 use crate::tops::Tops;
-use advice::{Adviser, Hint, consult};
-use backward_sweeps::Operands;
+use advice::{Adviser, consult};
 use ctl_formula::Formula;
 use decision_tree::{AffineRank, Family};
-use loop_facts::{Facts, holds_under, proposal};
+use loop_facts::Facts;
 use loop_moves::Search;
 use num_domain::NumDomain;
 use part_trees::Claims;
@@ -67,7 +66,9 @@ impl<'a, D: NumDomain> Inquiry<'a, D> {
         ensures asked { AreAskedAlike (λ adviser. asked_of adviser) advisers.old.items advisers.new.items (λ times. IfOk result (λ found. found.turns ≡ times)) }
     {
         if is_advised(self.formula) {
-            Ok(self.advised(advisers)?)
+            let mut found = self.advised(advisers)?;
+            self.finish(&mut found)?;
+            Ok(found)
         } else {
             Ok(self.begun()?)
         }
@@ -134,86 +135,6 @@ impl<'a, D: NumDomain> Inquiry<'a, D> {
         Ok(found)
     }
 
-    /// Adds what the check leaves of the families that the hints propose, one after the other; none of a program without loops.
-    fn follow(
-        &self,
-        operands: &Operands<'_>,
-        hints: &[Hint],
-        found: &mut Tops,
-    ) -> Result<(), AllocError>
-        requires inquiry { IsInquiry D.NumDomain.own self.now }
-        requires found { AreFoundSoFar D.NumDomain.own self.now found.old.tops.items (option_map plan_of found.old.cover) }
-        ensures found { OnOk result (AreFoundSoFar D.NumDomain.own self.now found.new.tops.items (option_map plan_of found.new.cover)) }
-        ensures some { 0 < length found.old.tops.items → OnOk result (0 < length found.new.tops.items) }
-        ensures exact { BeginsExactly self.now found.old.tops.items → OnOk result (BeginsExactly self.now found.new.tops.items) }
-        ensures alone { IsLoopless (statements self.now.premises.now.graph.now.body) → OnOk result (found.new.tops.items ≡ found.old.tops.items) }
-    {
-        if !self.premises.has_loop() {
-            return Ok(());
-        }
-        for hint in hints {
-            let Some(last) = found.tops.last() else {
-                return Ok(());
-            };
-            if let Some(family) = self.proposed(operands, last, hint)? {
-                self.keep(family, found)?;
-            }
-        }
-        Ok(())
-    }
-
-    /// What the check leaves of the family that the hint proposes in place of the one at hand, where it claims something under the hint's
-    /// rows.
-    fn proposed(
-        &self,
-        operands: &Operands<'_>,
-        current: &Family<AffineRank>,
-        hint: &Hint,
-    ) -> Result<Option<Family<AffineRank>>, AllocError>
-        requires inquiry { IsInquiry D.NumDomain.own self.now }
-        ensures { IfOk result (λ found. IfSome found (IsTop D.NumDomain.own self.now)) }
-    {
-        let Some(family) = self.left_of(operands, current, hint)? else {
-            return Ok(None);
-        };
-        let Some(head) = family.trees.items().get(hint.label as usize) else {
-            return Ok(None);
-        };
-        if holds_under(self.premises.alloc, head, &hint.split)? {
-            Ok(Some(family))
-        } else {
-            Ok(None)
-        }
-    }
-
-    /// What the check leaves of the family that the hint proposes, if it proposes one.
-    fn left_of(
-        &self,
-        operands: &Operands<'_>,
-        current: &Family<AffineRank>,
-        hint: &Hint,
-    ) -> Result<Option<Family<AffineRank>>, AllocError>
-        requires inquiry { IsInquiry D.NumDomain.own self.now }
-        ensures { IfOk result (λ found. IfSome found (IsTop D.NumDomain.own self.now)) }
-    {
-        let premises = self.premises;
-        let variables = premises.graph.program().names.items().len() as u32;
-        let Some(trees) = proposal(
-            premises.alloc,
-            premises.graph,
-            premises.transitions,
-            operands,
-            current.trees.items(),
-            variables,
-            hint,
-        )?
-        else {
-            return Ok(None);
-        };
-        let family = premises.left_of(self.formula, self.smaller, trees)?;
-        Ok(Some(family))
-    }
-
     /// Adds the family, and what it says of inputs that have no claim yet.
     pub(crate) fn keep(
         &self,
@@ -225,6 +146,7 @@ impl<'a, D: NumDomain> Inquiry<'a, D> {
         requires found { AreFoundSoFar D.NumDomain.own self.now found.old.tops.items (option_map plan_of found.old.cover) }
         ensures found { OnOk result (AreFoundSoFar D.NumDomain.own self.now found.new.tops.items (option_map plan_of found.new.cover)) }
         ensures tops { OnOk result (found.new.tops.items ≡ found.old.tops.items ++ family ∷ []) }
+        ensures exact { BeginsExactly self.now found.old.tops.items → OnOk result (BeginsExactly self.now found.new.tops.items) }
         ensures turns { found.new.turns ≡ found.old.turns }
     {
         let entry = tree_at_entry(self.premises.graph, &family);

@@ -110,7 +110,7 @@ impl<'a, D: NumDomain> Inquiry<'a, D> {
     }
 
     /// Adds the family, if it says something of an input that has no claim yet.
-    fn keep_if_it_adds(
+    pub(crate) fn keep_if_it_adds(
         &self,
         family: Family<AffineRank>,
         found: &mut Tops,

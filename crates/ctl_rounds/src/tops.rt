@@ -6,16 +6,17 @@ ghost use Rattle.ctl_rounds.specs.Covers.{claims_of};
 
 use crate::certificate::Certificate;
 use crate::covering::is_whole;
-use decision_tree::{AffineRank, Family, FamilyList, Tree};
-use std::alloc::Global;
+use decision_tree::{AffineRank, Family, FamilyList, Tree, TreeList};
+use std::alloc::{AllocError, Global};
 
-/// Families that the check left so, the one that hints begin from last; the first claim of theirs for each input, once one of their trees at
-/// the entry could begin a cover; and the turns of advice.
+/// Families that the check left so; the first claim of theirs for each input, once one of their trees at the entry could begin a cover; and the
+/// turns of advice. Hints begin from the trees ahead, of which nothing is known, or where there are none from the last family.
 #[derive(Drop)]
 pub(crate) struct Tops {
     pub(crate) tops: Vec<Family<AffineRank>>,
     pub(crate) cover: Option<Tree<AffineRank>>,
     pub(crate) turns: u32,
+    pub(crate) ahead: Option<TreeList<AffineRank>>,
 }
 
 impl Tops {
@@ -29,7 +30,27 @@ impl Tops {
             tops: Vec::new(alloc),
             cover: None,
             turns: 0,
+            ahead: None,
         }
+    }
+
+    /// The trees that hints begin from, if there are some.
+    pub(crate) fn at_hand(&self) -> Option<&[Tree<AffineRank>]> {
+        match &self.ahead {
+            Some(trees) => Some(trees.items()),
+            None => Some(self.tops.last()?.trees.items()),
+        }
+    }
+
+    /// A copy of the last family's trees, if there is one.
+    pub(crate) fn last_copied(&self, alloc: Global) -> Result<Vec<Tree<AffineRank>>, AllocError> {
+        let mut trees = Vec::new(alloc);
+        if let Some(last) = self.tops.last() {
+            for tree in last.trees.items() {
+                trees.push(tree.copy(alloc)?)?;
+            }
+        }
+        Ok(trees)
     }
 
     /// Whether each input has a claim.

@@ -1,4 +1,4 @@
-use Rattle.std.proofs.Common.{option_map, Some, subst}
+use Rattle.std.proofs.Common.{[], ◌∷◌, option_map, Some, subst}
 use Rattle.step_meaning.specs.Syntax.{statements}
 use Rattle.control_flow.specs.Labels.{entry_of}
 use Rattle.decision_tree.specs.Plans.{plan_of}
@@ -6,6 +6,7 @@ use Rattle.tree_support.specs.Setting.{trees_in}
 use Rattle.ctl_rounds.specs.Covers.{Extends}
 use Rattle.ctl_rounds.specs.Growing.{next_of}
 use Rattle.ctl_rounds.proofs.Certifying.{added}
+use Rattle.ctl_rounds.proofs.Exactly.{begins_more}
 use Rattle.ctl_rounds.proofs.inquiry.Inquiry.keep.Goals.{in-Some+in-Some-1, in-Some+in-None-1, in-None}
 use Rattle.ctl_rounds.proofs.inquiry.Inquiry.keep.Goals as goal
 
@@ -28,4 +29,13 @@ returns-clause-found g c =
       | in-None w ↦ rw (c.in_ok-push.ensures.items, w.found-is)
           (added domain inquiry tops c.args.family old old c.requires.found c.requires.family
           (subst (λ found. Extends old tree (next_of old (option_map plan_of found))) w.in-None.is last))
+    ]
+
+pub returns-clause-exact : goal.returns-clause-exact
+returns-clause-exact g c begins =
+    let more = begins_more c.args.self.now c.args.found.now.tops.items (c.args.family ∷ []) begins in
+    elim c.match-branch-2.branch [
+      | in-Some+in-Some-1 w ↦ rw (c.in_ok-push.ensures.items, w.found-is) more
+      | in-Some+in-None-1 w ↦ rw (c.in_ok-push.ensures.items, w.found-is) more
+      | in-None w ↦ rw (c.in_ok-push.ensures.items, w.found-is) more
     ]
