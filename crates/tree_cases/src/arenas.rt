@@ -2,7 +2,7 @@
 //! - `shared T and T`: where each stands then, its nodes and what is taken out there, and how many trees the arena has;
 //! - `entered T` for a tree without sides: the same of it; and `entered R yes T no T` for the node of a row: what is shown at the root, and how many trees the arena has;
 //! - `doubled N of T under R`: the nodes of the tree that has the row and twice the one before, so many times over, and how many trees the arena has.
-ghost use Rattle.std.specs.Prelude.{◌<◌, length};
+ghost use Rattle.std.specs.Prelude.{◌<◌, ◌≤◌, IfOk, length};
 
 use case_text::{Answer, Words, read_leaf, read_row, read_tree};
 use decision_tree::{AffineRank, MOST_NODES, Rank, Tree};
@@ -18,12 +18,24 @@ pub fn answers(
     answer: &mut Answer,
 ) -> Result<bool, AllocError> {
     let mut arena = Arena::new(alloc);
-    match name {
-        "shared" => push_shared(alloc, &mut arena, words, answer)?,
-        "entered" => push_entered(alloc, &mut arena, words, answer)?,
-        "doubled" => push_doubled(alloc, &mut arena, words, answer)?,
+    answers_in(alloc, &mut arena, name, words, answer)
+}
+
+/// The same in the arena, whose trees are counted behind.
+fn answers_in(
+    alloc: Global,
+    arena: &mut Arena<AffineRank>,
+    name: &str,
+    words: &mut Words<'_>,
+    answer: &mut Answer,
+) -> Result<bool, AllocError> {
+    let written = match name {
+        "shared" => push_shared(alloc, arena, words, answer),
+        "entered" => push_entered(alloc, arena, words, answer),
+        "doubled" => push_doubled(alloc, arena, words, answer),
         _ => return Ok(false),
-    }
+    };
+    written?;
     answer.push(" ; ");
     answer.push_number(arena.entries() as i128);
     answer.push(" in all");
@@ -36,14 +48,25 @@ fn push_shared(
     words: &mut Words<'_>,
     answer: &mut Answer,
 ) -> Result<(), AllocError> {
-    let first = read_tree(alloc, words)?;
+    let first = read_put(alloc, arena, words)?;
     words.expect("and");
-    let second = read_tree(alloc, words)?;
-    let first = arena.put(&first)?;
-    let second = arena.put(&second)?;
+    let second = read_put(alloc, arena, words)?;
     push_taken(alloc, arena, first, answer)?;
     answer.push(" ; ");
     push_taken(alloc, arena, second, answer)
+}
+
+/// Reads a tree and puts it into the arena.
+fn read_put(
+    alloc: Global,
+    arena: &mut Arena<AffineRank>,
+    words: &mut Words<'_>,
+) -> Result<TreeRef, AllocError>
+    ensures kept { length arena.old ≤ length arena.new }
+    ensures there { IfOk result (λ tree. tree.place < length arena.new) }
+{
+    let tree = read_tree(alloc, words)?;
+    arena.put(&tree)
 }
 
 /// Writes where the tree stands, its nodes, and itself where it isn't larger than trees that are made.
@@ -110,11 +133,9 @@ fn push_node(
         return Ok(());
     };
     words.expect("yes");
-    let yes = read_tree(alloc, words)?;
+    let yes = read_put(alloc, arena, words)?;
     words.expect("no");
-    let no = read_tree(alloc, words)?;
-    let yes = arena.put(&yes)?;
-    let no = arena.put(&no)?;
+    let no = read_put(alloc, arena, words)?;
     let tree = arena.node(&row, yes, no)?;
     push_root(alloc, arena, tree, answer)
 }

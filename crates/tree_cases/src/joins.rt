@@ -22,12 +22,12 @@ pub fn answers(
     answer: &mut Answer,
 ) -> Result<bool, AllocError> {
     let made = match name {
-        "trim" => trimmed(alloc, words)?,
-        "prune" => pruned(alloc, words)?,
-        "either" | "both" | "later" | "widen" => joined(alloc, name, words)?,
+        "trim" => trimmed(alloc, words),
+        "prune" => pruned(alloc, words),
+        "either" | "both" | "later" | "widen" => joined(alloc, name, words),
         _ => return Ok(false),
     };
-    push_made(alloc, made, words, answer)?;
+    push_made(alloc, made?, words, answer)?;
     Ok(true)
 }
 

@@ -15,15 +15,21 @@ pub fn answers(
     answer: &mut Answer,
 ) -> Result<bool, AllocError> {
     let made = match name {
-        "skip" => back_skip(alloc, &read_tree(alloc, words)?),
-        "assign" => assigned(alloc, words)?,
-        "test" => tested(alloc, words)?,
-        "pick" => picked(alloc, words)?,
-        "some" => chosen(alloc, words)?,
+        "skip" => skipped(alloc, words),
+        "assign" => assigned(alloc, words),
+        "test" => tested(alloc, words),
+        "pick" => picked(alloc, words),
+        "some" => chosen(alloc, words),
         _ => return Ok(false),
     };
-    push_made(alloc, made, words, answer)?;
+    push_made(alloc, made?, words, answer)?;
     Ok(true)
+}
+
+/// Reads the tree behind what changes nothing.
+fn skipped(alloc: Global, words: &mut Words<'_>) -> Result<Made, AllocError> {
+    let tree = read_tree(alloc, words)?;
+    Ok(back_skip(alloc, &tree))
 }
 
 /// Reads an assignment and the tree behind it. An exact value is assigned, another one is chosen from its range.

@@ -16,27 +16,36 @@ pub fn answers(
     words: &mut Words<'_>,
     answer: &mut Answer,
 ) -> Result<bool, AllocError> {
-    match name {
-        "tree" => answer.push_tree(&read_tree(alloc, words)?),
-        "size" => push_size(&read_tree(alloc, words)?, answer),
-        "leaf" => push_leaf(alloc, words, answer)?,
-        "path" => push_path(alloc, words, answer)?,
-        "node" => push_node(alloc, words, answer)?,
-        "trail" => push_trail(alloc, words, answer)?,
-        "distinct" => answer.push_yes_or_no(are_distinct(&read_trees(alloc, words)?)),
-        "copies" => answer.push_yes_or_no(are_copied(alloc, &read_trees(alloc, words)?)?),
-        "trees" => push_changed_list(alloc, words, answer)?,
-        "family" => push_family(alloc, words, answer)?,
+    let written = match name {
+        "tree" => push_read(alloc, words, answer),
+        "size" => push_size(alloc, words, answer),
+        "leaf" => push_leaf(alloc, words, answer),
+        "path" => push_path(alloc, words, answer),
+        "node" => push_node(alloc, words, answer),
+        "trail" => push_trail(alloc, words, answer),
+        "distinct" => push_distinct(alloc, words, answer),
+        "copies" => push_copied(alloc, words, answer),
+        "trees" => push_changed_list(alloc, words, answer),
+        "family" => push_family(alloc, words, answer),
         _ => return Ok(false),
-    }
+    };
+    written?;
     Ok(true)
 }
 
-fn push_size(tree: &Tree<AffineRank>, answer: &mut Answer) {
+fn push_read(alloc: Global, words: &mut Words<'_>, answer: &mut Answer) -> Result<(), AllocError> {
+    let tree = read_tree(alloc, words)?;
+    answer.push_tree(&tree);
+    Ok(())
+}
+
+fn push_size(alloc: Global, words: &mut Words<'_>, answer: &mut Answer) -> Result<(), AllocError> {
+    let tree = read_tree(alloc, words)?;
     answer.push_number(i128::from(tree.size()));
     answer.push(" nodes, ");
     answer.push_number(i128::from(tree.leaves()));
     answer.push(" leaves");
+    Ok(())
 }
 
 /// The leaf of the store with the number at place 0 and 0 elsewhere.
@@ -170,6 +179,16 @@ fn add_tree(
     Ok(())
 }
 
+fn push_distinct(
+    alloc: Global,
+    words: &mut Words<'_>,
+    answer: &mut Answer,
+) -> Result<(), AllocError> {
+    let trees = read_trees(alloc, words)?;
+    answer.push_yes_or_no(are_distinct(&trees));
+    Ok(())
+}
+
 /// Whether each tree is equal to itself and to no other one.
 fn are_distinct(trees: &[Tree<AffineRank>]) -> bool {
     for (index, tree) in trees.iter().enumerate() {
@@ -182,14 +201,31 @@ fn are_distinct(trees: &[Tree<AffineRank>]) -> bool {
     true
 }
 
-/// Whether each tree is equal to its copy and to its copy in a box.
+fn push_copied(
+    alloc: Global,
+    words: &mut Words<'_>,
+    answer: &mut Answer,
+) -> Result<(), AllocError> {
+    let trees = read_trees(alloc, words)?;
+    answer.push_yes_or_no(are_copied(alloc, &trees)?);
+    Ok(())
+}
+
+/// Whether each tree is equal to its copies.
 fn are_copied(alloc: Global, trees: &[Tree<AffineRank>]) -> Result<bool, AllocError> {
     for tree in trees {
-        if tree.copy(alloc)? != *tree || *tree.boxed(alloc)? != *tree {
+        if !is_copied(alloc, tree)? {
             return Ok(false);
         }
     }
     Ok(true)
+}
+
+/// Whether the tree is equal to its copy and to its copy in a box.
+fn is_copied(alloc: Global, tree: &Tree<AffineRank>) -> Result<bool, AllocError> {
+    let copy = tree.copy(alloc)?;
+    let boxed = tree.boxed(alloc)?;
+    Ok(copy == *tree && *boxed == *tree)
 }
 
 /// The list of the trees, after each has given up its first leaf, and the last has become one that claims nothing.
