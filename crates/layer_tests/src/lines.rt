@@ -6,11 +6,12 @@ use std::alloc::{AllocError, Global};
 use std::test::Fail;
 use step_meaning::Names;
 
-/// The names `x`, `y` and `always`.
+const NAMES: &[&str] = &["x", "y", "always"];
+
 fn names(alloc: Global) -> Result<Names, AllocError> {
     let mut list = Vec::new(alloc);
-    for name in [b"x".as_slice(), b"y", b"always"] {
-        list.push(name.to_vec(alloc)?)?;
+    for name in NAMES {
+        list.push(name.as_bytes().to_vec(alloc)?)?;
     }
     Ok(Names::of(list))
 }
@@ -26,12 +27,12 @@ fn numbers_and_claims_go_behind_what_stands(rt: HostRuntime) -> Result<(), Fail>
 }
 
 /// Places of variables, and whether they are over three names.
-const PLACES: [(u8, bool); 4] = [(0, true), (2, true), (3, false), (15, false)];
+const PLACES: &[(u8, bool)] = &[(0, true), (2, true), (3, false), (15, false)];
 
 #[test]
 fn variables_past_the_names_are_told(rt: HostRuntime) -> Result<(), Fail> {
     let names = names(rt.alloc())?;
-    for (place, over) in PLACES {
+    for &(place, over) in PLACES {
         let bound = Affine::var(place);
         let claim = Claim::Within(bound);
         assert_eq!(rt;

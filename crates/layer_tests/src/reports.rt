@@ -13,6 +13,7 @@ use line_text::{Claim, are_over, is_claim_over};
 use linear_cons::{Affine, Row, RowKind, Rows};
 use report_text::{Counts, Explain, Header, Line, Lines, Report, Stop, Top, lines, print};
 use std::alloc::{AllocError, Global};
+use std::process::Abort;
 use std::test::Fail;
 use step_meaning::Names;
 
@@ -20,7 +21,7 @@ use step_meaning::Names;
 type Numbers = [i128; 3];
 
 /// A leaf of a tree.
-#[derive(Clone, Copy, Debug)]
+#[derive(Clone, Copy)]
 enum Leaf {
     /// A claim of so many steps.
     Steps(i128),
@@ -31,7 +32,7 @@ enum Leaf {
 }
 
 /// A side of a tree's root.
-#[derive(Clone, Copy, Debug)]
+#[derive(Clone, Copy)]
 enum Side {
     Only(Leaf),
     /// The one leaf where the function is at least 0, and the other elsewhere.
@@ -42,7 +43,7 @@ enum Side {
 type Root = (Numbers, Side, Side);
 
 /// What a line says.
-#[derive(Clone, Copy, Debug)]
+#[derive(Clone, Copy)]
 enum Said {
     Exactly(i128),
     Within(Numbers),
@@ -52,7 +53,7 @@ enum Said {
 }
 
 /// A line: the functions that are at least 0, and what it says where they are.
-type Stated = (&'static [Numbers], Said);
+struct Stated(&'static [Numbers], Said);
 
 /// The exact lines of a report, the proved ones, those of what ends by a rank, and the unknown ones.
 type Sections = [&'static [Stated]; 4];
@@ -64,7 +65,7 @@ type Explained = Option<(u32, u32, &'static [u64])>;
 const HARDLY_DEFINED: Root = ([1, 0, 0], Only(Nothing), Split([0, 1, 0], Given, Steps(2)));
 
 /// Trees, what their defined leaves claim, and their lines.
-const LISTED: [(Root, Top, &[Stated]); 4] = [
+const LISTED: &[(Root, Top, &[Stated])] = &[
     // `x - 1 >= 0 ? (x >= 0 ? 3 : 5) : 1`: the rows of 5 are met nowhere, and `x >= 0` is looser than `x - 1 >= 0`.
     (
         (
@@ -74,41 +75,44 @@ const LISTED: [(Root, Top, &[Stated]); 4] = [
         ),
         Top::Bound,
         &[
-            (&[[1, 0, -1]], Within([0, 0, 3])),
-            (&[[-1, 0, 0]], Within([0, 0, 1])),
+            Stated(&[[1, 0, -1]], Within([0, 0, 3])),
+            Stated(&[[-1, 0, 0]], Within([0, 0, 1])),
         ],
     ),
     (
         HARDLY_DEFINED,
         Top::Exact,
         &[
-            (&[[1, 0, 0]], Unknown),
-            (&[[-1, 0, -1], [0, 1, 0]], Unknown),
-            (&[[-1, 0, -1], [0, -1, -1]], Exactly(2)),
+            Stated(&[[1, 0, 0]], Unknown),
+            Stated(&[[-1, 0, -1], [0, 1, 0]], Unknown),
+            Stated(&[[-1, 0, -1], [0, -1, -1]], Exactly(2)),
         ],
     ),
     (
         HARDLY_DEFINED,
         Top::Bound,
         &[
-            (&[[1, 0, 0]], Unknown),
-            (&[[-1, 0, -1], [0, 1, 0]], Unknown),
-            (&[[-1, 0, -1], [0, -1, -1]], Within([0, 0, 2])),
+            Stated(&[[1, 0, 0]], Unknown),
+            Stated(&[[-1, 0, -1], [0, 1, 0]], Unknown),
+            Stated(&[[-1, 0, -1], [0, -1, -1]], Within([0, 0, 2])),
         ],
     ),
     (
         HARDLY_DEFINED,
         Top::Plain,
         &[
-            (&[[1, 0, 0]], Unknown),
-            (&[[-1, 0, -1], [0, 1, 0]], Unknown),
-            (&[[-1, 0, -1], [0, -1, -1]], Holds),
+            Stated(&[[1, 0, 0]], Unknown),
+            Stated(&[[-1, 0, -1], [0, 1, 0]], Unknown),
+            Stated(&[[-1, 0, -1], [0, -1, -1]], Holds),
         ],
     ),
 ];
 
 /// The lines of the long tree. Each leaf between its first and its last has opposed rows.
-const LISTED_OF_LONG: [Stated; 2] = [(&[[1, 0, -1]], Exactly(1)), (&[[-1, 0, 0]], Exactly(2))];
+const LISTED_OF_LONG: &[Stated] = &[
+    Stated(&[[1, 0, -1]], Exactly(1)),
+    Stated(&[[-1, 0, 0]], Exactly(2)),
+];
 
 /// `x * x0 + y * x1 + c`.
 fn function([x, y, constant]: Numbers) -> Affine {
@@ -232,7 +236,7 @@ fn are_stated(lines: &[Line], wanted: &[Stated]) -> bool {
     if lines.len() != wanted.len() {
         return false;
     }
-    for (line, (constraints, said)) in lines.iter().zip(wanted) {
+    for (line, Stated(constraints, said)) in lines.iter().zip(wanted) {
         if line.claim != claim_of(said) || !are_rows(line.rows.items(), constraints) {
             return false;
         }
@@ -257,10 +261,11 @@ fn lists(
 #[test]
 fn lines_of_leaves(rt: HostRuntime) -> Result<(), Fail> {
     for (root, top, wanted) in LISTED {
-        let tree = tree_of(rt.alloc(), &root)?;
+        let tree = tree_of(rt.alloc(), root)?;
         assert!(rt;
-            lists(rt.alloc(), &tree, top, wanted)?,
-            "{root:?} with {top:?}"
+            lists(rt.alloc(), &tree, *top, wanted)?,
+            "{} lines with {top:?}",
+            wanted.len()
         );
     }
     Ok(())
@@ -282,11 +287,11 @@ fn long_line(alloc: Global, nodes: u32) -> Result<Tree<AffineRank>, Fail>
 #[test]
 fn lines_of_a_deep_tree(rt: HostRuntime) -> Result<(), Fail> {
     let tree = long_line(rt.alloc(), 32_767)?;
-    assert!(rt; lists(rt.alloc(), &tree, Top::Exact, &LISTED_OF_LONG)?);
+    assert!(rt; lists(rt.alloc(), &tree, Top::Exact, LISTED_OF_LONG)?);
     Ok(())
 }
 
-fn line_of(alloc: Global, (constraints, said): &Stated) -> Result<Line, Fail> {
+fn line_of(alloc: Global, Stated(constraints, said): &Stated) -> Result<Line, Fail> {
     let mut rows = Vec::new(alloc);
     for numbers in *constraints {
         let row = row(*numbers)?;
@@ -308,17 +313,17 @@ fn lines_of(alloc: Global, stated: &[Stated]) -> Result<Lines, Fail> {
 }
 
 /// Lines, those that claim something and those that claim nothing.
-const PARTED: [(&[Stated], &[Stated], &[Stated]); 2] = [
+const PARTED: &[(&[Stated], &[Stated], &[Stated])] = &[
     (&[], &[], &[]),
     (
         &[
-            (&[], Unknown),
-            (&[[1, 0, 0]], Holds),
-            (&[[0, 1, 0]], Unknown),
-            (&[], Exactly(3)),
+            Stated(&[], Unknown),
+            Stated(&[[1, 0, 0]], Holds),
+            Stated(&[[0, 1, 0]], Unknown),
+            Stated(&[], Exactly(3)),
         ],
-        &[(&[[1, 0, 0]], Holds), (&[], Exactly(3))],
-        &[(&[], Unknown), (&[[0, 1, 0]], Unknown)],
+        &[Stated(&[[1, 0, 0]], Holds), Stated(&[], Exactly(3))],
+        &[Stated(&[], Unknown), Stated(&[[0, 1, 0]], Unknown)],
     ),
 ];
 
@@ -327,106 +332,130 @@ fn claims_apart(rt: HostRuntime) -> Result<(), Fail> {
     for (stated, some, none) in PARTED {
         let lines = lines_of(rt.alloc(), stated)?;
         let (claiming, nothing) = lines.parted(rt.alloc())?;
-        assert!(rt; are_stated(claiming.items(), some), "of {stated:?}");
-        assert!(rt; are_stated(nothing.items(), none), "of {stated:?}");
+        assert!(rt;
+            are_stated(claiming.items(), some),
+            "claims of {} lines",
+            stated.len()
+        );
+        assert!(rt;
+            are_stated(nothing.items(), none),
+            "no claims of {} lines",
+            stated.len()
+        );
     }
     Ok(())
 }
 
 /// Neither the rows of a line nor the lines are in the order of their bytes.
 const DISORDERED: Sections = [
-    &[(&[], Exactly(1))],
+    &[Stated(&[], Exactly(1))],
     &[
-        (&[[1, 0, -1], [-1, 0, 1]], Within([0, 0, 3])),
-        (&[[1, 0, -2]], Within([2, 0, 1])),
-        (&[[0, 1, 0], [1, 1, -1]], Within([0, 0, 1])),
+        Stated(&[[1, 0, -1], [-1, 0, 1]], Within([0, 0, 3])),
+        Stated(&[[1, 0, -2]], Within([2, 0, 1])),
+        Stated(&[[0, 1, 0], [1, 1, -1]], Within([0, 0, 1])),
     ],
     &[],
-    &[(&[[-1, 0, -1]], Unknown)],
+    &[Stated(&[[-1, 0, -1]], Unknown)],
 ];
 
 /// What is written of them below the exact lines.
 const ORDERED: &str =
     "proved:\n-x + 1 >= 0 and x - 1 >= 0: within 3 steps\nx + y - 1 >= 0 and y >= 0: within 1 step\nx - 2 >= 0: within 2*x + 1 steps\nunknown:\n-x - 1 >= 0: unknown\nverdict: some inputs\n";
 
-/// Headers, the lines of reports, what these explain, the texts of the exact parts and what follows them.
-const REPORTS: [(Header, Sections, Explained, &str, &str); 8] = [
-    (Header::Absent, DISORDERED, None, "", ORDERED),
-    (
-        Header::Whole { tests: 2 },
-        DISORDERED,
-        None,
-        "exact, 2 tests:\nalways: exactly 1 step\n",
-        ORDERED,
-    ),
-    (
-        Header::Partial {
+/// A report, the text of its exact part, and what follows that.
+struct Printed {
+    header: Header,
+    sections: Sections,
+    explained: Explained,
+    exact: &'static str,
+    rest: &'static str,
+}
+
+/// Reports and their texts.
+const REPORTS: &[Printed] = &[
+    Printed {
+        header: Header::Absent,
+        sections: DISORDERED,
+        explained: None,
+        exact: "",
+        rest: ORDERED,
+    },
+    Printed {
+        header: Header::Whole { tests: 2 },
+        sections: DISORDERED,
+        explained: None,
+        exact: "exact, 2 tests:\nalways: exactly 1 step\n",
+        rest: ORDERED,
+    },
+    Printed {
+        header: Header::Partial {
             tests: 1,
             cause: Stop::TooManyNodes,
         },
-        DISORDERED,
-        None,
-        "exact, 1 tests, then too many nodes:\nalways: exactly 1 step\n",
-        ORDERED,
-    ),
-    (
-        Header::Stopped {
+        sections: DISORDERED,
+        explained: None,
+        exact: "exact, 1 tests, then too many nodes:\nalways: exactly 1 step\n",
+        rest: ORDERED,
+    },
+    Printed {
+        header: Header::Stopped {
             cause: Stop::WideNumbers,
         },
-        DISORDERED,
-        None,
-        "exact: wide numbers\n",
-        ORDERED,
-    ),
-    (
-        Header::Stopped {
+        sections: DISORDERED,
+        explained: None,
+        exact: "exact: wide numbers\n",
+        rest: ORDERED,
+    },
+    Printed {
+        header: Header::Stopped {
             cause: Stop::NotPlain,
         },
-        DISORDERED,
-        None,
-        "exact: not a plain program\n",
-        ORDERED,
-    ),
+        sections: DISORDERED,
+        explained: None,
+        exact: "exact: not a plain program\n",
+        rest: ORDERED,
+    },
     // Nothing is unknown.
-    (
-        Header::Absent,
-        [&[], &[(&[], Holds)], &[], &[]],
-        None,
-        "",
-        "proved:\nalways: holds\nunknown:\nverdict: all inputs\n",
-    ),
+    Printed {
+        header: Header::Absent,
+        sections: [&[], &[Stated(&[], Holds)], &[], &[]],
+        explained: None,
+        exact: "",
+        rest: "proved:\nalways: holds\nunknown:\nverdict: all inputs\n",
+    },
     // Something ends by a rank.
-    (
-        Header::Stopped {
+    Printed {
+        header: Header::Stopped {
             cause: Stop::NotPlain,
         },
-        [
+        sections: [
             &[],
             &[],
             &[
-                (&[[1, 0, -1]], Ranked([0, 0, 1], [2, 0, 2])),
-                (&[[-1, 0, 0]], Ranked([0, 0, 1], [0, 0, 2])),
+                Stated(&[[1, 0, -1]], Ranked([0, 0, 1], [2, 0, 2])),
+                Stated(&[[-1, 0, 0]], Ranked([0, 0, 1], [0, 0, 2])),
             ],
             &[],
         ],
-        None,
-        "exact: not a plain program\n",
-        "proved:\nranked:\n-x >= 0: ends, rank w*(1) + 2\nx - 1 >= 0: ends, rank w*(1) + 2*x + 2\nunknown:\nverdict: all inputs\n",
-    ),
-    (
-        Header::Absent,
-        [&[], &[], &[], &[]],
-        Some((3, 1, &[8, 0])),
-        "",
-        "proved:\nunknown:\nexplain:\nlabels 3\nfamilies 1\nadviser 1 asked 8\nadviser 2 asked 0\nverdict: all inputs\n",
-    ),
+        explained: None,
+        exact: "exact: not a plain program\n",
+        rest: "proved:\nranked:\n-x >= 0: ends, rank w*(1) + 2\nx - 1 >= 0: ends, rank w*(1) + 2*x + 2\nunknown:\nverdict: all inputs\n",
+    },
+    Printed {
+        header: Header::Absent,
+        sections: [&[], &[], &[], &[]],
+        explained: Some((3, 1, &[8, 0])),
+        exact: "",
+        rest: "proved:\nunknown:\nexplain:\nlabels 3\nfamilies 1\nadviser 1 asked 8\nadviser 2 asked 0\nverdict: all inputs\n",
+    },
 ];
 
-/// The names `x` and `y`.
+const NAMES: &[&str] = &["x", "y"];
+
 fn names(alloc: Global) -> Result<Names, AllocError> {
     let mut list = Vec::new(alloc);
-    for name in [b"x".as_slice(), b"y"] {
-        list.push(name.to_vec(alloc)?)?;
+    for name in NAMES {
+        list.push(name.as_bytes().to_vec(alloc)?)?;
     }
     Ok(Names::of(list))
 }
@@ -510,13 +539,29 @@ fn joined(alloc: Global, front: &str, rest: &str) -> Result<Vec<u8>, AllocError>
     Ok(text)
 }
 
+/// The report has this text.
+fn prints(rt: &(impl Abort + AllocGlobal), printed: &Printed) -> Result<(), Fail> {
+    let report = report_of(
+        rt.alloc(),
+        printed.header,
+        printed.sections,
+        &printed.explained,
+    )?;
+    let text = text_of(rt.alloc(), &report)?;
+    let wanted = joined(rt.alloc(), printed.exact, printed.rest)?;
+    assert_eq!(rt;
+        text.as_slice(),
+        wanted.as_slice(),
+        "under {:?}",
+        printed.header
+    );
+    Ok(())
+}
+
 #[test]
 fn texts_of_reports(rt: HostRuntime) -> Result<(), Fail> {
-    for (header, sections, explained, exact, rest) in REPORTS {
-        let report = report_of(rt.alloc(), header, sections, &explained)?;
-        let text = text_of(rt.alloc(), &report)?;
-        let wanted = joined(rt.alloc(), exact, rest)?;
-        assert_eq!(rt; text.as_slice(), wanted.as_slice(), "under {header:?}");
+    for printed in REPORTS {
+        prints(&rt, printed)?;
     }
     Ok(())
 }

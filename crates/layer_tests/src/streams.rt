@@ -37,7 +37,7 @@ fn memory_source_fails_at_its_numbered_calls(rt: HostRuntime) -> Result<(), Fail
     use Got::{Bytes, End, Failed};
 
     let alloc = rt.alloc();
-    let rows: [(usize, &[u32], &[Got]); 4] = [
+    let rows: &[(usize, &[u32], &[Got])] = &[
         (3, &[], &[Bytes(3), Bytes(3), Bytes(1), End, End, End]),
         (8, &[], &[Bytes(7), End, End, End, End, End]),
         (
@@ -51,7 +51,7 @@ fn memory_source_fails_at_its_numbered_calls(rt: HostRuntime) -> Result<(), Fail
             &[Bytes(4), Bytes(3), End, Failed, End, Failed],
         ),
     ];
-    for (buffer_len, failing, wanted) in rows {
+    for &(buffer_len, failing, wanted) in rows {
         assert!(rt; buffer_len > 0);
         let bytes = b"bananas".to_vec(alloc)?;
         let mut source = MemorySource::new(bytes, failing.to_vec(alloc)?);
@@ -124,7 +124,7 @@ fn read_len<S: Source>(alloc: Global, source: &mut S) -> Result<Outcome, AllocEr
 #[test]
 fn programs_are_read_up_to_the_limit(rt: HostRuntime) -> Result<(), Fail> {
     let alloc = rt.alloc();
-    let rows: [(usize, &[u32], Outcome); 6] = [
+    let rows: &[(usize, &[u32], Outcome)] = &[
         (0, &[], Outcome::Length(0)),
         (300, &[], Outcome::Length(300)),
         (65_536, &[], Outcome::Length(65_536)),
@@ -132,7 +132,7 @@ fn programs_are_read_up_to_the_limit(rt: HostRuntime) -> Result<(), Fail> {
         (300, &[1], Outcome::Failed),
         (5_000, &[2], Outcome::Failed),
     ];
-    for (count, failing, wanted) in rows {
+    for &(count, failing, wanted) in rows {
         let bytes = vec![in alloc; b'x'; count]?;
         let mut source = MemorySource::new(bytes, failing.to_vec(alloc)?);
         assert_eq!(rt; read_len(alloc, &mut source)?, wanted, "{count} bytes");
@@ -143,8 +143,8 @@ fn programs_are_read_up_to_the_limit(rt: HostRuntime) -> Result<(), Fail> {
 #[test]
 fn programs_are_read_a_byte_a_call(rt: HostRuntime) -> Result<(), Fail> {
     let alloc = rt.alloc();
-    let rows: [(&[u32], Outcome); 2] = [(&[], Outcome::Length(7)), (&[8], Outcome::Failed)];
-    for (failing, wanted) in rows {
+    let rows: &[(&[u32], Outcome)] = &[(&[], Outcome::Length(7)), (&[8], Outcome::Failed)];
+    for &(failing, wanted) in rows {
         let bytes = b"bananas".to_vec(alloc)?;
         let mut source = Dripping(MemorySource::new(bytes, failing.to_vec(alloc)?));
         assert_eq!(rt; read_len(alloc, &mut source)?, wanted);
@@ -195,7 +195,7 @@ impl Write for Rough<&mut Vec<u8>> {
 #[test]
 fn stream_sources_fail_where_their_readers_do(rt: HostRuntime) -> Result<(), Fail> {
     let alloc = rt.alloc();
-    let rows: [(&[ErrorKind], Outcome); 4] = [
+    let rows: &[(&[ErrorKind], Outcome)] = &[
         (&[], Outcome::Length(7)),
         (
             &[ErrorKind::Interrupted, ErrorKind::Interrupted],
@@ -207,7 +207,7 @@ fn stream_sources_fail_where_their_readers_do(rt: HostRuntime) -> Result<(), Fai
             Outcome::Failed,
         ),
     ];
-    for (errors, wanted) in rows {
+    for &(errors, wanted) in rows {
         let inner: &[u8] = b"bananas";
         let mut source = StreamSource::new(Rough {
             errors,
@@ -229,13 +229,13 @@ fn stream_sources_fail_where_their_readers_do(rt: HostRuntime) -> Result<(), Fai
 
 #[test]
 fn stream_sinks_fail_where_their_writers_do(rt: HostRuntime) -> Result<(), Fail> {
-    let rows: [(&[ErrorKind], usize, bool); 4] = [
+    let rows: &[(&[ErrorKind], usize, bool)] = &[
         (&[], 3, true),
         (&[ErrorKind::Interrupted], 7, true),
         (&[ErrorKind::Other], 3, false),
         (&[], 0, false),
     ];
-    for (errors, most, wanted) in rows {
+    for &(errors, most, wanted) in rows {
         let mut taken = Vec::new(rt.alloc());
         let inner = &mut taken;
         let mut sink = StreamSink::new(Rough {
