@@ -42,15 +42,23 @@ fn family_of(
     let mut parts = Vec::new(alloc);
     match formula {
         Formula::True | Formula::False | Formula::Exit | Formula::NotExit | Formula::Holds(_) => {}
-        Formula::Not(part) => parts.push(family_of(alloc, inv, transitions, part)?)?,
-        Formula::Next { all: _, part } => parts.push(family_of(alloc, inv, transitions, part)?)?,
-        Formula::And(first, second) | Formula::Or(first, second) => {
+        Formula::Not(part) | Formula::Next { all: _, part } => {
+            parts.push(family_of(alloc, inv, transitions, part)?)?;
+        }
+        Formula::And(first, second)
+        | Formula::Or(first, second)
+        | Formula::Until {
+            all: _,
+            keep: first,
+            goal: second,
+        }
+        | Formula::Weak {
+            all: _,
+            keep: first,
+            goal: second,
+        } => {
             parts.push(family_of(alloc, inv, transitions, first)?)?;
             parts.push(family_of(alloc, inv, transitions, second)?)?;
-        }
-        Formula::Until { all: _, keep, goal } | Formula::Weak { all: _, keep, goal } => {
-            parts.push(family_of(alloc, inv, transitions, keep)?)?;
-            parts.push(family_of(alloc, inv, transitions, goal)?)?;
         }
     }
     let trees: TreeList<AffineRank> = proposed(alloc, inv, transitions, formula, &parts, DELAY)?;

@@ -31,6 +31,7 @@ use crate::programs::{graph_of, read_program};
 use case_text::{Answer, Words};
 use control_flow::Graph;
 use std::alloc::{AllocError, Global};
+use step_meaning::Program;
 
 /// Makes the call of that name on the items and writes its answer; false where none has the name.
 pub fn answers(
@@ -47,17 +48,26 @@ pub fn answers(
     match name {
         "graph" => graphs::push_graph(alloc, program, answer)?,
         "plain" => answer.push_yes_or_no(program.is_plain()),
-        _ => {
-            let Some(graph) = graph_of(alloc, program, words)? else {
-                return Ok(true);
-            };
-            return of_graph(alloc, name, words, &graph, answer);
-        }
+        _ => return of_program(alloc, name, words, program, answer),
     }
     Ok(true)
 }
 
-/// The same for the calls on a program with a graph.
+/// The same for the calls on a program that has a graph.
+fn of_program(
+    alloc: Global,
+    name: &str,
+    words: &mut Words<'_>,
+    program: Program,
+    answer: &mut Answer,
+) -> Result<bool, AllocError> {
+    match graph_of(alloc, program, words)? {
+        Some(graph) => of_graph(alloc, name, words, &graph, answer),
+        None => Ok(true),
+    }
+}
+
+/// The same for the calls on a graph.
 fn of_graph(
     alloc: Global,
     name: &str,
@@ -65,16 +75,17 @@ fn of_graph(
     graph: &Graph,
     answer: &mut Answer,
 ) -> Result<bool, AllocError> {
-    match name {
-        "edges" => graphs::push_edges(graph, answer),
-        "labels" => graphs::push_labels(graph, answer),
-        "candidate" => candidates::push_candidate(alloc, graph, words, answer)?,
-        "level" => levels::push_level(alloc, graph, words, answer)?,
-        "weight" => levels::push_weight(alloc, graph, words, answer)?,
-        "growth" => levels::push_growth(alloc, graph, words, answer)?,
-        "measures" => measures::push_measures(alloc, graph, words, answer)?,
+    let written = match name {
+        "edges" => Ok(graphs::push_edges(graph, answer)),
+        "labels" => Ok(graphs::push_labels(graph, answer)),
+        "candidate" => candidates::push_candidate(alloc, graph, words, answer),
+        "level" => levels::push_level(alloc, graph, words, answer),
+        "weight" => levels::push_weight(alloc, graph, words, answer),
+        "growth" => levels::push_growth(alloc, graph, words, answer),
+        "measures" => measures::push_measures(alloc, graph, words, answer),
         _ => return of_sets(alloc, name, words, graph.program().vars(), graph, answer),
-    }
+    };
+    written?;
     Ok(true)
 }
 
@@ -87,15 +98,16 @@ fn of_sets(
     graph: &Graph,
     answer: &mut Answer,
 ) -> Result<bool, AllocError> {
-    match name {
-        "boxes" => invariants::push_boxes(alloc, variables, graph, words, answer)?,
-        "unreached" => invariants::push_unreached(alloc, graph, answer)?,
-        "kept" => invariants::push_kept(alloc, variables, graph, words, answer)?,
-        "swept" => loops::push_swept(alloc, graph, words, answer)?,
-        "proposed" => formulas::push_proposed(alloc, graph, words, answer)?,
-        "facts" => loops::push_facts(alloc, variables, graph, answer)?,
-        "proposal" => loops::push_proposal(alloc, variables, graph, words, answer)?,
+    let written = match name {
+        "boxes" => invariants::push_boxes(alloc, variables, graph, words, answer),
+        "unreached" => invariants::push_unreached(alloc, graph, answer),
+        "kept" => invariants::push_kept(alloc, variables, graph, words, answer),
+        "swept" => loops::push_swept(alloc, graph, words, answer),
+        "proposed" => formulas::push_proposed(alloc, graph, words, answer),
+        "facts" => loops::push_facts(alloc, variables, graph, answer),
+        "proposal" => loops::push_proposal(alloc, variables, graph, words, answer),
         _ => return Ok(false),
-    }
+    };
+    written?;
     Ok(true)
 }
