@@ -6,7 +6,7 @@ use std::test::Fail;
 
 /// Calls and their answers. SIDE stands for `yes` and for `no`, LONGEST for the longest line in a tree of at most 65,536 nodes, with a leaf at its end, which
 /// are 32,767 rows and 32,768 leaves, and LONGER for a line of one row more.
-const DOWN_EITHER_SIDE: [(&str, &str); 32] = [
+const DOWN_EITHER_SIDE: &[(&str, &str)] = &[
     // The longest lines of a tree of at most 65,536 nodes, and a row more.
     (
         "trim always in LONGEST then nothing is LONGEST then nothing",
@@ -112,7 +112,7 @@ const DOWN_EITHER_SIDE: [(&str, &str); 32] = [
 ];
 
 /// Calls on lines down one side, and their answers.
-const DOWN_ONE_SIDE: [(&str, &str); 15] = [
+const DOWN_ONE_SIDE: &[(&str, &str)] = &[
     // Down the yes sides all rows hold at 32,768, and the last has no claim behind it; none holds at 0. Down the no sides the first row holds at 32,768, none at 0.
     (
         "assign x = 32768 before line yes 32768 x - k >= 0 beside end k then nothing",
@@ -182,7 +182,7 @@ const DOWN_ONE_SIDE: [(&str, &str); 15] = [
 
 /// What the check of a family gives up first, which has a line at the end of a program of two steps. A store is at each leaf of the line, whose own leaves
 /// stand, since the program has ended there. The rank 0 of each is less than 1.
-const CHECKED: [(&str, &str); 6] = [
+const CHECKED: &[(&str, &str)] = &[
     (
         "first all true until exit over int x; ; ; with all atom 0 with at 0 end 0 claims at 0 line yes 32767 x - k + 32767 >= 0 beside end 0 then end 0 at 1 step 2 at 2 step 1",
         "nothing is given up",
@@ -247,29 +247,40 @@ fn down(alloc: Global, call: &str, side: &str) -> Result<String, Fail> {
     Ok(call.as_str().replace(alloc, "SIDE", side)?)
 }
 
+/// Each of the calls has its answer.
+fn all_stand(rt: &(impl Abort + AllocGlobal), calls: &[(&str, &str)]) -> Result<(), Fail> {
+    for (call, wanted) in calls {
+        stands(rt, call, wanted)?;
+    }
+    Ok(())
+}
+
+/// The call answers this with its lines down this side.
+fn stands_down(
+    rt: &(impl Abort + AllocGlobal),
+    call: &str,
+    side: &str,
+    wanted: &str,
+) -> Result<(), Fail> {
+    let call = down(rt.alloc(), call, side)?;
+    stands(rt, call.as_str(), wanted)
+}
+
 #[test]
 fn lines_down_either_side(rt: HostRuntime) -> Result<(), Fail> {
     for (call, wanted) in DOWN_EITHER_SIDE {
-        for side in ["yes", "no"] {
-            let call = down(rt.alloc(), call, side)?;
-            stands(&rt, call.as_str(), wanted)?;
-        }
+        stands_down(&rt, call, "yes", wanted)?;
+        stands_down(&rt, call, "no", wanted)?;
     }
     Ok(())
 }
 
 #[test]
 fn lines_down_one_side(rt: HostRuntime) -> Result<(), Fail> {
-    for (call, wanted) in DOWN_ONE_SIDE {
-        stands(&rt, call, wanted)?;
-    }
-    Ok(())
+    all_stand(&rt, DOWN_ONE_SIDE)
 }
 
 #[test]
 fn lines_that_are_checked(rt: HostRuntime) -> Result<(), Fail> {
-    for (call, wanted) in CHECKED {
-        stands(&rt, call, wanted)?;
-    }
-    Ok(())
+    all_stand(&rt, CHECKED)
 }
