@@ -67,9 +67,14 @@ impl Stand {
     /// The same, one step on at the label.
     fn next(&self, alloc: Global, to: u32) -> Result<Stand, AllocError> {
         let mut next = self.twin(alloc)?;
-        next.at = to;
-        next.steps = self.steps.saturating_add(1);
+        next.step_to(to);
         Ok(next)
+    }
+
+    /// Goes one step on to the label.
+    fn step_to(&mut self, to: u32) {
+        self.at = to;
+        self.steps = self.steps.saturating_add(1);
     }
 }
 
@@ -183,65 +188,88 @@ impl<'a> Question<'a> {
         stand: Stand,
         paths: &mut Paths,
     ) -> Result<(), Stop> {
-        let alloc = search.alloc;
         let Some(transition) = self.transitions.get(stand.at as usize) else {
             return Ok(());
         };
         match transition {
             Transition::End => paths.end(rows, stand, self.at_end()),
             Transition::Dead => Ok(()),
-            Transition::Pass { to } => {
-                let stand = stand.next(alloc, *to)?;
-                paths.go_on(rows, stand)
-            }
+            Transition::Pass { to } => pass(rows, stand, *to, paths),
             Transition::Assign { place, value, to } => {
-                let value = through(value, &stand.after)?;
-                let mut stand = stand.next(alloc, *to)?;
-                put(&mut stand.after, place.number, value);
-                paths.go_on(rows, stand)
+                assign(rows, stand, place.number, value, *to, paths)
+            }
+            Transition::Choose {
+                place,
+                cases,
+                to,
+                ..
+            } if have_rows(cases) => {
+                choose_cases(search, &rows, &stand, place.number, cases, *to, paths)
             }
             Transition::Choose {
                 place,
                 range,
                 choice,
-                cases,
                 to,
-            } => {
-                if have_rows(cases) {
-                    return choose_cases(search, &rows, &stand, place.number, cases, *to, paths);
-                }
-                let mut rows = rows;
-                let mut stand = stand.next(alloc, *to)?;
-                let chosen = match self.picked_end(*choice) {
-                    Some(end) => Affine::constant(i128::from(end)),
-                    None => {
-                        if has_no_bound(*choice) {
-                            stand.jumps = stand.jumps.saturating_add(1);
-                        }
-                        choose(&mut rows, &mut stand, range)?
-                    }
-                };
-                put(&mut stand.after, place.number, chosen);
-                paths.go_on(rows, stand)
-            }
-            Transition::Test {
-                is_head: _,
-                choice,
-                holds,
-                fails,
-                yes,
-                no,
-            } => {
-                let picked = self.picked_outcome(*choice);
-                if picked != Some(false) {
-                    branch(search, &rows, &stand, holds, *yes, paths)?;
-                }
-                if picked != Some(true) {
-                    branch(search, &rows, &stand, fails, *no, paths)?;
-                }
-                Ok(())
-            }
+                ..
+            } => self.choose_one(rows, stand, place.number, range, *choice, *to, paths),
+            Transition::Test { .. } => self.test(search, &rows, &stand, transition, paths),
         }
+    }
+
+    /// Makes the path one step longer over the choice of a number of the range.
+    fn choose_one(
+        &self,
+        mut rows: Vec<Row>,
+        mut stand: Stand,
+        place: u8,
+        range: &Linear,
+        choice: Choice,
+        to: u32,
+        paths: &mut Paths,
+    ) -> Result<(), Stop> {
+        stand.step_to(to);
+        let chosen = match self.picked_end(choice) {
+            Some(end) => Affine::constant(i128::from(end)),
+            None => {
+                if has_no_bound(choice) {
+                    stand.jumps = stand.jumps.saturating_add(1);
+                }
+                choose(&mut rows, &mut stand, 1, range)?
+            }
+        };
+        put(&mut stand.after, place, chosen);
+        paths.go_on(rows, stand)
+    }
+
+    /// Opens the paths behind the outcomes of a test, or behind the one that is picked.
+    fn test(
+        &self,
+        search: &mut Search,
+        rows: &[Row],
+        stand: &Stand,
+        transition: &Transition,
+        paths: &mut Paths,
+    ) -> Result<(), Stop> {
+        let Transition::Test {
+            is_head: _,
+            choice,
+            holds,
+            fails,
+            yes,
+            no,
+        } = transition
+        else {
+            return Ok(());
+        };
+        let picked = self.picked_outcome(*choice);
+        if picked != Some(false) {
+            branch(search, rows, stand, holds, *yes, paths)?;
+        }
+        if picked != Some(true) {
+            branch(search, rows, stand, fails, *no, paths)?;
+        }
+        Ok(())
     }
 
     /// What the end of the program is, where the goal doesn't hold and what is to be kept does.
@@ -252,6 +280,27 @@ impl<'a> Question<'a> {
             Target::Fault
         }
     }
+}
+
+/// Makes the path one step longer where nothing is done.
+fn pass(rows: Vec<Row>, mut stand: Stand, to: u32, paths: &mut Paths) -> Result<(), Stop> {
+    stand.step_to(to);
+    paths.go_on(rows, stand)
+}
+
+/// Makes the path one step longer over the assignment of the function.
+fn assign(
+    rows: Vec<Row>,
+    mut stand: Stand,
+    place: u8,
+    value: &Affine,
+    to: u32,
+    paths: &mut Paths,
+) -> Result<(), Stop> {
+    let value = through(value, &stand.after)?;
+    stand.step_to(to);
+    put(&mut stand.after, place, value);
+    paths.go_on(rows, stand)
 }
 
 /// Opens the paths behind an outcome of a test.
@@ -376,38 +425,41 @@ fn choose_cases(
 
 /// The value of the case: that of its function, or a number at the next free place with the rows that it meets.
 fn choose_case(rows: &mut Vec<Row>, stand: &mut Stand, value: &Value) -> Result<Affine, Stop> {
-    if let Some(function) = value.function() {
-        return Ok(through(function, &stand.after)?);
+    match value.function() {
+        Some(function) => Ok(through(function, &stand.after)?),
+        None => choose(rows, stand, value.times, &value.form),
     }
+}
+
+/// A number at the next free place, with the rows by which so many times it lies between the ends of the form.
+fn choose(
+    rows: &mut Vec<Row>,
+    stand: &mut Stand,
+    times: i128,
+    form: &Linear,
+) -> Result<Affine, Stop> {
     if stand.free as usize >= PLACES {
         return Err(Stop::GivenUp);
     }
     let chosen = Affine::var(stand.free);
-    let more = chosen.scale(value.times)?;
-    let end = through(&value.form.affine, &stand.after)?;
-    if let Some(lo) = value.form.lo {
-        add(rows, &more.sub(&end.plus(lo)?)?)?;
-    }
-    if let Some(hi) = value.form.hi {
-        add(rows, &end.plus(hi)?.sub(&more)?)?;
-    }
+    let value = through(&form.affine, &stand.after)?;
+    add_between(rows, &chosen.scale(times)?, &value, form)?;
     stand.free = stand.free.saturating_add(1);
     Ok(chosen)
 }
 
-/// A number of the range, at the next free place, with the rows that it meets.
-fn choose(rows: &mut Vec<Row>, stand: &mut Stand, range: &Linear) -> Result<Affine, Stop> {
-    if stand.free as usize >= PLACES {
-        return Err(Stop::GivenUp);
+/// Adds the rows by which the function lies between the ends of the form, whose function is the value behind the path.
+fn add_between(
+    rows: &mut Vec<Row>,
+    function: &Affine,
+    value: &Affine,
+    form: &Linear,
+) -> Result<(), Stop> {
+    if let Some(lo) = form.lo {
+        add(rows, &function.sub(&value.plus(lo)?)?)?;
     }
-    let chosen = Affine::var(stand.free);
-    let value = through(&range.affine, &stand.after)?;
-    if let Some(lo) = range.lo {
-        add(rows, &chosen.sub(&value.plus(lo)?)?)?;
+    if let Some(hi) = form.hi {
+        add(rows, &value.plus(hi)?.sub(function)?)?;
     }
-    if let Some(hi) = range.hi {
-        add(rows, &value.plus(hi)?.sub(&chosen)?)?;
-    }
-    stand.free = stand.free.saturating_add(1);
-    Ok(chosen)
+    Ok(())
 }
