@@ -9,6 +9,7 @@ use std::alloc::{AllocError, Global};
 use step_meaning::Expr;
 
 /// The expression where the variables stand from the place `base` on. The only error is want of memory.
+#[cycle(moving)]
 pub fn moved(alloc: Global, expr: &Expr, base: u8) -> Result<Expr, AllocError>
     requires names { NamesBelow 16 (expression expr.now) }
     requires room { base ≤ 15 }
@@ -22,24 +23,24 @@ pub fn moved(alloc: Global, expr: &Expr, base: u8) -> Result<Expr, AllocError>
         Expr::True => Ok(Expr::True),
         Expr::False => Ok(Expr::False),
         Expr::Quot { of, by } => {
-            let inner = Box::new(alloc, moved(alloc, of, base)?)?;
+            let inner = boxed(alloc, of, base)?;
             Ok(Expr::Quot { of: inner, by: *by })
         }
         Expr::Rem { of, by } => {
-            let inner = Box::new(alloc, moved(alloc, of, base)?)?;
+            let inner = boxed(alloc, of, base)?;
             Ok(Expr::Rem { of: inner, by: *by })
         }
         Expr::Neg(operand) => {
-            let inner = Box::new(alloc, moved(alloc, operand, base)?)?;
+            let inner = boxed(alloc, operand, base)?;
             Ok(Expr::Neg(inner))
         }
         Expr::Not(operand) => {
-            let inner = Box::new(alloc, moved(alloc, operand, base)?)?;
+            let inner = boxed(alloc, operand, base)?;
             Ok(Expr::Not(inner))
         }
         Expr::Pair { op, left, right } => {
-            let first = Box::new(alloc, moved(alloc, left, base)?)?;
-            let second = Box::new(alloc, moved(alloc, right, base)?)?;
+            let first = boxed(alloc, left, base)?;
+            let second = boxed(alloc, right, base)?;
             Ok(Expr::Pair {
                 op: *op,
                 left: first,
@@ -47,4 +48,16 @@ pub fn moved(alloc: Global, expr: &Expr, base: u8) -> Result<Expr, AllocError>
             })
         }
     }
+}
+
+/// The same in a box.
+#[cycle(moving)]
+fn boxed(alloc: Global, expr: &Expr, base: u8) -> Result<Box<Expr>, AllocError>
+    requires names { NamesBelow 16 (expression expr.now) }
+    requires room { base ≤ 15 }
+    ensures { IfOk result (λ made. expression made.value ≡ moved base (expression expr.now)) }
+{
+    let inner = moved(alloc, expr, base)?;
+    let inner = Box::new(alloc, inner)?;
+    Ok(inner)
 }
