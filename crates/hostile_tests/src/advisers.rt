@@ -1,12 +1,15 @@
 //! Advisers whose hints say nothing, or are false, or are refuted by points with fractions alone.
 ghost use Rattle.std.specs.Prelude.{◌≡◌, ◌≤◌, ◌^◌, All, IsTrue};
 
+use crate::endings::ends_with;
 use advice::{Adviser, Hint, LoopFact};
 use function_top::Status;
 use linear_cons::{Affine, Row, RowKind};
 use memory_runs::{
     COUNT_UP, COUNT_UP_REPORT, COUNTDOWN, NO_OPTIONS, TWO_SPEEDS, outcome_by, unadvised,
 };
+use std::alloc::{AllocError, Global};
+use std::process::Abort;
 use std::test::Fail;
 
 // Hints in each turn that the loop at the label makes so many turns, and one more than in the turn before where it rises.
@@ -56,7 +59,7 @@ fn steady(label: u32, turns: Affine) -> Hinting
 }
 
 // Each has the test of a loop at label 1.
-const LOOPS: [&str; 4] = [
+const LOOPS: &[&str] = &[
     COUNTDOWN,
     TWO_SPEEDS,
     "int main() { int x; while (x != 0) x = x - 1; }",
@@ -71,14 +74,18 @@ fn hints_that_say_nothing_change_nothing(rt: HostRuntime) -> Result<(), Fail> {
     let alloc = rt.alloc();
     for text in LOOPS {
         let (status, written) = unadvised(alloc, ONE_SWEEP, text.as_bytes())?;
-        let mut advisers: Vec<Box<dyn Adviser>> = Vec::with_capacity(alloc, 2)?;
-        advisers.push(Box::new(alloc, steady(1, Affine::constant(0)))?)?;
-        advisers.push(Box::new(alloc, steady(1, Affine::constant(0)))?)?;
-        let (found, report) = outcome_by(alloc, ONE_SWEEP, text.as_bytes(), &mut advisers)?;
-        assert_eq!(rt; report.as_slice(), written.as_slice(), "on {text}");
-        assert_eq!(rt; found, status, "on {text}");
+        let outcome = with_two(alloc, ONE_SWEEP, text)?;
+        ends_with(&rt, &outcome, status, &written, text);
     }
     Ok(())
+}
+
+// What comes of a text with two advisers who say nothing.
+fn with_two(alloc: Global, words: &[&str], text: &str) -> Result<(Status, Vec<u8>), AllocError> {
+    let mut advisers: Vec<Box<dyn Adviser>> = Vec::with_capacity(alloc, 2)?;
+    advisers.push(Box::new(alloc, steady(1, Affine::constant(0)))?)?;
+    advisers.push(Box::new(alloc, steady(1, Affine::constant(0)))?)?;
+    outcome_by(alloc, words, text.as_bytes(), &mut advisers)
 }
 
 #[test]
@@ -99,14 +106,19 @@ fn how_often_an_adviser_was_asked_is_told(rt: HostRuntime) -> Result<(), Fail> {
 
 #[test]
 fn nobody_need_advise(rt: HostRuntime) -> Result<(), Fail> {
-    let (status, written) = unadvised(rt.alloc(), NO_OPTIONS, COUNT_UP.as_bytes())?;
-    assert_eq!(rt; written.as_slice(), COUNT_UP_REPORT.as_bytes());
-    assert_eq!(rt; status, Status::SomeInputs);
+    let outcome = unadvised(rt.alloc(), NO_OPTIONS, COUNT_UP.as_bytes())?;
+    ends_with(
+        &rt,
+        &outcome,
+        Status::SomeInputs,
+        COUNT_UP_REPORT.as_bytes(),
+        COUNT_UP,
+    );
     Ok(())
 }
 
 /// Loops whose first branch no store takes, though points with fractions do: by a parity, and by Pugh's example ("The Omega test", 1991).
-const BRANCHES_NOT_TAKEN: [&str; 2] = [
+const BRANCHES_NOT_TAKEN: &[&str] = &[
     "int main() { int x, y, z; while (x > 0) { if (x <= 3 && y == 2*x && y == 2*z + 1) x = x + 1; else x = x - 1; } }",
     "int main() { int x, y; while (x > 0) { if (11*x + 13*y >= 27 && 11*x + 13*y <= 45 && 7*x - 9*y >= -10 && 7*x - 9*y <= 4) x = x + 1; else x = x - 1; } }",
 ];
@@ -141,37 +153,86 @@ fn at_least_one() -> Option<Row> {
     }
 }
 
-/// Hints of a label and of turns, where these are so many times x and a constant: on the loop that there is that it makes no turns, or one; on a loop
-/// that there isn't; turns of which no bound of steps can be made; and turns below 0 everywhere.
-const LIES: [(u32, i128, i128); 6] = [
-    (1, 0, 0),
-    (1, 0, 1),
-    (4_000_000_000, 0, 0),
-    (1, i128::MAX, 0),
-    (1, i128::MIN, i128::MIN),
-    (1, 0, -1),
+/// What is hinted of a label: turns, as so many times x and a constant.
+struct Lie {
+    told: &'static str,
+    label: u32,
+    coefficient: i128,
+    constant: i128,
+}
+
+const LIES: &[Lie] = &[
+    Lie {
+        told: "no turns",
+        label: 1,
+        coefficient: 0,
+        constant: 0,
+    },
+    Lie {
+        told: "one turn",
+        label: 1,
+        coefficient: 0,
+        constant: 1,
+    },
+    Lie {
+        told: "a loop that there isn't",
+        label: 4_000_000_000,
+        coefficient: 0,
+        constant: 0,
+    },
+    Lie {
+        told: "turns of which no bound of steps can be made",
+        label: 1,
+        coefficient: i128::MAX,
+        constant: 0,
+    },
+    Lie {
+        told: "the least numbers there are",
+        label: 1,
+        coefficient: i128::MIN,
+        constant: i128::MIN,
+    },
+    Lie {
+        told: "turns below 0 everywhere",
+        label: 1,
+        coefficient: 0,
+        constant: -1,
+    },
 ];
 
 // One adviser alone is asked in each turn, as long as an input has no claim.
 #[test]
 fn a_lie_is_not_believed(rt: HostRuntime) -> Result<(), Fail> {
-    let alloc = rt.alloc();
-    for (label, coefficient, constant) in LIES {
-        let mut turns = Affine::constant(constant);
-        turns.coef[0] = coefficient;
-        let mut advisers: Vec<Box<dyn Adviser>> = Vec::with_capacity(alloc, 1)?;
-        advisers.push(Box::new(alloc, steady(label, turns))?)?;
-        let (status, written) = outcome_by(alloc, NO_OPTIONS, COUNT_UP.as_bytes(), &mut advisers)?;
-        assert_eq!(rt;
-            written.as_slice(),
-            COUNT_UP_REPORT.as_bytes(),
-            "at {label} {turns:?}"
-        );
-        assert_eq!(rt; status, Status::SomeInputs, "at {label} {turns:?}");
-        assert_eq!(rt; advisers.len(), 1);
-        for adviser in &advisers {
-            assert_eq!(rt; adviser.asked(), 8, "at {label} {turns:?}");
-        }
+    for lie in LIES {
+        let mut turns = Affine::constant(lie.constant);
+        turns.coef[0] = lie.coefficient;
+        let mut advisers: Vec<Box<dyn Adviser>> = Vec::with_capacity(rt.alloc(), 1)?;
+        advisers.push(Box::new(rt.alloc(), steady(lie.label, turns))?)?;
+        are_not_believed(&rt, &mut advisers, lie.told)?;
+    }
+    Ok(())
+}
+
+// The advisers change nothing on the loop without an end, and each is asked eight times.
+fn are_not_believed(
+    rt: &(impl Abort + AllocGlobal),
+    advisers: &mut Vec<Box<dyn Adviser>>,
+    told: &str,
+) -> Result<(), AllocError>
+    requires { All (λ adviser. asked_of adviser ≤ 2 ^ 32) advisers.old.items }
+{
+    let count = advisers.len();
+    let outcome = outcome_by(rt.alloc(), NO_OPTIONS, COUNT_UP.as_bytes(), advisers)?;
+    ends_with(
+        rt,
+        &outcome,
+        Status::SomeInputs,
+        COUNT_UP_REPORT.as_bytes(),
+        told,
+    );
+    assert_eq!(rt; advisers.len(), count, "{told}");
+    for adviser in advisers.iter() {
+        assert_eq!(rt; adviser.asked(), 8, "{told}");
     }
     Ok(())
 }
@@ -187,13 +248,8 @@ fn a_hundred_lies_are_not_believed(rt: HostRuntime) -> Result<(), Fail> {
         advisers.push(Box::new(alloc, adviser)?)?;
     }
     assert!(rt; were_asked_little(&advisers));
-    let (status, written) = outcome_by(alloc, NO_OPTIONS, COUNT_UP.as_bytes(), &mut advisers)?;
-    assert_eq!(rt; written.as_slice(), COUNT_UP_REPORT.as_bytes());
-    assert_eq!(rt; status, Status::SomeInputs);
     assert_eq!(rt; advisers.len(), 100);
-    for adviser in &advisers {
-        assert_eq!(rt; adviser.asked(), 8);
-    }
+    are_not_believed(&rt, &mut advisers, "a hundred lies")?;
     Ok(())
 }
 

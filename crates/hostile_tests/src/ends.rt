@@ -2,12 +2,14 @@
 
 ghost use Rattle.std.specs.Prelude.{None};
 
+use crate::endings::ends_with;
 use function_top::Status;
 use memory_runs::{
     COUNTDOWN, COUNTDOWN_REPORT, EMPTY, EMPTY_REPORT, NO_OPTIONS, outcome, outcome_within,
 };
 use outside::{Got, MemorySource, Source};
 use std::alloc::{AllocError, Global};
+use std::process::Abort;
 use std::test::Fail;
 
 /// What is written for words that are refused.
@@ -76,15 +78,17 @@ fn counted(alloc: Global, text: &str, failing: &[u32]) -> Result<Counting, Alloc
     })
 }
 
+/// Texts and their reports.
+const DRIPPED: &[(&str, &str)] = &[(EMPTY, EMPTY_REPORT), (COUNTDOWN, COUNTDOWN_REPORT)];
+
 #[test]
 fn a_source_may_drip(rt: HostRuntime) -> Result<(), Fail> {
     let alloc = rt.alloc();
-    for (text, report) in [(EMPTY, EMPTY_REPORT), (COUNTDOWN, COUNTDOWN_REPORT)] {
+    for &(text, report) in DRIPPED {
         let bytes = text.as_bytes().to_vec(alloc)?;
         let mut source = Dripping(MemorySource::new(bytes, Vec::new(alloc)));
-        let (status, written) = outcome(alloc, NO_OPTIONS, &mut source)?;
-        assert_eq!(rt; status, Status::AllInputs, "on {text}");
-        assert_eq!(rt; written.as_slice(), report.as_bytes(), "on {text}");
+        let outcome = outcome(alloc, NO_OPTIONS, &mut source)?;
+        ends_with(&rt, &outcome, Status::AllInputs, report.as_bytes(), text);
     }
     Ok(())
 }
@@ -94,12 +98,13 @@ fn a_source_may_drip(rt: HostRuntime) -> Result<(), Fail> {
 fn a_source_may_never_end(rt: HostRuntime) -> Result<(), Fail> {
     for byte in *b"; x" {
         let mut source = Endless { byte, given: 0 };
-        let (status, written) = outcome(rt.alloc(), NO_OPTIONS, &mut source)?;
-        assert_eq!(rt; status, Status::Program, "of {byte}");
-        assert_eq!(rt;
-            written.as_slice(),
-            b"program: 14 at 65536\n".as_slice(),
-            "of {byte}"
+        let outcome = outcome(rt.alloc(), NO_OPTIONS, &mut source)?;
+        ends_with(
+            &rt,
+            &outcome,
+            Status::Program,
+            b"program: 14 at 65536\n",
+            "bytes without end",
         );
         assert_eq!(rt; source.given, 65_537, "of {byte}");
     }
@@ -112,9 +117,8 @@ fn reading_stops_at_the_first_failed_read(rt: HostRuntime) -> Result<(), Fail> {
     let alloc = rt.alloc();
     for failing in [1u32, 2] {
         let mut source = counted(alloc, EMPTY, &[failing])?;
-        let (status, written) = outcome(alloc, NO_OPTIONS, &mut source)?;
-        assert_eq!(rt; status, Status::ReadFault, "at the read {failing}");
-        assert_eq!(rt; written.len(), 0, "at the read {failing}");
+        let outcome = outcome(alloc, NO_OPTIONS, &mut source)?;
+        ends_with(&rt, &outcome, Status::ReadFault, b"", "a read that fails");
         assert_eq!(rt; source.calls, failing);
     }
     Ok(())
@@ -125,82 +129,94 @@ fn reading_stops_at_the_first_failed_read(rt: HostRuntime) -> Result<(), Fail> {
 fn nothing_is_read_for_words_that_are_refused(rt: HostRuntime) -> Result<(), Fail> {
     let alloc = rt.alloc();
     let mut source = counted(alloc, EMPTY, &[1])?;
-    let (status, written) = outcome(alloc, &["function", "--help"], &mut source)?;
-    assert_eq!(rt; status, Status::Words);
-    assert_eq!(rt; written.as_slice(), USAGE.as_bytes());
+    let outcome = outcome(alloc, &["function", "--help"], &mut source)?;
+    ends_with(&rt, &outcome, Status::Words, USAGE.as_bytes(), "--help");
     assert_eq!(rt; source.calls, 0);
     Ok(())
 }
 
-/// Words and a text, the status where there is room for all that is written, what that is, and the status where there isn't. A refusal stays one.
-type Written = (
-    &'static [&'static str],
-    &'static str,
-    Status,
-    &'static str,
-    Status,
-);
+/// Words and a text, and what comes of them.
+struct Written {
+    words: &'static [&'static str],
+    text: &'static str,
+    /// The status where there is room for all that is written.
+    whole: Status,
+    bytes: &'static str,
+    /// The status where there isn't. A refusal stays one.
+    cut: Status,
+}
 
-const WRITTEN: [Written; 5] = [
-    (
-        NO_OPTIONS,
-        EMPTY,
-        Status::AllInputs,
-        EMPTY_REPORT,
-        Status::WriteFault,
-    ),
-    (
-        NO_OPTIONS,
-        COUNTDOWN,
-        Status::AllInputs,
-        COUNTDOWN_REPORT,
-        Status::WriteFault,
-    ),
-    (
-        &["function", "--help"],
-        EMPTY,
-        Status::Words,
-        USAGE,
-        Status::Words,
-    ),
-    (
-        NO_OPTIONS,
-        "",
-        Status::Program,
-        "program: 4 at 0\n",
-        Status::Program,
-    ),
-    (
-        &["function", "--ctl", ""],
-        EMPTY,
-        Status::Formula,
-        "formula: 4 at 0\n",
-        Status::Formula,
-    ),
+const WRITTEN: &[Written] = &[
+    Written {
+        words: NO_OPTIONS,
+        text: EMPTY,
+        whole: Status::AllInputs,
+        bytes: EMPTY_REPORT,
+        cut: Status::WriteFault,
+    },
+    Written {
+        words: NO_OPTIONS,
+        text: COUNTDOWN,
+        whole: Status::AllInputs,
+        bytes: COUNTDOWN_REPORT,
+        cut: Status::WriteFault,
+    },
+    Written {
+        words: &["function", "--help"],
+        text: EMPTY,
+        whole: Status::Words,
+        bytes: USAGE,
+        cut: Status::Words,
+    },
+    Written {
+        words: NO_OPTIONS,
+        text: "",
+        whole: Status::Program,
+        bytes: "program: 4 at 0\n",
+        cut: Status::Program,
+    },
+    Written {
+        words: &["function", "--ctl", ""],
+        text: EMPTY,
+        whole: Status::Formula,
+        bytes: "formula: 4 at 0\n",
+        cut: Status::Formula,
+    },
 ];
 
 // Every room below the length of what is to be written, that very room, and some more.
 #[test]
 fn a_sink_takes_what_it_has_room_for(rt: HostRuntime) -> Result<(), Fail> {
-    let alloc = rt.alloc();
-    for (words, text, whole, bytes, cut) in WRITTEN {
-        assert!(rt; bytes.len() < 200, "more rooms than are tried for {text}");
+    for written in WRITTEN {
+        let text = written.text;
+        assert!(rt;
+            written.bytes.len() < 200,
+            "more rooms than are tried for {text}"
+        );
         for room in 0u32..=200 {
-            let mut source = MemorySource::new(text.as_bytes().to_vec(alloc)?, Vec::new(alloc));
-            let (status, taken) = outcome_within(alloc, words, &mut source, room)?;
-            let fits = bytes.len() <= room as usize;
-            let wanted = if fits { whole } else { cut };
-            assert_eq!(rt; status, wanted, "{words:?} on {text} with room for {room}");
-            assert!(rt;
-                bytes.as_bytes().starts_with(taken.as_slice()),
-                "{words:?} on {text} with room for {room}"
-            );
-            assert_eq!(rt;
-                taken.len(),
-                bytes.len().min(room as usize),
-                "{words:?} on {text} with room for {room}"
-            );
+            takes_within(&rt, written, room)?;
         }
     }
+    Ok(())
+}
+
+// With a sink that has so much room.
+fn takes_within(
+    rt: &(impl Abort + AllocGlobal),
+    written: &Written,
+    room: u32,
+) -> Result<(), AllocError> {
+    let alloc = rt.alloc();
+    let bytes = written.bytes.as_bytes();
+    let taken = &bytes[..bytes.len().min(room as usize)];
+    let wanted = if taken.len() == bytes.len() {
+        written.whole
+    } else {
+        written.cut
+    };
+    let text = written.text.as_bytes().to_vec(alloc)?;
+    let mut source = MemorySource::new(text, Vec::new(alloc));
+    let outcome = outcome_within(alloc, written.words, &mut source, room)?;
+    ends_with(rt, &outcome, wanted, taken, written.text);
     Ok(())
 }

@@ -7,6 +7,8 @@
 #[cfg(test)]
 mod advisers;
 #[cfg(test)]
+mod endings;
+#[cfg(test)]
 mod ends;
 #[cfg(test)]
 mod faults;
