@@ -91,10 +91,12 @@ fn scope(alloc: Global) -> Result<Scope, AllocError> {
 }
 
 /// The names of the variables.
+const NAMES: &[&str] = &["x", "y", "z"];
+
 fn names(alloc: Global) -> Result<Names, AllocError> {
     let mut list = Vec::new(alloc);
-    for name in [b"x".as_slice(), b"y", b"z"] {
-        list.push(name.to_vec(alloc)?)?;
+    for name in NAMES {
+        list.push(name.as_bytes().to_vec(alloc)?)?;
     }
     Ok(Names::of(list))
 }

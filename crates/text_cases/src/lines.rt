@@ -29,11 +29,12 @@ pub fn answers(
     Ok(true)
 }
 
-/// The names `x`, `y` and `always`.
+const NAMES: &[&str] = &["x", "y", "always"];
+
 fn names(alloc: Global) -> Result<Names, AllocError> {
     let mut list = Vec::new(alloc);
-    for name in [b"x".as_slice(), b"y", b"always"] {
-        list.push(name.to_vec(alloc)?)?;
+    for name in NAMES {
+        list.push(name.as_bytes().to_vec(alloc)?)?;
     }
     Ok(Names::of(list))
 }
