@@ -1,4 +1,5 @@
 //! Cells of the stores at the heads of loops, and the links between them.
+use crate::meeting::met;
 use crate::synthesis::Synthesis;
 use linear_cons::{Affine, Row};
 use loop_moves::{Head, Move, Search, Stop, Target, add_through, unless_given_up};
@@ -83,11 +84,12 @@ impl Synthesis {
         cells: &mut Vec<Cell>,
         head: usize,
     ) -> Result<(), AllocError> {
+        let ahead = self.ahead(search, cells, head)?;
         let mut count = 0usize;
         for index in 0..cells.len() {
             if cells[index].head == head {
                 let links = if count < MOST_LINKS {
-                    unless_given_up(self.links(search, cells, index))?
+                    unless_given_up(self.links(search, cells, index, &ahead))?
                 } else {
                     None
                 };
@@ -102,8 +104,63 @@ impl Synthesis {
         Ok(())
     }
 
-    /// The links of the cell.
-    fn links(&self, search: &mut Search, cells: &[Cell], index: usize) -> Result<Vec<Link>, Stop> {
+    /// For each move of the head the cells to which it may lead.
+    fn ahead(
+        &self,
+        search: &Search,
+        cells: &[Cell],
+        head: usize,
+    ) -> Result<Vec<Vec<Ahead>>, AllocError> {
+        let mut all = Vec::new(search.alloc);
+        if let Some(head) = self.loops.heads.get(head) {
+            for way in &head.moves {
+                let ahead = self.ahead_of(search, cells, way)?;
+                all.push(ahead)?;
+            }
+        }
+        Ok(all)
+    }
+
+    /// The cells to which the move may lead.
+    fn ahead_of(
+        &self,
+        search: &Search,
+        cells: &[Cell],
+        way: &Move,
+    ) -> Result<Vec<Ahead>, AllocError> {
+        let mut ahead = Vec::new(search.alloc);
+        let Target::Head(label) = way.to else {
+            return Ok(ahead);
+        };
+        let Some(next) = self.loops.index(label) else {
+            return Ok(ahead);
+        };
+        let Some(head) = self.loops.heads.get(next) else {
+            return Ok(ahead);
+        };
+        for (index, cell) in cells.iter().enumerate() {
+            if cell.head == next {
+                match unless_given_up(rows_before(search, cell, head, way))? {
+                    Some(None) => {}
+                    Some(rows) => ahead.push(Ahead { cell: index, rows })?,
+                    None => ahead.push(Ahead {
+                        cell: index,
+                        rows: None,
+                    })?,
+                }
+            }
+        }
+        Ok(ahead)
+    }
+
+    /// The links of the cell, whose head's moves may lead to those cells.
+    fn links(
+        &self,
+        search: &mut Search,
+        cells: &[Cell],
+        index: usize,
+        ahead: &[Vec<Ahead>],
+    ) -> Result<Vec<Link>, Stop> {
         let mut links = Vec::new(search.alloc);
         let Some(cell) = cells.get(index) else {
             return Ok(links);
@@ -114,12 +171,14 @@ impl Synthesis {
         for (one, way) in head.moves.iter().enumerate() {
             let mut rows = way.rows.to_vec(search.alloc)?;
             rows.extend_from_slice(&cell.rows)?;
-            if let Some(rows) = search.met(rows)? {
+            if let Some(rows) = met(search, rows)? {
                 let to = match way.to {
                     Target::Goal => End::Goal,
                     Target::Fault => End::Fault,
-                    Target::Head(label) => {
-                        self.lead(search, cells, one, way, label, &rows, &mut links)?;
+                    Target::Head(_) => {
+                        if let Some(ahead) = ahead.get(one) {
+                            lead(search, one, &rows, ahead, &mut links)?;
+                        }
                         continue;
                     }
                 };
@@ -128,39 +187,52 @@ impl Synthesis {
         }
         Ok(links)
     }
+}
 
-    /// Adds the links by the move to the cells of the head at the label.
-    fn lead(
-        &self,
-        search: &mut Search,
-        cells: &[Cell],
-        one: usize,
-        way: &Move,
-        label: u32,
-        rows: &[Row],
-        links: &mut Vec<Link>,
-    ) -> Result<(), Stop> {
-        let Some(next) = self.loops.index(label) else {
-            return Ok(());
-        };
-        let Some(head) = self.loops.heads.get(next) else {
-            return Ok(());
-        };
-        for (index, cell) in cells.iter().enumerate() {
-            if cell.head == next {
-                let mut more = rows.to_vec(search.alloc)?;
-                if add_through(&mut more, &cell.rows, &way.after)?
-                    && add_through(&mut more, &head.known, &way.after)?
-                {
-                    if let Some(rows) = search.met(more)? {
-                        let to = End::Cell(index);
-                        links.push(Link { one, to, rows })?;
-                    }
-                }
-            }
-        }
-        Ok(())
+/// A cell to which a move may lead, and what the stores meet before the move that come to it, if that is known.
+#[derive(Drop)]
+struct Ahead {
+    cell: usize,
+    rows: Option<Vec<Row>>,
+}
+
+/// What the stores meet from which the move leads to the cell of the head, or none where there are none.
+fn rows_before(
+    search: &Search,
+    cell: &Cell,
+    head: &Head,
+    way: &Move,
+) -> Result<Option<Vec<Row>>, Stop> {
+    let mut rows = Vec::new(search.alloc);
+    if add_through(&mut rows, &cell.rows, &way.after)?
+        && add_through(&mut rows, &head.known, &way.after)?
+    {
+        Ok(Some(rows))
+    } else {
+        Ok(None)
     }
+}
+
+/// Adds the links by the move with the index, which is taken where the rows are met, to cells to which it may lead.
+fn lead(
+    search: &mut Search,
+    one: usize,
+    rows: &[Row],
+    ahead: &[Ahead],
+    links: &mut Vec<Link>,
+) -> Result<(), Stop> {
+    for target in ahead {
+        let Some(before) = &target.rows else {
+            return Err(Stop::GivenUp);
+        };
+        let mut more = rows.to_vec(search.alloc)?;
+        more.extend_from_slice(before)?;
+        if let Some(rows) = met(search, more)? {
+            let to = End::Cell(target.cell);
+            links.push(Link { one, to, rows })?;
+        }
+    }
+    Ok(())
 }
 
 /// The links of a cell of which they aren't known.
@@ -222,5 +294,5 @@ fn has_stores(search: &mut Search, head: &Head, part: &[Row], row: &Row) -> Resu
     let mut rows = head.known.to_vec(search.alloc)?;
     rows.extend_from_slice(part)?;
     rows.push(*row)?;
-    Ok(search.met(rows)?.is_some())
+    Ok(met(search, rows)?.is_some())
 }

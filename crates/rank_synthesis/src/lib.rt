@@ -14,6 +14,7 @@ mod closing;
 mod components;
 mod farkas;
 mod lists;
+mod meeting;
 mod pairs;
 mod ranking;
 mod synthesis;
