@@ -71,7 +71,7 @@ impl<'a, D: NumDomain> Inquiry<'a, D> {
         let Some(last) = found.tops.last() else {
             return Ok(());
         };
-        let Some(family) = self.proposed(operands, last.trees.items(), hint)? else {
+        let Some(family) = self.proposed(operands, last.trees.items(), Some(last), hint)? else {
             return Ok(());
         };
         self.keep(family, found)?;
@@ -130,7 +130,7 @@ impl<'a, D: NumDomain> Inquiry<'a, D> {
         let mut part = undefined(alloc, trees.len())?;
         exchange(behind, &mut trees, &mut part);
         let current = self.remade(operands, &part)?;
-        match self.proposed(operands, &current, hint)? {
+        match self.proposed(operands, &current, None, hint)? {
             Some(family) => part = family.trees.into_vec(),
             None if was_ahead => {}
             None => return Ok(()),
@@ -140,17 +140,20 @@ impl<'a, D: NumDomain> Inquiry<'a, D> {
         Ok(())
     }
 
-    /// What the check leaves of the family that the hint proposes in place of the trees at hand, where it claims something under the hint's rows.
+    /// What the check leaves of the family that the hint proposes in place of the trees at hand, beside a family if one is known, where it claims something under
+    /// the hint's rows.
     fn proposed(
         &self,
         operands: &Operands<'_>,
         current: &[Tree<AffineRank>],
+        known: Option<&Family<AffineRank>>,
         hint: &Hint,
     ) -> Result<Option<Family<AffineRank>>, AllocError>
         requires inquiry { IsInquiry D.NumDomain.own self.now }
+        requires known { IfSome known (λ family. IsTop D.NumDomain.own self.now family.now) }
         ensures { IfOk result (λ found. IfSome found (IsTop D.NumDomain.own self.now)) }
     {
-        let Some(family) = self.left_of(operands, current, hint)? else {
+        let Some(family) = self.left_of(operands, current, known, hint)? else {
             return Ok(None);
         };
         let Some(head) = family.trees.items().get(hint.label as usize) else {
@@ -163,14 +166,16 @@ impl<'a, D: NumDomain> Inquiry<'a, D> {
         }
     }
 
-    /// What the check leaves of the family that the hint proposes, if it proposes one.
+    /// What the check leaves of the family that the hint proposes, if it proposes one, beside a family if one is known.
     fn left_of(
         &self,
         operands: &Operands<'_>,
         current: &[Tree<AffineRank>],
+        known: Option<&Family<AffineRank>>,
         hint: &Hint,
     ) -> Result<Option<Family<AffineRank>>, AllocError>
         requires inquiry { IsInquiry D.NumDomain.own self.now }
+        requires known { IfSome known (λ family. IsTop D.NumDomain.own self.now family.now) }
         ensures { IfOk result (λ found. IfSome found (IsTop D.NumDomain.own self.now)) }
     {
         let premises = self.premises;
@@ -187,7 +192,10 @@ impl<'a, D: NumDomain> Inquiry<'a, D> {
         else {
             return Ok(None);
         };
-        let family = premises.left_of(self.formula, self.smaller, trees)?;
+        let family = match known {
+            Some(known) => premises.left_beside(self.formula, self.smaller, known, trees)?,
+            None => premises.left_of(self.formula, self.smaller, trees)?,
+        };
         Ok(Some(family))
     }
 }

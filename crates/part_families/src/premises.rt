@@ -25,7 +25,7 @@ use num_domain::NumDomain;
 use part_trees::proposed;
 use std::alloc::{AllocError, Global};
 use tree_check::laws::eliminations_spare_places;
-use tree_check::{Dropped, check_over};
+use tree_check::{Dropped, check_beside, check_over};
 
 /// What is known of a program whatever formula it is asked about: its graph with the number of labels, sets that have the states that are
 /// reached, and what is done at each label; after how many sweeps those that propose trees widen them; and whether linear programs may propose some.
@@ -123,6 +123,60 @@ impl<'a, D: NumDomain> Premises<'a, D> {
     {
         let fit = fitted(trees, &self.graph.program().names);
         self.checked(formula, smaller, fit)
+    }
+
+    /// The same of trees beside a family that shows the formula: a label at which the trees say what they say there, as they do at its successors, isn't looked at
+    /// before a leaf of one of these is given up.
+    pub fn left_beside(
+        &self,
+        formula: &Formula,
+        smaller: &SmallerParts,
+        known: &Family<AffineRank>,
+        trees: TreeList<AffineRank>,
+    ) -> Result<Family<AffineRank>, AllocError>
+        requires premises { ArePremises D.NumDomain.own self.now }
+        requires known { Shows self.now.graph.now (told_on D.NumDomain.own self.now) (ctl formula.now) smaller.now.number smaller.now.operands.items
+            known.now }
+        requires labels { length trees ≡ self.now.labels }
+        ensures { IfOk result (Shows self.now.graph.now (told_on D.NumDomain.own self.now) (ctl formula.now) smaller.now.number
+            smaller.now.operands.items) }
+    {
+        let fit = fitted(trees, &self.graph.program().names);
+        let family = self.checked_beside(formula, smaller.number, &smaller.operands, known, fit)?;
+        Ok(family)
+    }
+
+    /// What the check leaves of trees that can be printed, as a family with the number, beside one that shows the formula.
+    fn checked_beside(
+        &self,
+        formula: &Formula,
+        number: u32,
+        operands: &[Family<AffineRank>],
+        known: &Family<AffineRank>,
+        trees: TreeList<AffineRank>,
+    ) -> Result<Family<AffineRank>, AllocError>
+        requires premises { ArePremises D.NumDomain.own self.now }
+        requires known { Shows self.now.graph.now (told_on D.NumDomain.own self.now) (ctl formula.now) number operands.now known.now }
+        requires fit { All (IsFit (length self.now.graph.now.names)) trees }
+        requires labels { length trees ≡ self.now.labels }
+        ensures { IfOk result (Shows self.now.graph.now (told_on D.NumDomain.own self.now) (ctl formula.now) number operands.now) }
+    {
+        eliminations_spare_places();
+        let mut family = Family {
+            part: number,
+            trees,
+        };
+        let _dropped = check_beside(
+            self.alloc,
+            self.graph,
+            self.inv,
+            self.transitions,
+            formula,
+            operands,
+            known.trees.items(),
+            &mut family,
+        )?;
+        Ok(family)
     }
 
     /// What the check leaves of the trees that are proposed for the formula. The only error is want of memory.

@@ -9,3 +9,4 @@ pub mod Reading
 pub mod Counting
 pub mod Doing
 pub mod Walked
+pub mod Beside

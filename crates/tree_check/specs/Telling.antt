@@ -1,5 +1,5 @@
 -- What a drop makes new at other labels, and what a label was told of the drops.
-use Rattle.std.specs.Prelude.{◌≡◌, ◌⊎◌, ℕ, ◌<◌, ◌≤◌, true, false, List, [], ◌++◌, length, map, All, Contains, slice_index_or, Option, None, Some, if◌then◌else◌}
+use Rattle.std.specs.Prelude.{◌≡◌, ◌⊎◌, ℕ, ◌<◌, ◌≤◌, Bool, true, false, List, [], ◌++◌, length, map, All, Contains, slice_index_or, Option, None, Some, if◌then◌else◌}
 use Rattle.linear_cons.specs.declared.affine.Affine.{Affine}
 use Rattle.control_flow.specs.declared.edge.Choice.{Choice}
 use Rattle.control_flow.specs.declared.edge.Choice.TheVariants.{Branch, None as NoChoice, Range}
@@ -12,11 +12,26 @@ use Rattle.decision_tree.specs.Plans.{Plan, leaf, leaves_of}
 use Rattle.tree_support.specs.declared.dropped.Dropped.{Dropped}
 use Rattle.tree_support.specs.Arcs.{Arc}
 use Rattle.constraint_stack.specs.Forming.{Formed}
-use Rattle.tree_support.specs.Setting.{Setting, Trees}
+use Rattle.tree_support.specs.Setting.{Setting, Trees, trees_in}
 use Rattle.constraint_stack.specs.Claims.{HasNoStore, System, nothing}
 use Rattle.tree_support.specs.Systems.{is_existential, moved_by, region, systems}
 use Rattle.tree_check.specs.declared.survey.Refuted.{Refuted}
+use Rattle.tree_check.specs.Rounds.{LeadsElsewhere}
 use Rattle.tree_check.specs.Surveys.{IsAside}
+
+-- the trees of the labels that are marked are the same in both lists
+abbrev pub AreSame : {R : Type 0} → List (Plan R) → List (Plan R) → List Bool → Type 0
+AreSame known trees same = (label : ℕ) → slice_index_or same label false ≡ true → trees_in trees label ≡ trees_in known label
+
+-- the label is marked, and no arc leads from it to one that isn't
+pub record IsSameAround {R : Type 0} (at : Setting R) (same : List Bool) (label : ℕ) : Type 0 where
+  pub own : slice_index_or same label false ≡ true
+  pub ahead : (other : ℕ) → slice_index_or same other false ≡ false → LeadsElsewhere at label other
+
+-- only such labels were told of drops, and of so many
+abbrev pub AreToldBeside : {R : Type 0} → Setting R → List Bool → ℕ → List (Option ℕ) → Type 0
+AreToldBeside at same number told =
+    (label from : ℕ) → slice_index_or told label None ≡ Some from → (from ≡ number) × IsSameAround at same label
 
 -- the system that a leaf given up adds behind an arc that leads to it, where the path is the leaf's
 abbrev pub renewed : {R : Type 0} → List Formed → List Affine → Arc → System R

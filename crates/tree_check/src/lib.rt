@@ -11,6 +11,6 @@ mod narrow;
 mod rounds;
 mod survey;
 
-pub use checking::{check, check_over};
+pub use checking::{check, check_beside, check_over};
 pub use constraint_stack::Reason;
 pub use tree_support::Dropped;

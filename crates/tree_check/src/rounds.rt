@@ -12,7 +12,7 @@ ghost use Rattle.constraint_stack.specs.Searches.{WhereAsked};
 ghost use Rattle.tree_check.specs.Narrowing.{HoldsPath, PicksNoValue, speaks_of_some};
 ghost use Rattle.tree_check.specs.Rounds.{Advances, AreElsewhere, IsReady, IsSupportedAt, LeadsElsewhere, dropped_by, is_dead, setting_on, target_of, without_refuted};
 ghost use Rattle.tree_check.specs.Surveys.{AreApart, IsFirst, IsFound, IsReviewed};
-ghost use Rattle.tree_check.specs.Telling.{AreCleared, AreTold, IsTold};
+ghost use Rattle.tree_check.specs.Telling.{AreCleared, AreSame, AreTold, AreToldBeside, IsSameAround, IsTold};
 
 use crate::giving::{Place, give_up_within};
 use crate::narrow::{add_path, sets};
@@ -63,6 +63,60 @@ impl<'a, D: NumDomain, R: Rank> Premises<'a, D, R> {
         let mut told = untold(self.alloc, self.graph.labels())?;
         self.settle_told(trees, drops, &mut told)?;
         Ok(())
+    }
+
+    /// The same of trees beside others that are supported: a label whose own tree and whose successors' trees are those isn't looked at before one of them changes.
+    pub(crate) fn settle_beside(
+        &self,
+        known: &[Tree<R>],
+        trees: &mut [Tree<R>],
+        drops: &mut Vec<Dropped>,
+    ) -> Result<(), AllocError>
+        requires trees { length trees.old ≡ length (all_labels (statements self.now.graph.now.body)) }
+        requires ready { IsReady D.NumDomain.own self.now }
+        requires leaves { (label : ℕ) → leaves_of (trees_in (map plan_of trees.old) label) < 2 ^ 64 - 1 }
+        requires labels { length known.now ≡ length trees.old }
+        requires known { IsSupported R.Rank.own (setting_on D.NumDomain.own self.now) (trees_in (map plan_of known.now)) }
+        ensures advances { Advances R.Rank.own (setting_on D.NumDomain.own self.now) (map plan_of trees.old) drops.old.items
+            (map plan_of trees.new) drops.new.items }
+        ensures supported { OnOk result (IsSupported R.Rank.own (setting_on D.NumDomain.own self.now) (trees_in (map plan_of trees.new))) }
+    {
+        let same = same_trees(self.alloc, known, trees)?;
+        let mut told = self.told_beside(&same, drops.len())?;
+        self.settle_told(trees, drops, &mut told)?;
+        Ok(())
+    }
+
+    /// For each label whether it was told of so many drops: so it is where its own tree and those of its successors are the same as others, which are supported.
+    fn told_beside(&self, same: &[bool], number: usize) -> Result<Vec<Option<usize>>, AllocError>
+        ensures labels { IfOk result (λ told. length told.items ≡ length (all_labels (statements self.now.graph.now.body))) }
+        ensures told { IfOk result (λ told. AreToldBeside (setting_on D.NumDomain.own self.now) same.now number told.items) }
+    {
+        let mut told = Vec::new(self.alloc);
+        for label in 0..self.graph.labels() {
+            let heard = if self.is_same_around(label, same) {
+                Some(number)
+            } else {
+                None
+            };
+            told.push(heard)?;
+        }
+        Ok(told)
+    }
+
+    /// Whether the label's own tree and those to which its edges lead are the same.
+    fn is_same_around(&self, label: u32, same: &[bool]) -> bool
+        requires label { label < length (all_labels (statements self.now.graph.now.body)) }
+        ensures { result ≡ true → IsSameAround (setting_on D.NumDomain.own self.now) same.now label }
+    {
+        let edges = self.graph.edges(label);
+        if !is_same(same, target(&edges[0])) {
+            return false;
+        }
+        if !is_same(same, target(&edges[1])) {
+            return false;
+        }
+        is_same(same, label)
     }
 
     /// The same. For each label it says of how many of the drops the label was told, whose leaves had no others against them then.
@@ -568,6 +622,33 @@ fn untold(alloc: Global, labels: u32) -> Result<Vec<Option<usize>>, AllocError>
         told.push(None)?;
     }
     Ok(told)
+}
+
+/// For each label whether the trees are the same there.
+fn same_trees<R: Rank>(
+    alloc: Global,
+    known: &[Tree<R>],
+    trees: &[Tree<R>],
+) -> Result<Vec<bool>, AllocError>
+    requires labels { length known.now ≡ length trees.now }
+    ensures { IfOk result (λ same. AreSame (map plan_of known.now) (map plan_of trees.now) same.items) }
+{
+    let mut same = Vec::with_capacity(alloc, trees.len())?;
+    for label in 0..trees.len() {
+        let is_same = trees[label] == known[label];
+        same.push(is_same)?;
+    }
+    Ok(same)
+}
+
+/// Whether the label is marked; past the end none is.
+fn is_same(same: &[bool], label: u32) -> bool
+    ensures { result ≡ slice_index_or same.now label false }
+{
+    match same.get(label as usize) {
+        Some(is_same) => *is_same,
+        None => false,
+    }
 }
 
 /// Whether to look behind so many drops one by one costs more than a survey of the tree.
