@@ -57,7 +57,7 @@ fn push_shared(
 }
 
 /// Reads a tree and puts it into the arena.
-fn read_put(
+pub fn read_put(
     alloc: Global,
     arena: &mut Arena<AffineRank>,
     words: &mut Words<'_>,

@@ -59,7 +59,7 @@ fn pruned_by<D: NumDomain>(alloc: Global, words: &mut Words<'_>) -> Result<Made,
 }
 
 /// Reads rows, and gives what the domain keeps of the stores that meet them.
-fn members<D: NumDomain>(alloc: Global, words: &mut Words<'_>) -> Result<D, AllocError> {
+pub fn members<D: NumDomain>(alloc: Global, words: &mut Words<'_>) -> Result<D, AllocError> {
     let rows = read_rows(alloc, words)?;
     let mut members = D::top(alloc)?;
     for row in &rows {

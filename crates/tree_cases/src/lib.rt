@@ -4,6 +4,7 @@
 #![tactic(auto)]
 
 mod arenas;
+mod in_arenas;
 mod joins;
 mod moves;
 mod ranks;
@@ -26,6 +27,9 @@ pub fn answers(
         return Ok(true);
     }
     if arenas::answers(alloc, name, words, answer)? {
+        return Ok(true);
+    }
+    if in_arenas::answers(alloc, name, words, answer)? {
         return Ok(true);
     }
     if joins::answers(alloc, name, words, answer)? {

@@ -89,7 +89,7 @@ fn read_end(words: &mut Words<'_>, none: &str) -> Option<i64> {
 }
 
 /// Reads conjunctions that are parted by `or`; `never` has none.
-fn read_outcome(alloc: Global, words: &mut Words<'_>) -> Result<Vec<Rows>, AllocError> {
+pub fn read_outcome(alloc: Global, words: &mut Words<'_>) -> Result<Vec<Rows>, AllocError> {
     let mut conjunctions = Vec::new(alloc);
     if words.takes("never") {
         return Ok(conjunctions);

@@ -1,0 +1,3 @@
+pub mod BuildingIn
+pub mod Joined
+pub mod Putting

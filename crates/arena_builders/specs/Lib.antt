@@ -1,0 +1,2 @@
+pub mod BuildsIn
+pub mod Nodes
