@@ -1,73 +1,62 @@
 #!/usr/bin/env python3
-"""Times the check of families of trees: milliseconds of processor time, and ratios to a tenth as many labels and to a copy of the family.
+"""Times the check of families of trees: milliseconds of processor time, and ratios to a tenth as many labels and to a copy of a tree with as many nodes.
 
     python3 bench/check.py [PROGRAM]
 
-PROGRAM is the built program, crates/timing_cli/out/timing_cli by default (`rt run < stdin` in crates/timing_cli builds it). A family is for a program of
-100 or 1,000 labels, and each label but the end has a tree of one row and two leaves. `check` drops nothing of the family of a line of assignments;
-in `fall` a claim at its end is wrong, and all the others that rest on it fall in one round. `loops` drops nothing of the family of nested loops; in
-`rounds` the claim at the outermost loop is wrong, and each round drops one label's leaf. What it takes to make and to copy the families is left out.
-At last a loop of three labels has trees of 100 or 400 leaves, one for each value of its variable, of which each round drops one a label.
-Nothing is asserted: machines differ and are shared.
+PROGRAM is the built program, crates/cases_cli/out/cases_cli by default (`rt run -- data/numbers` in crates/cases_cli builds it). A family is for a line of
+100 or 1,000 labels, each but the end with an assignment and a tree of one row and two leaves. `check` drops nothing;
+in `fall` a claim at the end is wrong, and all the others that rest on it fall in one round. What it takes to read the program and the family, and to check as many
+leaves of what is true everywhere, is left out. At last a loop of three labels has trees of 100 or 400 leaves, one for each value of its variable, of which each
+round drops one a label. Nothing is asserted of times: machines differ and are shared.
 """
-import os
-import subprocess
 import sys
 
-from timing import layers
+from timing import cases, copying, milliseconds, told_of
 
-FEW, MANY = 100, 1000
-TIMES = 100
-RUNS = 5
-FEW_LEAVES, MANY_LEAVES = 100, 400
-# Each job, with how many leaves it drops and leaves behind at that many labels.
-JOBS = {
-    "check": lambda labels: (0, 2 * labels - 1),
-    "fall": lambda labels: (2 * labels - 3, 2),
-    "loops": lambda labels: (0, 2 * labels - 1),
-    "rounds": lambda labels: (2 * labels - 3, 2),
-    "copy": lambda labels: (0, 2 * labels - 1),
-}
-# Of the leaves of the two labels of a loop all fall but the one to which no store comes.
-VALUES = {"values": lambda leaves: (2 * leaves - 1, 2)}
+# Where the truth holds, and where the end is.
+PARTS = "with all atom 0 with at 0 end 0"
 
 
-def seconds(program, job, labels, times):
-    """The processor time of the job when it is done that many times: the least of some runs. Where it is done at all, what it prints is looked at."""
-    best = float("inf")
-    for _ in range(RUNS):
-        child = subprocess.Popen([program], stdin=subprocess.PIPE, stdout=subprocess.PIPE)
-        child.stdin.write(f"checks {job} {labels} {times}\n".encode())
-        child.stdin.close()
-        told = tuple(map(int, child.stdout.read().split()))
-        _, status, usage = os.wait4(child.pid, 0)
-        if status or times and told != (JOBS | VALUES)[job](labels):
-            sys.exit(f"{job} {labels} {times}: status {status}, {told}")
-        best = min(best, usage.ru_utime + usage.ru_stime)
-    return best
+# Each job, with how many steps the claim at the end promises where x is at most 0, and how many leaves of so many labels are dropped.
+JOBS = {"check": (1, lambda labels: 0), "fall": (0, lambda labels: 2 * labels - 3)}
 
 
-def milliseconds(program, job, labels):
-    """What the job takes when it is done once, the making of its families left out."""
-    return (seconds(program, job, labels, TIMES) - seconds(program, job, labels, 0)) / TIMES * 1e3
+def beyond(program, body, family, rest, dropped, times):
+    """What it takes to check the family beyond the rest, a family for what is true everywhere."""
+    told, _, _ = told_of(program, f"check all true until exit over {body} {PARTS} claims {family}\n")
+    if told.count("gives up") != dropped:
+        sys.exit(f"not {dropped} leaves dropped: {told[-1000:]}")
+    answer = "nothing is given up" if dropped == 0 else told[told.index("gives up"):].splitlines()[0]
+    whole = milliseconds(program, f"first all true until exit over {body} {PARTS} claims {family}", answer, times)
+    return whole - milliseconds(program, f"first true over {body} {PARTS} claims {rest}", "nothing is given up", times)
+
+
+def checking(program, job, labels):
+    """What the job takes at so many labels. Where x is at most 0 the rank is the number of steps to the end, and else x more."""
+    last, dropped = JOBS[job]
+    body = "int x; " + "x = x - 1; " * (labels - 1)
+    family = [f"at {labels - steps} x - 1 >= 0 ? step x + {steps} : step {last if steps == 1 else steps}" for steps in range(1, labels)]
+    rest = [f"at {label} x - 1 >= 0 ? atom x - x : atom 0" for label in range(1, labels)]
+    return beyond(program, body, " ".join(["at 0 now 0", *family]), " ".join(["at 0 atom 0", *rest]), dropped(labels), 5000 // labels)
 
 
 def falling(program, leaves):
-    """What one check takes in milliseconds whose leaves fall one by one."""
-    return (seconds(program, "values", leaves, 1) - seconds(program, "values", leaves, 0)) * 1e3
+    """What one check takes whose leaves fall one by one. Of those of the two labels of the loop all fall but the one to which no store comes."""
+    rows = f"line no {leaves - 1} x - k >= 0 beside"
+    family = f"at 0 now 0 at 1 {rows} step 2*x + 1 then step 0 at 2 {rows} step 2*x then step 0"
+    rest = f"at 0 atom 0 at 1 {rows} atom 0 then atom 0 at 2 {rows} atom 0 then atom 0"
+    return beyond(program, "int x; while (x > 0) x = x - 1;", family, rest, 2 * leaves - 1, 5)
 
 
 def main():
-    program = layers()
-    copy = {labels: milliseconds(program, "copy", labels) for labels in (FEW, MANY)}
-    print(f"copy of a family: {copy[FEW]:.3f} ms at {FEW} labels, {copy[MANY]:.3f} ms at {MANY}")
-    print(f"job      {FEW} labels (ms)   {MANY} labels (ms)   {MANY} / {FEW}   {MANY} / copy")
+    program = cases()
+    copy = copying(program, "line no 1500 x - k >= 0 beside end 0 then nothing", 50)
+    print("job      100 labels (ms)   1,000 labels (ms)   ratio   1,000 / copy")
     for job in JOBS:
-        if job != "copy":
-            few, many = (milliseconds(program, job, labels) - copy[labels] for labels in (FEW, MANY))
-            print(f"{job:6}   {few:15.3f}   {many:16.3f}   {many / few:10.1f}   {many / copy[MANY]:11.1f}", flush=True)
-    few, many = (falling(program, leaves) for leaves in (FEW_LEAVES, MANY_LEAVES))
-    print(f"leaves that fall one by one: {few:.0f} ms at {FEW_LEAVES}, {many / few:.1f} times as much at {MANY_LEAVES}")
+        few, many = checking(program, job, 100), checking(program, job, 1000)
+        print(f"{job:6}   {few:15.3f}   {many:17.3f}   {many / few:5.1f}   {many / copy:12.1f}", flush=True)
+    few, many = falling(program, 100), falling(program, 400)
+    print(f"leaves that fall one by one: {few:.0f} ms at 100, {many / few:.1f} times as much at 400")
     return 0
 
 

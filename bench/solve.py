@@ -1,29 +1,20 @@
 #!/usr/bin/env python3
 """Asks the solver about seven sets of systems: what share of each it gives up, its answers, and its time
-as a ratio to that on the last set.
+as a ratio to that on the first set.
 
     python3 bench/solve.py [PROGRAM] [OTHER ..]
 
-PROGRAM is the built program, crates/timing_cli/out/timing_cli by default (`rt run < stdin` in crates/timing_cli
+PROGRAM is the built program, crates/cases_cli/out/cases_cli by default (`rt run -- data/numbers` in crates/cases_cli
 builds it). Of each other program, as a build of an older commit, the times are printed as parts of the
-first's too. The sets are the same at each run: random numbers come from a fixed seed.
+first's too. The sets are the same at each run: random numbers come from a fixed seed. The time is that of the
+processor, and what it takes to read the rows is left out, as a call tells it that reads them and asks little. On the
+last set a look at the rows is enough, which takes less than the reading varies by.
 """
 
 import random
-import subprocess
 import sys
-import time
 
-from timing import layers
-
-PLACES = 16
-
-
-def row(coefficients, constant):
-    numbers = [0] * PLACES
-    for place, number in coefficients.items():
-        numbers[place] = number
-    return " ".join(map(str, numbers + [constant]))
+from timing import answers_of, cases, row, seconds_of
 
 
 def random_systems(source):
@@ -133,31 +124,33 @@ def few_parts(source):
         yield rows
 
 
-def asked(program, text):
-    """The answers' kinds, and the least time of three runs."""
-    least = None
-    for _ in range(3):
-        start = time.perf_counter()
-        done = subprocess.run([program], input=text, capture_output=True, text=True, check=True)
-        seconds = time.perf_counter() - start
-        least = seconds if least is None else min(least, seconds)
-    return [line.split()[0] for line in done.stdout.splitlines()], least
+def asked(program, systems):
+    """The answers, and the time that they took."""
+    told, seconds = timed(program, [f"decide {' and '.join(rows)}" for rows in systems])
+    _, reading = timed(program, [f"boxes implies {' and '.join(rows)} of always" for rows in systems])
+    return told, seconds - reading
+
+
+def timed(program, calls):
+    """The answers of the calls, and their time."""
+    told = answers_of(program, calls)
+    return told, seconds_of(program, calls, told)
 
 
 def report(program, sets):
     """Prints a line for each set: what share is given up, the time, its ratio to that on the last set, the answers."""
-    found = {name: asked(program, text) for name, text in sets}
-    last = found[sets[-1][0]][1]
+    found = {name: asked(program, systems) for name, systems in sets}
+    first = found[sets[0][0]][1]
     print(program)
     for name, (kinds, seconds) in found.items():
-        given_up = sum(kind in ("wide", "rows") for kind in kinds) / len(kinds)
+        given_up = sum(kind in ("wide", "too many rows") for kind in kinds) / len(kinds)
         answers = ", ".join(f"{kinds.count(kind)} {kind}" for kind in sorted(set(kinds)))
-        print(f"{name:<12} given up {given_up:6.1%}  {seconds:7.3f} s  ratio {seconds / last:6.2f}  {answers}")
+        print(f"{name:<12} given up {given_up:6.1%}  {seconds:7.3f} s  ratio {seconds / first:6.2f}  {answers}")
     return {name: seconds for name, (_, seconds) in found.items()}
 
 
 def main():
-    programs = sys.argv[1:] or [layers()]
+    programs = sys.argv[1:] or [cases()]
     makers = [
         ("a random", random_systems),
         ("b chains", chains),
@@ -167,7 +160,7 @@ def main():
         ("g few parts", few_parts),
         ("d opposed", opposed),
     ]
-    sets = [(name, "\n\n".join("\n".join(rows) for rows in make(random.Random(7))) + "\n") for name, make in makers]
+    sets = [(name, list(make(random.Random(7)))) for name, make in makers]
     first = report(programs[0], sets)
     for program in programs[1:]:
         seconds = report(program, sets)
