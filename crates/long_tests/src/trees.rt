@@ -4,9 +4,9 @@ use std::alloc::{AllocError, Global};
 use std::process::Abort;
 use std::test::Fail;
 
-/// Calls and their answers. SIDE stands for `yes` and for `no`, LONGEST for the longest line in a tree of at most 65,536 nodes, with a leaf at its end, which
-/// are 32,767 rows and 32,768 leaves, and LONGER for a line of one row more.
-const DOWN_EITHER_SIDE: &[(&str, &str)] = &[
+/// Calls that trim, prune and join trees, and their answers. SIDE stands for `yes` and for `no`, LONGEST for the longest line in a tree of at most 65,536 nodes,
+/// with a leaf at its end, which are 32,767 rows and 32,768 leaves, and LONGER for a line of one row more.
+const JOINED: &[(&str, &str)] = &[
     // The longest lines of a tree of at most 65,536 nodes, and a row more.
     (
         "trim always in LONGEST then nothing is LONGEST then nothing",
@@ -62,7 +62,10 @@ const DOWN_EITHER_SIDE: &[(&str, &str)] = &[
         "later line SIDE 32767 x - k >= 0 beside nothing then end 7 and line SIDE 32767 y - k >= 0 beside end k then end 7",
         "too large",
     ),
-    // Widened.
+];
+
+/// Calls that widen trees, copy them, and tell how large they are, and their answers, in the same words.
+const WIDENED_AND_COPIED: &[(&str, &str)] = &[
     (
         "widen LONGEST then nothing and end 0 is LONGEST then end 0",
         "yes",
@@ -72,7 +75,20 @@ const DOWN_EITHER_SIDE: &[(&str, &str)] = &[
     // The path of one row more has more nodes.
     ("widen LONGER then end 0 and end 0", "too large"),
     ("widen LONGER then nothing and end 0", "too large"),
-    // Before actions of a program.
+    // How many nodes and leaves a tree has.
+    (
+        "size line SIDE 65536 x - 1 >= 0 beside nothing then end 7",
+        "131073 nodes, 65537 leaves",
+    ),
+    // Copies, alone and in a box, are equal to their trees.
+    (
+        "copies line SIDE 65536 x - 1 >= 0 beside nothing then end 7",
+        "yes",
+    ),
+];
+
+/// Calls that move trees back over actions of a program, and their answers, in the same words.
+const MOVED: &[(&str, &str)] = &[
     (
         "skip LONGEST then nothing is line SIDE 32767 x - k >= 0 beside step k + 1 then nothing",
         "yes",
@@ -98,16 +114,6 @@ const DOWN_EITHER_SIDE: &[(&str, &str)] = &[
     (
         "test always against never before LONGER then nothing else nothing",
         "too large",
-    ),
-    // How many nodes and leaves a tree has.
-    (
-        "size line SIDE 65536 x - 1 >= 0 beside nothing then end 7",
-        "131073 nodes, 65537 leaves",
-    ),
-    // Copies, alone and in a box, are equal to their trees.
-    (
-        "copies line SIDE 65536 x - 1 >= 0 beside nothing then end 7",
-        "yes",
     ),
 ];
 
@@ -255,6 +261,15 @@ fn all_stand(rt: &(impl Abort + AllocGlobal), calls: &[(&str, &str)]) -> Result<
     Ok(())
 }
 
+/// Each of the calls has its answer with its lines down either side.
+fn all_stand_down(rt: &(impl Abort + AllocGlobal), calls: &[(&str, &str)]) -> Result<(), Fail> {
+    for (call, wanted) in calls {
+        stands_down(rt, call, "yes", wanted)?;
+        stands_down(rt, call, "no", wanted)?;
+    }
+    Ok(())
+}
+
 /// The call answers this with its lines down this side.
 fn stands_down(
     rt: &(impl Abort + AllocGlobal),
@@ -267,12 +282,18 @@ fn stands_down(
 }
 
 #[test]
-fn lines_down_either_side(rt: HostRuntime) -> Result<(), Fail> {
-    for (call, wanted) in DOWN_EITHER_SIDE {
-        stands_down(&rt, call, "yes", wanted)?;
-        stands_down(&rt, call, "no", wanted)?;
-    }
-    Ok(())
+fn lines_that_are_joined(rt: HostRuntime) -> Result<(), Fail> {
+    all_stand_down(&rt, JOINED)
+}
+
+#[test]
+fn lines_that_are_widened(rt: HostRuntime) -> Result<(), Fail> {
+    all_stand_down(&rt, WIDENED_AND_COPIED)
+}
+
+#[test]
+fn lines_that_are_moved(rt: HostRuntime) -> Result<(), Fail> {
+    all_stand_down(&rt, MOVED)
 }
 
 #[test]
