@@ -16,48 +16,73 @@ use Rattle.control_flow.specs.declared.transition.Transition.TheVariants.{Assign
 use Rattle.control_flow.specs.Transitions.{AreOnward, IsOn, transition_in, first_target, is_given, is_idle, second_target}
 use Rattle.backward_sweeps.specs.Remaking.{AreEndsGiven, AreEndsStarted, AreGiven, AreKept, AreRemadeFrom, IsOrTop, IsRefused, IsRemade, IsStarted, IsTop, Parts, end_for, given_for, goal_at, remade}
 
-module _ (parts : Parts) where
-  -- what holds of the trees behind a transition, and of its own tree
-  abbrev Held : ℕ → Bool → Transition → Plan AffineRank → Plan AffineRank → Plan AffineRank → Type 0
-  Held label all transition this that plan =
-      (plan ≡ remade parts label transition this that) ⊎ ((all ≡ false) × IsRefused parts label transition this that plan)
+-- what holds of the tree of a label and of those behind what is done there, at each label from the number on whose tree isn't given
+abbrev pub AreFrom : (ℕ → Transition → Plan AffineRank → Plan AffineRank → Plan AffineRank → Type 0) → ℕ → List Transition → List (Plan AffineRank) → Type 0
+AreFrom Is n transitions trees =
+    (label : ℕ) → n ≤ label → label < length transitions → is_given (transition_in transitions label) ≡ false
+    → Is label (transition_in transitions label) (tree_at trees (first_target (transition_in transitions label)))
+    (tree_at trees (second_target (transition_in transitions label))) (tree_at trees label)
 
-  weaker : (label : ℕ) (all more : Bool) (transition : Transition) (this that plan : Plan AffineRank) → Held label all transition this that plan
-      → Held label (more && all) transition this that plan
-  weaker label all true transition this that plan held = held
-  weaker label all false transition this that plan (inl made) = inl made
-  weaker label all false transition this that plan (inr refused) = inr (refl, refused.1)
-
-  module _ (transitions : List Transition) (trees : List (Plan AffineRank)) (l : ℕ) (x : Plan AffineRank) (open_there : is_given (transition_in transitions l) ≡ false) where
+module _ (Is : ℕ → Transition → Plan AffineRank → Plan AffineRank → Plan AffineRank → Type 0) (transitions : List Transition) (trees : List (Plan AffineRank)) (l : ℕ) where
+  module _ (x : Plan AffineRank) (open_there : is_given (transition_in transitions l) ≡ false) where
     away : (label to : ℕ) → l ≤ label → IsOn transitions label to → to ≡ l → ⊥
     away label to least (inl on) is = absurd (omega arith)
     away label to least (inr given) is =
         let here : is_given (transition_in transitions l) ≡ true = subst (λ k. is_given (transition_in transitions k) ≡ true) is given in absurd (cc)
 
-    apart_made : (label : ℕ) (all : Bool) (transition : Transition) (plan : Plan AffineRank) → l ≤ label → IsOn transitions label (first_target transition)
-        → IsOn transitions label (second_target transition) → IsRemade parts label all transition trees plan
-        → IsRemade parts label all transition (set trees l x) plan
-    apart_made label all transition plan least first second is =
-        subst (λ (t : Plan AffineRank). Held label all transition t (tree_at (set trees l x) (second_target transition)) plan)
+    apart : (label : ℕ) (transition : Transition) (plan : Plan AffineRank) → l ≤ label → IsOn transitions label (first_target transition)
+        → IsOn transitions label (second_target transition)
+        → Is label transition (tree_at trees (first_target transition)) (tree_at trees (second_target transition)) plan
+        → Is label transition (tree_at (set trees l x) (first_target transition)) (tree_at (set trees l x) (second_target transition)) plan
+    apart label transition plan least first second is =
+        subst (λ (t : Plan AffineRank). Is label transition t (tree_at (set trees l x) (second_target transition)) plan)
         (sym (put_other bottom trees l (first_target transition) x (away label (first_target transition) least first)))
-        (subst (λ (t : Plan AffineRank). Held label all transition (tree_at trees (first_target transition)) t plan)
+        (subst (λ (t : Plan AffineRank). Is label transition (tree_at trees (first_target transition)) t plan)
         (sym (put_other bottom trees l (second_target transition) x (away label (second_target transition) least second))) is)
 
-    pub put_made : (all more : Bool) → l < length trees → AreOnward transitions → IsRemade parts l (more && all) (transition_in transitions l) trees x
-        → AreRemadeFrom (suc l) all parts transitions trees → AreRemadeFrom l (more && all) parts transitions (set trees l x)
-    put_made all more low onward here there label least below open_label =
+    pub put_before : l < length trees → AreOnward transitions
+        → Is l (transition_in transitions l) (tree_at trees (first_target (transition_in transitions l))) (tree_at trees (second_target (transition_in transitions l))) x
+        → AreFrom Is (suc l) transitions trees → AreFrom Is l transitions (set trees l x)
+    put_before low onward here there label least below open_label =
         let on = onward.on label below open_label in
-        apart_made label (more && all) (transition_in transitions label) (tree_at (set trees l x) label) least on.0 on.1
+        apart label (transition_in transitions label) (tree_at (set trees l x) label) least on.0 on.1
         (⊎_elim
         (λ (is : label ≡ l).
-        subst (λ (k : ℕ). IsRemade parts k (more && all) (transition_in transitions k) trees (tree_at (set trees l x) k)) (sym is)
-        (subst (λ (t : Plan AffineRank). IsRemade parts l (more && all) (transition_in transitions l) trees t) (sym (put_same bottom trees l x low)) here))
+        subst (λ (k : ℕ). Is k (transition_in transitions k) (tree_at trees (first_target (transition_in transitions k))) (tree_at trees (second_target (transition_in transitions k))) (tree_at (set trees l x) k)) (sym is)
+        (subst (λ (t : Plan AffineRank). Is l (transition_in transitions l) (tree_at trees (first_target (transition_in transitions l))) (tree_at trees (second_target (transition_in transitions l))) t)
+        (sym (put_same bottom trees l x low)) here))
         (λ (other : label ≡ l → ⊥).
-        subst (λ (t : Plan AffineRank). IsRemade parts label (more && all) (transition_in transitions label) trees t)
-        (sym (put_other bottom trees l label x other))
-        (weaker label all more (transition_in transitions label) (tree_at trees (first_target (transition_in transitions label)))
-        (tree_at trees (second_target (transition_in transitions label))) (tree_at trees label) (there label (omega arith) below open_label)))
+        subst (λ (t : Plan AffineRank). Is label (transition_in transitions label) (tree_at trees (first_target (transition_in transitions label)))
+        (tree_at trees (second_target (transition_in transitions label))) t) (sym (put_other bottom trees l label x other)) (there label (omega arith) below open_label))
         (same_or label l))
+
+  -- a label whose tree is given asks nothing
+  pub passed_over : is_given (transition_in transitions l) ≡ true → AreFrom Is (suc l) transitions trees → AreFrom Is l transitions trees
+  passed_over given there label least below open_label =
+      ⊎_elim
+      (λ (is : label ≡ l). let here : is_given (transition_in transitions l) ≡ false = subst (λ k. is_given (transition_in transitions k) ≡ false) is open_label in absurd (cc))
+      (λ (other : label ≡ l → ⊥). there label (omega arith) below open_label) (same_or label l)
+
+module _ (parts : Parts) where
+  -- what holds of the trees behind a transition, and of its own tree
+  abbrev Held : Bool → ℕ → Transition → Plan AffineRank → Plan AffineRank → Plan AffineRank → Type 0
+  Held all label transition this that plan =
+      (plan ≡ remade parts label transition this that) ⊎ ((all ≡ false) × IsRefused parts label transition this that plan)
+
+  weaker : (label : ℕ) (all more : Bool) (transition : Transition) (this that plan : Plan AffineRank) → Held all label transition this that plan
+      → Held (more && all) label transition this that plan
+  weaker label all true transition this that plan held = held
+  weaker label all false transition this that plan (inl made) = inl made
+  weaker label all false transition this that plan (inr refused) = inr (refl, refused.1)
+
+  pub put_made : (transitions : List Transition) (trees : List (Plan AffineRank)) (l : ℕ) (x : Plan AffineRank) → is_given (transition_in transitions l) ≡ false
+      → (all more : Bool) → l < length trees → AreOnward transitions → IsRemade parts l (more && all) (transition_in transitions l) trees x
+      → AreRemadeFrom (suc l) all parts transitions trees → AreRemadeFrom l (more && all) parts transitions (set trees l x)
+  put_made transitions trees l x open_there all more low onward here there =
+      put_before (Held (more && all)) transitions trees l x open_there low onward here
+      (λ label least below open_label.
+      weaker label all more (transition_in transitions label) (tree_at trees (first_target (transition_in transitions label)))
+      (tree_at trees (second_target (transition_in transitions label))) (tree_at trees label) (there label least below open_label))
 
 -- the trees of labels at which such a thing is done stay
 pub put_kept : (which : Transition → Bool) (transitions : List Transition) (trees : List (Plan AffineRank)) (l : ℕ) (x : Plan AffineRank)
@@ -144,11 +169,3 @@ or_top that Fits IsSmall fault (Err error) full wide none small fits outside = t
 -- what holds of two values holds of two that are equal to them
 pub both_carried : {A : Type 0} (P : A → A → Type 0) (a b c d : A) → a ≡ b → c ≡ d → P a c → P b d
 both_carried P a b c d first second holds = subst (λ x. P x d) first (subst (λ y. P a y) second holds)
-
--- a label whose tree is given asks nothing
-pub passed_over : (parts : Parts) (l : ℕ) (all : Bool) (transitions : List Transition) (trees : List (Plan AffineRank))
-    → is_given (transition_in transitions l) ≡ true → AreRemadeFrom (suc l) all parts transitions trees → AreRemadeFrom l all parts transitions trees
-passed_over parts l all transitions trees given there label least below open_label =
-    ⊎_elim
-    (λ (is : label ≡ l). let here : is_given (transition_in transitions l) ≡ false = subst (λ k. is_given (transition_in transitions k) ≡ false) is open_label in absurd (cc))
-    (λ (other : label ≡ l → ⊥). there label (omega arith) below open_label) (same_or label l)

@@ -50,8 +50,8 @@ fn given(
     }
 }
 
-/// A copy of the tree at the label, or no claim where there is none.
-fn copied(
+/// A copy of the tree at the label, or no claim where there is none. The only error is want of memory.
+pub fn copied(
     alloc: Global,
     trees: &[Tree<AffineRank>],
     label: usize,

@@ -19,7 +19,7 @@ use tree_unify::{TreeFault, both, either};
 /// The tree of a label at which this is done, with the trees of all labels given: what the goal claims there, or else what the trees behind
 /// the transition claim before it, where it is to be kept. `Full` comes only where a tree that is formed on the way would have more than 65,536
 /// nodes, `Wide` only where a function, a rank, a difference of ranks or a complement has a number outside `i128`. `Memory` says nothing.
-pub(crate) fn remade(
+pub fn remade(
     alloc: Global,
     operands: &Operands<'_>,
     label: u32,

@@ -7,7 +7,7 @@ use Rattle.derivation.proofs.Grammars.{turns, becomes}
 use Rattle.derivation.proofs.Choices.{begins, Way, Choice, Sides, Fork}
 use Rattle.concrete_syntax.specs.declared.sign.Assignment.{Assignment}
 use Rattle.concrete_syntax.specs.declared.sign.Step.{Step}
-use Rattle.concrete_syntax.specs.Trees.{Operand, operand_at, number, name, operation, division, Tail, ended, further, Expression, Name, assigns, steps, Value, evaluates, answers}
+use Rattle.concrete_syntax.specs.Trees.{Operand, operand_at, name, operation, division, Tail, ended, further, Expression, Name, assigns, steps, Value, evaluates, answers}
 use Rattle.source_syntax.specs.declared.opening.EndOpening.{EndOpening}
 use Rattle.source_syntax.specs.declared.opening.LinkOpening.TheVariants as Link
 use Rattle.source_syntax.specs.Language.{Rest, link_opening}
