@@ -1,11 +1,12 @@
 //! What is seen of the loops of a program: functions that fall in each turn, families of trees that a hint on a loop proposes, guesses at such hints, and
 //! how a point that refutes a family splits it.
 //!
-//! Nothing is promised of a fact or a proposal but that a proposal has a tree for each label; the check decides. It stands on
+//! Nothing is promised of a fact, and of a proposal only which trees it has from the trees at hand, and which follow from others; the check decides. It stands on
 //! `control_flow` for the bodies of loops, on `backward_sweeps` for the step from label to label, and on `advice` for facts and hints. The
-//! front door: `Facts`, `proposal`, `holds_under`, `guesses` and `split`.
+//! front door: `Facts`, `proposal`, `proposal_beside`, `holds_under`, `guesses` and `split`.
 #![tactic(auto)]
 
+mod beside;
 mod body;
 mod facts;
 mod falls;
@@ -16,6 +17,7 @@ mod refuting;
 mod splitting;
 mod under;
 
+pub use beside::proposal_beside;
 pub use facts::Facts;
 pub use guessing::{Guess, guesses};
 pub use proposing::proposal;

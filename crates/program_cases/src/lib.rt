@@ -13,6 +13,8 @@
 //! - `proposed FORMULA` has the trees that are proposed for the formula and its parts. Behind it `at N` asks for the tree of that label alone.
 //! - `facts` has the facts about the loops' tests.
 //! - `proposal N where R and R turns F claims X Y and X Y ..` is how many steps the trees that this hint proposes claim at the label N.
+//! - `beside N where R and R turns F anew M anew M .. at L claims X Y and X Y ..` is the same of the label L and of what the hint proposes beside trees that are those of
+//!   the sweeps at loops' tests and claim at once, with no step, at the other labels. The trees of those labels M are made anew too.
 //!
 //! It is for programs that are told in lines what to do, and promises nothing but that each call returns. The front door: `answers`.
 #![tactic(auto)]
@@ -106,6 +108,7 @@ fn of_sets(
         "proposed" => formulas::push_proposed(alloc, graph, words, answer),
         "facts" => loops::push_facts(alloc, variables, graph, answer),
         "proposal" => loops::push_proposal(alloc, variables, graph, words, answer),
+        "beside" => loops::push_beside(alloc, variables, graph, words, answer),
         _ => return Ok(false),
     };
     written?;

@@ -4,15 +4,15 @@ ghost use Rattle.control_flow.specs.Transitions.{AreOnward};
 
 use crate::claims::push_claims;
 use advice::{FactKind, Hint, LoopFact};
-use backward_sweeps::swept;
+use backward_sweeps::{at_once, is_given, swept};
 use case_text::{Answer, Words, read_function, read_rows};
 use control_flow::{Graph, Transition};
 use ctl_formula::Formula;
-use decision_tree::{AffineRank, TreeList};
+use decision_tree::{AffineRank, Tree, TreeList, Why};
 use forward_inv::{Inv, invariants, transitions_of};
 use interval_dom::Boxes;
 use linear_cons::Row;
-use loop_facts::{Facts, holds_under, proposal};
+use loop_facts::{Facts, holds_under, proposal, proposal_beside};
 use part_trees::{Claims, proposed};
 use std::alloc::{AllocError, Global};
 
@@ -96,7 +96,7 @@ pub fn push_proposal(
     answer: &mut Answer,
 ) -> Result<(), AllocError> {
     let hint = read_hint(alloc, words)?;
-    let Some(trees) = hinted(alloc, variables, graph, &hint)? else {
+    let Some(trees) = hinted(alloc, variables, graph, &hint, None)? else {
         answer.push("none");
         return Ok(());
     };
@@ -112,27 +112,100 @@ pub fn push_proposal(
     Ok(())
 }
 
-/// The trees that the hint proposes in place of those of the sweeps.
+/// Reads a hint, which labels are made anew and a label, and adds what the trees that the hint proposes beside some at hand claim there, or that it proposes none.
+pub fn push_beside(
+    alloc: Global,
+    variables: u8,
+    graph: &Graph,
+    words: &mut Words<'_>,
+    answer: &mut Answer,
+) -> Result<(), AllocError> {
+    let hint = read_hint(alloc, words)?;
+    let anew = read_anew(alloc, graph, words)?;
+    words.expect("at");
+    let label = words.count();
+    let Some(trees) = hinted(alloc, variables, graph, &hint, Some(&anew))? else {
+        answer.push("none");
+        return Ok(());
+    };
+    let Some(tree) = trees.items().get(label as usize) else {
+        words.fail("no tree at the label");
+        return Ok(());
+    };
+    words.expect("claims");
+    push_claims(tree, words, answer);
+    Ok(())
+}
+
+/// Reads labels, each behind `anew`, as marks.
+fn read_anew(alloc: Global, graph: &Graph, words: &mut Words<'_>) -> Result<Vec<bool>, AllocError> {
+    let mut anew = vec![in alloc; false; graph.labels() as usize]?;
+    for _ in 0..words.len() {
+        if !words.takes("anew") {
+            break;
+        }
+        match anew.get_mut(words.count() as usize) {
+            Some(mark) => *mark = true,
+            None => words.fail("no such label"),
+        }
+    }
+    Ok(anew)
+}
+
+/// The trees that the hint proposes in place of those of the sweeps; or, where marks are given, beside those of the sweeps at loops' tests and some that claim at once
+/// at the other labels.
 fn hinted(
     alloc: Global,
     variables: u8,
     graph: &Graph,
     hint: &Hint,
+    anew: Option<&[bool]>,
 ) -> Result<Option<TreeList<AffineRank>>, AllocError> {
     let inv: Inv<Boxes> = invariants(alloc, graph)?;
     let transitions = transitions_of(alloc, graph, &inv)?;
     let claims = claims_of_end(alloc, &inv, &transitions)?;
     let operands = claims.operands(true);
     let swept = swept(alloc, &inv, &transitions, &operands, DELAY)?;
-    proposal(
-        alloc,
-        graph,
-        &transitions,
-        &operands,
-        swept.items(),
-        u32::from(variables),
-        hint,
-    )
+    let variables = u32::from(variables);
+    match anew {
+        None => proposal(
+            alloc,
+            graph,
+            &transitions,
+            &operands,
+            swept.items(),
+            variables,
+            hint,
+        ),
+        Some(anew) => {
+            let trees = at_hand(alloc, &transitions, swept)?;
+            proposal_beside(
+                alloc,
+                graph,
+                &transitions,
+                &operands,
+                &trees,
+                anew,
+                variables,
+                hint,
+            )
+        }
+    }
+}
+
+/// The trees with one that claims at once in place of each that is made of those that follow.
+fn at_hand(
+    alloc: Global,
+    transitions: &[Transition],
+    trees: TreeList<AffineRank>,
+) -> Result<Vec<Tree<AffineRank>>, AllocError> {
+    let mut trees = trees.into_vec();
+    for (tree, transition) in trees.iter_mut().zip(transitions) {
+        if !is_given(transition) {
+            *tree = at_once(alloc, Why::Atom)?;
+        }
+    }
+    Ok(trees)
 }
 
 /// Reads a label, `where` and at most four rows, `turns` and a function.
