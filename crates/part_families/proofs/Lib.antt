@@ -1,5 +1,6 @@
 pub mod Kept
 pub mod Fit
+mod Left
 pub mod KnownShown
 pub mod Placing
 pub mod Numbers

@@ -1,17 +1,7 @@
-use Rattle.std.proofs.Common.{ℕ, length, ◌∙◌}
-use Rattle.step_meaning.specs.Syntax.{statements}
-use Rattle.count_down.proofs.Over.{over_spares}
+use Rattle.std.proofs.Common.{◌∙◌}
 use Rattle.ctl_formula.specs.Mirror.{ctl}
-use Rattle.decision_tree.specs.Extent.{ComplementsFit, IsTreeOver}
-use Rattle.decision_tree.specs.declared.affine_rank.AffineRank.{AffineRank}
-use Rattle.tree_check.specs.Checking.{families_of}
-use Rattle.tree_support.specs.Certificates.{SparesPlace, affine_ranks}
-use Rattle.tree_support.specs.Elimination.{Eliminates}
-use Rattle.control_flow.specs.Told.{chosen_place}
-use Rattle.tree_support.specs.Setting.{Setting, setting_of, trees_in}
 use Rattle.part_families.specs.Knowing.{told_on}
-use Rattle.part_families.proofs.Fit.{fit_at}
-use Rattle.part_families.proofs.Kept.{complements_undefined, each_kept, over_undefined}
+use Rattle.part_families.proofs.Left.{left_shows}
 use Rattle.part_families.proofs.premises.Premises.examined.Goals as goal
 
 pub returns-clause-legal : goal.returns-clause-legal
@@ -19,30 +9,7 @@ returns-clause-legal g c = (c.in_ok-dropped.dropped.items, c.in_ok-dropped.ensur
 
 pub returns-clause-shows : goal.returns-clause-shows
 returns-clause-shows g c =
-    let program = c.args.self.now.graph.now in
-    let body = statements program.body in
-    let vars = length program.names in
-    let told = told_on g.D.NumDomain c.args.self.now in
-    let families = families_of c.args.operands.now in
-    let formula = ctl c.args.formula.now in
-    let old = c.args.trees in
-    let new = c.check_over.new.family.trees in
-    let at : Setting AffineRank = setting_of body told formula families in
-    let drops = c.in_ok-dropped.dropped.items in
-    let legal : Eliminates affine_ranks at (trees_in old) drops (trees_in new) = c.in_ok-dropped.ensures.legal in
-    let fit = fit_at vars old c.requires.fit in
-    let spares : (label : ℕ) → SparesPlace chosen_place (trees_in old label) =
-    λ label. over_spares vars chosen_place program.valid.few (trees_in old label) ((fit label).over) in
-    record {
-      shown = record {
-        supported = c.in_ok-dropped.ensures.supported;
-        spares = c.eliminations_spare_places.ensures at (trees_in old) (trees_in new) drops legal chosen_place spares;
-      };
-      number = c.check_over.ensures.part;
-      fits = record {
-        labels = c.check_over.ensures.labels ∙ c.requires.labels ∙ c.requires.premises.labels;
-        over = each_kept affine_ranks at (IsTreeOver vars) (over_undefined vars) drops (trees_in old) (trees_in new) legal (λ label. (fit label).over);
-        complements = each_kept affine_ranks at ComplementsFit complements_undefined drops (trees_in old) (trees_in new) legal
-            (λ label. (fit label).complements);
-      };
-    }
+    left_shows c.args.self.now.graph.now (told_on g.D.NumDomain c.args.self.now) (ctl c.args.formula.now) c.args.number c.args.operands.now
+    c.args.trees c.check_over.new.family c.in_ok-dropped.dropped.items c.in_ok-dropped.ensures.legal c.in_ok-dropped.ensures.supported
+    c.requires.fit c.check_over.ensures.part (c.check_over.ensures.labels ∙ c.requires.labels ∙ c.requires.premises.labels)
+    c.eliminations_spare_places.ensures
