@@ -11,7 +11,7 @@ use advice::Hint;
 use backward_sweeps::{Operands, is_given};
 use control_flow::Graph;
 use decision_tree::{AffineRank, Family, Tree, TreeList};
-use loop_facts::{holds_under, proposal};
+use loop_facts::{holds_under, proposal, proposal_beside};
 use loop_moves::{Arrows, front};
 use num_domain::NumDomain;
 use std::alloc::{AllocError, Global};
@@ -71,7 +71,7 @@ impl<'a, D: NumDomain> Inquiry<'a, D> {
         let Some(last) = found.tops.last() else {
             return Ok(());
         };
-        let Some(family) = self.proposed(operands, last.trees.items(), Some(last), hint)? else {
+        let Some(family) = self.proposed_beside(operands, last, hint, &behind)? else {
             return Ok(());
         };
         self.keep(family, found)?;
@@ -130,7 +130,7 @@ impl<'a, D: NumDomain> Inquiry<'a, D> {
         let mut part = undefined(alloc, trees.len())?;
         exchange(behind, &mut trees, &mut part);
         let current = self.remade(operands, &part)?;
-        match self.proposed(operands, &current, None, hint)? {
+        match self.proposed(operands, &current, hint)? {
             Some(family) => part = family.trees.into_vec(),
             None if was_ahead => {}
             None => return Ok(()),
@@ -140,63 +140,116 @@ impl<'a, D: NumDomain> Inquiry<'a, D> {
         Ok(())
     }
 
-    /// What the check leaves of the family that the hint proposes in place of the trees at hand, beside a family if one is known, where it claims something under
-    /// the hint's rows.
+    /// What the check leaves of the family that the hint proposes beside the one known, where it claims something under the hint's rows. What the hint's loop leads to
+    /// is checked alone first, since no other tree matters to whether it does.
+    fn proposed_beside(
+        &self,
+        operands: &Operands<'_>,
+        known: &Family<AffineRank>,
+        hint: &Hint,
+        behind: &[bool],
+    ) -> Result<Option<Family<AffineRank>>, AllocError>
+        requires inquiry { IsInquiry D.NumDomain.own self.now }
+        requires known { IsTop D.NumDomain.own self.now known.now }
+        ensures { IfOk result (λ found. IfSome found (IsTop D.NumDomain.own self.now)) }
+    {
+        let Some(trees) = self.trees_beside(operands, known, hint)? else {
+            return Ok(None);
+        };
+        let mut trees = trees.into_vec();
+        let mut part = undefined(self.premises.alloc, trees.len())?;
+        exchange(behind, &mut trees, &mut part);
+        let left = self.left_beside(known, part)?;
+        if !self.is_met(&left, hint)? {
+            return Ok(None);
+        }
+        let mut part = left.trees.into_vec();
+        exchange(behind, &mut trees, &mut part);
+        let family = self.left_beside(known, trees)?;
+        Ok(Some(family))
+    }
+
+    /// The trees that the hint proposes beside the family, one for each label.
+    fn trees_beside(
+        &self,
+        operands: &Operands<'_>,
+        known: &Family<AffineRank>,
+        hint: &Hint,
+    ) -> Result<Option<TreeList<AffineRank>>, AllocError>
+        requires inquiry { IsInquiry D.NumDomain.own self.now }
+        ensures { IfOk result (λ found. IfSome found (λ trees. length trees ≡ self.now.premises.now.labels)) }
+    {
+        let premises = self.premises;
+        let marked = front(premises.alloc, premises.transitions, premises.graph.entry())?;
+        proposal_beside(
+            premises.alloc,
+            premises.graph,
+            premises.transitions,
+            operands,
+            known.trees.items(),
+            &marked,
+            self.variables(),
+            hint,
+        )
+    }
+
+    /// What the check leaves of the trees beside the family.
+    fn left_beside(
+        &self,
+        known: &Family<AffineRank>,
+        trees: Vec<Tree<AffineRank>>,
+    ) -> Result<Family<AffineRank>, AllocError>
+        requires inquiry { IsInquiry D.NumDomain.own self.now }
+        requires known { IsTop D.NumDomain.own self.now known.now }
+        requires labels { length trees.items ≡ self.now.premises.now.labels }
+        ensures { IfOk result (IsTop D.NumDomain.own self.now) }
+    {
+        self.premises
+            .left_beside(self.formula, self.smaller, known, TreeList::of(trees))
+    }
+
+    /// What the check leaves of the family that the hint proposes in place of the trees at hand, where it claims something under the hint's rows.
     fn proposed(
         &self,
         operands: &Operands<'_>,
         current: &[Tree<AffineRank>],
-        known: Option<&Family<AffineRank>>,
         hint: &Hint,
     ) -> Result<Option<Family<AffineRank>>, AllocError>
         requires inquiry { IsInquiry D.NumDomain.own self.now }
-        requires known { IfSome known (λ family. IsTop D.NumDomain.own self.now family.now) }
-        ensures { IfOk result (λ found. IfSome found (IsTop D.NumDomain.own self.now)) }
-    {
-        let Some(family) = self.left_of(operands, current, known, hint)? else {
-            return Ok(None);
-        };
-        let Some(head) = family.trees.items().get(hint.label as usize) else {
-            return Ok(None);
-        };
-        if holds_under(self.premises.alloc, head, &hint.split)? {
-            Ok(Some(family))
-        } else {
-            Ok(None)
-        }
-    }
-
-    /// What the check leaves of the family that the hint proposes, if it proposes one, beside a family if one is known.
-    fn left_of(
-        &self,
-        operands: &Operands<'_>,
-        current: &[Tree<AffineRank>],
-        known: Option<&Family<AffineRank>>,
-        hint: &Hint,
-    ) -> Result<Option<Family<AffineRank>>, AllocError>
-        requires inquiry { IsInquiry D.NumDomain.own self.now }
-        requires known { IfSome known (λ family. IsTop D.NumDomain.own self.now family.now) }
         ensures { IfOk result (λ found. IfSome found (IsTop D.NumDomain.own self.now)) }
     {
         let premises = self.premises;
-        let variables = premises.graph.program().names.items().len() as u32;
         let Some(trees) = proposal(
             premises.alloc,
             premises.graph,
             premises.transitions,
             operands,
             current,
-            variables,
+            self.variables(),
             hint,
         )?
         else {
             return Ok(None);
         };
-        let family = match known {
-            Some(known) => premises.left_beside(self.formula, self.smaller, known, trees)?,
-            None => premises.left_of(self.formula, self.smaller, trees)?,
-        };
-        Ok(Some(family))
+        let family = premises.left_of(self.formula, self.smaller, trees)?;
+        if self.is_met(&family, hint)? {
+            Ok(Some(family))
+        } else {
+            Ok(None)
+        }
+    }
+
+    /// Whether the family claims something under the hint's rows at its label.
+    fn is_met(&self, family: &Family<AffineRank>, hint: &Hint) -> Result<bool, AllocError> {
+        match family.trees.items().get(hint.label as usize) {
+            Some(head) => holds_under(self.premises.alloc, head, &hint.split),
+            None => Ok(false),
+        }
+    }
+
+    /// The number of the program's variables.
+    fn variables(&self) -> u32 {
+        self.premises.graph.program().names.items().len() as u32
     }
 }
 
@@ -228,7 +281,9 @@ fn is_front_small(trees: &[Tree<AffineRank>], behind: &[bool]) -> bool {
 }
 
 /// So many trees that claim nothing.
-fn undefined(alloc: Global, count: usize) -> Result<Vec<Tree<AffineRank>>, AllocError> {
+fn undefined(alloc: Global, count: usize) -> Result<Vec<Tree<AffineRank>>, AllocError>
+    ensures { IfOk result (λ trees. length trees.items ≡ count) }
+{
     let mut trees = Vec::with_capacity(alloc, count)?;
     for _ in 0..count {
         trees.push(Tree::Bottom)?;
@@ -237,7 +292,10 @@ fn undefined(alloc: Global, count: usize) -> Result<Vec<Tree<AffineRank>>, Alloc
 }
 
 /// Exchanges the trees of the labels that are behind.
-fn exchange(behind: &[bool], trees: &mut [Tree<AffineRank>], others: &mut [Tree<AffineRank>]) {
+fn exchange(behind: &[bool], trees: &mut [Tree<AffineRank>], others: &mut [Tree<AffineRank>])
+    ensures trees { length trees.new ≡ length trees.old }
+    ensures others { length others.new ≡ length others.old }
+{
     for label in 0..trees.len() {
         if behind.get(label) == Some(&true) && label < others.len() {
             mem::swap(&mut trees[label], &mut others[label]);

@@ -6,8 +6,8 @@ use Rattle.decision_tree.specs.declared.family.Family.{Family}
 use Rattle.ctl_rounds.specs.Finding.{IsTop}
 use Rattle.ctl_rounds.proofs.inquiry.Inquiry.try_hint.Goals as goal
 
-pub proposed-requires-clause-known : goal.proposed-requires-clause-known
-proposed-requires-clause-known g c =
+pub proposed_beside-requires-clause-known : goal.proposed_beside-requires-clause-known
+proposed_beside-requires-clause-known g c =
     let Is : Family AffineRank → Type 0 = IsTop g.D.NumDomain c.args.self.now in
     let tops = c.deref-2.result.now in
     let place = length tops - 1 in
